@@ -1,0 +1,3 @@
+pub mod DayNumber
+pub mod Digits
+pub mod PresentValue

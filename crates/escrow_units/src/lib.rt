@@ -1,0 +1,13 @@
+//! Days, amounts, rates and yields: their texts, their arithmetic and the terms of securities.
+#![tactic(auto)]
+
+mod amount;
+mod day;
+mod digits;
+mod fault;
+mod security;
+
+pub use amount::{Cents, Price8, Rate, YieldUnits};
+pub use day::Day;
+pub use fault::NumberFault;
+pub use security::{AskedRate, Flow, Slgs, SlgsKind, StepRule, Terms};
