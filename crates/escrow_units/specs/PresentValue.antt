@@ -1,5 +1,5 @@
 -- Present value without roots: discount factors are fractions of whole numbers.
-use Rattle.std.specs.Prelude.{ℕ, ◌+◌, ◌-◌, ◌*◌, ◌^◌, ◌≤◌, ◌<◌, max, List, map, sum_by, fold, [], ◌∷◌}
+use Rattle.std.specs.Prelude.{ℕ, ◌+◌, ◌-◌, ◌*◌, ◌^◌, ◌≤◌, ◌<◌, max, List, sum_by, [], ◌∷◌}
 
 -- an amount of cents that falls on an index day, counted from settlement by the 30/360 index
 pub record IndexedFlow : Type 0 where
@@ -43,5 +43,5 @@ PresentValueAtMost n flows cost =
 
 -- the exact yield of the flows for the cost lies from low to high, in units of 10^-10 (26 CFR 1.148-5(b))
 pub record YieldLiesIn (flows : List IndexedFlow) (cost low high : ℕ) : Type 0 where
-  pub low : PresentValueAtLeast low flows cost
-  pub high : PresentValueAtMost high flows cost
+  pub at_least : PresentValueAtLeast low flows cost
+  pub at_most : PresentValueAtMost high flows cost
