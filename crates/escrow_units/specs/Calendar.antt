@@ -1,5 +1,5 @@
 -- Dates of the calendar, and the days that are counted from them.
-use Rattle.std.specs.Prelude.{◌≡◌, ℕ, ◌+◌, ◌-◌, ◌*◌, ◌/◌, ◌%◌, min, nat_lt, if◌then◌else◌, ◌==◌, Bool, ℤ, pos, neg_ℤ, ◌+ℤ◌, ◌-ℤ◌, ◌*ℤ◌, unsigned_abs}
+use Rattle.std.specs.Prelude.{◌≡◌, ℕ, ◌+◌, ◌-◌, ◌*◌, ◌/◌, ◌%◌, ◌≤◌, min, nat_lt, if◌then◌else◌, ◌==◌, Bool, ℤ, pos, neg_ℤ, ◌+ℤ◌, ◌-ℤ◌, ◌*ℤ◌, unsigned_abs}
 use Rattle.std.specs.Int.{int_div_euclid, int_rem_euclid}
 use Rattle.jiff_core.specs.Calendar.{IsBetween, days_from_civil, days_in_month}
 use Rattle.escrow_units.specs.declared.security.StepRule.{StepRule}
@@ -86,9 +86,11 @@ half_years_back date k rule.MonthEnd =
 abbrev pub half_back_of : ℤ → ℕ → StepRule → ℤ
 half_back_of maturity k rule = number_of (half_years_back (date_of maturity) k rule)
 
--- a date of the series that ends at maturity
-abbrev pub IsSeriesDate : ℤ → StepRule → ℤ → Type 0
-IsSeriesDate maturity rule day = (k : ℕ) × (day ≡ half_back_of maturity k rule)
+-- a date of the series that ends at maturity, at most 42 years before it: no security runs so long
+pub record IsSeriesDate (maturity : ℤ) (rule : StepRule) (day : ℤ) : Type 0 where
+  pub steps : ℕ
+  pub few : steps ≤ 84
+  pub back : day ≡ half_back_of maturity steps rule
 
 -- the same month and day so many years later, or 28 February for a 29th that isn't there
 abbrev pub years_after_of : ℤ → ℕ → ℤ

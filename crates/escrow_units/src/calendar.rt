@@ -71,7 +71,8 @@ fn shifted(date: Date, months: i32) -> Date
 
 /// The day `k` half-years before maturity, which is of the years 2000 to 2190, for `k` up to 84.
 ///
-/// It is counted from maturity itself: 29 August is followed by 28 February and again by 29 August.
+/// It is counted from maturity itself and not from the step before: back from 31 August come 28 February and again
+/// 31 August.
 pub fn half_back(maturity: Day, k: u32, rule: StepRule) -> Day
     requires few { k ≤ 84 }
     requires base { IsBaseDay maturity }
