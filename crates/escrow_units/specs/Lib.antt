@@ -1,3 +1,5 @@
 pub mod DayNumber
+pub mod Denomination
 pub mod Digits
+pub mod NumberText
 pub mod PresentValue
