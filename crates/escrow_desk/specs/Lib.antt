@@ -1,0 +1,6 @@
+pub mod Content
+pub mod Counts
+pub mod Memory
+pub mod NamedFiles
+pub mod Rows
+pub mod Sizes
