@@ -4,7 +4,11 @@ use Rattle.std.proofs.lemmas.List.{append-nil}
 use Rattle.std.proofs.Math.Seq.{take-add, take-append_seam, take-length}
 use Rattle.std.proofs.lemmas.List.{length-take-le, length-drop, take-append-le}
 use Rattle.std.specs.Option.{MatchOption, IsSomeAnd}
-use Rattle.escrow_desk.specs.Content.{Content, Told, Said, Given, IsFront, IsFile, IsLonger, PartOf, file_of, with_said}
+use Rattle.escrow_desk.specs.Content.{Content, Told, Said, Given, IsFile, IsLonger, PartOf, file_of, with_said}
+
+-- these bytes are a prefix of the file, and with any byte the file is there
+abbrev pub IsFront : Told → List ℕ → List ℕ → Type 0
+IsFront told name bytes = MatchOption told (Unit {0}) (λ content. MatchOption (file_of content name) (bytes ≡ []) (λ file. (bytes ≡ take (length bytes) file) × (length bytes ≤ length file)))
 
 pub said_none : (t : Told) (bytes : List ℕ) → Said t 0 bytes t
 said_none None bytes = refl

@@ -1,3 +1,4 @@
+pub mod Codes
 pub mod Content
 pub mod Counts
 pub mod Memory

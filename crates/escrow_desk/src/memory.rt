@@ -1,4 +1,4 @@
-ghost use Rattle.std.specs.Prelude.{◌≡◌, ◌<◌, ◌≤◌, ◌↔◌, length, OnOk, OnErr, IfOk, IsTrue, IsErrOf, option_map};
+ghost use Rattle.std.specs.Prelude.{◌≡◌, ◌<◌, ◌≤◌, ◌↔◌, Some, length, OnOk, OnErr, IfOk, IsTrue, IsErrOf, option_map};
 ghost use Rattle.escrow_desk.specs.Counts.{Rose};
 ghost use Rattle.escrow_desk.specs.Content.{file_of};
 ghost use Rattle.escrow_desk.specs.Memory.{Calls, HasCause, IsTallied, is_next_listed, new_desk};
@@ -24,10 +24,13 @@ pub struct MemoryDesk {
 
 impl Model for MemoryDesk {
     ghost use Rattle.std.specs.Prelude.{◌+◌};
+    ghost use Rattle.escrow_desk.specs.Codes.{memory_state_code};
     ghost use Rattle.escrow_desk.specs.Memory.{MemoryState};
     ghost use Rattle.escrow_desk.specs.NamedFiles.{files_of};
 
     ghost Value = { MemoryState };
+
+    ghost coded = { memory_state_code };
 
     ghost view = { λ desk. record {
         content = record { files = files_of desk.files.items; said = desk.said.items };

@@ -14,10 +14,13 @@ pub struct NeverFails<'a> {
 }
 
 impl<'a> Model for NeverFails<'a> {
+    ghost use Rattle.escrow_desk.specs.Codes.{files_code};
     ghost use Rattle.escrow_desk.specs.Content.{Files};
     ghost use Rattle.escrow_desk.specs.NamedFiles.{files_of};
 
     ghost Value = { Files };
+
+    ghost coded = { files_code };
 
     ghost view = { λ desk. files_of desk.files.now };
 }

@@ -1,7 +1,7 @@
 use Rattle.std.proofs.Common.{rules, ◌≡◌, true, sym, ◌∙◌, arith, length, take, drop}
 use Rattle.std.proofs.lemmas.List.{take-append-le}
 use Rattle.std.specs.Result.{is_ok}
-use Rattle.escrow_desk.specs.Content.{IsFront, Given}
+use Rattle.escrow_desk.specs.Content.{Given}
 use Rattle.escrow_desk.proofs.ContentFacts.{front_more}
 use Rattle.escrow_desk.proofs.transfer.read_all.Goals as goal
 

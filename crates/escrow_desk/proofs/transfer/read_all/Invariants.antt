@@ -1,5 +1,5 @@
 use Rattle.std.proofs.Common.{◌≡◌, ℕ, List, length, take, drop, ◌++◌, ◌+◌, ◌-◌, ◌≤◌, vec_len}
-use Rattle.escrow_desk.specs.Content.{IsFront}
+use Rattle.escrow_desk.proofs.ContentFacts.{IsFront}
 use Rattle.escrow_desk.proofs.transfer.read_all.Given as goal
 
 abbrev pub invariant-loop-piece : goal.invariant-loop-piece

@@ -4,7 +4,7 @@ use Rattle.escrow_desk.proofs.tally.Tally.fails_read.Goals as goal
 
 pub overflow_add-self : goal.overflow_add-self
 overflow_add-self c =
-    let more = rw (c.as_slice.ensures.value, c.if-listed.true) at c.number_call-listed.ensures.counted in
+    let more = rw (c.as_slice.ensures.value, c.if-listed.true) at c.number_call-listed.ensures.tallied in
     let top = listed-le c.args.self.now.failing.items c.number_call-listed.new.calls in
-    let was = c.args.self.now.counted in
+    let was = c.args.self.now.tallied in
     omega arith

@@ -3,4 +3,4 @@ use Rattle.escrow_desk.proofs.CallFacts.{listed-zero}
 use Rattle.escrow_desk.proofs.tally.Tally.new.Goals as goal
 
 pub invariant_of-result : goal.invariant_of-result
-invariant_of-result c = record { counted = sym (listed-zero c.args.failing.items) }
+invariant_of-result c = record { tallied = sym (listed-zero c.args.failing.items) }
