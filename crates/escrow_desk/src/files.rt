@@ -1,4 +1,4 @@
-ghost use Rattle.std.specs.Prelude.{◌≡◌, ◌≢◌, ◌<◌, ◌≤◌, ◌++◌, [], ℕ, length, None, OnOk, OnErr, IfSome, IfNone, unwrap_or, string_bytes, slice_index_or};
+ghost use Rattle.std.specs.Prelude.{◌≡◌, ◌≢◌, ◌<◌, ◌≤◌, ◌++◌, [], ℕ, length, None, OnOk, OnErr, IfSome, IfNone, unwrap_or, option_map, string_bytes, slice_index_or};
 ghost use Rattle.std.specs.FinMap as fin;
 ghost use Rattle.escrow_desk.specs.Content.{PartOf};
 ghost use Rattle.escrow_desk.specs.NamedFiles.{files_of};
@@ -8,8 +8,8 @@ use crate::named::NamedBytes;
 use crate::refusal::NoMemory;
 use std::alloc::Global;
 
-/// Where the file of a name is: the first of the name.
-pub fn place_of(files: &[NamedBytes], name: &str) -> Option<usize>
+// Where the first file of a name is.
+fn place_of(files: &[NamedBytes], name: &str) -> Option<usize>
     ensures found { IfSome result (λ i. (i < length files.now) × ((d : NamedBytes) → string_bytes (slice_index_or files.now i d).name ≡ name.now)) }
     ensures first { IfSome result (λ i. (j : ℕ) (d : NamedBytes) → j < i → string_bytes (slice_index_or files.now j d).name ≢ name.now) }
     ensures none { IfNone result ((j : ℕ) (d : NamedBytes) → j < length files.now → string_bytes (slice_index_or files.now j d).name ≢ name.now) }
@@ -20,6 +20,16 @@ pub fn place_of(files: &[NamedBytes], name: &str) -> Option<usize>
         }
     }
     None
+}
+
+/// The bytes of the file of a name.
+pub fn bytes_under<'a>(files: &'a [NamedBytes], name: &str) -> Option<&'a [u8]>
+    ensures { option_map (λ bytes. bytes.now) result ≡ fin.get (files_of files.now) name.now }
+{
+    match place_of(files, name) {
+        Some(place) => Some(files[place].bytes.as_slice()),
+        None => None,
+    }
 }
 
 /// Puts bytes of a file from a place on into the front of a buffer, and answers how many.

@@ -1,11 +1,11 @@
-ghost use Rattle.std.specs.Prelude.{◌≡◌, ◌<◌, ◌≤◌, ◌↔◌, Some, length, OnOk, OnErr, IfOk, IsTrue, IsErrOf, option_map};
+ghost use Rattle.std.specs.Prelude.{◌≡◌, ◌<◌, ◌≤◌, ◌↔◌, Some, length, OnOk, OnErr, IsErr, IfOk, IsTrue, IsErrOf, option_map};
 ghost use Rattle.escrow_desk.specs.Counts.{Rose};
-ghost use Rattle.escrow_desk.specs.Content.{file_of};
+ghost use Rattle.escrow_desk.specs.Content.{file_of, Given, IsAbsent, Emptied, Appended, Said};
 ghost use Rattle.escrow_desk.specs.Memory.{Calls, HasCause, IsTallied, is_next_listed, new_desk};
 ghost use Rattle.escrow_desk.specs.NamedFiles.{files_of, NamesDiffer};
 
 use crate::desk::{Desk, DeskError, Failed};
-use crate::files::{copy_part, empty_file, extend_file, place_of};
+use crate::files::{bytes_under, copy_part, empty_file, extend_file};
 use crate::named::NamedBytes;
 use crate::tally::Tally;
 use std::alloc::Global;
@@ -61,10 +61,7 @@ impl MemoryDesk {
     pub fn bytes_of(&self, name: &str) -> Option<&[u8]>
         ensures { option_map (λ bytes. bytes.now) result ≡ file_of self.now.content name.now }
     {
-        match place_of(self.files.as_slice(), name) {
-            Some(place) => Some(self.files[place].bytes.as_slice()),
-            None => None,
-        }
+        bytes_under(self.files.as_slice(), name)
     }
 
     /// What was said.
@@ -100,12 +97,27 @@ impl Desk for MemoryDesk {
 
     ghost absences = { λ desk. desk.absences };
 
-    fn read(&mut self, name: &str, at: u64, into: &mut [u8]) -> Result<usize, DeskError> {
+    fn read(&mut self, name: &str, at: u64, into: &mut [u8]) -> Result<usize, DeskError>
+        ensures count { IfOk result (λ n. n ≤ length into.new) }
+        ensures given { IfOk result (λ n. Given (Some self.old.content) name.now at into.old n into.new) }
+        ensures absent { IsErrOf result DeskError.NoFile → IsAbsent (Some self.old.content) name.now }
+        ensures told { Some self.new.content ≡ Some self.old.content }
+
+        ensures calm { OnOk result ((self.new.read_faults ≡ self.old.read_faults) × (self.new.absences ≡ self.old.absences)) }
+        ensures failed { IsErrOf result DeskError.Failed → Rose self.old.read_faults self.new.read_faults × (self.new.absences ≡ self.old.absences) }
+        ensures no_file { IsErrOf result DeskError.NoFile → Rose self.old.absences self.new.absences × (self.new.read_faults ≡ self.old.read_faults) }
+        ensures writes { self.new.write_faults ≡ self.old.write_faults }
+
+        // A read fails exactly where its number is listed, and starves nothing.
+        ensures calls { Calls self.old self.new }
+        ensures listed { IsErrOf result DeskError.Failed ↔ IsTrue (is_next_listed self.old.failing self.old.calls) }
+        ensures starved { self.new.starved ≡ self.old.starved }
+    {
         if self.tally.fails_read() {
             return Err(DeskError::Failed);
         }
-        match place_of(self.files.as_slice(), name) {
-            Some(place) => Ok(copy_part(self.files[place].bytes.as_slice(), at, into)),
+        match bytes_under(self.files.as_slice(), name) {
+            Some(bytes) => Ok(copy_part(bytes, at, into)),
             None => {
                 self.tally.misses();
                 Err(DeskError::NoFile)
@@ -113,7 +125,21 @@ impl Desk for MemoryDesk {
         }
     }
 
-    fn begin(&mut self, name: &str) -> Result<(), Failed> {
+    fn begin(&mut self, name: &str) -> Result<(), Failed>
+        ensures emptied { OnOk result (Emptied (Some self.old.content) name.now (Some self.new.content)) }
+        ensures kept { OnErr result (Some self.new.content ≡ Some self.old.content) }
+
+        ensures calm { OnOk result (self.new.write_faults ≡ self.old.write_faults) }
+        ensures failed { OnErr result (Rose self.old.write_faults self.new.write_faults) }
+        ensures reads { self.new.read_faults ≡ self.old.read_faults }
+        ensures absences { self.new.absences ≡ self.old.absences }
+
+        // It fails where its number is listed, and else only where a growth found no memory.
+        ensures calls { Calls self.old self.new }
+        ensures listed { IsTrue (is_next_listed self.old.failing self.old.calls) → IsErr result × (self.new.starved ≡ self.old.starved) }
+        ensures cause { OnErr result (HasCause self.old self.new) }
+        ensures fed { OnOk result (self.new.starved ≡ self.old.starved) }
+    {
         if self.tally.fails_write() {
             return Err(Failed);
         }
@@ -124,7 +150,23 @@ impl Desk for MemoryDesk {
         Ok(())
     }
 
-    fn append(&mut self, name: &str, bytes: &[u8]) -> Result<usize, Failed> {
+    fn append(&mut self, name: &str, bytes: &[u8]) -> Result<usize, Failed>
+        ensures count { IfOk result (λ n. n ≤ length bytes.now) }
+        ensures some { IfOk result (λ n. 0 < length bytes.now → 0 < n) }
+        ensures appended { IfOk result (λ n. Appended (Some self.old.content) name.now n bytes.now (Some self.new.content)) }
+        ensures kept { OnErr result (Some self.new.content ≡ Some self.old.content) }
+
+        ensures calm { OnOk result (self.new.write_faults ≡ self.old.write_faults) }
+        ensures failed { OnErr result (Rose self.old.write_faults self.new.write_faults) }
+        ensures reads { self.new.read_faults ≡ self.old.read_faults }
+        ensures absences { self.new.absences ≡ self.old.absences }
+
+        // It fails where its number is listed, and else only where a growth found no memory.
+        ensures calls { Calls self.old self.new }
+        ensures listed { IsTrue (is_next_listed self.old.failing self.old.calls) → IsErr result × (self.new.starved ≡ self.old.starved) }
+        ensures cause { OnErr result (HasCause self.old self.new) }
+        ensures fed { OnOk result (self.new.starved ≡ self.old.starved) }
+    {
         if self.tally.fails_write() {
             return Err(Failed);
         }
@@ -135,7 +177,23 @@ impl Desk for MemoryDesk {
         Ok(bytes.len())
     }
 
-    fn say(&mut self, bytes: &[u8]) -> Result<usize, Failed> {
+    fn say(&mut self, bytes: &[u8]) -> Result<usize, Failed>
+        ensures count { IfOk result (λ n. n ≤ length bytes.now) }
+        ensures some { IfOk result (λ n. 0 < length bytes.now → 0 < n) }
+        ensures said { IfOk result (λ n. Said (Some self.old.content) n bytes.now (Some self.new.content)) }
+        ensures kept { OnErr result (Some self.new.content ≡ Some self.old.content) }
+
+        ensures calm { OnOk result (self.new.write_faults ≡ self.old.write_faults) }
+        ensures failed { OnErr result (Rose self.old.write_faults self.new.write_faults) }
+        ensures reads { self.new.read_faults ≡ self.old.read_faults }
+        ensures absences { self.new.absences ≡ self.old.absences }
+
+        // It fails where its number is listed, and else only where a growth found no memory.
+        ensures calls { Calls self.old self.new }
+        ensures listed { IsTrue (is_next_listed self.old.failing self.old.calls) → IsErr result × (self.new.starved ≡ self.old.starved) }
+        ensures cause { OnErr result (HasCause self.old self.new) }
+        ensures fed { OnOk result (self.new.starved ≡ self.old.starved) }
+    {
         if self.tally.fails_write() {
             return Err(Failed);
         }

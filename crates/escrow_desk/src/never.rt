@@ -1,8 +1,12 @@
-ghost use Rattle.std.specs.Prelude.{◌≡◌, None};
+ghost use Rattle.std.specs.Prelude.{◌≡◌, ◌<◌, ◌≤◌, [], length, IsOk, IfOk, OnOk, OnErr, IsErrOf, unwrap_or};
+ghost use Rattle.std.specs.FinMap as fin;
+ghost use Rattle.escrow_desk.specs.Content.{PartOf, Given, Emptied, Appended, Said};
+ghost use Rattle.escrow_desk.specs.Counts.{Rose};
+ghost use Rattle.escrow_desk.specs.LentFiles.{untold, uncounted};
 ghost use Rattle.escrow_desk.specs.NamedFiles.{files_of};
 
 use crate::desk::{Desk, DeskError, Failed};
-use crate::files::{copy_part, place_of};
+use crate::files::{bytes_under, copy_part};
 use crate::named::NamedBytes;
 use std::marker::Model;
 
@@ -35,30 +39,73 @@ impl<'a> NeverFails<'a> {
 }
 
 impl Desk for NeverFails<'_> {
-    ghost told = { λ _. None };
+    ghost told = { untold };
 
-    ghost read_faults = { λ _. 0 };
+    ghost read_faults = { uncounted };
 
-    ghost write_faults = { λ _. 0 };
+    ghost write_faults = { uncounted };
 
-    ghost absences = { λ _. 0 };
+    ghost absences = { uncounted };
 
-    fn read(&mut self, name: &str, at: u64, into: &mut [u8]) -> Result<usize, DeskError> {
-        match place_of(self.files, name) {
-            Some(place) => Ok(copy_part(self.files[place].bytes.as_slice(), at, into)),
+    fn read(&mut self, name: &str, at: u64, into: &mut [u8]) -> Result<usize, DeskError>
+        ensures answers { IsOk result }
+        ensures part { IfOk result (λ n. PartOf (unwrap_or (fin.get self.old name.now) []) at into.old n into.new) }
+        ensures files { self.new ≡ self.old }
+
+        // What the trait asks of a desk that tells nothing and counts nothing.
+        ensures count { IfOk result (λ n. n ≤ length into.new) }
+        ensures given { IfOk result (λ n. Given (untold self.old) name.now at into.old n into.new) }
+        ensures calm { OnOk result ((uncounted self.new ≡ uncounted self.old) × (uncounted self.new ≡ uncounted self.old)) }
+        ensures failed { IsErrOf result DeskError.Failed → Rose (uncounted self.old) (uncounted self.new) × (uncounted self.new ≡ uncounted self.old) }
+        ensures no_file { IsErrOf result DeskError.NoFile → Rose (uncounted self.old) (uncounted self.new) × (uncounted self.new ≡ uncounted self.old) }
+    {
+        match bytes_under(self.files, name) {
+            Some(bytes) => Ok(copy_part(bytes, at, into)),
             None => Ok(0),
         }
     }
 
-    fn begin(&mut self, _name: &str) -> Result<(), Failed> {
+    fn begin(&mut self, name: &str) -> Result<(), Failed>
+        ensures answers { IsOk result }
+        ensures files { self.new ≡ self.old }
+
+        ensures emptied { OnOk result (Emptied (untold self.old) name.now (untold self.new)) }
+        ensures kept { OnErr result (untold self.new ≡ untold self.old) }
+        ensures calm { OnOk result (uncounted self.new ≡ uncounted self.old) }
+        ensures failed { OnErr result (Rose (uncounted self.old) (uncounted self.new)) }
+    {
+        let _ = name;
         Ok(())
     }
 
-    fn append(&mut self, _name: &str, bytes: &[u8]) -> Result<usize, Failed> {
+    fn append(&mut self, name: &str, bytes: &[u8]) -> Result<usize, Failed>
+        ensures all { IfOk result (λ n. n ≡ length bytes.now) }
+        ensures answers { IsOk result }
+        ensures files { self.new ≡ self.old }
+
+        ensures count { IfOk result (λ n. n ≤ length bytes.now) }
+        ensures some { IfOk result (λ n. 0 < length bytes.now → 0 < n) }
+        ensures appended { IfOk result (λ n. Appended (untold self.old) name.now n bytes.now (untold self.new)) }
+        ensures kept { OnErr result (untold self.new ≡ untold self.old) }
+        ensures calm { OnOk result (uncounted self.new ≡ uncounted self.old) }
+        ensures failed { OnErr result (Rose (uncounted self.old) (uncounted self.new)) }
+    {
+        let _ = name;
         Ok(bytes.len())
     }
 
-    fn say(&mut self, bytes: &[u8]) -> Result<usize, Failed> {
+    fn say(&mut self, bytes: &[u8]) -> Result<usize, Failed>
+        ensures all { IfOk result (λ n. n ≡ length bytes.now) }
+        ensures answers { IsOk result }
+        ensures files { self.new ≡ self.old }
+
+        ensures count { IfOk result (λ n. n ≤ length bytes.now) }
+        ensures some { IfOk result (λ n. 0 < length bytes.now → 0 < n) }
+        ensures said { IfOk result (λ n. Said (untold self.old) n bytes.now (untold self.new)) }
+        ensures kept { OnErr result (untold self.new ≡ untold self.old) }
+        ensures calm { OnOk result (uncounted self.new ≡ uncounted self.old) }
+        ensures failed { OnErr result (Rose (uncounted self.old) (uncounted self.new)) }
+    {
         Ok(bytes.len())
     }
 }
