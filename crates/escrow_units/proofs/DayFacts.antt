@@ -1,5 +1,5 @@
 -- Dates, their numbers, and moving by months.
-use Rattle.std.proofs.Common.{Bool, zero, true, false, eq-eqb, of_z, w8, ◌==◌, ◌≡◌, ◌∙◌, ℕ, suc, ◌+◌, ◌<◌, ◌≤◌, refl, ap, arith, ℤ, pos, neg_ℤ, ◌+ℤ◌, ◌≤ℤ◌, ◌<ℤ◌, unsigned_abs, inl, inr}
+use Rattle.std.proofs.Common.{Bool, zero, true, false, eq-eqb, of_z, w8, ◌==◌, ◌≡◌, ◌∙◌, ℕ, suc, ◌+◌, ◌<◌, ◌≤◌, refl, sym, ap, arith, ℤ, pos, neg_ℤ, ◌+ℤ◌, ◌≤ℤ◌, ◌<ℤ◌, unsigned_abs, inl, inr}
 use Rattle.std.proofs.lemmas.Int.{by_lt_z}
 use Rattle.std.proofs.lemmas.Bool.Decides.{nat_tests}
 use Rattle.jiff.specs.Words.{epoch_day, days_in_month, IsOnly, magnitude, span_months, span_days, date_add, add_months, IsShiftable, shifted_year, shifted_month, CanAddToDate}
@@ -23,13 +23,18 @@ use Rattle.escrow_units.proofs.DateFacts.{date_of-stands, pos_abs}
 abbrev pub parts : Date → CivilDate
 parts d = record { year = d.year; month = d.month; day = d.day }
 
+-- a date of the calendar with a day number is the date of that number
+pub date_of-number : (n : ℤ) (date : CivilDate) → IsDayNumber n → IsCivilDate date.year date.month date.day → number_of date ≡ n → date_of n ≡ date
+date_of-number n date h civ e =
+    let s = date_of-stands n h in
+    let found : Date = record { year = (date_of n).year; month = (date_of n).month; day = (date_of n).day; year_in = s.0.0; month_in = s.0.1; day_in = s.0.2 } in
+    let given : Date = record { year = date.year; month = date.month; day = date.day; year_in = civ.0; month_in = civ.1; day_in = civ.2 } in
+    let same = epoch_day_injective found given (s.1 ∙ sym e) in
+    λ i. record { year = same.0 i; month = same.1 i; day = same.2 i }
+
 -- the date of a date's day number
 pub date_of-date : (d : Date) → IsDayNumber (epoch_day d) → date_of (epoch_day d) ≡ parts d
-date_of-date d h =
-    let s = date_of-stands (epoch_day d) h in
-    let made : Date = record { year = (date_of (epoch_day d)).year; month = (date_of (epoch_day d)).month; day = (date_of (epoch_day d)).day; year_in = s.0.0; month_in = s.0.1; day_in = s.0.2 } in
-    let same = epoch_day_injective made d s.1 in
-    λ i. record { year = same.0 i; month = same.1 i; day = same.2 i }
+date_of-date d h = date_of-number (epoch_day d) (parts d) h (civil d) refl
 
 start_1900 : day_count (pos 1900) 1 1 ≡ 4_346_386
 start_1900 = day_count-early (pos 1900) 11_899 1 1 refl (omega arith) (omega arith) (omega arith)
