@@ -16,10 +16,10 @@ use Rattle.jiff_core.proofs.SignedLemmas.{signed_arith}
 use Rattle.jiff_core.proofs.MarchLemmas.{leap_day, days_in_year-leap_day}
 use Rattle.jiff_core.proofs.CalendarLemmas.{days_from_civil-day_count, days_of_months_table, day_count-day_of_year, day_count-next_year, days_in_month_bounds}
 
-leap_day_bound : (y : ℤ) → leap_day y ≤ 1
+pub leap_day_bound : (y : ℤ) → leap_day y ≤ 1
 leap_day_bound y = grind arith
 
-february : (y : ℤ) → days_in_month y 2 ≡ 28 + leap_day y
+pub february : (y : ℤ) → days_in_month y 2 ≡ 28 + leap_day y
 february y = grind arith
 
 -- the dates half a year apart in one year, where the later of two short months has its last day
@@ -54,7 +54,7 @@ clamped_day : (y : ℤ) (m d : ℕ) → 1 ≤ d → 1 ≤ min d (days_in_month y
 clamped_day y m d h = let long = days_in_month_bounds y m in omega arith
 
 -- the days up to it are those of the years, of the months and of its month
-count-clamped : (y : ℤ) (k d : ℕ) → 1 ≤ d
+pub count-clamped : (y : ℤ) (k d : ℕ) → 1 ≤ d
     → day_count y (k + 1) (min d (days_in_month y (k + 1))) + 1 ≡ day_count y 1 1 + (days_of_months y k + min d (days_in_month y (k + 1)))
 count-clamped y k d h =
     let back : k + 1 - 1 ≡ k = omega arith in
@@ -133,15 +133,15 @@ half_years_back-clamped date k rule.SameDay = refl
 half_years_back-clamped date k rule.MonthEnd = ended_or_not (is_month_end date) date (neg_ℤ (pos (6 * k)))
 
 -- the date of a day of the years 2000 to 2190
-record IsBaseDate (date : CivilDate) : Type 0 where
-  low_year : pos 2000 ≤ℤ date.year
-  high_year : date.year <ℤ pos 2191
-  low_month : 1 ≤ date.month
-  high_month : date.month ≤ 12
-  low_day : 1 ≤ date.day
-  high_day : date.day ≤ days_in_month date.year date.month
+pub record IsBaseDate (date : CivilDate) : Type 0 where
+  pub low_year : pos 2000 ≤ℤ date.year
+  pub high_year : date.year <ℤ pos 2191
+  pub low_month : 1 ≤ date.month
+  pub high_month : date.month ≤ 12
+  pub low_day : 1 ≤ date.day
+  pub high_day : date.day ≤ days_in_month date.year date.month
 
-base_date : (n : ℤ) → IsBaseDay n → IsBaseDate (date_of n)
+pub base_date : (n : ℤ) → IsBaseDay n → IsBaseDate (date_of n)
 base_date n h =
     let own : IsDayNumber n = (omega (arith, signed_arith), omega (arith, signed_arith)) in
     let s = date_of-stands n own in
@@ -206,7 +206,7 @@ clamped-civil y m d low high first last day =
     let long = days_in_month_bounds y m in
     ((omega (arith, signed_arith), omega (arith, signed_arith)), (first, last), (omega arith, omega arith))
 
-clamped-day : (y : ℤ) (m d : ℕ) → pos 1900 ≤ℤ y → y <ℤ pos 2300 → 1 ≤ m → m ≤ 12 → 1 ≤ d → IsDayNumber (number_of (clamped y m d))
+pub clamped-day : (y : ℤ) (m d : ℕ) → pos 1900 ≤ℤ y → y <ℤ pos 2300 → 1 ≤ m → m ≤ 12 → 1 ≤ d → IsDayNumber (number_of (clamped y m d))
 clamped-day y m d low high first last day =
     days_in_years y m (min d (days_in_month y m)) (clamped-civil y m d low high first last day) low high
 
