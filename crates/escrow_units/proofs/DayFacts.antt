@@ -16,6 +16,7 @@ use Rattle.jiff_core.proofs.DateLemmas.{civil, epoch_day_injective, epoch_day-lt
 use Rattle.jiff_span.proofs.MonthLemmas.{shifted_civil}
 use Rattle.jiff_span.proofs.DifferenceLemmas.{signed_zero}
 use Rattle.escrow_units.specs.Calendar.{CivilDate, number_of, date_of, IsBaseDay, months_later, month_end, is_month_end, e_of, e_of_date, years_after_of}
+use Rattle.escrow_units.specs.DateText.{IsFieldDay}
 use Rattle.escrow_units.specs.DayNumber.{IsDayNumber}
 use Rattle.escrow_units.proofs.DateFacts.{date_of-stands, pos_abs}
 
@@ -45,6 +46,9 @@ start_2000 = day_count-early (pos 2000) 11_999 1 1 refl (omega arith) (omega ari
 start_2191 : day_count (pos 2191) 1 1 ≡ 4_452_672
 start_2191 = day_count-early (pos 2191) 12_190 1 1 refl (omega arith) (omega arith) (omega arith)
 
+start_2200 : day_count (pos 2200) 1 1 ≡ 4_455_959
+start_2200 = day_count-early (pos 2200) 12_199 1 1 refl (omega arith) (omega arith) (omega arith)
+
 start_2300 : day_count (pos 2300) 1 1 ≡ 4_492_483
 start_2300 = day_count-early (pos 2300) 12_299 1 1 refl (omega arith) (omega arith) (omega arith)
 
@@ -73,6 +77,11 @@ year_in_base d h =
     let count = days_from_civil-day_count d.year d.month d.day in
     (not_before d 2000 (omega (arith, signed_arith, count, start_2000)), before d 2191 (omega (arith, signed_arith, count, start_2191)))
 
+pub year_in_field : (d : Date) → IsFieldDay (epoch_day d) → (pos 1900 ≤ℤ d.year) × (d.year <ℤ pos 2200)
+year_in_field d h =
+    let count = days_from_civil-day_count d.year d.month d.day in
+    (not_before d 1900 (omega (arith, signed_arith, count, start_1900)), before d 2200 (omega (arith, signed_arith, count, start_2200)))
+
 -- a date of these years has a day number of these years
 pub days_in_years : (y : ℤ) (m d : ℕ) → IsCivilDate y m d → pos 1900 ≤ℤ y → y <ℤ pos 2300 → IsDayNumber (days_from_civil y m d)
 days_in_years y m d h low high =
@@ -83,6 +92,13 @@ days_in_years y m d h low high =
     (omega (arith, signed_arith, count, start_1900, bottom, day_count-day_of_year y m d h.2.0), omega (arith, signed_arith, count, top, start_2300)))
     (λ ge. let same : y ≡ pos 1900 = omega (arith, signed_arith) in
     (omega (arith, signed_arith, count, start_1900, ap (λ z. day_count z 1 1) same, day_count-day_of_year y m d h.2.0), omega (arith, signed_arith, count, top, start_2300)))
+
+-- and one of the years of fields is a day of fields
+pub days_in_field : (y : ℤ) (m d : ℕ) → IsCivilDate y m d → pos 1900 ≤ℤ y → y <ℤ pos 2200 → IsFieldDay (days_from_civil y m d)
+days_in_field y m d h low high =
+    let count = days_from_civil-day_count y m d in
+    let top = day_count-lt_year y m d (pos 2200) 1 1 h (omega arith) high in
+    ((days_in_years y m d h low (omega (arith, signed_arith, high))).0, omega (arith, signed_arith, count, top, start_2200))
 
 no_clock : (s : Span) → magnitude Hour s ≡ 0 → magnitude Minute s ≡ 0 → magnitude Second s ≡ 0 → magnitude Millisecond s ≡ 0 → magnitude Microsecond s ≡ 0 → magnitude Nanosecond s ≡ 0 → clock_days s ≡ pos 0
 no_clock s a b c d e f = signed_zero s.negative _ (omega arith)

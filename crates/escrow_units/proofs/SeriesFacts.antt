@@ -1,6 +1,6 @@
 -- Half-years and years in days.
 use borrow.Author.Differences.{up, down}
-use Rattle.std.proofs.Common.{IsTrue, eq-eqb, ◌==◌, Bool, true, false, if◌then◌else◌, zero, suc, ◌≡◌, ◌∙◌, ℕ, ◌+◌, ◌-◌, ◌*◌, ◌<◌, ◌≤◌, min, refl, sym, ap, arith, ℤ, pos, neg_ℤ, ◌+ℤ◌, ◌-ℤ◌, ◌*ℤ◌, ◌≤ℤ◌, ◌<ℤ◌, unsigned_abs, ◌⊎◌, inl, inr}
+use Rattle.std.proofs.Common.{IsTrue, eq-eqb, ◌==◌, Bool, true, false, if◌then◌else◌, zero, suc, ◌≡◌, ◌∙◌, ℕ, ◌+◌, ◌-◌, ◌*◌, ◌<◌, ◌≤◌, min, refl, sym, ap, arith, ℤ, pos, neg_ℤ, ◌+ℤ◌, ◌*ℤ◌, ◌≤ℤ◌, ◌<ℤ◌, inl, inr}
 use Rattle.std.proofs.lemmas.Bool.{cases_lt}
 use Rattle.std.proofs.lemmas.Bool.Decides.{nat_tests}
 use Rattle.escrow_units.specs.Calendar.{CivilDate, number_of, date_of, later_year, later_month, months_later, month_end, is_month_end, half_years_back, half_back_of, years_after_of, e_of, e_of_date, IsBaseDay}
@@ -10,7 +10,7 @@ use Rattle.escrow_units.specs.declared.security.StepRule.TheVariants as rule
 use Rattle.escrow_units.proofs.DateFacts.{date_of-stands, pos_abs}
 use Rattle.escrow_units.proofs.DayFacts.{date_of-number, year_in_base, days_in_years}
 use Rattle.escrow_units.specs.CalendarLaws.{IsHalfYear}
-use Rattle.jiff_core.specs.Calendar.{days_in_month, days_in_year, days_of_months, day_of_year, day_count, IsCivilDate}
+use Rattle.jiff_core.specs.Calendar.{days_in_month, days_in_year, days_of_months, day_count, IsCivilDate}
 use Rattle.jiff_core.specs.declared.civil.date.Date.{Date}
 use Rattle.jiff_core.proofs.SignedLemmas.{signed_arith}
 use Rattle.jiff_core.proofs.MarchLemmas.{leap_day, days_in_year-leap_day}
@@ -98,19 +98,20 @@ half_year-clamped : (z y : ℤ) (n m d : ℕ) → pos 0 ≤ℤ z → 1 ≤ n →
 half_year-clamped z y n m d year n_low n_high m_low m_high low high place =
     elim (cases_lt 6 m) [
       | inl late ↦
-        let same : z ≡ y = omega (arith, signed_arith) in
-        let from : n ≡ n - 1 + 1 = omega arith in
-        let to : m ≡ n - 1 + 7 = omega (arith, signed_arith) in
-        half_year-late z y n m (n - 1) d same from to (omega (arith, signed_arith)) low high
+          let same : z ≡ y = omega (arith, signed_arith) in
+          let from : n ≡ n - 1 + 1 = omega arith in
+          let to : m ≡ n - 1 + 7 = omega (arith, signed_arith) in
+          half_year-late z y n m (n - 1) d same from to (omega (arith, signed_arith)) low high
       | inr early ↦
-        let next : y ≡ z +ℤ pos 1 = omega (arith, signed_arith) in
-        let to : m ≡ m - 1 + 1 = omega arith in
-        let from : n ≡ m - 1 + 7 = omega (arith, signed_arith) in
-        half_year-early z y n m (m - 1) d (omega (arith, signed_arith)) next from to (omega arith) low high
+          let next : y ≡ z +ℤ pos 1 = omega (arith, signed_arith) in
+          let to : m ≡ m - 1 + 1 = omega arith in
+          let from : n ≡ m - 1 + 7 = omega (arith, signed_arith) in
+          half_year-early z y n m (m - 1) d (omega (arith, signed_arith)) next from to (omega arith) low high
     ]
   where
     half_year-late : (z y : ℤ) (n m k d : ℕ) → z ≡ y → n ≡ k + 1 → m ≡ k + 7 → k < 6 → 1 ≤ d → d ≤ 31 → IsHalfYear (number_of (clamped z n d)) (number_of (clamped y m d))
     half_year-late z y n m k d same from to h low high = rw (same, from, to) (half_year-within y k d h low high)
+
     half_year-early : (z y : ℤ) (n m k d : ℕ) → neg_ℤ (pos 10000) ≤ℤ z → y ≡ z +ℤ pos 1 → n ≡ k + 7 → m ≡ k + 1 → k < 6 → 1 ≤ d → d ≤ 31 → IsHalfYear (number_of (clamped z n d)) (number_of (clamped y m d))
     half_year-early z y n m k d year next from to h low high = rw (from, to) (half_year-across z y k d year next h low high)
 
@@ -197,8 +198,8 @@ half_back_of-falls maturity r j (suc k) h lt few =
     elim (cases_lt j k) [
       | inl later ↦ omega (arith, signed_arith, step.least, half_back_of-falls maturity r j k h later (omega arith))
       | inr last ↦
-        let same : j ≡ k = omega arith in
-        rw same (omega (arith, signed_arith, step.least))
+          let same : j ≡ k = omega arith in
+          rw same (omega (arith, signed_arith, step.least))
     ]
 
 clamped-civil : (y : ℤ) (m d : ℕ) → pos 1900 ≤ℤ y → y <ℤ pos 2300 → 1 ≤ m → m ≤ 12 → 1 ≤ d → IsCivilDate y m (min d (days_in_month y m))

@@ -1,11 +1,10 @@
 -- Days some years later.
 use borrow.Author.Differences.{up, down}
-use Rattle.std.proofs.Common.{zero, suc, ◌≡◌, ◌∙◌, ℕ, ◌+◌, ◌-◌, ◌*◌, ◌<◌, ◌≤◌, min, refl, sym, ap, arith, ℤ, pos, neg_ℤ, ◌+ℤ◌, ◌*ℤ◌, ◌≤ℤ◌, ◌<ℤ◌, inl, inr}
-use Rattle.std.proofs.lemmas.Bool.{cases_lt}
+use Rattle.std.proofs.Common.{zero, suc, ◌≡◌, ℕ, ◌+◌, ◌-◌, ◌*◌, ◌<◌, ◌≤◌, min, arith, ℤ, pos, neg_ℤ, ◌+ℤ◌, ◌≤ℤ◌}
 use Rattle.std.proofs.lemmas.Bool.Decides.{nat_tests}
 use Rattle.jiff_core.specs.Calendar.{days_in_month, days_in_year, days_of_months, day_count}
 use Rattle.jiff_core.proofs.SignedLemmas.{signed_arith}
-use Rattle.jiff_core.proofs.MarchLemmas.{leap_day, days_in_year-leap_day, days_of_months-late}
+use Rattle.jiff_core.proofs.MarchLemmas.{days_in_year-leap_day, days_of_months-late}
 use Rattle.jiff_core.proofs.CalendarLemmas.{days_from_civil-day_count, days_of_months_table, day_count-next_year}
 use Rattle.escrow_units.specs.Calendar.{CivilDate, number_of, date_of, later_year, later_month, years_after_of, IsBaseDay}
 use Rattle.escrow_units.specs.CalendarLaws.{IsYears}

@@ -1,7 +1,8 @@
 -- What the definitions of dates, series, years and indices mean.
-use Rattle.std.specs.Prelude.{◌≡◌, ℕ, ◌+◌, ◌*◌, ◌<◌, ◌≤◌, min, IsTrue, ℤ, pos, ◌+ℤ◌, ◌≤ℤ◌, ◌<ℤ◌}
+use Rattle.std.specs.Prelude.{◌≡◌, ◌↔◌, ℕ, ◌+◌, ◌*◌, ◌<◌, ◌≤◌, min, IsTrue, List, Some, ℤ, pos, ◌+ℤ◌, ◌≤ℤ◌, ◌<ℤ◌}
 use Rattle.jiff_core.specs.Calendar.{IsCivilDate, days_in_month}
 use Rattle.escrow_units.specs.Calendar.{CivilDate, number_of, date_of, half_back_of, years_after_of, is_month_end, e_of, IsBaseDay}
+use Rattle.escrow_units.specs.DateText.{IsFieldDay, day_of, day_text}
 use Rattle.escrow_units.specs.DayNumber.{IsDayNumber}
 use Rattle.escrow_units.specs.SlgsTerms.{IsSettlement}
 use Rattle.escrow_units.specs.declared.security.StepRule.{StepRule}
@@ -18,6 +19,10 @@ EachDayIsDated = (n : ℤ) → IsDayNumber n → IsDateOf (date_of n) n
 -- and of no other date
 abbrev pub DatesAreUnique : Type 0
 DatesAreUnique = (n : ℤ) (date : CivilDate) → IsDayNumber n → IsDateOf date n → date_of n ≡ date
+
+-- bytes spell a day number exactly where it is of the years 1900 to 2199 and they are its date's text
+abbrev pub TextsSpellDays : Type 0
+TextsSpellDays = (bytes : List ℕ) (n : ℤ) → (day_of bytes ≡ Some n) ↔ (IsFieldDay n × (bytes ≡ day_text n))
 
 -- a series begins at maturity
 abbrev pub SeriesStartsAtMaturity : Type 0

@@ -62,6 +62,7 @@ pub fn read_day(bytes: &[u8]) -> Result<Day, NumberFault>
     ensures ok { IfOk result (λ day. day_of bytes.now ≡ Some day) }
     ensures err { IfErr result (λ fault. fault ≡ NumberFault.BadDate) }
     ensures none { OnErr result (day_of bytes.now ≡ None) }
+    ensures years { IfOk result IsFieldDay }
 {
     match spelled_day(bytes) {
         Some(day) => Ok(day),
@@ -69,10 +70,11 @@ pub fn read_day(bytes: &[u8]) -> Result<Day, NumberFault>
     }
 }
 
-/// A day as `2025-01-15`.
+/// A day as `2025-01-15`: ten characters, which `read_day` reads where the day is of the years 1900 to 2199.
 #[tactic(auto, using(crate::proofs::DigitFacts::digit_facts))]
 pub fn print_day(value: Day) -> ArrayString<32>
-    ensures { result.bytes ≡ day_text value }
+    ensures text { result.bytes ≡ day_text value }
+    ensures again { IsFieldDay value → day_of result.bytes ≡ Some value }
 {
     let date = plain_date(value);
     let mut text = ArrayString::new();
