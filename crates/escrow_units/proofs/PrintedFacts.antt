@@ -1,5 +1,5 @@
 -- What is printed is read back.
-use Rattle.std.proofs.Common.{◌≡◌, ◌∙◌, ℕ, zero, suc, ◌+◌, ◌-◌, ◌*◌, ◌/◌, ◌%◌, ◌^◌, ◌<◌, ◌≤◌, ◌&&◌, ◌||◌, Bool, true, false, cond, not, nat_le, List, [], ◌∷◌, ◌++◌, length, take, drop, Option, Some, Ok, refl, ap, sym, add-one, rules, arith, decimal, length-append}
+use Rattle.std.proofs.Common.{◌≡◌, ◌∙◌, ℕ, zero, suc, ◌+◌, ◌-◌, ◌*◌, ◌/◌, ◌%◌, ◌^◌, ◌<◌, ◌≤◌, ◌&&◌, ◌||◌, Bool, true, false, List, [], ◌∷◌, ◌++◌, length, take, drop, Some, Ok, refl, ap, rules, arith, decimal}
 use Rattle.std.proofs.Math.Nat.{pow-suc, mod-lt, div-le_self}
 use Rattle.std.proofs.Math.Seq.{take-append_seam, drop-append-add}
 use Rattle.std.proofs.lemmas.Nat.{pow-add, div_below, div-add-mod'}
@@ -77,9 +77,9 @@ unfolding decimal_of parted_of
 decimal_of-digits most places front back f1 f2 f3 b1 b2 b3 =
     let point = position_or_len-digits front back f3 in
     let before : before_first is_point (front ++ 46 ∷ back) ≡ front =
-            ap (λ i. take i (front ++ 46 ∷ back)) point ∙ take-append_seam front (46 ∷ back) in
+    ap (λ i. take i (front ++ 46 ∷ back)) point ∙ take-append_seam front (46 ∷ back) in
     let after : after_first is_point (front ++ 46 ∷ back) ≡ back =
-            ap (λ i. drop (i + 1) (front ++ 46 ∷ back)) point ∙ drop-append-add front (46 ∷ back) 1 in
+    ap (λ i. drop (i + 1) (front ++ 46 ∷ back)) point ∙ drop-append-add front (46 ∷ back) 1 in
     rw (list_any-digits front back, before, after, whole_of-digits most front f1 f2 f3, whole_of-digits places back b1 b2 b3)
 
 pub decimal_of-fixed : (most places n : ℕ) → 1 ≤ most → 1 ≤ places → n < 10 ^ (most + places) → n < 2 ^ 64 →
@@ -92,9 +92,9 @@ decimal_of-fixed most places n some few below fits =
     let long = length-last places (n % 10 ^ places) in
     let none : places - places ≡ 0 = omega arith in
     let value : digits_value 10 (decimal (n / 10 ^ places)) * 10 ^ places
-            + digits_value 10 (last_digits places (n % 10 ^ places)) * 10 ^ (places - length (last_digits places (n % 10 ^ places))) ≡ n =
-            rw (digits_value-decimal digit_model (n / 10 ^ places) small, digits_value-last places (n % 10 ^ places) part, long, none)
-            (omega (arith, div-add-mod' n (10 ^ places))) in
+    + digits_value 10 (last_digits places (n % 10 ^ places)) * 10 ^ (places - length (last_digits places (n % 10 ^ places))) ≡ n =
+    rw (digits_value-decimal digit_model (n / 10 ^ places) small, digits_value-last places (n % 10 ^ places) part, long, none)
+    (omega (arith, div-add-mod' n (10 ^ places))) in
     decimal_of-digits most places (decimal (n / 10 ^ places)) (last_digits places (n % 10 ^ places))
     (decimal_nonempty (n / 10 ^ places) small) (length-decimal-le most (n / 10 ^ places) (omega arith) whole small) (digits_decimal digit_model (n / 10 ^ places) small)
     (omega (arith, long)) (omega (arith, long)) (list_all-last places (n % 10 ^ places))

@@ -3,3 +3,5 @@ pub mod Denomination
 pub mod Digits
 pub mod NumberText
 pub mod PresentValue
+pub mod PriceText
+pub mod Rounding

@@ -51,3 +51,7 @@ rate_of bytes = ranged (λ n. record { 0 = n }) 0 30_000 OutOfRange (decimal_of 
 -- 1 to 3 digits, then optionally a point and 1 to 8 digits: percent, at most 29.99
 unfoldable pub yield_of : List ℕ → Result YieldUnits NumberFault
 yield_of bytes = ranged (λ n. record { 0 = n }) 0 2_999_000_000 OutOfRange (decimal_of 3 8 bytes)
+
+-- 1 to 6 digits: a number from 1 to 10,000
+unfoldable pub count_of : List ℕ → Result ℕ NumberFault
+count_of bytes = ranged (λ n. n) 1 10_000 OutOfRange (whole_of 6 bytes)

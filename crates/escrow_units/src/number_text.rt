@@ -1,5 +1,5 @@
 ghost use Rattle.std.specs.Prelude.{◌≡◌, ◌≤◌, ◌^◌, IfOk};
-ghost use Rattle.escrow_units.specs.NumberText.{cents_of, dollars_of, rate_of, yield_of};
+ghost use Rattle.escrow_units.specs.NumberText.{cents_of, dollars_of, rate_of, yield_of, count_of};
 
 use crate::amount::{Cents, Rate, YieldUnits};
 use crate::decimal::{decimal, in_range, whole_number};
@@ -55,4 +55,16 @@ pub fn read_yield(bytes: &[u8]) -> Result<YieldUnits, NumberFault>
 {
     let number = decimal(bytes, 3, 8);
     Ok(YieldUnits(in_range(number, 0, 2_999_000_000, NumberFault::OutOfRange)?))
+}
+
+/// Reads a count: 1 to 6 digits.
+///
+/// From 1 to 10,000. Leading zeros are allowed; no sign, comma, point or blank is.
+#[tactic(auto, unfolding(crate::specs::NumberText::count_of))]
+pub fn read_count(bytes: &[u8]) -> Result<u32, NumberFault>
+    ensures value { result ≡ count_of bytes.now }
+    ensures limit { IfOk result (λ count. (1 ≤ count) × (count ≤ 10_000)) }
+{
+    let number = whole_number(bytes, 6);
+    Ok(in_range(number, 1, 10_000, NumberFault::OutOfRange)? as u32)
 }

@@ -1,4 +1,3 @@
-use Rattle.escrow_units.specs.Digits.{fixed}
 use Rattle.escrow_units.proofs.PrintedFacts.{cents_of-fixed}
 use Rattle.escrow_units.proofs.printed.print_cents.Goals as goal
 

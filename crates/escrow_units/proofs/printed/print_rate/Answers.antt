@@ -1,4 +1,3 @@
-use Rattle.escrow_units.specs.Digits.{fixed}
 use Rattle.escrow_units.proofs.PrintedFacts.{rate_of-fixed}
 use Rattle.escrow_units.proofs.printed.print_rate.Goals as goal
 
