@@ -7,6 +7,8 @@ mod decimal;
 mod denomination;
 mod digits;
 mod fault;
+#[cfg(test)]
+mod number_tests;
 mod number_text;
 mod price_text;
 mod printed;
