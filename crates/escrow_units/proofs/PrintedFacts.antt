@@ -23,7 +23,7 @@ digit_model = numerals_by_value _ (search rules)
 digit-printed : (d : ℕ) → d < 10 → is_ascii_digit (48 + d) ≡ true
 digit-printed d small = grind (arith, common_steps)
 
-both : (a b : Bool) → a ≡ true → b ≡ true → (a && b) ≡ true
+pub both : (a b : Bool) → a ≡ true → b ≡ true → (a && b) ≡ true
 both a b p q = rw (p, q)
 
 list_all-last : (k n : ℕ) → list_all is_ascii_digit (last_digits k n) ≡ true
@@ -43,32 +43,32 @@ digits_value-last (suc k) n below =
     ∙ ap (λ v. v * 10 + digit_value (48 + n % 10)) (digits_value-last k (n / 10) rest)
     ∙ omega (arith, digit-value (48 + n % 10) (digit-printed (n % 10) (omega arith)))
 
-and-true : (a b : Bool) → (a && b) ≡ true → (a ≡ true) × (b ≡ true)
+pub and-true : (a b : Bool) → (a && b) ≡ true → (a ≡ true) × (b ≡ true)
 and-true true b p = (refl, p)
 and-true false b p = (p, cc)
 
-no_point : (d : ℕ) → is_ascii_digit d ≡ true → is_point d ≡ false
+pub no_point : (d : ℕ) → is_ascii_digit d ≡ true → is_point d ≡ false
 no_point d digit = grind (arith, common_steps)
 
 -- the first point after digits is the one that follows them
-position_or_len-digits : (ds rest : List ℕ) → list_all is_ascii_digit ds ≡ true → position_or_len is_point (ds ++ 46 ∷ rest) ≡ length ds
+pub position_or_len-digits : (ds rest : List ℕ) → list_all is_ascii_digit ds ≡ true → position_or_len is_point (ds ++ 46 ∷ rest) ≡ length ds
 position_or_len-digits [] rest digits = refl
 position_or_len-digits (d ∷ ds) rest digits =
     let parts = and-true (is_ascii_digit d) (list_all is_ascii_digit ds) digits in
     rw (no_point d parts.0) (omega (arith, position_or_len-digits ds rest parts.1))
 
-list_any-digits : (ds rest : List ℕ) → list_any is_point (ds ++ 46 ∷ rest) ≡ true
+pub list_any-digits : (ds rest : List ℕ) → list_any is_point (ds ++ 46 ∷ rest) ≡ true
 list_any-digits [] rest = refl
 list_any-digits (d ∷ ds) rest =
     elim (is_point d) as (λ b. (b || list_any is_point (ds ++ 46 ∷ rest)) ≡ true) [ true ↦ refl | false ↦ list_any-digits ds rest ]
 
-whole_of-digits : (most : ℕ) (ds : List ℕ) → 1 ≤ length ds → length ds ≤ most → list_all is_ascii_digit ds ≡ true →
+pub whole_of-digits : (most : ℕ) (ds : List ℕ) → 1 ≤ length ds → length ds ≤ most → list_all is_ascii_digit ds ≡ true →
     whole_of most ds ≡ Some (digits_value 10 ds)
 unfolding whole_of
 whole_of-digits most ds some few digits = rw digits (grind (arith, common_steps))
 
 -- digits, a point and digits
-decimal_of-digits : (most places : ℕ) (front back : List ℕ) →
+pub decimal_of-digits : (most places : ℕ) (front back : List ℕ) →
     1 ≤ length front → length front ≤ most → list_all is_ascii_digit front ≡ true →
     1 ≤ length back → length back ≤ places → list_all is_ascii_digit back ≡ true →
     decimal_of most places (front ++ 46 ∷ back)

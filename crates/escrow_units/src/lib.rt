@@ -19,7 +19,9 @@ pub use amount::{Cents, Price8, Rate, YieldUnits};
 pub use day::Day;
 pub use denomination::{read_cap, read_terms};
 pub use fault::NumberFault;
-pub use number_text::{read_cents, read_count, read_dollars, read_rate, read_yield};
+pub use number_text::{
+    decimal_spelling, read_cents, read_count, read_dollars, read_rate, read_yield,
+};
 pub use price_text::read_price;
 pub use printed::{print_cents, print_rate, print_yield};
 pub use rounding::near;
