@@ -10,8 +10,12 @@ mod decimal;
 mod denomination;
 mod digits;
 mod fault;
+#[cfg(test)]
+mod number_tests;
 mod number_text;
+mod price_text;
 mod printed;
+mod rounding;
 mod security;
 
 pub use amount::{Cents, Price8, Rate, YieldUnits};
@@ -21,6 +25,10 @@ pub use date_text::{print_day, read_day};
 pub use day::Day;
 pub use denomination::{read_cap, read_terms};
 pub use fault::NumberFault;
-pub use number_text::{read_cents, read_dollars, read_rate, read_yield};
+pub use number_text::{
+    decimal_spelling, read_cents, read_count, read_dollars, read_rate, read_yield,
+};
+pub use price_text::read_price;
 pub use printed::{print_cents, print_rate, print_yield};
+pub use rounding::near;
 pub use security::{AskedRate, Flow, Slgs, SlgsKind, StepRule, Terms};
