@@ -45,5 +45,10 @@ HasCause old new = IsTrue (is_next_listed old.failing old.calls) ⊎ Rose old.st
 abbrev pub new_desk : Files → List ℕ → MemoryState
 new_desk files failing = record {
   content = record { files = files; said = [] };
-  failing = failing; calls = 0; starved = 0; read_faults = 0; write_faults = 0; absences = 0;
+  failing = failing;
+  calls = 0;
+  starved = 0;
+  read_faults = 0;
+  write_faults = 0;
+  absences = 0;
 }
