@@ -87,6 +87,10 @@ files-push fs n new none a =
 pub get_inserted : (m : Files) (n v : List ℕ) → get (insert m n v) n ≡ Some v
 get_inserted m n v = get-insert nat_list_cmp_total m n v n ∙ rw (same_name n n refl) refl
 
+-- a file of another name stays
+pub get_other : (m : Files) (n v q : List ℕ) → q ≢ n → get (insert m n v) q ≡ get m q
+get_other m n v q apart = get-insert nat_list_cmp_total m n v q ∙ rw (other_name q n apart) refl
+
 pub insert_twice : (m : Files) (n v w : List ℕ) → insert (insert m n v) n w ≡ insert m n w
 insert_twice m n v w = same_map nat_list_cmp_total (slice_cmp-IsAntisymmetric nat_cmp-IsAntisymmetric) _ _ (λ q.
     get-insert nat_list_cmp_total (insert m n v) n w q ∙ ap (cond (is_name q n) (Some w)) (get-insert nat_list_cmp_total m n v q)
