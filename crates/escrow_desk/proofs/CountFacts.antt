@@ -1,5 +1,5 @@
 -- Counts that rose, and counts that didn't.
-use Rattle.std.proofs.Common.{◌≡◌, ℕ, arith}
+use Rattle.std.proofs.Common.{ℕ, arith}
 use Rattle.escrow_desk.specs.Counts.{Rose, IsSteady}
 
 -- a count that is steady didn't rise

@@ -1,5 +1,5 @@
 -- A desk in memory: its content, and which of its calls fail.
-use Rattle.std.specs.Prelude.{◌≡◌, ℕ, zero, suc, ◌+◌, ◌<◌, ◌==◌, nat_lt, List, [], if◌then◌else◌, Bool, false, min, IsTrue, ◌⊎◌}
+use Rattle.std.specs.Prelude.{◌≡◌, ℕ, zero, suc, ◌+◌, ◌==◌, nat_lt, List, [], if◌then◌else◌, Bool, false, min, IsTrue, ◌⊎◌}
 use Rattle.std.specs.List.{list_any}
 use Rattle.escrow_desk.specs.Content.{Content, Files}
 use Rattle.escrow_desk.specs.Counts.{last_count, Rose}

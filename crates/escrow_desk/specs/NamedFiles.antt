@@ -1,5 +1,5 @@
 -- Named bytes as files.
-use Rattle.std.specs.Prelude.{◌≡◌, ◌≢◌, ℕ, List, map, string_bytes, AllPairs}
+use Rattle.std.specs.Prelude.{◌≢◌, ℕ, List, map, string_bytes, AllPairs}
 use Rattle.std.specs.FinMap as fin
 use Rattle.escrow_desk.specs.declared.named.NamedBytes.{NamedBytes}
 use Rattle.escrow_desk.specs.Content.{Files}

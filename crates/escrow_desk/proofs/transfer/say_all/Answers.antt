@@ -1,4 +1,4 @@
-use Rattle.std.proofs.Common.{rules, ◌∙◌, arith}
+use Rattle.std.proofs.Common.{rules, ◌∙◌}
 use Rattle.escrow_desk.proofs.ContentFacts.{said_rest}
 use Rattle.escrow_desk.proofs.transfer.say_all.Goals as goal
 

@@ -1,4 +1,4 @@
-use Rattle.std.proofs.Common.{rules, ◌∙◌, arith}
+use Rattle.std.proofs.Common.{rules, ◌∙◌}
 use Rattle.escrow_desk.proofs.FilesFacts.{wrote_rest}
 use Rattle.escrow_desk.proofs.transfer.write_all.Goals as goal
 
