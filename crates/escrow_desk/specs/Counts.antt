@@ -19,6 +19,7 @@ pub record Counts : Type 0 where
   pub write_faults : ℕ
   pub absences : ℕ
 
+-- the counts of these numbers
 abbrev pub counts : ℕ → ℕ → ℕ → Counts
 counts read_faults write_faults absences = record { read_faults = read_faults; write_faults = write_faults; absences = absences }
 
