@@ -1,0 +1,2 @@
+pub mod DiscountPowers
+pub mod PowerLaws
