@@ -1,12 +1,13 @@
 -- Powers of the day's discount factor, rounded to either side.
-use Rattle.std.proofs.Common.{◌≡◌, ◌∙◌, ℕ, zero, suc, ◌+◌, ◌-◌, ◌*◌, ◌/◌, ◌^◌, ◌<◌, ◌≤◌, refl, sym, ap, arith}
+use Rattle.std.proofs.Common.{◌≡◌, ◌∙◌, ℕ, zero, suc, ◌+◌, ◌-◌, ◌*◌, ◌/◌, ◌^◌, ◌<◌, ◌≤◌, refl, sym, ap, subst, add-one, arith}
+use Rattle.std.specs.Int.{div_ceil}
 use Rattle.std.proofs.Math.Nat.{mul-le-mul, mul-le-mul_left, mul-le-mul_right}
 use Rattle.escrow_units.specs.PresentValue.{half_year, two_m}
 use Rattle.fixed_powers.specs.DiscountPowers.{one, down, up, root_low, root_high, low, high, root_of, chain, power_of, IsRootLow, IsRootHigh, IsAtMostPower, IsAtLeastPower, LiesOutward}
 use Rattle.fixed_powers.specs.PowerLaws.{FallsWithDays, FallsWithYield, LowAtMostHigh, IsOneAtZero, IsOneAtNoDays, ProductsFit, ChainsRise}
 use Rattle.fixed_powers.specs.declared.side.Side.{Side}
 use Rattle.fixed_powers.specs.declared.side.Side.TheVariants.{Low, High}
-use Rattle.fixed_powers.proofs.ChainFacts.{down-zero, up-zero, down-one, up-one, down-mono, up-mono, down-le-up, down-within, up-within, down-antitone, down-first, up-antitone, down-below, up-above}
+use Rattle.fixed_powers.proofs.ChainFacts.{down-zero, up-zero, down-suc, up-suc, down-one, up-one, down-mono, up-mono, down-le-up, down-within, up-within, down-antitone, down-first, up-antitone, down-below, up-above}
 use Rattle.fixed_powers.proofs.RootFacts.{root_low-is, root_high-is, root_low-only, root_high-only, root_low-below, root_high-above, root_low-le-root_high}
 
 -- a root is at most one
@@ -69,8 +70,7 @@ pub root_high-zero : root_high 0 ≡ one
 root_high-zero =
     let is = root_high-is 0 in
     let falls = down-antitone (root_high 0) 1 179 is.within in
-    let first : down (root_high 0) 1 * one ≤ root_high 0 * one = omega (arith, down-below (root_high 0) (root_high 0) one 1 (omega arith)) in
-    omega (arith, is.within, is.enough, falls, first)
+    omega (arith, is.within, is.enough, falls, down-first (root_high 0))
 
 pub one_at_zero : IsOneAtZero
 one_at_zero Low d = ap (λ q. down q d) root_low-zero ∙ down-one d
@@ -86,3 +86,32 @@ products_fit side n d = omega (arith, mul-le-mul (power_of-within side n d) (roo
 pub chains_rise : ChainsRise
 chains_rise Low p q d le = down-mono p q d le
 chains_rise High p q d le = up-mono p q d le
+
+-- one step of a chain, by its side
+pub chain-suc-low : (side : Side) (v q d : ℕ) → side ≡ Low → v ≡ chain side q d → v * q / one ≡ chain side q (d + 1)
+chain-suc-low side v q d is =
+    subst (λ (s : Side). v ≡ chain s q d → v * q / one ≡ chain s q (d + 1)) (sym is)
+      (λ same. rw (add-one d, down-suc q d) (ap (λ x. x * q / one) same))
+
+pub chain-suc-high : (side : Side) (v q d : ℕ) → side ≡ High → v ≡ chain side q d → div_ceil (v * q) one ≡ chain side q (d + 1)
+chain-suc-high side v q d is =
+    subst (λ (s : Side). v ≡ chain s q d → div_ceil (v * q) one ≡ chain s q (d + 1)) (sym is)
+      (λ same. rw (add-one d, up-suc q d) (ap (λ x. div_ceil (x * q) one) same))
+
+-- a chain of a root is a power
+pub power_of-chain : (side : Side) (n d : ℕ) → chain side (root_of side n) d ≡ power_of side n d
+power_of-chain Low n d = refl
+power_of-chain High n d = refl
+
+pub chain-zero : (side : Side) (q : ℕ) → chain side q 0 ≡ one
+chain-zero Low q = down-zero q
+chain-zero High q = up-zero q
+
+-- what is a power lies on its side and within one
+pub power-encloses : (side : Side) (n d v : ℕ) → v ≡ power_of side n d → LiesOutward side n d v
+power-encloses side n d v is = subst (λ (w : ℕ). LiesOutward side n d w) (sym is) (power_of-encloses side n d)
+
+pub power-within : (side : Side) (n d v : ℕ) → v ≡ power_of side n d → v ≤ one
+power-within side n d v is = omega (arith, is, power_of-within side n d)
+
+pub ruleset chain_facts = (chain-zero, power_of-chain)

@@ -1,6 +1,6 @@
 //! Tables of powers.
 
-ghost use Rattle.std.specs.Prelude.{◌≡◌, ◌<◌, ◌≤◌, ◌+◌, ◌-◌, ◌^◌, ◌×◌, ℕ, IfOk, slice_index, vec_len};
+ghost use Rattle.std.specs.Prelude.{◌≡◌, ◌<◌, ◌≤◌, ◌+◌, ◌-◌, ◌^◌, ℕ, IfOk, slice_index, vec_len};
 ghost use Rattle.fixed_powers.specs.DiscountPowers.{one, chain, root_of, power_of, PowerTable, LiesOutward};
 
 use std::alloc::{AllocError, Global};
@@ -54,6 +54,7 @@ fn step(side: Side, power: u64, factor: u64) -> u64
 }
 
 // The powers of a factor from 0 to the longest, each from the one before it.
+#[tactic(auto, using(crate::proofs::PowerFacts::chain_facts))]
 fn powers_of(alloc: Global, factor: u64, side: Side, longest: u32) -> Result<Vec<u64>, AllocError>
     requires { factor ≤ one }
     ensures count { IfOk result (λ v. vec_len v ≡ longest + 1) }
@@ -72,6 +73,7 @@ fn powers_of(alloc: Global, factor: u64, side: Side, longest: u32) -> Result<Vec
 impl Powers {
     /// The powers of a yield of at most 3,000,000,001 units, from 0 to `longest` index days, at most 14,400. It takes
     /// memory for the table alone. Its one error is the want of memory.
+    #[tactic(auto, using(crate::proofs::PowerFacts::chain_facts))]
     pub fn make(alloc: Global, n: YieldUnits, side: Side, longest: u32) -> Result<Powers, NoMemory>
         requires yield_units { n.0 ≤ 3_000_000_001 }
         requires longest { longest ≤ 14_400 }
