@@ -1,5 +1,5 @@
 pub mod WholeNumbers
-pub mod Searches
+pub mod SearchFacts
 pub mod ChainFacts
 pub mod RootFacts
 pub mod PowerFacts

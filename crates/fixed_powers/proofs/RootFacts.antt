@@ -3,10 +3,10 @@ use Rattle.std.proofs.Common.{◌≡◌, ◌∙◌, ◌≢◌, inl, inr, ℕ, ze
 use Rattle.std.proofs.Math.Nat.{mul-le-mul, mul-le-mul_left, mul-le-mul_right}
 use Rattle.std.proofs.lemmas.Bool.{cases_lt, le-leb, leb-true}
 use Rattle.escrow_units.specs.PresentValue.{half_year, two_m}
-use Rattle.fixed_powers.specs.DiscountPowers.{one, down, up, greatest, least, is_low_enough, is_high_enough, root_low, root_high, IsRootLow, IsRootHigh}
+use Rattle.fixed_powers.specs.DiscountPowers.{one, down, up, is_low_enough, is_high_enough, root_low, root_high, IsRootLow, IsRootHigh}
 use Rattle.escrow_units.specs.PresentValue.{AtLeastDayFactor, AtMostDayFactor}
 use Rattle.fixed_powers.proofs.WholeNumbers.{cancel-le, cross-le, mul-le-mul-pow}
-use Rattle.fixed_powers.proofs.Searches.{greatest-within, greatest-passes, greatest-most, least-within, least-passes, least-most}
+use Rattle.fixed_powers.proofs.SearchFacts.{greatest-within, greatest-passes, greatest-most, least-within, least-passes, least-most}
 use Rattle.fixed_powers.proofs.ChainFacts.{down-one, up-nothing, down-mono, up-mono, down-below, up-above}
 
 -- nothing is low enough, and one is high enough

@@ -1,8 +1,9 @@
 -- Powers of one index day's discount factor in fixed point of 62 fraction bits, rounded outward: this project's own.
 -- A yield of n units of 10^-10 discounts a half-year of 180 index days by 2M / (2M + n), with M = 10^10.
-use Rattle.std.specs.Prelude.{◌≡◌, ℕ, zero, suc, ◌+◌, ◌*◌, ◌/◌, ◌^◌, ◌<◌, ◌≤◌, Bool, nat_le, if◌then◌else◌}
+use Rattle.std.specs.Prelude.{◌≡◌, ℕ, zero, suc, ◌+◌, ◌*◌, ◌/◌, ◌^◌, ◌<◌, ◌≤◌, Bool, nat_le}
 use Rattle.std.specs.Int.{div_ceil}
 use Rattle.escrow_units.specs.PresentValue.{half_year, two_m, AtLeastDayFactor, AtMostDayFactor}
+use Rattle.fixed_powers.specs.Searches.{greatest_passing, least_passing}
 use Rattle.fixed_powers.specs.declared.side.Side.{Side}
 use Rattle.fixed_powers.specs.declared.side.Side.TheVariants.{Low, High}
 
@@ -20,16 +21,6 @@ unfoldable pub up : ℕ → ℕ → ℕ
 up q zero = one
 up q (suc d) = div_ceil (up q d * q) one
 
--- the greatest number up to a top that passes a test; 0 where none does
-unfoldable pub greatest : (ℕ → Bool) → ℕ → ℕ
-greatest passes zero = zero
-greatest passes (suc top) = if passes (suc top) then suc top else greatest passes top
-
--- the least number up to a top that passes a test; the top where none does
-unfoldable pub least : (ℕ → Bool) → ℕ → ℕ
-least passes zero = zero
-least passes (suc top) = if passes (least passes top) then least passes top else suc top
-
 -- the half-year's power of q, rounded up, is at most the half-year's discount factor at the yield n
 abbrev pub is_low_enough : ℕ → ℕ → Bool
 is_low_enough n q = nat_le (up q half_year * (two_m + n)) (one * two_m)
@@ -40,11 +31,11 @@ is_high_enough n q = nat_le (one * two_m) (down q half_year * (two_m + n))
 
 -- the factor of one index day at the yield n, rounded down: the greatest that is low enough
 unfoldable pub root_low : ℕ → ℕ
-root_low n = greatest (is_low_enough n) one
+root_low n = greatest_passing (is_low_enough n) one
 
 -- the factor of one index day at the yield n, rounded up: the least that is high enough
 unfoldable pub root_high : ℕ → ℕ
-root_high n = least (is_high_enough n) one
+root_high n = least_passing (is_high_enough n) one
 
 -- the discount factor of d index days at the yield n, rounded down
 abbrev pub low : ℕ → ℕ → ℕ

@@ -1,7 +1,11 @@
 -- What is true of all outward powers, whatever the code does.
 use Rattle.std.specs.Prelude.{◌≡◌, ℕ, suc, ◌+◌, ◌*◌, ◌^◌, ◌<◌, ◌≤◌}
-use Rattle.fixed_powers.specs.DiscountPowers.{one, chain, root_of, power_of, low, high}
+use Rattle.fixed_powers.specs.DiscountPowers.{one, chain, root_of, power_of, low, high, LiesOutward}
 use Rattle.fixed_powers.specs.declared.side.Side.{Side}
+
+-- each power lies on its side of the exact one
+abbrev pub PowersEnclose : Type 0
+PowersEnclose = (side : Side) (n d : ℕ) → LiesOutward side n d (power_of side n d)
 
 -- a power doesn't rise with the days
 abbrev pub FallsWithDays : Type 0

@@ -1,6 +1,12 @@
 //! Laws of outward powers, for callers to cite. None of these calls does anything.
 
-ghost use Rattle.fixed_powers.specs.PowerLaws.{FallsWithDays, FallsWithYield, LowAtMostHigh, IsOneAtZero, IsOneAtNoDays, ProductsFit, ChainsRise, IsSharp};
+ghost use Rattle.fixed_powers.specs.PowerLaws.{PowersEnclose, FallsWithDays, FallsWithYield, LowAtMostHigh, IsOneAtZero, IsOneAtNoDays, ProductsFit, ChainsRise, IsSharp};
+
+/// Each power lies on its side of the exact one, for every yield, and for every whole number of days.
+pub fn powers_enclose()
+    ensures { PowersEnclose }
+{
+}
 
 /// Powers are in order: in the days, in the yield, in the side and in the factor; they are one at the yield 0 and for no
 /// days; and no product of a chain leaves 124 bits.
