@@ -1,10 +1,9 @@
 -- Powers of a factor, rounded down and up at each step.
-use Rattle.std.proofs.Common.{◌≡◌, ◌∙◌, ◌≢◌, ℕ, zero, suc, ◌+◌, ◌-◌, ◌*◌, ◌/◌, ◌^◌, ◌<◌, ◌≤◌, refl, sym, ap, add-zero, arith}
+use Rattle.std.proofs.Common.{◌≡◌, ℕ, zero, suc, ◌+◌, ◌*◌, ◌/◌, ◌^◌, ◌<◌, ◌≤◌, refl, ap, add-zero, arith}
 use Rattle.std.proofs.Math.Nat.{mul-le-mul, mul-le-mul_left, mul-le-mul_right, div-mul-le_self, pow-suc, pow-zero, lt-div-mul-add}
-use Rattle.std.proofs.lemmas.Nat.{le-div}
 use Rattle.std.specs.Int.{div_ceil}
 use Rattle.fixed_powers.specs.DiscountPowers.{one, down, up}
-use Rattle.fixed_powers.proofs.WholeNumbers.{div-le-div, le-div_ceil-mul, div_ceil-le, div_ceil-mono, div-le-div_ceil, div_ceil-le-div-suc, cancel-le}
+use Rattle.fixed_powers.proofs.WholeNumbers.{div-le-div, le-div_ceil-mul, div_ceil-le, div_ceil-mono, div-le-div_ceil, cancel-le}
 
 pub down-zero : (q : ℕ) → down q 0 ≡ one
 unfolding down

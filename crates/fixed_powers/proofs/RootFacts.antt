@@ -1,6 +1,6 @@
 -- The factors of one index day, rounded down and up.
-use Rattle.std.proofs.Common.{◌≡◌, ◌∙◌, ◌≢◌, inl, inr, ℕ, zero, suc, ◌+◌, ◌-◌, ◌*◌, ◌/◌, ◌^◌, ◌<◌, ◌≤◌, refl, sym, ap, arith}
-use Rattle.std.proofs.Math.Nat.{mul-le-mul, mul-le-mul_left, mul-le-mul_right}
+use Rattle.std.proofs.Common.{◌≡◌, ◌≢◌, inl, inr, ℕ, ◌+◌, ◌*◌, ◌^◌, ◌<◌, ◌≤◌, arith}
+use Rattle.std.proofs.Math.Nat.{mul-le-mul_left, mul-le-mul_right}
 use Rattle.std.proofs.lemmas.Bool.{cases_lt, le-leb, leb-true}
 use Rattle.escrow_units.specs.PresentValue.{half_year, two_m}
 use Rattle.fixed_powers.specs.DiscountPowers.{one, down, up, is_low_enough, is_high_enough, root_low, root_high, IsRootLow, IsRootHigh}
@@ -113,5 +113,5 @@ pub root_low-le-root_high : (n : ℕ) → root_low n ≤ root_high n
 root_low-le-root_high n =
     let below = root_low-below n (root_low n) (root_high n) one (root_low-is n).enough in
     let at_least : AtLeastDayFactor n (root_high n) one =
-        root_power_above one (root_high n) (down (root_high n) 180) two_m (two_m + n) 180 (omega arith) (down-exact (root_high n) 180) (root_high-is n).enough in
+    root_power_above one (root_high n) (down (root_high n) 180) two_m (two_m + n) 180 (omega arith) (down-exact (root_high n) 180) (root_high-is n).enough in
     cancel-le (root_low n) (root_high n) one (omega arith) (omega (arith, below at_least))

@@ -1,5 +1,5 @@
 -- The greatest and the least number up to a top that pass a test.
-use Rattle.std.proofs.Common.{◌≡◌, ◌∙◌, inl, inr, ℕ, zero, suc, ◌+◌, ◌-◌, ◌<◌, ◌≤◌, Bool, true, false, if◌then◌else◌, refl, sym, ap, subst, arith}
+use Rattle.std.proofs.Common.{◌≡◌, inl, inr, ℕ, zero, suc, ◌≤◌, Bool, true, false, if◌then◌else◌, refl, ap, subst, arith}
 use Rattle.std.proofs.lemmas.Bool.{cases_Bool, cases_lt, both_ways}
 use Rattle.fixed_powers.specs.Searches.{greatest_passing, least_passing}
 
@@ -78,9 +78,9 @@ least-passes passes (suc top) k le pass =
     elim (cases_Bool (passes (least_passing passes top))) [
       | inl here ↦ rw (least-here passes top here) here
       | inr not_here ↦ elim (cases_lt top k) [
-          | inl lt ↦ let same : k ≡ suc top = omega arith in rw (least-above passes top not_here) (subst (λ (j : ℕ). passes j ≡ true) same pass)
-          | inr below ↦ absurd (both_ways (passes (least_passing passes top)) not_here (least-passes passes top k below pass))
-        ]
+        | inl lt ↦ let same : k ≡ suc top = omega arith in rw (least-above passes top not_here) (subst (λ (j : ℕ). passes j ≡ true) same pass)
+        | inr below ↦ absurd (both_ways (passes (least_passing passes top)) not_here (least-passes passes top k below pass))
+      ]
     ]
 
 -- each number that passes is at least the least

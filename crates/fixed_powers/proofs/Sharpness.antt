@@ -1,12 +1,12 @@
 -- Rounding never hides one unit of yield.
-use Rattle.std.proofs.Common.{◌≡◌, ◌∙◌, inl, inr, ℕ, zero, suc, ◌+◌, ◌-◌, ◌*◌, ◌/◌, ◌^◌, ◌<◌, ◌≤◌, refl, sym, ap, arith}
+use Rattle.std.proofs.Common.{◌≡◌, inl, inr, ℕ, zero, suc, ◌+◌, ◌-◌, ◌*◌, ◌/◌, ◌^◌, ◌<◌, ◌≤◌, refl, ap, arith}
 use Rattle.std.proofs.Math.Nat.{mul-le-mul, mul-le-mul_left, mul-le-mul_right}
 use Rattle.std.proofs.lemmas.Bool.{cases_lt}
 use Rattle.std.specs.Int.{div_ceil}
 use Rattle.escrow_units.specs.PresentValue.{half_year, two_m}
-use Rattle.fixed_powers.specs.DiscountPowers.{one, down, up, root_low, root_high, low, high, IsRootLow, IsRootHigh}
-use Rattle.fixed_powers.specs.PowerLaws.{SeparatesYields, IsSharp}
-use Rattle.fixed_powers.specs.declared.side.Side.TheVariants.{Low, High}
+use Rattle.fixed_powers.specs.DiscountPowers.{one, down, up, root_low, root_high, low, high}
+use Rattle.fixed_powers.specs.PowerLaws.{IsSharp}
+use Rattle.fixed_powers.specs.declared.side.Side.TheVariants.{Low}
 use Rattle.std.proofs.Math.Nat.{div-mul-le_self}
 use Rattle.std.proofs.lemmas.Nat.{le-div}
 use Rattle.fixed_powers.proofs.WholeNumbers.{div_ceil-le-div-suc}

@@ -1,6 +1,6 @@
 -- Powers of one index day's discount factor in fixed point of 62 fraction bits, rounded outward: this project's own.
 -- A yield of n units of 10^-10 discounts a half-year of 180 index days by 2M / (2M + n), with M = 10^10.
-use Rattle.std.specs.Prelude.{◌≡◌, ℕ, zero, suc, ◌+◌, ◌*◌, ◌/◌, ◌^◌, ◌<◌, ◌≤◌, Bool, nat_le}
+use Rattle.std.specs.Prelude.{ℕ, zero, suc, ◌+◌, ◌*◌, ◌/◌, ◌^◌, ◌<◌, ◌≤◌, Bool, nat_le}
 use Rattle.std.specs.Int.{div_ceil}
 use Rattle.escrow_units.specs.PresentValue.{half_year, two_m, AtLeastDayFactor, AtMostDayFactor}
 use Rattle.fixed_powers.specs.Searches.{greatest_passing, least_passing}

@@ -1,5 +1,5 @@
 -- What is true of all outward powers, whatever the code does.
-use Rattle.std.specs.Prelude.{◌≡◌, ℕ, suc, ◌+◌, ◌*◌, ◌^◌, ◌<◌, ◌≤◌}
+use Rattle.std.specs.Prelude.{◌≡◌, ℕ, ◌+◌, ◌*◌, ◌^◌, ◌<◌, ◌≤◌}
 use Rattle.fixed_powers.specs.DiscountPowers.{one, chain, root_of, power_of, low, high, LiesOutward}
 use Rattle.fixed_powers.specs.declared.side.Side.{Side}
 

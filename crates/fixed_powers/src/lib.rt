@@ -8,7 +8,7 @@ mod powers;
 mod root;
 mod side;
 
-pub use laws::{powers_enclose, powers_are_ordered, powers_are_sharp};
+pub use laws::{powers_are_ordered, powers_are_sharp, powers_enclose};
 pub use memory::NoMemory;
 pub use powers::Powers;
 pub use root::{root_high, root_low};

@@ -3,14 +3,13 @@
 ghost use Rattle.std.specs.Prelude.{◌≡◌, ◌<◌, ◌≤◌, ◌+◌, ◌-◌, ◌^◌, ℕ, IfOk, slice_index, vec_len};
 ghost use Rattle.fixed_powers.specs.DiscountPowers.{one, chain, root_of, power_of, PowerTable, LiesOutward};
 
-use std::alloc::{AllocError, Global};
-use std::marker::Model;
-
 use crate::chain::{ONE, step_down, step_up};
 use crate::memory::NoMemory;
 use crate::root::{root_high, root_low};
 use crate::side::Side;
 use escrow_units::YieldUnits;
+use std::alloc::{AllocError, Global};
+use std::marker::Model;
 
 /// The discount factors of 0 to `longest` index days at one yield, rounded to one side.
 #[derive(Drop)]

@@ -39,17 +39,18 @@ pub fn root_low(n: YieldUnits) -> u64
     ensures greatest { IsRootLow n.0 result }
     ensures encloses { IsAtMostPower n.0 1 result }
 {
-    let mut low = 0;
-    let mut high = ONE;
-    while low < high {
-        let middle = high - (high - low) / 2;
+    // A smaller factor has smaller powers, so all factors up to the greatest are low enough, and none above it is.
+    let mut enough = 0;
+    let mut most = ONE;
+    while enough < most {
+        let middle = most - (most - enough) / 2;
         if is_low_enough(middle, n.0) {
-            low = middle;
+            enough = middle;
         } else {
-            high = middle - 1;
+            most = middle - 1;
         }
     }
-    low
+    enough
 }
 
 /// The factor of one index day at a yield of at most 3,000,000,001 units, rounded up: the least number of 62 fraction
@@ -60,15 +61,16 @@ pub fn root_high(n: YieldUnits) -> u64
     ensures least { IsRootHigh n.0 result }
     ensures encloses { IsAtLeastPower n.0 1 result }
 {
-    let mut low = 0;
-    let mut high = ONE;
-    while low < high {
-        let middle = low + (high - low) / 2;
+    // A greater factor has greater powers, so all factors from the least on are high enough, and none below it is.
+    let mut least = 0;
+    let mut enough = ONE;
+    while least < enough {
+        let middle = least + (enough - least) / 2;
         if is_high_enough(middle, n.0) {
-            high = middle;
+            enough = middle;
         } else {
-            low = middle + 1;
+            least = middle + 1;
         }
     }
-    low
+    enough
 }

@@ -96,8 +96,12 @@ fn known_powers(rt: HostRuntime) -> Result<(), Fail> {
         let n = YieldUnits(known.n);
         assert_eq!(rt; root_low(n), known.low[1]);
         assert_eq!(rt; root_high(n), known.high[1]);
-        let low = Powers::make(rt.alloc(), n, Side::Low, 14_400).ok().ok_or("there is memory")?;
-        let high = Powers::make(rt.alloc(), n, Side::High, 14_400).ok().ok_or("there is memory")?;
+        let low = Powers::make(rt.alloc(), n, Side::Low, 14_400)
+            .ok()
+            .ok_or("there is memory")?;
+        let high = Powers::make(rt.alloc(), n, Side::High, 14_400)
+            .ok()
+            .ok_or("there is memory")?;
         for (i, day) in DAYS.iter().enumerate() {
             assert!(rt; *day <= 14_400);
             assert_eq!(rt; low.power(*day), known.low[i], "yield {n:?}, day {day}");
@@ -113,7 +117,9 @@ fn laws_are_called(rt: HostRuntime) -> Result<(), Fail> {
     powers_are_ordered();
     powers_are_sharp();
     // No day but the first: the shortest table.
-    let short = Powers::make(rt.alloc(), YieldUnits(5), Side::Low, 0).ok().ok_or("there is memory")?;
+    let short = Powers::make(rt.alloc(), YieldUnits(5), Side::Low, 0)
+        .ok()
+        .ok_or("there is memory")?;
     assert_eq!(rt; short.power(0), 1 << 62);
     Ok(())
 }

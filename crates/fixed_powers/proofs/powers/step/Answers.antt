@@ -1,4 +1,4 @@
-use Rattle.std.proofs.Common.{◌≡◌, ◌∙◌, ℕ}
+use Rattle.std.proofs.Common.{◌∙◌}
 use Rattle.fixed_powers.proofs.PowerFacts.{chain-suc-low, chain-suc-high}
 use Rattle.fixed_powers.proofs.powers.step.Goals as goal
 

@@ -1,4 +1,4 @@
-use Rattle.std.proofs.Common.{◌≡◌, ℕ, arith}
+use Rattle.std.proofs.Common.{◌≡◌, arith}
 use Rattle.std.proofs.lemmas.Grind.{common_steps}
 use Rattle.fixed_powers.specs.DiscountPowers.{power_of}
 use Rattle.fixed_powers.proofs.PowerFacts.{power-encloses, power-within}
