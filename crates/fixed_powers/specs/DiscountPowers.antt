@@ -1,6 +1,6 @@
 -- Powers of one index day's discount factor in fixed point of 62 fraction bits, rounded outward: this project's own.
 -- A yield of n units of 10^-10 discounts a half-year of 180 index days by 2M / (2M + n), with M = 10^10.
-use Rattle.std.specs.Prelude.{ℕ, zero, suc, ◌+◌, ◌*◌, ◌/◌, ◌^◌, ◌<◌, ◌≤◌, Bool, nat_le}
+use Rattle.std.specs.Prelude.{◌≡◌, ℕ, zero, suc, ◌+◌, ◌*◌, ◌/◌, ◌^◌, ◌<◌, ◌≤◌, Bool, nat_le, List, length, slice_index}
 use Rattle.std.specs.Int.{div_ceil}
 use Rattle.escrow_units.specs.PresentValue.{half_year, two_m, AtLeastDayFactor, AtMostDayFactor}
 use Rattle.fixed_powers.specs.Searches.{greatest_passing, least_passing}
@@ -59,6 +59,10 @@ chain High q d = up q d
 abbrev pub power_of : Side → ℕ → ℕ → ℕ
 power_of Low n d = low n d
 power_of High n d = high n d
+
+-- the numbers are the powers of 0, 1, 2 .. index days at the yield n, rounded to a side
+abbrev pub ArePowers : Side → ℕ → List ℕ → Type 0
+ArePowers side n powers = (d : ℕ) → d < length powers → slice_index powers d ≡ power_of side n d
 
 -- what a table of powers holds: the powers of one yield, rounded to one side, of 0 to longest index days
 pub record PowerTable : Type 0 where

@@ -1,7 +1,7 @@
 //! Tables of powers.
 
 ghost use Rattle.std.specs.Prelude.{◌≡◌, ◌<◌, ◌≤◌, ◌+◌, ◌-◌, ◌^◌, ℕ, IfOk, slice_index, vec_len};
-ghost use Rattle.fixed_powers.specs.DiscountPowers.{one, chain, root_of, power_of, PowerTable, LiesOutward};
+ghost use Rattle.fixed_powers.specs.DiscountPowers.{one, chain, root_of, power_of, PowerTable, ArePowers, LiesOutward};
 
 use crate::chain::{ONE, step_down, step_up};
 use crate::memory::NoMemory;
@@ -24,7 +24,7 @@ impl Model for Powers {
 
     ghost view = { λ p. record { yield_units = p.n.0; side = p.side; longest = vec_len p.table - 1 } };
 
-    ghost invariant = { λ p. (0 < vec_len p.table) × ((d : ℕ) → d < vec_len p.table → slice_index p.table.items d ≡ power_of p.side p.n.0 d) };
+    ghost invariant = { λ p. (0 < vec_len p.table) × ArePowers p.side p.n.0 p.table.items };
 }
 
 // The factor of one index day.
@@ -70,13 +70,20 @@ fn powers_of(alloc: Global, factor: u64, side: Side, longest: u32) -> Result<Vec
 }
 
 impl Powers {
-    /// The powers of a yield of at most 3,000,000,001 units, from 0 to `longest` index days, at most 14,400. It takes
-    /// memory for the table alone. Its one error is the want of memory.
+    /// The powers of a yield of at most 3,000,000,001 units, from 0 to `longest` index days, at most 14,400.
+    ///
+    /// The root is found once, and each power by one multiplication. It takes memory for the table alone.
+    ///
+    /// # Errors
+    ///
+    /// `NoMemory` where there is no room for the table.
     #[tactic(auto, using(crate::proofs::PowerFacts::chain_facts))]
     pub fn make(alloc: Global, n: YieldUnits, side: Side, longest: u32) -> Result<Powers, NoMemory>
         requires yield_units { n.0 ≤ 3_000_000_001 }
         requires longest { longest ≤ 14_400 }
-        ensures { IfOk result (λ powers. powers ≡ record { yield_units = n.0; side = side; longest = longest }) }
+        ensures table { IfOk result (λ powers. powers ≡ record { yield_units = n.0; side = side; longest = longest }) }
+        // Each power that the table has encloses the exact one.
+        ensures encloses { IfOk result (λ powers. (d : ℕ) → d ≤ powers.longest → LiesOutward side n.0 d (power_of side n.0 d)) }
     {
         match powers_of(alloc, root(n, side), side, longest) {
             Ok(table) => Ok(Powers { n, side, table }),
@@ -84,7 +91,8 @@ impl Powers {
         }
     }
 
-    /// The discount factor of `d` index days, in units of 2^-62, rounded to the table's side. It takes no memory.
+    /// The discount factor of `d` index days, at most the table's `longest`, rounded to the table's side: a number from
+    /// 0 to 2^62, which stands for one. It is a look-up, and takes no memory.
     pub fn power(&self, d: u32) -> u64
         requires { d ≤ self.now.longest }
         ensures value { result ≡ power_of self.now.side self.now.yield_units d }
