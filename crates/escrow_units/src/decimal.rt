@@ -3,9 +3,9 @@ ghost use Rattle.escrow_units.specs.NumberText.{whole_of, parted_of, decimal_of,
 
 use crate::fault::NumberFault;
 
-// The number that 1 to `most` digits write.
+/// The number that 1 to `most` digits write; None where the bytes are no such digits. Leading zeros are allowed.
 #[tactic(auto, unfolding(crate::specs::NumberText::whole_of))]
-pub(crate) fn whole_number(bytes: &[u8], most: usize) -> Option<u64>
+pub fn whole_number(bytes: &[u8], most: usize) -> Option<u64>
     requires { most ≤ 19 }
     ensures value { result ≡ whole_of most bytes.now }
     ensures bound { IfSome result (λ n. n < 10 ^ length bytes.now) }

@@ -23,6 +23,7 @@ pub use calendar::{days_between, half_back, index360, years_after};
 pub use calendar_laws::{date_laws, index_laws, kind_laws, series_laws, year_laws};
 pub use date_text::{print_day, read_day};
 pub use day::Day;
+pub use decimal::whole_number;
 pub use denomination::{read_cap, read_terms};
 pub use fault::NumberFault;
 pub use number_text::{

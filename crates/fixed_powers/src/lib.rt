@@ -3,13 +3,11 @@
 
 mod chain;
 mod laws;
-mod memory;
 mod powers;
 mod root;
 mod side;
 
 pub use laws::{powers_are_ordered, powers_are_sharp, powers_enclose};
-pub use memory::NoMemory;
 pub use powers::Powers;
 pub use root::{root_high, root_low};
 pub use side::Side;

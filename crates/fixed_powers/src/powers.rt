@@ -4,9 +4,9 @@ ghost use Rattle.std.specs.Prelude.{◌≡◌, ◌<◌, ◌≤◌, ◌+◌, ◌-
 ghost use Rattle.fixed_powers.specs.DiscountPowers.{one, chain, root_of, power_of, PowerTable, ArePowers, LiesOutward};
 
 use crate::chain::{ONE, step_down, step_up};
-use crate::memory::NoMemory;
 use crate::root::{root_high, root_low};
 use crate::side::Side;
+use escrow_desk::NoMemory;
 use escrow_units::YieldUnits;
 use std::alloc::{AllocError, Global};
 use std::marker::Model;
