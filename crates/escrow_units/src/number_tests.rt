@@ -42,7 +42,7 @@ fn amounts_are_dollars_and_cents(rt: HostRuntime) {
             Ok(cents) => Ok(Cents(cents)),
             Err(fault) => Err(fault),
         };
-        assert_eq!(rt; read_cents(text.as_bytes()), want, "for {text}");
+        assert_eq!(rt; read_cents(text.as_bytes()), want, "at {text}");
     }
 }
 
@@ -59,7 +59,7 @@ fn dollars_and_counts_are_whole(rt: HostRuntime) {
         ("", Err(BAD)),
     ];
     for (text, want) in dollars {
-        assert_eq!(rt; read_dollars(text.as_bytes()), want, "for {text}");
+        assert_eq!(rt; read_dollars(text.as_bytes()), want, "at {text}");
     }
     let counts = [
         ("1", Ok(1)),
@@ -71,7 +71,7 @@ fn dollars_and_counts_are_whole(rt: HostRuntime) {
         ("", Err(BAD)),
     ];
     for (text, want) in counts {
-        assert_eq!(rt; read_count(text.as_bytes()), want, "for {text}");
+        assert_eq!(rt; read_count(text.as_bytes()), want, "at {text}");
     }
 }
 
@@ -88,7 +88,7 @@ fn rates_and_yields_are_percent(rt: HostRuntime) {
         ("-1", Err(BAD)),
     ];
     for (text, want) in rates {
-        assert_eq!(rt; read_rate(text.as_bytes()), want, "for {text}");
+        assert_eq!(rt; read_rate(text.as_bytes()), want, "at {text}");
     }
     let yields = [
         ("29.99", Ok(YieldUnits(2_999_000_000))),
@@ -100,7 +100,7 @@ fn rates_and_yields_are_percent(rt: HostRuntime) {
         ("", Err(BAD)),
     ];
     for (text, want) in yields {
-        assert_eq!(rt; read_yield(text.as_bytes()), want, "for {text}");
+        assert_eq!(rt; read_yield(text.as_bytes()), want, "at {text}");
     }
 }
 
@@ -135,7 +135,7 @@ fn prices_are_decimals_or_thirty_seconds(rt: HostRuntime) {
             Ok(units) => Ok(Price8(units)),
             Err(fault) => Err(fault),
         };
-        assert_eq!(rt; read_price(text.as_bytes()), want, "for {text}");
+        assert_eq!(rt; read_price(text.as_bytes()), want, "at {text}");
     }
 }
 
@@ -174,7 +174,7 @@ fn denominations_keep_their_relations(rt: HostRuntime) {
         ("x", Err(BAD)),
     ];
     for (text, want) in caps {
-        assert_eq!(rt; read_cap(text.as_bytes(), terms), want, "for {text}");
+        assert_eq!(rt; read_cap(text.as_bytes(), terms), want, "at {text}");
     }
 }
 
