@@ -1,0 +1,5 @@
+pub mod ZipFacts
+pub mod CostFacts
+pub mod PermitFacts
+pub mod ReceiptFacts
+pub mod DayFacts
