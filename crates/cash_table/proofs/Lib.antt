@@ -3,3 +3,5 @@ pub mod CostFacts
 pub mod PermitFacts
 pub mod ReceiptFacts
 pub mod DayFacts
+pub mod YieldFacts
+pub mod PortfolioLaws
