@@ -27,8 +27,9 @@ security_at_most : (settle : ℤ) (line : Line) (units : ℕ) → IsSecurityLine
 security_at_most settle line units security permitted =
     let cap = security.cap in
     elim permitted [
-        inl none ↦ (let zero : line_cost line units ≡ line.step * 0 = ap (λ n. line.step * n) none in omega (arith, zero))
-      | inr some ↦ (let more = mul-le-mul_left line.step some.1 in omega (arith, more, cap)) ]
+      | inl none ↦ (let zero : line_cost line units ≡ line.step * 0 = ap (λ n. line.step * n) none in omega (arith, zero))
+      | inr some ↦ (let more = mul-le-mul_left line.step some.1 in omega (arith, more, cap))
+    ]
 
 securities_at_most : (settle : ℤ) (lines : List Line) (plan : List ℕ) → All (IsSecurityLine settle) lines → All PairIsPermitted (zip lines plan) → All (λ p. pair_cost p ≤ 10 ^ 11) (zip lines plan)
 securities_at_most settle [] plan securities permitted = All-nil (λ p. pair_cost p ≤ 10 ^ 11)
@@ -77,6 +78,6 @@ security_cost_at_most book plan limits permitted = omega (arith, cost_at_most bo
 pub lines_present : (book : BookContents) → IsBook book → 1 ≤ length book.lines
 lines_present book limits = present book.settle book.lines limits.lines
   where
-  present : (settle : ℤ) (lines : List Line) → AreLines settle lines → 1 ≤ length lines
-  present settle [] lines = absurd lines
-  present settle (cash ∷ securities) lines = omega arith
+    present : (settle : ℤ) (lines : List Line) → AreLines settle lines → 1 ≤ length lines
+    present settle [] lines = absurd lines
+    present settle (cash ∷ securities) lines = omega arith

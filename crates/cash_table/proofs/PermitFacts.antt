@@ -46,9 +46,9 @@ pub none_fails : (lines : List Line) (plan : List ℕ) → length plan ≡ lengt
 none_fails lines plan same passes =
     position_none FailsAt (zip lines plan)
     (λ k d h.
-        let within : k < length lines = omega (arith, length-zip lines plan) in
-        let units = get_or_default plan k d.1 0 (omega arith) in
-        ap FailsAt (get_or-zip lines plan k d within (omega arith)) ∙ ap (λ u. not (permits (get_or lines k d.0) u)) units ∙ ap not (passes k d.0 within))
+    let within : k < length lines = omega (arith, length-zip lines plan) in
+    let units = get_or_default plan k d.1 0 (omega arith) in
+    ap FailsAt (get_or-zip lines plan k d within (omega arith)) ∙ ap (λ u. not (permits (get_or lines k d.0) u)) units ∙ ap not (passes k d.0 within))
 
 pub permitted_from_tests : (book : BookContents) (plan : List ℕ) → length plan ≡ length book.lines → PassBelow book.lines plan (length book.lines) → IsPermitted book plan
 permitted_from_tests book plan same passes = record {
@@ -72,7 +72,8 @@ passes_from_permitted book plan i line permitted within at =
 pub pass_more : (lines : List Line) (plan : List ℕ) (i : ℕ) (line : Line) → i < length lines → line ≡ get_or lines i line → permits line (get_or plan i 0) ≡ true → PassBelow lines plan i → PassBelow lines plan (i + 1)
 pass_more lines plan i line within at passes before = λ k d h.
     elim (cases_lt k i) [
-        inl less ↦ before k d less
+      | inl less ↦ before k d less
       | inr more ↦ (let here : k ≡ i = omega arith in
           let read = get_or_read lines i line within at d in
-          ap (λ n. permits (get_or lines n d) (get_or plan n 0)) here ∙ ap (λ x. permits x (get_or plan i 0)) (sym read) ∙ passes) ]
+          ap (λ n. permits (get_or lines n d) (get_or plan n 0)) here ∙ ap (λ x. permits x (get_or plan i 0)) (sym read) ∙ passes)
+    ]

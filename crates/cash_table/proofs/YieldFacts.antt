@@ -58,13 +58,15 @@ not_zero h = omega (arith, h)
 
 at_least_one : (a b : ℕ) → AtLeastDayFactor 0 a b → b ≤ a
 at_least_one a b h = elim (cases_lt a b) [
-    inl less ↦ (let power = pow-lt-pow_left less not_zero in absurd (omega (arith, power, h)))
-  | inr more ↦ more ]
+  | inl less ↦ (let power = pow-lt-pow_left less not_zero in absurd (omega (arith, power, h)))
+  | inr more ↦ more
+]
 
 at_most_one : (a b : ℕ) → AtMostDayFactor 0 a b → a ≤ b
 at_most_one a b h = elim (cases_lt b a) [
-    inl less ↦ (let power = pow-lt-pow_left less not_zero in absurd (omega (arith, power, h)))
-  | inr more ↦ more ]
+  | inl less ↦ (let power = pow-lt-pow_left less not_zero in absurd (omega (arith, power, h)))
+  | inr more ↦ more
+]
 
 pub yields_nothing : (flows : List IndexedFlow) → YieldLiesIn flows (total_cents flows) 0 0
 yields_nothing flows = record {

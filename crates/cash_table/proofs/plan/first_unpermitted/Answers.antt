@@ -11,9 +11,10 @@ returns-then-not-permits-clause-value c =
 
 pub returns-then-not-permits-clause-none : goal.returns-then-not-permits-clause-none
 returns-then-not-permits-clause-none c =
-    let fails : permits c.line.result.now c.get.result ≡ false = cc in
-    ((λ h. absurd (false≢true (sym h))),
-    (λ permitted. absurd (false≢true (sym fails ∙ rw c.get.ensures (passes_from_permitted c.args.book.now c.args.plan.now c.loop-line.line c.line.result.now permitted (omega arith) c.line.ensures)))))
+    let fails : permits c.line.result.now c.get.result ≡ false = cc in (
+      (λ h. absurd (false≢true (sym h))),
+      (λ permitted. absurd (false≢true (sym fails ∙ rw c.get.ensures (passes_from_permitted c.args.book.now c.args.plan.now c.loop-line.line c.line.result.now permitted (omega arith) c.line.ensures)))),
+    )
 
 pub loop-line-preserved : goal.loop-line-preserved
 loop-line-preserved c =
