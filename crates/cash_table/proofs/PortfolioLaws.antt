@@ -1,5 +1,5 @@
 -- What permitted portfolios of zero-interest certificates cost, pay and yield.
-use Rattle.std.proofs.Common.{◌≡◌, ◌↔◌, ℕ, ◌+◌, ◌*◌, ◌<◌, ◌≤◌, Bool, true, false, cond, nat_lt, List, [], ◌∷◌, length, get_or, drop, slice_index, refl, sym, ap, ◌∙◌, subst, arith, ℤ, ◌≤ℤ◌}
+use Rattle.std.proofs.Common.{◌≡◌, ◌↔◌, ℕ, ◌+◌, ◌*◌, ◌<◌, ◌≤◌, Bool, true, false, cond, nat_lt, List, [], ◌∷◌, length, drop, slice_index, refl, sym, ap, ◌∙◌, subst, arith, ℤ, ◌≤ℤ◌}
 use Rattle.std.specs.List.{All, sum_by, flat_map, filter, zip}
 use Rattle.std.proofs.lemmas.List.Elements.{All-head, All-tail, All-cons, All-nil, All-weaker}
 use Rattle.std.proofs.lemmas.List.Sums.{sum_by-cons}
@@ -10,7 +10,7 @@ use Rattle.escrow_units.specs.PresentValue.{YieldLiesIn}
 use Rattle.escrow_units.specs.declared.security.Flow.{Flow}
 use Rattle.cash_table.specs.declared.line.Line.{Line}
 use Rattle.cash_table.specs.Book.{BookContents, IsSecurityLine, AreLines, IsBook, AreZeroCertificates, total}
-use Rattle.cash_table.specs.Portfolio.{IsPermitted, Meets, line_cost, line_payments, payment_day, payments, cost, security_cost, security_flows, indexed, total_needs, total_by}
+use Rattle.cash_table.specs.Portfolio.{IsPermitted, Meets, line_payments, payment_day, payments, cost, security_cost, security_flows, indexed, total_needs}
 use Rattle.cash_table.proofs.CostFacts.{pair_cost, cost_is}
 use Rattle.cash_table.proofs.DayFacts.{total_by-due, total_by-at_most}
 use Rattle.cash_table.proofs.YieldFacts.{total_cents, yields_nothing, total_cents-indexed}

@@ -1,5 +1,5 @@
 -- The book of the tests keeps every limit.
-use Rattle.std.proofs.Common.{◌≡◌, ℕ, zero, suc, ◌+◌, ◌<◌, ◌≤◌, List, [], ◌∷◌, length, get_or, refl, arith, lit≤, ℤ, pos, ◌≤ℤ◌, ◌<ℤ◌}
+use Rattle.std.proofs.Common.{◌≡◌, ℕ, zero, suc, ◌≤◌, List, [], ◌∷◌, refl, arith, ℤ, pos, ◌≤ℤ◌, ◌<ℤ◌}
 use Rattle.std.specs.List.{All, AllPairs}
 use Rattle.std.proofs.lemmas.Int.{ints}
 use Rattle.std.proofs.lemmas.List.Elements.{All-cons, All-nil}
@@ -10,7 +10,7 @@ use Rattle.escrow_units.specs.declared.security.Slgs.{Slgs}
 use Rattle.escrow_units.specs.declared.security.SlgsKind.TheVariants.{Certificate}
 use Rattle.cash_table.specs.declared.line.LineKind.TheVariants.{Cash, Security}
 use Rattle.cash_table.specs.declared.line.Line.{Line}
-use Rattle.cash_table.specs.Book.{BookContents, IsNeeds, IsCashLine, IsSecurityLine, AreLines, IsBook, IsZeroCertificate, AreZeroCertificates}
+use Rattle.cash_table.specs.Book.{IsNeeds, IsSecurityLine, AreLines, IsBook, IsZeroCertificate, AreZeroCertificates}
 
 abbrev pub sample_need : ℕ → ℕ → Flow
 sample_need day cents = record { day = pos day; cents = record { 0 = cents } }

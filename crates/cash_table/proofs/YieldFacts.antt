@@ -1,12 +1,12 @@
 -- Flows that sum to their cost have the yield 0.
-use Rattle.std.proofs.Common.{◌≡◌, ◌⊎◌, ℕ, zero, suc, ◌+◌, ◌-◌, ◌*◌, ◌^◌, ◌<◌, ◌≤◌, max, List, [], ◌∷◌, map, refl, sym, ap, ◌∙◌, inl, inr, arith, ℤ}
+use Rattle.std.proofs.Common.{◌≡◌, ℕ, ◌+◌, ◌-◌, ◌*◌, ◌^◌, ◌≤◌, List, [], ◌∷◌, refl, sym, ap, ◌∙◌, inl, inr, arith, ℤ}
 use Rattle.std.specs.List.{sum_by}
 use Rattle.std.proofs.lemmas.Bool.{cases_lt}
 use Rattle.std.proofs.lemmas.List.Sums.{sum_by-cons}
 use Rattle.std.proofs.lemmas.Nat.{pow-add}
 use Rattle.std.proofs.Math.Nat.{mul-le-mul_left, mul-le-mul_right, pow-le-pow_left, pow-lt-pow_left}
 use Rattle.escrow_units.specs.Calendar.{e_of}
-use Rattle.escrow_units.specs.PresentValue.{IndexedFlow, half_year, last_index, discounted, AtLeastDayFactor, AtMostDayFactor, YieldLiesIn}
+use Rattle.escrow_units.specs.PresentValue.{IndexedFlow, half_year, last_index, AtLeastDayFactor, AtMostDayFactor, YieldLiesIn}
 use Rattle.escrow_units.specs.declared.security.Flow.{Flow}
 use Rattle.cash_table.specs.Book.{total}
 use Rattle.cash_table.specs.Portfolio.{indexed}

@@ -1,8 +1,6 @@
-use Rattle.std.proofs.Common.{◌≡◌, ◌<◌, length, take, subst, ap, arith}
-use Rattle.std.specs.List.{sum, sum_by, flat_map, zip}
+use Rattle.std.proofs.Common.{length, arith}
+use Rattle.std.specs.List.{zip}
 use Rattle.std.proofs.lemmas.List.{take_all, length_push}
-use Rattle.cash_table.specs.Portfolio.{line_cost, line_payments}
-use Rattle.cash_table.specs.Receipts.{AreReceipts}
 use Rattle.cash_table.proofs.CostFacts.{pair_cost}
 use Rattle.cash_table.proofs.ZipFacts.{this_pair, all_pairs, sum_by-zip_more, sum_by-zip_room}
 use Rattle.cash_table.proofs.ReceiptFacts.{receipts_more, cents_from_payments}

@@ -1,11 +1,8 @@
-use Rattle.std.proofs.Common.{◌≡◌, ℕ, ◌+◌, ◌<◌, ◌≤◌, length, take, ap, inl, inr, arith}
-use Rattle.std.specs.List.{sum}
+use Rattle.std.proofs.Common.{◌≡◌, length, ap, inl, inr, arith}
 use Rattle.std.proofs.lemmas.Bool.{cases_lt}
 use Rattle.std.proofs.lemmas.List.{length_push}
 use Rattle.std.proofs.lemmas.Slice.Zip.{length-zip}
-use Rattle.escrow_units.specs.declared.security.Flow.{Flow}
-use Rattle.cash_table.specs.Book.{total}
-use Rattle.cash_table.specs.Receipts.{IsCovered, IsFirstUncovered}
+use Rattle.cash_table.specs.Receipts.{IsCovered}
 use Rattle.cash_table.proofs.ZipFacts.{this_pair, all_pairs, sum_by-at_more, sum_by-at_room}
 use Rattle.cash_table.proofs.cash.first_uncovered.Goals as goal
 

@@ -1,7 +1,6 @@
-use Rattle.std.proofs.Common.{◌≡◌, ℕ, List, length, take, drop, arith, sym, ap}
-use Rattle.std.specs.List.{sum_by, zip}
+use Rattle.std.proofs.Common.{arith}
 use Rattle.std.proofs.lemmas.List.{take_rest}
-use Rattle.cash_table.proofs.CostFacts.{pair_cost, drop-zip, lines_present, security_cost_at_most}
+use Rattle.cash_table.proofs.CostFacts.{drop-zip, security_cost_at_most}
 use Rattle.cash_table.proofs.costs.security_cost.Goals as goal
 
 pub lines_cost-requires : goal.lines_cost-requires

@@ -1,6 +1,6 @@
-use Rattle.std.proofs.Common.{◌≡◌, ◌∙◌, pos, ◌∷◌, [], refl, sym, arith}
+use Rattle.std.proofs.Common.{◌≡◌, ◌∙◌, pos, refl, sym, arith}
 use Rattle.std.proofs.lemmas.Int.{ints}
-use Rattle.cash_table.proofs.SampleBook.{FortyYears, OneYear, sample_keeps, sample_certificates, sample_lines, sample_needs}
+use Rattle.cash_table.proofs.SampleBook.{FortyYears, OneYear, sample_keeps, sample_certificates}
 use Rattle.cash_table.proofs.tests.sample.Goals as goal
 
 pub make-requires-clause-limits : goal.make-requires-clause-limits
