@@ -83,11 +83,11 @@ position_fails : {X : Type 0} (p : X → Bool) (xs : List X) → position p xs �
 position_fails p xs none k d within =
     fails_before_first p xs k d (at_end (nat_lt (position_or_len p xs) (length xs)) refl none)
   where
-  at_end : (b : Bool) → nat_lt (position_or_len p xs) (length xs) ≡ b → cond b (Some (position_or_len p xs)) None ≡ None → k < position_or_len p xs
-  at_end true test found = cc
-  at_end false test found =
-      let past : length xs ≤ position_or_len p xs = grind (arith, nat_tests) in
-      omega arith
+    at_end : (b : Bool) → nat_lt (position_or_len p xs) (length xs) ≡ b → cond b (Some (position_or_len p xs)) None ≡ None → k < position_or_len p xs
+    at_end true test found = cc
+    at_end false test found =
+        let past : length xs ≤ position_or_len p xs = grind (arith, nat_tests) in
+        omega arith
 
 none_found : {X : Type 0} (found : Option X) → IsNone found → found ≡ None
 none_found None h = refl
@@ -99,17 +99,18 @@ passed_all book plan same none = λ k d within.
     let pair = get_or-zip book.lines plan k (d, 0) within (omega arith) in
     not_false (permits (get_or book.lines k d) (get_or plan k 0)) (sym (ap FailsAt pair) ∙ fails)
   where
-  not_false : (b : Bool) → not b ≡ false → b ≡ true
-  not_false true h = refl
-  not_false false h = cc
+    not_false : (b : Bool) → not b ≡ false → b ≡ true
+    not_false true h = refl
+    not_false false h = cc
 
 -- no line is the first that isn't permitted exactly where the portfolio is permitted
 pub first_unpermitted_is : (book : BookContents) (plan : List ℕ) → length plan ≡ length book.lines → IsNone (first_unpermitted_of book plan) ↔ IsPermitted book plan
-first_unpermitted_is book plan same =
-    ((λ none. permitted_from_tests book plan same (passed_all book plan same (none_found (first_unpermitted_of book plan) none))),
-    (λ permitted. ap is_some (none_fails book.lines plan same (λ k d within.
-        let line = get_or book.lines k d in
-        passes_from_permitted book plan k line permitted within (get_or_default book.lines k d line within)))))
+first_unpermitted_is book plan same = (
+  (λ none. permitted_from_tests book plan same (passed_all book plan same (none_found (first_unpermitted_of book plan) none))),
+  (λ permitted. ap is_some (none_fails book.lines plan same (λ k d within.
+      let line = get_or book.lines k d in
+      passes_from_permitted book plan k line permitted within (get_or_default book.lines k d line within)))),
+)
 
 pub found_none : (book : BookContents) (plan : List ℕ) (found : Option ℕ) → length plan ≡ length book.lines → found ≡ first_unpermitted_of book plan → IsNone found ↔ IsPermitted book plan
 found_none book plan found same is =

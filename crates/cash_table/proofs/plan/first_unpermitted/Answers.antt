@@ -1,5 +1,4 @@
-use Rattle.std.proofs.Common.{◌≡◌, ◌∙◌, length, true, false, refl, sym, arith}
-use Rattle.std.proofs.lemmas.Bool.{false≢true}
+use Rattle.std.proofs.Common.{◌≡◌, length, true, false, sym, arith}
 use Rattle.cash_table.specs.Portfolio.{permits}
 use Rattle.cash_table.proofs.PermitFacts.{first_fails, none_fails, found_none, pass_more}
 use Rattle.cash_table.proofs.plan.first_unpermitted.Goals as goal
