@@ -1,0 +1,8 @@
+pub mod ZipFacts
+pub mod CostFacts
+pub mod PermitFacts
+pub mod ReceiptFacts
+pub mod DayFacts
+pub mod YieldFacts
+pub mod PortfolioLaws
+pub mod SampleBook
