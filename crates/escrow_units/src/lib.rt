@@ -2,12 +2,23 @@
 #![tactic(auto)]
 
 mod amount;
+mod calendar;
+mod date_text;
 mod day;
+mod decimal;
+mod denomination;
 mod digits;
 mod fault;
+mod number_text;
+mod printed;
 mod security;
 
 pub use amount::{Cents, Price8, Rate, YieldUnits};
+pub use calendar::{days_between, half_back, index360, years_after};
+pub use date_text::{print_day, read_day};
 pub use day::Day;
+pub use denomination::{read_cap, read_terms};
 pub use fault::NumberFault;
+pub use number_text::{read_cents, read_dollars, read_rate, read_yield};
+pub use printed::{print_cents, print_rate, print_yield};
 pub use security::{AskedRate, Flow, Slgs, SlgsKind, StepRule, Terms};

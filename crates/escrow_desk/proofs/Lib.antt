@@ -1,0 +1,4 @@
+pub mod CallFacts
+pub mod ContentFacts
+pub mod FilesFacts
+pub mod RecordFacts

@@ -1,0 +1,7 @@
+use Rattle.std.proofs.Common.{add-one, ◌∙◌, ap, ◌+◌, cond}
+use Rattle.escrow_desk.specs.Memory.{listed_below}
+use Rattle.escrow_desk.proofs.CallFacts.{listed-suc}
+use Rattle.escrow_desk.proofs.tally.number_call.Goals as goal
+
+pub returns-clause-tallied : goal.returns-clause-tallied
+returns-clause-tallied c = rw (add-one, c.contains.ensures.value) (listed-suc c.args.failing.now c.args.calls.now)

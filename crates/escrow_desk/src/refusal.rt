@@ -1,0 +1,91 @@
+/// Memory ran out.
+#[derive(Clone, Copy, Debug, PartialEq, Eq)]
+pub struct NoMemory;
+
+/// Which of a case's files.
+#[derive(Clone, Copy, Debug, PartialEq, Eq)]
+pub enum FileKind {
+    /// The issue: settlement, needs and the restricted yield.
+    Issue,
+    /// The rates of the securities on offer, and the offers.
+    Rates,
+    /// The prices of marketable notes.
+    Prices,
+    /// The certificate.
+    Cert,
+}
+
+/// Why a file is refused.
+#[derive(Clone, Copy, Debug, PartialEq, Eq)]
+pub enum RefusalKind {
+    /// The file has more bytes than its limit.
+    TooLong,
+    /// A row that has to stand is missing.
+    Missing,
+    /// The first field is none of the file's words.
+    UnknownRow,
+    /// The number of fields isn't the row's.
+    WrongFields,
+    /// A field isn't spelled as a number of its kind.
+    BadNumber,
+    /// A field isn't a date.
+    BadDate,
+    /// A number or a day is outside its range.
+    OutOfRange,
+    /// A price is outside its range.
+    PriceRange,
+    /// A row that may stand once stood before.
+    Repeated,
+    /// Two dates stand in the wrong order.
+    DateOrder,
+    /// Two ranges of days have a day in common.
+    Overlap,
+    /// A bond matured by settlement.
+    Matured,
+    /// The needs together are over their limit.
+    NeedsTooLarge,
+    /// There are more need dates than the limit.
+    TooManyDates,
+    /// No range of rates holds the offer's maturity.
+    NoRate,
+    /// The offer's rate is above the table's.
+    RateAboveTable,
+    /// The offer's term is too short.
+    TooShort,
+    /// The offer's term is too long.
+    TooLongTerm,
+    /// The offer's first interest date isn't permitted.
+    FirstDate,
+    /// There are more lines than the limit.
+    TooManyLines,
+}
+
+/// A file is refused at a row, counted from 1; row 0 stands for the file as a whole.
+#[derive(Clone, Copy, Debug, PartialEq, Eq)]
+pub struct Refusal {
+    pub file: FileKind,
+    pub row: u32,
+    pub kind: RefusalKind,
+}
+
+/// Why a case wasn't read.
+#[derive(Clone, Copy, Debug, PartialEq, Eq)]
+pub enum CaseError {
+    /// A file is refused.
+    Refused(Refusal),
+    /// Memory ran out.
+    NoMemory,
+}
+
+/// Why a file wasn't read whole.
+#[derive(Clone, Copy, Debug, PartialEq, Eq)]
+pub enum ReadRefusal {
+    /// A read failed.
+    Fault,
+    /// There is no such file.
+    NoFile,
+    /// The file has more bytes than the limit.
+    TooLong,
+    /// Memory ran out.
+    NoMemory,
+}

@@ -1,0 +1,99 @@
+ghost use Rattle.std.specs.Prelude.{◌≡◌, ◌≤◌, length, OnOk, OnErr, IfOk, IsErrOf};
+ghost use Rattle.escrow_desk.specs.Counts.{Rose};
+ghost use Rattle.escrow_desk.specs.Content.{IsFile, IsAbsent, IsLonger, SaidAll, SaidPart, WroteAll, WrotePart};
+
+use crate::desk::{Desk, DeskError, Failed};
+use crate::refusal::ReadRefusal;
+use std::alloc::Global;
+
+/// Reads a whole file of at most `limit` bytes.
+///
+/// # Errors
+///
+/// `TooLong` exactly where the file has more than `limit` bytes, `NoFile` where it isn't there, `Fault` where a read
+/// failed, and `NoMemory`. No content changes.
+pub fn read_all<D: Desk>(
+    alloc: Global,
+    desk: &mut D,
+    name: &str,
+    limit: u64,
+) -> Result<Vec<u8>, ReadRefusal>
+    ensures whole { IfOk result (λ bytes. IsFile (D.told desk.old) name.now bytes.items) }
+    ensures within { IfOk result (λ bytes. length bytes.items ≤ limit) }
+    ensures too_long { IsErrOf result ReadRefusal.TooLong → IsLonger (D.told desk.old) name.now limit }
+    ensures absent { IsErrOf result ReadRefusal.NoFile → IsAbsent (D.told desk.old) name.now }
+    ensures told { D.told desk.new ≡ D.told desk.old }
+
+    // Only a fault and an absence raise a count, and each its own alone.
+    ensures calm { OnOk result ((D.read_faults desk.new ≡ D.read_faults desk.old) × (D.absences desk.new ≡ D.absences desk.old)) }
+    ensures too_long_calm { IsErrOf result ReadRefusal.TooLong → (D.read_faults desk.new ≡ D.read_faults desk.old) × (D.absences desk.new ≡ D.absences desk.old) }
+    ensures no_memory_calm { IsErrOf result ReadRefusal.NoMemory → (D.read_faults desk.new ≡ D.read_faults desk.old) × (D.absences desk.new ≡ D.absences desk.old) }
+    ensures fault { IsErrOf result ReadRefusal.Fault → Rose (D.read_faults desk.old) (D.read_faults desk.new) × (D.absences desk.new ≡ D.absences desk.old) }
+    ensures no_file { IsErrOf result ReadRefusal.NoFile → Rose (D.absences desk.old) (D.absences desk.new) × (D.read_faults desk.new ≡ D.read_faults desk.old) }
+    ensures writes { D.write_faults desk.new ≡ D.write_faults desk.old }
+{
+    let mut bytes = Vec::new(alloc);
+    let mut piece = [0u8; 4096];
+    while bytes.len() as u64 <= limit {
+        // At most one byte past the limit is read.
+        let more = limit - bytes.len() as u64;
+        let room = if more < 4095 { more as usize + 1 } else { 4096 };
+        match desk.read(name, bytes.len() as u64, &mut piece[..room]) {
+            Ok(0) => return Ok(bytes),
+            Ok(count) => {
+                if bytes.extend_from_slice(&piece[..count]).is_err() {
+                    return Err(ReadRefusal::NoMemory);
+                }
+            }
+            Err(DeskError::Failed) => return Err(ReadRefusal::Fault),
+            Err(DeskError::NoFile) => return Err(ReadRefusal::NoFile),
+        }
+    }
+    Err(ReadRefusal::TooLong)
+}
+
+/// Begins a file and appends all the bytes.
+///
+/// # Errors
+///
+/// Where a call of the desk failed. The file is then as before, or holds a prefix of the bytes; all other content stays
+/// as it is.
+pub fn write_all<D: Desk>(desk: &mut D, name: &str, bytes: &[u8]) -> Result<(), Failed>
+    ensures whole { OnOk result (WroteAll (D.told desk.old) name.now bytes.now (D.told desk.new)) }
+    ensures part { OnErr result (WrotePart (D.told desk.old) name.now bytes.now (D.told desk.new)) }
+
+    ensures calm { OnOk result (D.write_faults desk.new ≡ D.write_faults desk.old) }
+    ensures failed { OnErr result (Rose (D.write_faults desk.old) (D.write_faults desk.new)) }
+    ensures reads { D.read_faults desk.new ≡ D.read_faults desk.old }
+    ensures absences { D.absences desk.new ≡ D.absences desk.old }
+{
+    desk.begin(name)?;
+    let mut done = 0;
+    while done < bytes.len() {
+        let count = desk.append(name, &bytes[done..])?;
+        done += count;
+    }
+    Ok(())
+}
+
+/// Says all the bytes.
+///
+/// # Errors
+///
+/// Where a call of the desk failed. What was said grew by a prefix of the bytes then; all other content stays as it is.
+pub fn say_all<D: Desk>(desk: &mut D, bytes: &[u8]) -> Result<(), Failed>
+    ensures whole { OnOk result (SaidAll (D.told desk.old) bytes.now (D.told desk.new)) }
+    ensures part { OnErr result (SaidPart (D.told desk.old) bytes.now (D.told desk.new)) }
+
+    ensures calm { OnOk result (D.write_faults desk.new ≡ D.write_faults desk.old) }
+    ensures failed { OnErr result (Rose (D.write_faults desk.old) (D.write_faults desk.new)) }
+    ensures reads { D.read_faults desk.new ≡ D.read_faults desk.old }
+    ensures absences { D.absences desk.new ≡ D.absences desk.old }
+{
+    let mut done = 0;
+    while done < bytes.len() {
+        let count = desk.say(&bytes[done..])?;
+        done += count;
+    }
+    Ok(())
+}

@@ -1,0 +1,105 @@
+ghost use Rattle.std.specs.Prelude.{◌≡◌, ◌<◌, ◌≤◌, ◌-◌, pos, ◌+ℤ◌, ◌≤ℤ◌, unsigned_abs};
+ghost use Rattle.jiff.specs.Words.{add_months, epoch_day};
+ghost use Rattle.escrow_units.specs.Calendar.{IsBaseDay, e_of, half_back_of, years_after_of};
+ghost use Rattle.escrow_units.specs.DayNumber.{IsDayNumber};
+
+use crate::day::Day;
+use crate::security::StepRule;
+use jiff::ToSpan;
+use jiff::civil::Date;
+
+// The date of a day.
+pub(crate) fn plain_date(day: Day) -> jiff_core::civil::Date
+    ensures number { epoch_day result ≡ day }
+    ensures years { IsDayNumber day }
+{
+    match jiff_core::civil::Date::from_unix_epoch_day(day.number() as i64) {
+        Ok(date) => date,
+        Err(_) => unreachable!(),
+    }
+}
+
+// The day of a date of the years 1900 to 2299.
+pub(crate) fn day_of_date(date: jiff_core::civil::Date) -> Day
+    requires { IsDayNumber (epoch_day date) }
+    ensures { result ≡ epoch_day date }
+{
+    Day::new(date.to_unix_epoch_day())
+}
+
+/// The days from one day to another that is not before it.
+pub fn days_between(a: Day, b: Day) -> u32
+    requires { a ≤ℤ b }
+    ensures { a +ℤ pos result ≡ b }
+{
+    (b.number() - a.number()) as u32
+}
+
+// The place of a day in years of twelve months of thirty days.
+fn thirty_day_place(day: Day) -> u32
+    ensures value { result ≡ e_of day }
+    ensures bound { result < 1_000_000 }
+    ensures years { IsDayNumber day }
+{
+    let date = plain_date(day);
+    360 * date.year as u32 + 30 * date.month as u32 + (date.day as u32).min(30)
+}
+
+/// The index of a day: how many days it comes after settlement, by years of twelve months of thirty days (30/360).
+///
+/// One half-year is 180. Settlement isn't after the day, and the day isn't later than 40 years after settlement.
+pub fn index360(settle: Day, day: Day) -> u32
+    requires order { settle ≤ℤ day }
+    requires near { day ≤ℤ years_after_of settle 40 }
+    ensures value { result ≡ e_of day - e_of settle }
+    ensures bound { result ≤ 14_400 }
+{
+    thirty_day_place(day) - thirty_day_place(settle)
+}
+
+// The same day of the month so many months later, or the last day of a shorter month.
+fn shifted(date: Date, months: i32) -> Date
+    requires few { unsigned_abs months ≤ 600 }
+    requires base { IsBaseDay (epoch_day date) }
+    ensures { epoch_day result ≡ add_months date months }
+{
+    match date.checked_add((months as i64).months()) {
+        Ok(later) => later,
+        Err(_) => unreachable!(),
+    }
+}
+
+/// The day `k` half-years before maturity, which is of the years 2000 to 2190, for `k` up to 84.
+///
+/// It is counted from maturity itself and not from the step before: back from 31 August come 28 February and again
+/// 31 August.
+pub fn half_back(maturity: Day, k: u32, rule: StepRule) -> Day
+    requires few { k ≤ 84 }
+    requires base { IsBaseDay maturity }
+    ensures { result ≡ half_back_of maturity k rule }
+{
+    let date = Date::from_plain(plain_date(maturity));
+    let back = shifted(date, -(6 * k as i32));
+    match rule {
+        StepRule::SameDay => day_of_date(back.to_plain()),
+        StepRule::MonthEnd => {
+            if date.day() == date.days_in_month() {
+                day_of_date(back.last_of_month().to_plain())
+            } else {
+                day_of_date(back.to_plain())
+            }
+        }
+    }
+}
+
+/// The same month and day up to 40 years later, or 28 February for a 29th that isn't there.
+///
+/// The day is of the years 2000 to 2190.
+pub fn years_after(day: Day, years: u32) -> Day
+    requires few { years ≤ 40 }
+    requires base { IsBaseDay day }
+    ensures { result ≡ years_after_of day years }
+{
+    let date = Date::from_plain(plain_date(day));
+    day_of_date(shifted(date, 12 * years as i32).to_plain())
+}

@@ -1,0 +1,58 @@
+ghost use Rattle.std.specs.Prelude.{◌≡◌, ◌≤◌, ◌^◌, IfOk};
+ghost use Rattle.escrow_units.specs.NumberText.{cents_of, dollars_of, rate_of, yield_of};
+
+use crate::amount::{Cents, Rate, YieldUnits};
+use crate::decimal::{decimal, in_range, whole_number};
+use crate::fault::NumberFault;
+
+/// Reads dollars and cents: 1 to 15 digits, then optionally a point and 1 or 2 digits.
+///
+/// At most 10^13 cents. Leading zeros are allowed; no sign, comma or blank is.
+#[tactic(auto, unfolding(crate::specs::NumberText::cents_of))]
+pub fn read_cents(bytes: &[u8]) -> Result<Cents, NumberFault>
+    ensures value { result ≡ cents_of bytes.now }
+    ensures limit { IfOk result (λ cents. cents.0 ≤ 10 ^ 13) }
+{
+    let number = decimal(bytes, 15, 2);
+    Ok(Cents(in_range(number, 0, 10_000_000_000_000, NumberFault::OutOfRange)?))
+}
+
+/// Reads whole dollars: 1 to 15 digits.
+///
+/// From 1 to 1,000,000,000 dollars. Leading zeros are allowed; no sign, comma, point or blank is.
+#[tactic(auto, unfolding(crate::specs::NumberText::dollars_of))]
+pub fn read_dollars(bytes: &[u8]) -> Result<u64, NumberFault>
+    ensures value { result ≡ dollars_of bytes.now }
+    ensures limit { IfOk result (λ dollars. (1 ≤ dollars) × (dollars ≤ 1_000_000_000)) }
+{
+    in_range(
+        whole_number(bytes, 15),
+        1,
+        1_000_000_000,
+        NumberFault::OutOfRange,
+    )
+}
+
+/// Reads a rate or a coupon in percent: 1 to 3 digits, then optionally a point and 1 to 3 digits.
+///
+/// At most 30.000 percent. Leading zeros are allowed; no sign, comma or blank is.
+#[tactic(auto, unfolding(crate::specs::NumberText::rate_of))]
+pub fn read_rate(bytes: &[u8]) -> Result<Rate, NumberFault>
+    ensures value { result ≡ rate_of bytes.now }
+    ensures limit { IfOk result (λ rate. rate.0 ≤ 30_000) }
+{
+    let number = decimal(bytes, 3, 3);
+    Ok(Rate(in_range(number, 0, 30_000, NumberFault::OutOfRange)? as u32))
+}
+
+/// Reads a yield in percent: 1 to 3 digits, then optionally a point and 1 to 8 digits.
+///
+/// At most 29.99 percent. Leading zeros are allowed; no sign, comma or blank is.
+#[tactic(auto, unfolding(crate::specs::NumberText::yield_of))]
+pub fn read_yield(bytes: &[u8]) -> Result<YieldUnits, NumberFault>
+    ensures value { result ≡ yield_of bytes.now }
+    ensures limit { IfOk result (λ units. units.0 ≤ 2_999_000_000) }
+{
+    let number = decimal(bytes, 3, 8);
+    Ok(YieldUnits(in_range(number, 0, 2_999_000_000, NumberFault::OutOfRange)?))
+}

@@ -1,0 +1,41 @@
+ghost use Rattle.std.specs.Prelude.{◌≡◌, ◌≤◌, ◌^◌};
+ghost use Rattle.escrow_units.specs.Digits.{fixed};
+
+use crate::amount::{Cents, Rate, YieldUnits};
+use crate::digits::{push_ascii, push_decimal, push_last};
+use arrayvec::ArrayString;
+
+// A number of units of 10^-places, with that many decimals.
+#[tactic(auto, using(crate::proofs::DigitFacts::digit_facts))]
+fn fixed_text(n: u64, places: u8) -> ArrayString<32>
+    requires { places ≤ 8 }
+    ensures { result.bytes ≡ fixed places n }
+{
+    let unit = 10u64.pow(places as u32);
+    let mut text = ArrayString::new();
+    push_decimal(&mut text, n / unit);
+    push_ascii(&mut text, b'.');
+    push_last(&mut text, places, n % unit);
+    text
+}
+
+/// Prints an amount in dollars with two decimals, as `5000.00`.
+pub fn print_cents(value: Cents) -> ArrayString<32>
+    ensures { result.bytes ≡ fixed 2 value.0 }
+{
+    fixed_text(value.0, 2)
+}
+
+/// Prints a rate in percent with three decimals, as `4.250`.
+pub fn print_rate(value: Rate) -> ArrayString<32>
+    ensures { result.bytes ≡ fixed 3 value.0 }
+{
+    fixed_text(value.0 as u64, 3)
+}
+
+/// Prints a yield in percent with eight decimals, as `4.00100000`.
+pub fn print_yield(value: YieldUnits) -> ArrayString<32>
+    ensures { result.bytes ≡ fixed 8 value.0 }
+{
+    fixed_text(value.0, 8)
+}
