@@ -1,0 +1,36 @@
+ghost use Rattle.std.specs.Prelude.{◌≡◌, ◌^◌, ◌<◌, ◌≤◌, length};
+ghost use Rattle.std.specs.List.{sum_by, zip};
+ghost use Rattle.cash_table.specs.Portfolio.{IsPermitted, line_cost, cost as cost_of, security_cost as security_cost_of};
+
+use crate::book::Book;
+use crate::line::Line;
+use crate::plan::Plan;
+use escrow_units::Cents;
+
+/// What a permitted portfolio costs, opening cash included, in cents.
+pub fn cost(book: &Book, plan: &Plan) -> Cents
+    requires { IsPermitted book.now plan.now }
+    ensures { result.0 ≡ cost_of book.now plan.now }
+{
+    Cents(lines_cost(book.lines(), plan.units()))
+}
+
+/// What the securities of a permitted portfolio cost, without opening cash, in cents.
+pub fn security_cost(book: &Book, plan: &Plan) -> Cents
+    requires { IsPermitted book.now plan.now }
+    ensures { result.0 ≡ security_cost_of book.now plan.now }
+{
+    Cents(lines_cost(&book.lines()[1..], &plan.units()[1..]))
+}
+
+// What units of lines cost, one number of units a line.
+fn lines_cost(lines: &[Line], plan: &[u64]) -> u64
+    requires { sum_by (λ p. line_cost p.0 p.1) (zip lines.now plan.now) < 2 ^ 64 }
+    ensures { result ≡ sum_by (λ p. line_cost p.0 p.1) (zip lines.now plan.now) }
+{
+    let mut total = 0;
+    for (line, units) in lines.iter().zip(plan) {
+        total += line.step * *units;
+    }
+    total
+}

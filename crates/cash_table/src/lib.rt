@@ -1,0 +1,15 @@
+//! The lines of an escrow, portfolios of them, and whether a portfolio is permitted, what it costs and whether it
+//! meets the needs.
+#![tactic(auto)]
+
+mod book;
+mod cash;
+mod costs;
+mod line;
+mod plan;
+
+pub use book::Book;
+pub use cash::first_short;
+pub use costs::{cost, security_cost};
+pub use line::{Line, LineKind};
+pub use plan::{NoMemory, Plan, first_unpermitted};

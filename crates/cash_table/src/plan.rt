@@ -1,0 +1,74 @@
+ghost use Rattle.std.specs.Prelude.{◌≡◌, ◌<◌, ◌↔◌, length, replicate, slice_index, slice_set, IfOk, IsNone};
+ghost use Rattle.cash_table.specs.Portfolio.{IsPermitted, first_unpermitted_of};
+
+use crate::book::Book;
+use std::alloc::Global;
+use std::marker::Model;
+
+/// There was no memory.
+#[derive(Clone, Copy, Debug, PartialEq, Eq)]
+pub struct NoMemory;
+
+/// A portfolio: a number of units for each line of a book. Contracts see it as the list of these numbers.
+#[derive(Drop)]
+pub struct Plan {
+    units: Vec<u64>,
+}
+
+impl Model for Plan {
+    ghost use Rattle.std.specs.Prelude.{ℕ, List};
+
+    ghost Value = { List ℕ };
+
+    ghost view = { λ p. p.units.items };
+}
+
+impl Plan {
+    /// The portfolio with 0 units of each line of a book.
+    pub fn zero(alloc: Global, book: &Book) -> Result<Plan, NoMemory>
+        ensures { IfOk result (λ plan. plan ≡ replicate (length book.now.lines) 0) }
+    {
+        match vec![in alloc; 0u64; book.line_count() as usize] {
+            Ok(units) => Ok(Plan { units }),
+            Err(_) => Err(NoMemory),
+        }
+    }
+
+    /// The number of units of a line.
+    pub fn get(&self, line: u16) -> u64
+        requires { line < length self.now }
+        ensures { result ≡ slice_index self.now line }
+    {
+        self.units[line as usize]
+    }
+
+    /// Sets the number of units of a line, and changes no other.
+    pub fn put(&mut self, line: u16, units: u64)
+        requires { line < length self.old }
+        ensures { self.new ≡ slice_set self.old line units }
+    {
+        self.units[line as usize] = units;
+    }
+
+    // The numbers of units.
+    pub(crate) fn units(&self) -> &[u64]
+        ensures { result.now ≡ self.now }
+    {
+        &self.units
+    }
+}
+
+/// The first line whose number of units isn't permitted, counted from 0; None exactly where the portfolio is
+/// permitted.
+pub fn first_unpermitted(book: &Book, plan: &Plan) -> Option<u16>
+    requires { length plan.now ≡ length book.now.lines }
+    ensures value { result ≡ first_unpermitted_of book.now plan.now }
+    ensures none { IsNone result ↔ IsPermitted book.now plan.now }
+{
+    let _lines = book.line_count();
+    book.lines()
+        .iter()
+        .zip(plan.units())
+        .position(|(line, units)| !line.permits(*units))
+        .map(|place| place as u16)
+}
