@@ -29,8 +29,8 @@ pub struct Line {
 impl Line {
     ghost use Rattle.cash_table.specs.Portfolio.{permits as permits_of};
 
-    // Whether a number of units of the line is permitted.
-    pub(crate) fn permits(&self, units: u64) -> bool
+    /// Whether a number of units of the line is permitted: 0, or from `least` to `most`.
+    pub fn permits(&self, units: u64) -> bool
         ensures { result ≡ permits_of self.now units }
     {
         units == 0 || (self.least <= units && units <= self.most)

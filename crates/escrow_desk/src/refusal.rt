@@ -1,3 +1,5 @@
+use std::alloc::{AllocError, AllocFailed};
+
 /// Memory ran out.
 #[derive(Clone, Copy, Debug, PartialEq, Eq)]
 pub struct NoMemory;
@@ -88,4 +90,17 @@ pub enum ReadRefusal {
     TooLong,
     /// Memory ran out.
     NoMemory,
+}
+
+impl<T: Drop> From<AllocFailed<T>> for NoMemory {
+    /// What could not be stored is let go.
+    fn from(_failed: AllocFailed<T>) -> NoMemory {
+        NoMemory
+    }
+}
+
+impl From<AllocError> for NoMemory {
+    fn from(_error: AllocError) -> NoMemory {
+        NoMemory
+    }
 }

@@ -1,2 +1,1 @@
-pub mod NumberFacts
 pub mod CertificateFacts

@@ -4,7 +4,7 @@ use Rattle.std.specs.Prelude.{ℕ, zero, suc, ◌+◌, ◌*◌, ◌^◌, Bool, n
 use Rattle.std.specs.List.{starts_with, take_while, prefix_len}
 use Rattle.std.specs.Bool.{nat_eq}
 use Rattle.std.specs.Char.{is_ascii_digit}
-use Rattle.escrow_top.specs.Stub.{whole_of}
+use Rattle.escrow_units.specs.NumberText.{whole_of}
 use Rattle.escrow_top.specs.declared.certificate.Purchase.{Purchase}
 use Rattle.escrow_top.specs.declared.certificate.Certificate.{Certificate}
 

@@ -1,2 +1,2 @@
-pub mod Stub
 pub mod CertificateForm
+pub mod CaseForm

@@ -4,7 +4,8 @@ ghost use Rattle.std.specs.Char.{is_ascii_digit};
 ghost use Rattle.escrow_top.specs.CertificateForm.{after, after_each, number_at, purchase_at, purchases_at, after_tree, head_at, closing_gap, claim, claim_of};
 
 
-use crate::stub::{NoMemory, read_whole};
+use escrow_desk::NoMemory;
+use escrow_units::whole_number;
 use std::alloc::Global;
 
 /// A purchase of a number of units of a line.
@@ -54,7 +55,7 @@ fn number_at(text: &[u8], most: u64) -> Option<NumberRead<'_>>
 {
     let count = digit_count(text);
     let digits = &text[..count];
-    let value = read_whole(digits, 16)?;
+    let value = whole_number(digits, 16)?;
     if value > most || count > 1 && digits[0] == b'0' {
         return None;
     }

@@ -5,7 +5,7 @@ use crate::fault::NumberFault;
 
 // The number that 1 to `most` digits write.
 #[tactic(auto, unfolding(crate::specs::NumberText::whole_of))]
-pub(crate) fn whole_number(bytes: &[u8], most: usize) -> Option<u64>
+pub fn whole_number(bytes: &[u8], most: usize) -> Option<u64>
     requires { most ≤ 19 }
     ensures value { result ≡ whole_of most bytes.now }
     ensures bound { IfSome result (λ n. n < 10 ^ length bytes.now) }

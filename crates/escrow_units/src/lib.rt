@@ -15,6 +15,7 @@ mod security;
 
 pub use amount::{Cents, Price8, Rate, YieldUnits};
 pub use calendar::{days_between, half_back, index360, years_after};
+pub use decimal::whole_number;
 pub use date_text::{print_day, read_day};
 pub use day::Day;
 pub use denomination::{read_cap, read_terms};
