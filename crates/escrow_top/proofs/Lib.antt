@@ -1,1 +1,2 @@
 pub mod CertificateFacts
+pub mod EachFacts

@@ -1,6 +1,7 @@
 -- The three input files that are read so far, and the case that they give: needs, zero-interest certificates of
 -- indebtedness, and a given restricted yield. The rows are this project's own.
-use Rattle.std.specs.Prelude.{ℕ, ◌+◌, ◌*◌, ◌/◌, ◌-◌, ◌^◌, Bool, true, ◌&&◌, ◌==◌, nat_lt, nat_le, nat_eq, if◌then◌else◌, List, [], ◌∷◌, length, take, drop, slice_index_or, Option, Some, None, option_map, option_and_then, Result, Ok, Err, codes, ℤ, pos, ◌+ℤ◌, int_le}
+use Rattle.std.specs.Prelude.{ℕ, ◌+◌, ◌*◌, ◌/◌, ◌-◌, ◌^◌, Bool, true, ◌&&◌, ◌==◌, nat_lt, nat_le, nat_eq, if◌then◌else◌, List, [], ◌∷◌, length, take, drop, slice_index_or, Option, Some, None, option_map, option_and_then, Result, Ok, Err, codes, ℤ, pos, ◌+ℤ◌, int_le, ◌≤◌, IfSome, Vec}
+use Rattle.std.specs.declared.alloc.Global.{Global}
 use Rattle.std.specs.List.{list_all}
 use Rattle.std.specs.Result.{result_ok}
 use lib.Pointwise.{pointwise}
@@ -18,6 +19,9 @@ use Rattle.cash_table.specs.declared.line.Line.{Line}
 use Rattle.cash_table.specs.declared.line.LineKind.TheVariants.{Cash, Security}
 use Rattle.cash_table.specs.Book.{BookContents, total}
 use Rattle.escrow_top.specs.CertificateForm.{◌>>=◌}
+use Rattle.escrow_top.specs.declared.issue.Issue.{Issue}
+use Rattle.escrow_top.specs.declared.case.Case.{Case}
+use Rattle.escrow_top.specs.declared.case.InputFiles.{InputFiles}
 
 -- the field of a row at a place; a place that isn't there is an empty field
 abbrev pub field_of : List (List ℕ) → ℕ → List ℕ
@@ -88,6 +92,9 @@ issue_of rows =
       restricted ← restricted_of (slice_index_or rows (length rows - 1) [])
       if are_needs settle needs then Some (record { settle = settle; needs = needs; restricted = restricted }) else None
 
+abbrev pub issue_view : Issue → IssueForm
+issue_view issue = record { settle = issue.settle; needs = issue.needs.items; restricted = issue.restricted.0 }
+
 -- `terms,MINIMUM,STEP`
 abbrev pub terms_row_of : List (List ℕ) → Option Terms
 terms_row_of row =
@@ -117,15 +124,21 @@ offer_of settle terms row =
       if (rate.0 == 0) && is_certificate_term settle maturity then Some (certificate_line settle terms maturity cap) else None)
     else None
 
--- the rate file: no rows, or `terms` and then at most 256 offers
-unfoldable pub offers_of : ℤ → List (List (List ℕ)) → Option (List Line)
-offers_of settle [] = Some []
-offers_of settle (first ∷ rows) =
-    if nat_le (length rows) 256 then terms_row_of first >>= (λ terms. each_of (offer_of settle terms) rows) else None
-
 -- opening cash, of which the issue file grants none so far
 abbrev pub no_cash : Line
 no_cash = record { kind = Cash; step = 1; least = 1; most = 0 }
+
+-- the rate file: no rows, or `terms` and then at most 256 offers
+unfoldable pub offers_of : ℤ → List (List (List ℕ)) → Option (List Line)
+offers_of settle rows =
+    if length rows == 0 then Some [] else
+    (if nat_lt 257 (length rows) then None else do
+      terms ← terms_row_of (slice_index_or rows 0 [])
+      each_of (offer_of settle terms) (drop 1 rows))
+
+-- the lines of a book: opening cash, then the offers
+abbrev pub lines_of : ℤ → List (List (List ℕ)) → Option (List Line)
+lines_of settle rows = option_map (λ offers. no_cash ∷ offers) (offers_of settle rows)
 
 -- a case: its book, and its limit, which is the restricted yield plus one thousandth of a percentage point
 -- (26 CFR 1.148-2(d)(2)), in units of 10^-10
@@ -161,7 +174,7 @@ no_prices_of (row ∷ rows) = None
 
 abbrev pub case_form : IssueForm → List Line → CaseForm
 case_form issue lines = record {
-  book = record { settle = issue.settle; needs = issue.needs; lines = no_cash ∷ lines };
+  book = record { settle = issue.settle; needs = issue.needs; lines = lines };
   limit = issue.restricted + 100_000;
 }
 
@@ -169,6 +182,26 @@ case_form issue lines = record {
 unfoldable pub case_of : Option (List ℕ) → Option (List ℕ) → Option (List ℕ) → Result CaseForm FileKind
 case_of issue rates prices =
     and_then (or_file file.Issue (option_and_then issue_of (rows_within issue))) (λ issue_form.
-    and_then (or_file file.Rates (option_and_then (offers_of issue_form.settle) (rows_within rates))) (λ lines.
+    and_then (or_file file.Rates (option_and_then (lines_of issue_form.settle) (rows_within rates))) (λ lines.
     and_then (or_file file.Prices (option_and_then no_prices_of (rows_within prices))) (λ _.
     Ok (case_form issue_form lines))))
+
+abbrev pub case_view : Case → CaseForm
+case_view case = record { book = case.book; limit = case.limit.0 }
+
+-- the bytes of a vector, where it is there
+abbrev pub text_of : Option (Vec ℕ Global) → Option (List ℕ)
+text_of text = option_map (λ bytes. bytes.items) text
+
+-- a text that is there has at most so many bytes
+abbrev pub IsWithin : ℕ → Option (Vec ℕ Global) → Type 0
+IsWithin most text = IfSome text (λ bytes. length bytes.items ≤ most)
+
+pub record AreWithin (files : InputFiles) : Type 0 where
+  pub issue : IsWithin file_limit files.issue
+  pub rates : IsWithin file_limit files.rates
+  pub prices : IsWithin file_limit files.prices
+
+-- the case of the files that were read
+abbrev pub input_case : InputFiles → Result CaseForm FileKind
+input_case files = case_of (text_of files.issue) (text_of files.rates) (text_of files.prices)

@@ -1,2 +1,4 @@
 pub mod CertificateForm
 pub mod CaseForm
+pub mod Answer
+pub mod Ending

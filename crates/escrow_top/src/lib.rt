@@ -1,7 +1,12 @@
 //! The program's one call, from its words to its status.
 #![tactic(auto)]
 
+mod case;
 mod certificate;
-mod stub;
+mod issue;
+mod offers;
+mod row;
+mod status;
+mod verdict;
 
-pub use certificate::{Certificate, Purchase};
+pub use status::Status;
