@@ -5,11 +5,13 @@
 mod book;
 mod cash;
 mod costs;
+mod laws;
 mod line;
 mod plan;
 
 pub use book::Book;
 pub use cash::first_short;
 pub use costs::{cost, security_cost};
+pub use laws::{cost_parts, empty_flows, meets_cost, zero_yield};
 pub use line::{Line, LineKind};
 pub use plan::{NoMemory, Plan, first_unpermitted};

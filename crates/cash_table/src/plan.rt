@@ -65,10 +65,10 @@ pub fn first_unpermitted(book: &Book, plan: &Plan) -> Option<u16>
     ensures value { result ≡ first_unpermitted_of book.now plan.now }
     ensures none { IsNone result ↔ IsPermitted book.now plan.now }
 {
-    let _lines = book.line_count();
-    book.lines()
-        .iter()
-        .zip(plan.units())
-        .position(|(line, units)| !line.permits(*units))
-        .map(|place| place as u16)
+    for line in 0..book.line_count() {
+        if !book.line(line).permits(plan.get(line)) {
+            return Some(line);
+        }
+    }
+    None
 }

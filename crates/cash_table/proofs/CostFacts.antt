@@ -1,0 +1,82 @@
+-- What permitted portfolios cost.
+use Rattle.std.proofs.Common.{◌≡◌, ◌⊎◌, ℕ, zero, suc, ◌+◌, ◌*◌, ◌^◌, ◌<◌, ◌≤◌, List, [], ◌∷◌, length, get_or, take, drop, refl, sym, ap, ◌∙◌, inl, inr, ⊎_elim, subst, arith, ℤ}
+use Rattle.std.specs.List.{All, sum_by, zip}
+use Rattle.std.proofs.lemmas.List.Elements.{All-head, All-tail, All-cons, All-nil}
+use Rattle.std.proofs.lemmas.List.Sums.{sum_by-cons, sum_by-le}
+use Rattle.std.proofs.lemmas.List.{take_all, length-drop}
+use Rattle.std.proofs.lemmas.Slice.Zip.{length-zip}
+use Rattle.std.proofs.Math.Nat.{mul-le-mul_left, mul-le-mul_right}
+use Rattle.cash_table.specs.declared.line.Line.{Line}
+use Rattle.cash_table.specs.Book.{BookContents, IsCashLine, IsSecurityLine, AreLines, IsBook}
+use Rattle.cash_table.specs.Portfolio.{IsPermittedUnits, IsPermitted, line_cost, cost, security_cost}
+
+-- the cost of one line, as a function of its pair
+abbrev pub pair_cost : Line × ℕ → ℕ
+pair_cost p = line_cost p.0 p.1
+
+abbrev pub PairIsPermitted : Line × ℕ → Type 0
+PairIsPermitted p = IsPermittedUnits p.0 p.1
+
+cash_at_most : (line : Line) (units : ℕ) → IsCashLine line → IsPermittedUnits line units → line_cost line units ≤ 10 ^ 13
+cash_at_most line units cash permitted =
+    let one : line_cost line units ≡ 1 * units = ap (λ n. n * units) cash.step in
+    let bound = cash.most in
+    elim permitted [ inl none ↦ omega (arith, one, none, bound) | inr some ↦ omega (arith, one, some.1, bound) ]
+
+security_at_most : (settle : ℤ) (line : Line) (units : ℕ) → IsSecurityLine settle line → IsPermittedUnits line units → line_cost line units ≤ 10 ^ 11
+security_at_most settle line units security permitted =
+    let cap = security.cap in
+    elim permitted [
+        inl none ↦ (let zero : line_cost line units ≡ line.step * 0 = ap (λ n. line.step * n) none in omega (arith, zero))
+      | inr some ↦ (let more = mul-le-mul_left line.step some.1 in omega (arith, more, cap)) ]
+
+securities_at_most : (settle : ℤ) (lines : List Line) (plan : List ℕ) → All (IsSecurityLine settle) lines → All PairIsPermitted (zip lines plan) → All (λ p. pair_cost p ≤ 10 ^ 11) (zip lines plan)
+securities_at_most settle [] plan securities permitted = All-nil (λ p. pair_cost p ≤ 10 ^ 11)
+securities_at_most settle (line ∷ lines) [] securities permitted = All-nil (λ p. pair_cost p ≤ 10 ^ 11)
+securities_at_most settle (line ∷ lines) (units ∷ plan) securities permitted =
+    All-cons (λ p. pair_cost p ≤ 10 ^ 11) (line, units) (zip lines plan)
+    (security_at_most settle line units (All-head (IsSecurityLine settle) line lines securities) (All-head PairIsPermitted (line, units) (zip lines plan) permitted))
+    (securities_at_most settle lines plan (All-tail (IsSecurityLine settle) line lines securities) (All-tail PairIsPermitted (line, units) (zip lines plan) permitted))
+
+-- all that a permitted portfolio costs is within a 64-bit number by far
+pub lines_cost_at_most : (settle : ℤ) (lines : List Line) (plan : List ℕ) → AreLines settle lines → All PairIsPermitted (zip lines plan) → sum_by pair_cost (zip lines plan) ≤ 36 * 10 ^ 12
+lines_cost_at_most settle [] plan lines permitted = absurd lines
+lines_cost_at_most settle (cash ∷ securities) [] lines permitted = omega arith
+lines_cost_at_most settle (cash ∷ securities) (units ∷ plan) lines permitted =
+    let first = cash_at_most cash units lines.0 (All-head PairIsPermitted (cash, units) (zip securities plan) permitted) in
+    let rest = sum_by-le pair_cost (10 ^ 11) (zip securities plan) (securities_at_most settle securities plan lines.1 (All-tail PairIsPermitted (cash, units) (zip securities plan) permitted)) in
+    let sum = sum_by-cons pair_cost (cash, units) (zip securities plan) in
+    let count : length (zip securities plan) ≤ 256 = omega (arith, length-zip securities plan, lines.2) in
+    omega (arith, first, rest, sum, mul-le-mul_right (10 ^ 11) count)
+
+pub drop-zip : {A B : Type 0} (xs : List A) (ys : List B) → zip (drop 1 xs) (drop 1 ys) ≡ drop 1 (zip xs ys)
+drop-zip [] [] = refl
+drop-zip [] (y ∷ ys) = refl
+drop-zip (x ∷ []) [] = refl
+drop-zip (x ∷ w ∷ xs) [] = refl
+drop-zip (x ∷ xs) (y ∷ ys) = refl
+
+-- the cost is opening cash and the cost of the securities
+cost_parts : (settle : ℤ) (lines : List Line) (plan : List ℕ) → AreLines settle lines → length plan ≡ length lines → sum_by pair_cost (zip lines plan) ≡ get_or plan 0 0 + sum_by pair_cost (drop 1 (zip lines plan))
+cost_parts settle [] plan lines same = absurd lines
+cost_parts settle (cash ∷ securities) [] lines same = absurd (omega (arith, same))
+cost_parts settle (cash ∷ securities) (units ∷ plan) lines same =
+    let sum = sum_by-cons pair_cost (cash, units) (zip securities plan) in
+    let one : line_cost cash units ≡ 1 * units = ap (λ n. n * units) lines.0.step in
+    omega (arith, sum, one)
+
+pub cost_is : (book : BookContents) (plan : List ℕ) → IsBook book → IsPermitted book plan → cost book plan ≡ get_or plan 0 0 + security_cost book plan
+cost_is book plan limits permitted = cost_parts book.settle book.lines plan limits.lines permitted.same_length
+
+pub cost_at_most : (book : BookContents) (plan : List ℕ) → IsBook book → IsPermitted book plan → cost book plan ≤ 36 * 10 ^ 12
+cost_at_most book plan limits permitted = lines_cost_at_most book.settle book.lines plan limits.lines permitted.units
+
+pub security_cost_at_most : (book : BookContents) (plan : List ℕ) → IsBook book → IsPermitted book plan → security_cost book plan ≤ 36 * 10 ^ 12
+security_cost_at_most book plan limits permitted = omega (arith, cost_at_most book plan limits permitted, cost_is book plan limits permitted)
+
+pub lines_present : (book : BookContents) → IsBook book → 1 ≤ length book.lines
+lines_present book limits = present book.settle book.lines limits.lines
+  where
+  present : (settle : ℤ) (lines : List Line) → AreLines settle lines → 1 ≤ length lines
+  present settle [] lines = absurd lines
+  present settle (cash ∷ securities) lines = omega arith

@@ -1,0 +1,93 @@
+-- Receipts by need date, one payment after another.
+use Rattle.std.proofs.Common.{◌≡◌, ◌⊎◌, ℕ, zero, suc, ◌+◌, ◌<◌, ◌≤◌, Bool, true, false, T, cond, List, [], ◌∷◌, ◌++◌, length, get_or, take, set, refl, sym, ap, ◌∙◌, inl, inr, arith, ℤ, ◌<ℤ◌, ◌≤ℤ◌, int_lt, int_le}
+use Rattle.std.specs.List.{All, AllWithin, sum, sum_by, flat_map, zip}
+use Rattle.std.proofs.lemmas.Bool.{cases_lt}
+use Rattle.std.proofs.lemmas.Int.{ints}
+use Rattle.std.proofs.lemmas.List.{take-set-le, take_more, append-nil}
+use Rattle.std.proofs.lemmas.List.Concat.{flat_map-append}
+use Rattle.std.proofs.lemmas.List.Sums.{sum_by-cons, sum_by-append, sum_by_more}
+use Rattle.std.specs.List.Sorted.{IsPartitionedBy}
+use Rattle.escrow_units.specs.declared.security.Flow.{Flow}
+use Rattle.cash_table.specs.declared.line.Line.{Line}
+use Rattle.cash_table.specs.Portfolio.{cents_by, total_by, line_cost, line_payments}
+use Rattle.cash_table.specs.Receipts.{IsRising, AreReceipts}
+use Rattle.cash_table.proofs.ZipFacts.{StandAt, in_zip, pair_at}
+
+passed : (b : Bool) → T b → b ≡ true
+passed true h = refl
+passed false h = absurd h
+
+as_passed : (b : Bool) → b ≡ true → T b
+as_passed true h = tt
+as_passed false h = cc
+
+pub le_test : (a b : ℤ) → a ≤ℤ b → int_le a b ≡ true
+le_test a b h = passed (int_le a b) h.le
+
+pub lt_test : (a b : ℤ) → a <ℤ b → int_lt a b ≡ true
+lt_test a b h = passed (int_lt a b) h.lt
+
+pub lt_from_test : (a b : ℤ) → int_lt a b ≡ true → a <ℤ b
+lt_from_test a b h = record { lt = as_passed (int_lt a b) h }
+
+pub le_from_lt_test : (a b : ℤ) → int_lt a b ≡ false → b ≤ℤ a
+le_from_lt_test a b h = grind (arith, ints)
+
+pub le_fails : (a b : ℤ) → b <ℤ a → int_le a b ≡ false
+le_fails a b h = grind (arith, ints)
+
+pub lt_trans : (a b c : ℤ) → a <ℤ b → b <ℤ c → a <ℤ c
+lt_trans a b c h k = omega (arith, ints)
+
+-- the days before a day come first
+pub days_are_partitioned : (needs : List Flow) (day : ℤ) → IsRising needs → IsPartitionedBy (λ need. int_lt need.day day) needs
+days_are_partitioned needs day rising = λ i j d order within later.
+    elim (cases_lt i j) [
+        inl less ↦ lt_test (get_or needs i d).day day (lt_trans (get_or needs i d).day (get_or needs j d).day day (rising i j d less within) (lt_from_test (get_or needs j d).day day later))
+      | inr same ↦ (let here : i ≡ j = omega arith in ap (λ n. int_lt (get_or needs n d).day day) here ∙ later) ]
+
+-- a part that holds the place of an addition grows by it
+pub sum-take-set_add : (xs : List ℕ) (p c n : ℕ) → p < n → p < length xs → sum (take n (set xs p (get_or xs p 0 + c))) ≡ sum (take n xs) + c
+sum-take-set_add [] p c n before within = absurd (omega (arith, within))
+sum-take-set_add (x ∷ xs) p c zero before within = absurd (omega (arith, before))
+sum-take-set_add (x ∷ xs) zero c (suc n) before within =
+    omega (arith, sum_by-cons (λ y. y) (x + c) (take n xs), sum_by-cons (λ y. y) x (take n xs))
+sum-take-set_add (x ∷ xs) (suc p) c (suc n) before within =
+    omega (arith, sum_by-cons (λ y. y) x (take n (set xs p (get_or xs p 0 + c))), sum_by-cons (λ y. y) x (take n xs), sum-take-set_add xs p c n (omega arith) (omega arith))
+
+pub cents_by-due : (t : ℤ) (flow : Flow) → flow.day ≤ℤ t → cents_by t flow ≡ flow.cents.0
+cents_by-due t flow due = ap (λ b. cond b flow.cents.0 0) (le_test flow.day t due)
+
+pub cents_by-later : (t : ℤ) (flow : Flow) → t <ℤ flow.day → cents_by t flow ≡ 0
+cents_by-later t flow later = ap (λ b. cond b flow.cents.0 0) (le_fails flow.day t later)
+
+-- a payment at its place is in the receipts of each need date from its day on
+pub receipt_added : (needs : List Flow) (receipts : List ℕ) (flow : Flow) (place k : ℕ) (d : Flow) → place < length receipts → AllWithin (λ need. need.day <ℤ flow.day) needs 0 place → AllWithin (λ need. flow.day ≤ℤ need.day) needs place (length needs) → k < length needs → sum (take (k + 1) (set receipts place (get_or receipts place 0 + flow.cents.0))) ≡ sum (take (k + 1) receipts) + cents_by (get_or needs k d).day flow
+receipt_added needs receipts flow place k d within before from here =
+    elim (cases_lt k place) [
+        inl less ↦
+          (let same = ap sum (take-set-le (k + 1) receipts place (get_or receipts place 0 + flow.cents.0) (omega arith)) in
+          let none = cents_by-later (get_or needs k d).day flow (before k d (omega arith) less) in
+          omega (arith, same, none))
+      | inr more ↦
+          (let sum_more = sum-take-set_add receipts place flow.cents.0 (k + 1) (omega arith) within in
+          let due = cents_by-due (get_or needs k d).day flow (from k d more here) in
+          omega (arith, sum_more, due)) ]
+
+-- the payments of one line more
+pub receipts_more : (needs : List Flow) (settle : ℤ) (lines : List Line) (plan : List ℕ) (i : ℕ) (line : Line) (units : ℕ) (flow : Flow) (old new : List ℕ) → StandAt lines plan i line units → line_payments settle line units ≡ flow ∷ [] → AreReceipts needs (flat_map (λ p. line_payments settle p.0 p.1) (take i (zip lines plan))) old → ((k : ℕ) (d : Flow) → k < length needs → sum (take (k + 1) new) ≡ sum (take (k + 1) old) + cents_by (get_or needs k d).day flow) → AreReceipts needs (flat_map (λ p. line_payments settle p.0 p.1) (take (i + 1) (zip lines plan))) new
+receipts_more needs settle lines plan i line units flow old new at pays had added = λ k d within.
+    let t = (get_or needs k d).day in
+    let pay = λ (p : Line × ℕ). line_payments settle p.0 p.1 in
+    let pairs = take i (zip lines plan) in
+    let more = take_more (zip lines plan) i (line, units) (in_zip lines plan i line units at) in
+    let pair = pair_at lines plan i line units at in
+    let joined : take (i + 1) (zip lines plan) ≡ pairs ++ (line, units) ∷ [] = more ∙ ap (λ p. pairs ++ p ∷ []) pair in
+    let flows : flat_map pay (take (i + 1) (zip lines plan)) ≡ flat_map pay pairs ++ flow ∷ [] =
+      ap (flat_map pay) joined ∙ flat_map-append pay pairs ((line, units) ∷ []) ∙ ap (λ fs. flat_map pay pairs ++ (fs ++ [])) pays in
+    let parts = ap (total_by t) flows ∙ sum_by-append (cents_by t) (flat_map pay pairs) (flow ∷ []) in
+    omega (arith, parts, had k d within, added k d within)
+
+-- a payment of a line is what the line costs
+pub cents_from_payments : (settle : ℤ) (line : Line) (units : ℕ) (flow : Flow) → line_payments settle line units ≡ flow ∷ [] → flow.cents.0 ≡ line_cost line units
+cents_from_payments settle line units flow pays = omega (arith, ap (λ flows. sum_by (λ (f : Flow). f.cents.0) flows) (sym pays))
