@@ -14,4 +14,4 @@ pub use cash::first_short;
 pub use costs::{cost, security_cost};
 pub use laws::{cost_parts, empty_flows, meets_cost, zero_yield};
 pub use line::{Line, LineKind};
-pub use plan::{NoMemory, Plan, first_unpermitted};
+pub use plan::{Plan, first_unpermitted};

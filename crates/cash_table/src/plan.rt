@@ -2,12 +2,9 @@ ghost use Rattle.std.specs.Prelude.{◌≡◌, ◌<◌, ◌↔◌, length, repli
 ghost use Rattle.cash_table.specs.Portfolio.{IsPermitted, first_unpermitted_of};
 
 use crate::book::Book;
+use escrow_desk::NoMemory;
 use std::alloc::Global;
 use std::marker::Model;
-
-/// There was no memory.
-#[derive(Clone, Copy, Debug, PartialEq, Eq)]
-pub struct NoMemory;
 
 /// A portfolio: a number of units for each line of a book. Contracts see it as the list of these numbers.
 #[derive(Drop)]

@@ -2,3 +2,4 @@ pub mod CertificateForm
 pub mod CaseForm
 pub mod Answer
 pub mod Ending
+pub mod Accepted
