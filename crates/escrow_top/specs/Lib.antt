@@ -3,3 +3,4 @@ pub mod CaseForm
 pub mod Answer
 pub mod Ending
 pub mod Accepted
+pub mod Reply

@@ -4,7 +4,9 @@
 mod case;
 mod certificate;
 mod issue;
+mod needs;
 mod offers;
+mod reply;
 mod row;
 mod status;
 mod verdict;
