@@ -1,2 +1,3 @@
 pub mod CertificateFacts
 pub mod EachFacts
+pub mod ClaimLaws

@@ -1,5 +1,5 @@
 -- Dates, their numbers, and moving by months.
-use Rattle.std.proofs.Common.{Bool, zero, true, false, eq-eqb, of_z, w8, ◌==◌, ◌≡◌, ◌∙◌, ℕ, suc, ◌+◌, ◌<◌, ◌≤◌, refl, ap, arith, ℤ, pos, neg_ℤ, ◌+ℤ◌, ◌≤ℤ◌, ◌<ℤ◌, unsigned_abs, inl, inr}
+use Rattle.std.proofs.Common.{Bool, zero, true, false, eq-eqb, of_z, w8, ◌==◌, ◌≡◌, ◌∙◌, ℕ, suc, ◌+◌, ◌<◌, ◌≤◌, refl, sym, ap, arith, ℤ, pos, neg_ℤ, ◌+ℤ◌, ◌≤ℤ◌, ◌<ℤ◌, unsigned_abs, inl, inr}
 use Rattle.std.proofs.lemmas.Int.{by_lt_z}
 use Rattle.std.proofs.lemmas.Bool.Decides.{nat_tests}
 use Rattle.jiff.specs.Words.{epoch_day, days_in_month, IsOnly, magnitude, span_months, span_days, date_add, add_months, IsShiftable, shifted_year, shifted_month, CanAddToDate}
@@ -16,6 +16,7 @@ use Rattle.jiff_core.proofs.DateLemmas.{civil, epoch_day_injective, epoch_day-lt
 use Rattle.jiff_span.proofs.MonthLemmas.{shifted_civil}
 use Rattle.jiff_span.proofs.DifferenceLemmas.{signed_zero}
 use Rattle.escrow_units.specs.Calendar.{CivilDate, number_of, date_of, IsBaseDay, months_later, month_end, is_month_end, e_of, e_of_date, years_after_of}
+use Rattle.escrow_units.specs.DateText.{IsFieldDay}
 use Rattle.escrow_units.specs.DayNumber.{IsDayNumber}
 use Rattle.escrow_units.proofs.DateFacts.{date_of-stands, pos_abs}
 
@@ -23,13 +24,18 @@ use Rattle.escrow_units.proofs.DateFacts.{date_of-stands, pos_abs}
 abbrev pub parts : Date → CivilDate
 parts d = record { year = d.year; month = d.month; day = d.day }
 
+-- a date of the calendar with a day number is the date of that number
+pub date_of-number : (n : ℤ) (date : CivilDate) → IsDayNumber n → IsCivilDate date.year date.month date.day → number_of date ≡ n → date_of n ≡ date
+date_of-number n date h civ e =
+    let s = date_of-stands n h in
+    let found : Date = record { year = (date_of n).year; month = (date_of n).month; day = (date_of n).day; year_in = s.0.0; month_in = s.0.1; day_in = s.0.2 } in
+    let given : Date = record { year = date.year; month = date.month; day = date.day; year_in = civ.0; month_in = civ.1; day_in = civ.2 } in
+    let same = epoch_day_injective found given (s.1 ∙ sym e) in
+    λ i. record { year = same.0 i; month = same.1 i; day = same.2 i }
+
 -- the date of a date's day number
 pub date_of-date : (d : Date) → IsDayNumber (epoch_day d) → date_of (epoch_day d) ≡ parts d
-date_of-date d h =
-    let s = date_of-stands (epoch_day d) h in
-    let made : Date = record { year = (date_of (epoch_day d)).year; month = (date_of (epoch_day d)).month; day = (date_of (epoch_day d)).day; year_in = s.0.0; month_in = s.0.1; day_in = s.0.2 } in
-    let same = epoch_day_injective made d s.1 in
-    λ i. record { year = same.0 i; month = same.1 i; day = same.2 i }
+date_of-date d h = date_of-number (epoch_day d) (parts d) h (civil d) refl
 
 start_1900 : day_count (pos 1900) 1 1 ≡ 4_346_386
 start_1900 = day_count-early (pos 1900) 11_899 1 1 refl (omega arith) (omega arith) (omega arith)
@@ -39,6 +45,9 @@ start_2000 = day_count-early (pos 2000) 11_999 1 1 refl (omega arith) (omega ari
 
 start_2191 : day_count (pos 2191) 1 1 ≡ 4_452_672
 start_2191 = day_count-early (pos 2191) 12_190 1 1 refl (omega arith) (omega arith) (omega arith)
+
+start_2200 : day_count (pos 2200) 1 1 ≡ 4_455_959
+start_2200 = day_count-early (pos 2200) 12_199 1 1 refl (omega arith) (omega arith) (omega arith)
 
 start_2300 : day_count (pos 2300) 1 1 ≡ 4_492_483
 start_2300 = day_count-early (pos 2300) 12_299 1 1 refl (omega arith) (omega arith) (omega arith)
@@ -68,6 +77,11 @@ year_in_base d h =
     let count = days_from_civil-day_count d.year d.month d.day in
     (not_before d 2000 (omega (arith, signed_arith, count, start_2000)), before d 2191 (omega (arith, signed_arith, count, start_2191)))
 
+pub year_in_field : (d : Date) → IsFieldDay (epoch_day d) → (pos 1900 ≤ℤ d.year) × (d.year <ℤ pos 2200)
+year_in_field d h =
+    let count = days_from_civil-day_count d.year d.month d.day in
+    (not_before d 1900 (omega (arith, signed_arith, count, start_1900)), before d 2200 (omega (arith, signed_arith, count, start_2200)))
+
 -- a date of these years has a day number of these years
 pub days_in_years : (y : ℤ) (m d : ℕ) → IsCivilDate y m d → pos 1900 ≤ℤ y → y <ℤ pos 2300 → IsDayNumber (days_from_civil y m d)
 days_in_years y m d h low high =
@@ -78,6 +92,13 @@ days_in_years y m d h low high =
     (omega (arith, signed_arith, count, start_1900, bottom, day_count-day_of_year y m d h.2.0), omega (arith, signed_arith, count, top, start_2300)))
     (λ ge. let same : y ≡ pos 1900 = omega (arith, signed_arith) in
     (omega (arith, signed_arith, count, start_1900, ap (λ z. day_count z 1 1) same, day_count-day_of_year y m d h.2.0), omega (arith, signed_arith, count, top, start_2300)))
+
+-- and one of the years of fields is a day of fields
+pub days_in_field : (y : ℤ) (m d : ℕ) → IsCivilDate y m d → pos 1900 ≤ℤ y → y <ℤ pos 2200 → IsFieldDay (days_from_civil y m d)
+days_in_field y m d h low high =
+    let count = days_from_civil-day_count y m d in
+    let top = day_count-lt_year y m d (pos 2200) 1 1 h (omega arith) high in
+    ((days_in_years y m d h low (omega (arith, signed_arith, high))).0, omega (arith, signed_arith, count, top, start_2200))
 
 no_clock : (s : Span) → magnitude Hour s ≡ 0 → magnitude Minute s ≡ 0 → magnitude Second s ≡ 0 → magnitude Millisecond s ≡ 0 → magnitude Microsecond s ≡ 0 → magnitude Nanosecond s ≡ 0 → clock_days s ≡ pos 0
 no_clock s a b c d e f = signed_zero s.negative _ (omega arith)

@@ -1,4 +1,5 @@
 pub mod Calendar
+pub mod CalendarLaws
 pub mod DateText
 pub mod DayNumber
 pub mod Denomination

@@ -103,3 +103,50 @@ pub fn years_after(day: Day, years: u32) -> Day
     let date = Date::from_plain(plain_date(day));
     day_of_date(shifted(date, 12 * years as i32).to_plain())
 }
+
+#[cfg(test)]
+mod tests {
+    use super::*;
+    use crate::date_text::print_day;
+
+    #[test]
+    fn moves_days(rt: HostRuntime) {
+        let february = Day::new(20877);
+        let august = Day::new(19966);
+        for (day, text) in [
+            (half_back(february, 1, StepRule::SameDay), "2026-08-28"),
+            (half_back(february, 1, StepRule::MonthEnd), "2026-08-31"),
+            (half_back(february, 0, StepRule::MonthEnd), "2027-02-28"),
+            (half_back(august, 1, StepRule::SameDay), "2024-02-29"),
+            (half_back(august, 1, StepRule::MonthEnd), "2024-02-29"),
+            (half_back(august, 2, StepRule::SameDay), "2023-08-31"),
+            (half_back(august, 84, StepRule::SameDay), "1982-08-31"),
+            (years_after(Day::new(19782), 1), "2025-02-28"),
+            (years_after(Day::new(19782), 4), "2028-02-29"),
+            (years_after(Day::new(20103), 40), "2065-01-15"),
+        ] {
+            assert_eq!(rt; print_day(day).as_str(), text);
+        }
+    }
+
+    #[test]
+    fn counts_days(rt: HostRuntime) {
+        let settle = Day::new(20103);
+        let last = years_after(settle, 40);
+        let rows = [
+            (settle, 0, 0),
+            (Day::new(20119), 16, 15),
+            (Day::new(20193), 90, 90),
+            (Day::new(20512), 409, 403),
+            (last, 14610, 14400),
+        ];
+        for (day, days, index) in rows {
+            if settle <= day && day <= last {
+                assert_eq!(rt; days_between(settle, day), days);
+                assert_eq!(rt; index360(settle, day), index);
+            } else {
+                assert!(rt; false);
+            }
+        }
+    }
+}

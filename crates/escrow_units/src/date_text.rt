@@ -62,6 +62,7 @@ pub fn read_day(bytes: &[u8]) -> Result<Day, NumberFault>
     ensures ok { IfOk result (λ day. day_of bytes.now ≡ Some day) }
     ensures err { IfErr result (λ fault. fault ≡ NumberFault.BadDate) }
     ensures none { OnErr result (day_of bytes.now ≡ None) }
+    ensures years { IfOk result IsFieldDay }
 {
     match spelled_day(bytes) {
         Some(day) => Ok(day),
@@ -69,10 +70,11 @@ pub fn read_day(bytes: &[u8]) -> Result<Day, NumberFault>
     }
 }
 
-/// A day as `2025-01-15`.
+/// A day as `2025-01-15`: ten characters, which `read_day` reads where the day is of the years 1900 to 2199.
 #[tactic(auto, using(crate::proofs::DigitFacts::digit_facts))]
 pub fn print_day(value: Day) -> ArrayString<32>
-    ensures { result.bytes ≡ day_text value }
+    ensures text { result.bytes ≡ day_text value }
+    ensures again { IsFieldDay value → day_of result.bytes ≡ Some value }
 {
     let date = plain_date(value);
     let mut text = ArrayString::new();
@@ -82,4 +84,73 @@ pub fn print_day(value: Day) -> ArrayString<32>
     push_ascii(&mut text, b'-');
     push_last(&mut text, 2, date.day as u64);
     text
+}
+
+#[cfg(test)]
+mod tests {
+    use super::*;
+
+    #[test]
+    fn reads_days(rt: HostRuntime) {
+        let days = [
+            ("2024-02-29", Day::new(19782)),
+            ("1900-01-01", Day::new(-25567)),
+            ("2199-12-31", Day::new(84005)),
+            ("2025-01-15", Day::new(20103)),
+        ];
+        for (text, day) in days {
+            assert_eq!(rt; read_day(text.as_bytes()), Ok(day), "at {text}");
+        }
+        for text in [
+            "2025-02-29",
+            "2025-02-30",
+            "2100-02-29",
+            "2025-04-31",
+            "1899-12-31",
+            "2200-01-01",
+            "2025-00-01",
+            "2025-13-01",
+            "2025-01-00",
+            "2025-1-15",
+            "2025-01-5",
+            "",
+            "          ",
+            " 2025-01-1",
+            "+202-01-15",
+            "-025-01-15",
+            "2025/01/15",
+            "2025-01/15",
+            "20250115",
+            "2025-01-1é",
+            "2025-01-1:",
+            "2025-01-/5",
+            "025-01-15",
+            "2025-01-150",
+            "02025-01-15",
+        ] {
+            assert_eq!(rt;
+                read_day(text.as_bytes()),
+                Err(NumberFault::BadDate),
+                "at {text}"
+            );
+        }
+        assert_eq!(rt;
+            read_day(&[50, 48, 50, 53, 45, 48, 49, 45, 49, 255]),
+            Err(NumberFault::BadDate)
+        );
+    }
+
+    #[test]
+    fn prints_days(rt: HostRuntime) {
+        let days = [
+            (Day::new(-25567), "1900-01-01"),
+            (Day::default(), "1970-01-01"),
+            (Day::new(19782), "2024-02-29"),
+            (Day::new(84005), "2199-12-31"),
+            (Day::new(120529), "2299-12-31"),
+        ];
+        for (day, text) in days {
+            assert_eq!(rt; print_day(day).as_str(), text);
+        }
+    }
 }

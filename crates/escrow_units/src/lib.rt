@@ -3,6 +3,7 @@
 
 mod amount;
 mod calendar;
+mod calendar_laws;
 mod date_text;
 mod day;
 mod decimal;
@@ -15,6 +16,7 @@ mod security;
 
 pub use amount::{Cents, Price8, Rate, YieldUnits};
 pub use calendar::{days_between, half_back, index360, years_after};
+pub use calendar_laws::{date_laws, index_laws, series_laws, year_laws};
 pub use decimal::whole_number;
 pub use date_text::{print_day, read_day};
 pub use day::Day;

@@ -1,0 +1,35 @@
+ghost use Rattle.escrow_units.specs.CalendarLaws.{DatesAreUnique, EachDayIsDated, IndexIsBounded, IndexRises, MonthEndIsSameDayElsewhere, MonthEndStays, NoYearsPass, SameDayKeepsDay, SeriesFalls, SeriesHasDays, SeriesStartsAtMaturity, SeriesStepsByHalfYears, SettlementLeadsToBaseDays, StepsCount180, TextsSpellDays, YearsLeadToDays, YearsPass};
+
+/// What the date of a day number is, the one date of the calendar that has that number, and which bytes spell it.
+pub fn date_laws()
+    ensures dated { EachDayIsDated }
+    ensures unique { DatesAreUnique }
+    ensures texts { TextsSpellDays }
+{}
+
+/// What the dates of a series are, in the terms of bonds: they start at maturity and fall by half-years of 181 to 184
+/// days, on the same day of the month or at month ends, and count 180 of the index each.
+pub fn series_laws()
+    ensures start { SeriesStartsAtMaturity }
+    ensures fall { SeriesFalls }
+    ensures half_years { SeriesStepsByHalfYears }
+    ensures days { SeriesHasDays }
+    ensures same_day { SameDayKeepsDay }
+    ensures month_end { MonthEndStays }
+    ensures elsewhere { MonthEndIsSameDayElsewhere }
+    ensures index { StepsCount180 }
+{}
+
+/// What a day some years later is: 365 or 366 days for each, and never out of the days that are counted from.
+pub fn year_laws()
+    ensures pass { YearsPass }
+    ensures none { NoYearsPass }
+    ensures days { YearsLeadToDays }
+    ensures base { SettlementLeadsToBaseDays }
+{}
+
+/// What the index does: it never falls as days pass, and is at most 14,400 within 40 years.
+pub fn index_laws()
+    ensures rise { IndexRises }
+    ensures bound { IndexIsBounded }
+{}
