@@ -1,3 +1,4 @@
 pub mod CertificateFacts
 pub mod EachFacts
+pub mod PurchaseFacts
 pub mod ClaimLaws

@@ -96,9 +96,10 @@ accepted case plan gap = record { status = status.Done; text = yes_text case pla
 abbrev pub not_accepted : Reason → Answer
 not_accepted reason = record { status = status.No; text = reason_text reason }
 
-abbrev pub weighed : CaseForm → Claim → Option Reason → Answer
-weighed case claim None = accepted case (portfolio case.book claim) claim.gap
-weighed case claim (Some reason) = not_accepted reason
+-- a portfolio with a gap is accepted where no reason stands against it
+abbrev pub weighed : CaseForm → List ℕ → ℕ → Option Reason → Answer
+weighed case plan gap None = accepted case plan gap
+weighed case plan gap (Some reason) = not_accepted reason
 
 abbrev pub file_word : FileKind → List ℕ
 file_word file.Issue = codes "issue"
@@ -113,7 +114,7 @@ unbuilt kind = record { status = status.Unbuilt; text = text_line (codes "unbuil
 -- the answer to a certificate that may be read
 abbrev pub claim_answer : CaseForm → Option Claim → Answer
 claim_answer case None = unbuilt file.Cert
-claim_answer case (Some claim) = weighed case claim (reason_of case.book claim)
+claim_answer case (Some claim) = weighed case (portfolio case.book claim) claim.gap (reason_of case.book claim)
 
 -- the answer to the text of a certificate, where it is within its limit
 abbrev pub certificate_answer : CaseForm → Option (List ℕ) → Answer

@@ -1,6 +1,6 @@
 ghost use Rattle.std.specs.Prelude.{◌≡◌, ◌≤◌, ◌^◌, length, IfOk, MatchResult, Some, None, option_map};
 ghost use Rattle.cash_table.specs.Portfolio.{IsPermitted};
-ghost use Rattle.escrow_top.specs.Answer.{is_offered as is_offered_of, first_not_offered, portfolio_of, reason_against as reason_against_of, reason_of, weighed};
+ghost use Rattle.escrow_top.specs.Answer.{is_offered as is_offered_of, first_not_offered, portfolio_of, reason_against as reason_against_of, weighed, claim_answer};
 ghost use Rattle.escrow_top.specs.CertificateForm.{claim};
 ghost use Rattle.escrow_top.specs.CaseForm.{case_view};
 ghost use Rattle.escrow_top.specs.Reply.{answer};
@@ -35,6 +35,7 @@ fn is_offered(book: &Book, purchase: Purchase) -> bool
 }
 
 // The portfolio of purchases, which is permitted; or the line of the first purchase that isn't offered.
+#[tactic(auto, using(crate::proofs::ClaimLaws::put_permitted, crate::proofs::ClaimLaws::zero_permitted))]
 fn plan_of(
     alloc: Global,
     book: &Book,
@@ -75,6 +76,20 @@ fn reason_against(book: &Book, plan: &Plan, gap: u64) -> Option<Reason>
     None
 }
 
+// The reply to a permitted portfolio with a gap.
+fn weigh_plan(alloc: Global, case: &Case, plan: &Plan, gap: u64) -> Result<Reply, NoMemory>
+    requires { IsPermitted case.now.book plan.now }
+    ensures {
+        IfOk result (λ reply. answer reply
+            ≡ weighed (case_view case.now) plan.now gap (reason_against_of case.now.book plan.now gap))
+    }
+{
+    match reason_against(&case.book, plan, gap) {
+        Some(reason) => refusal(alloc, reason),
+        None => yes(alloc, case, plan, gap),
+    }
+}
+
 /// The reply to a certificate of the first form: `yes` with the summary, or the first reason against it.
 ///
 /// `NoMemory` is the one error.
@@ -84,16 +99,11 @@ pub(crate) fn weigh(
     certificate: &Certificate,
 ) -> Result<Reply, NoMemory>
     ensures {
-        IfOk result (λ reply. answer reply
-            ≡ weighed (case_view case.now) (claim certificate.now) (reason_of case.now.book (claim certificate.now)))
+        IfOk result (λ reply. answer reply ≡ claim_answer (case_view case.now) (Some (claim certificate.now)))
     }
 {
-    let plan = match plan_of(alloc, &case.book, certificate.purchases.as_slice())? {
-        Ok(plan) => plan,
-        Err(line) => return refusal(alloc, Reason::NotPermitted(line)),
-    };
-    match reason_against(&case.book, &plan, certificate.gap) {
-        Some(reason) => refusal(alloc, reason),
-        None => yes(alloc, case, &plan, certificate.gap),
+    match plan_of(alloc, &case.book, certificate.purchases.as_slice())? {
+        Ok(plan) => weigh_plan(alloc, case, &plan, certificate.gap),
+        Err(line) => refusal(alloc, Reason::NotPermitted(line)),
     }
 }
