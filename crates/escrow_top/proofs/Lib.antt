@@ -1,3 +1,4 @@
 pub mod CertificateFacts
 pub mod EachFacts
+pub mod CaseLaws
 pub mod ClaimLaws
