@@ -1,5 +1,5 @@
 -- What the files give keeps the limits of a book.
-use Rattle.std.proofs.Common.{◌≡◌, ◌∙◌, ℕ, zero, suc, ◌+◌, ◌*◌, ◌/◌, ◌%◌, ◌^◌, ◌<◌, ◌≤◌, Bool, true, false, cond, not, nat_lt, nat_le, ◌==◌, ◌&&◌, Option, Some, None, Result, Ok, Err, IfSome, IfOk, List, [], ◌∷◌, length, drop, slice_index_or, ◌-◌, refl, ap, sym, arith, ℤ, pos, ◌+ℤ◌, ◌≤ℤ◌, ◌<ℤ◌, int_le}
+use Rattle.std.proofs.Common.{◌≡◌, ◌∙◌, ℕ, zero, suc, ◌+◌, ◌*◌, ◌/◌, ◌%◌, ◌^◌, ◌≤◌, Bool, true, false, cond, nat_lt, nat_le, ◌==◌, ◌&&◌, Option, Some, None, Result, Ok, Err, IfSome, IfOk, List, [], ◌∷◌, length, drop, slice_index_or, ◌-◌, refl, ap, sym, arith, ℤ, pos, ◌+ℤ◌, ◌≤ℤ◌, ◌<ℤ◌, int_le}
 use Rattle.std.specs.Prelude.{option_map, option_and_then}
 use Rattle.std.specs.Result.{result_ok}
 use Rattle.std.specs.List.{All, AllPairs, list_all}
@@ -7,7 +7,6 @@ use Rattle.std.proofs.lemmas.Bool.{and_parts, eqb-true, leb-true, ltb-false}
 use Rattle.std.proofs.lemmas.Option.{IfSome_then}
 use Rattle.std.proofs.lemmas.Result.{IfOk-at_ok}
 use Rattle.std.proofs.lemmas.List.{length-drop}
-use Rattle.std.proofs.lemmas.Bool.Decides.{nat_tests}
 use Rattle.std.proofs.lemmas.Int.{ints}
 use Rattle.std.proofs.lemmas.List.Elements.{All-nil, All-cons, All-weaker}
 use Rattle.std.proofs.lemmas.List.Kept.{AllPairs-cons}
@@ -31,7 +30,7 @@ use Rattle.cash_table.specs.Book.{IsBook, IsCashLine, IsNeeds, IsSecurityLine, A
 use Rattle.escrow_desk.specs.Rows.{rows_of}
 use Rattle.escrow_desk.specs.declared.refusal.FileKind.{FileKind}
 use Rattle.escrow_desk.specs.declared.refusal.FileKind.TheVariants as file
-use Rattle.escrow_top.specs.CaseForm.{field_of, no_cash, terms_row_of, offer_of, offers_of, lines_of, no_prices_of, rows_within, or_file, and_then, CaseForm, case_form, case_of, rise_from, is_need, are_needs, settle_of, need_of, restricted_of, middle_rows, each_of, IssueForm, issue_of, is_row, is_certificate_term, certificate_line}
+use Rattle.escrow_top.specs.CaseForm.{field_of, no_cash, terms_row_of, offer_of, offers_of, lines_of, no_prices_of, rows_within, or_file, and_then, CaseForm, case_form, case_of, rise_from, is_need, are_needs, settle_of, need_of, restricted_of, middle_rows, each_of, IssueForm, issue_of, is_certificate_term, certificate_line}
 
 int_le-true : (a b : ℤ) → int_le a b ≡ true → a ≤ℤ b
 int_le-true a b test = grind (arith, ints)
@@ -135,10 +134,10 @@ settle_if row =
     (if_then _ (day_of (field_of row 1)) IsSettlement (λ day is.
     if_tested (int_le (pos 10_957) day && int_le day (pos 65_744)) day IsSettlement (λ holds. settlement day holds)))
   where
-  settlement : (day : ℤ) → (int_le (pos 10_957) day && int_le day (pos 65_744)) ≡ true → IsSettlement day
-  settlement day holds =
-      let parts = and_parts (int_le (pos 10_957) day) (int_le day (pos 65_744)) holds in
-      (int_le-true (pos 10_957) day parts.0, int_le-true day (pos 65_744) parts.1)
+    settlement : (day : ℤ) → (int_le (pos 10_957) day && int_le day (pos 65_744)) ≡ true → IsSettlement day
+    settlement day holds =
+        let parts = and_parts (int_le (pos 10_957) day) (int_le day (pos 65_744)) holds in
+        (int_le-true (pos 10_957) day parts.0, int_le-true day (pos 65_744) parts.1)
 
 abbrev IsIssue : IssueForm → Type 0
 IsIssue form = IsSettlement form.settle × IsNeeds form.settle form.needs
@@ -163,11 +162,11 @@ ranged_if : (least most : ℕ) (outside : NumberFault) (number : Option ℕ) →
 ranged_if least most outside None = tt
 ranged_if least most outside (Some n) = by_test (nat_le least n && nat_le n most) refl
   where
-  by_test : (b : Bool) → (nat_le least n && nat_le n most) ≡ b → IfOk (cond b (Ok n) (Err outside)) (λ n. (least ≤ n) × (n ≤ most))
-  by_test true holds =
-      let parts = and_parts (nat_le least n) (nat_le n most) holds in
-      (leb-true least n parts.0, leb-true n most parts.1)
-  by_test false fails = tt
+    by_test : (b : Bool) → (nat_le least n && nat_le n most) ≡ b → IfOk (cond b (Ok n) (Err outside)) (λ n. (least ≤ n) × (n ≤ most))
+    by_test true holds =
+        let parts = and_parts (nat_le least n) (nat_le n most) holds in
+        (leb-true least n parts.0, leb-true n most parts.1)
+    by_test false fails = tt
 
 next_if : {A B : Type 0} (next : A → Result B NumberFault) (r : Result A NumberFault) (P : A → Type 0) (Q : B → Type 0) → IfOk r P → ((x : A) → P x → IfOk (next x) Q) → IfOk (units_and_then next r) Q
 next_if next (Ok x) P Q holds step = step x holds
@@ -180,9 +179,9 @@ denomination_if bytes = ranged_if 1 1_000_000 OutOfRange (whole_of 15 bytes)
 multiple_if : (minimum step : ℕ) → IsDenomination minimum → IsDenomination step → IfOk (multiple_terms minimum step) AreTerms
 multiple_if minimum step first second = by_test (minimum % step == 0) refl
   where
-  by_test : (b : Bool) → (minimum % step == 0) ≡ b → IfOk (cond b (Ok (record { minimum = minimum; step = step })) (Err OutOfRange)) AreTerms
-  by_test true holds = record { minimum = first; step = second; multiple = eqb-true (minimum % step) 0 holds }
-  by_test false fails = tt
+    by_test : (b : Bool) → (minimum % step == 0) ≡ b → IfOk (cond b (Ok (record { minimum = minimum; step = step })) (Err OutOfRange)) AreTerms
+    by_test true holds = record { minimum = first; step = second; multiple = eqb-true (minimum % step) 0 holds }
+    by_test false fails = tt
 
 terms_if : (minimum step : List ℕ) → IfOk (terms_of minimum step) AreTerms
 unfolding terms_of
@@ -200,9 +199,9 @@ cap_if terms bytes =
     next_if _ (dollars_of bytes) (λ n. (1 ≤ n) × (n ≤ 1_000_000_000)) (IsCap terms) (ranged_if 1 1_000_000_000 OutOfRange (whole_of 15 bytes))
     (λ cap within. by_test cap within.1 (nat_le terms.minimum cap) refl)
   where
-  by_test : (cap : ℕ) → cap ≤ 1_000_000_000 → (b : Bool) → nat_le terms.minimum cap ≡ b → IfOk (cond b (Ok cap) (Err OutOfRange)) (IsCap terms)
-  by_test cap most true holds = (leb-true terms.minimum cap holds, most)
-  by_test cap most false fails = tt
+    by_test : (cap : ℕ) → cap ≤ 1_000_000_000 → (b : Bool) → nat_le terms.minimum cap ≡ b → IfOk (cond b (Ok cap) (Err OutOfRange)) (IsCap terms)
+    by_test cap most true holds = (leb-true terms.minimum cap holds, most)
+    by_test cap most false fails = tt
 
 -- a year ends before forty years do
 one_year : (settle : ℤ) → IsSettlement settle → years_after_of settle 1 ≤ℤ years_after_of settle 40
@@ -210,8 +209,8 @@ one_year settle settlement =
     let base : IsBaseDay settle = (settlement.0, omega (arith, ints, settlement.1)) in
     forty (years_after_of settle 1) (years_after_of settle 40) (years_after_of-passes settle 1 39 base (omega arith))
   where
-  forty : (first last : ℤ) → IsYears 39 first last → first ≤ℤ last
-  forty first last years = omega (arith, ints, years.least)
+    forty : (first last : ℤ) → IsYears 39 first last → first ≤ℤ last
+    forty first last years = omega (arith, ints, years.least)
 
 within_years : (maturity first last : ℤ) → maturity ≤ℤ first → first ≤ℤ last → maturity ≤ℤ last
 within_years maturity first last a b = omega (arith, ints)
@@ -258,8 +257,8 @@ certificate_offer settle terms maturity cap settlement are is term =
     } in
     (line, (refl, refl))
   where
-  hundreds : (n : ℕ) → 100 * n % 100 ≡ 0
-  hundreds n = omega arith
+    hundreds : (n : ℕ) → 100 * n % 100 ≡ 0
+    hundreds n = omega arith
 
 offer_if : (settle : ℤ) (terms : Terms) (row : List (List ℕ)) → IsSettlement settle → AreTerms terms → IfSome (offer_of settle terms row) (IsOffer settle)
 offer_if settle terms row settlement are =
@@ -301,10 +300,10 @@ offers_if settle rows settlement =
     if_then (λ terms. each_of (offer_of settle terms) (drop 1 rows)) (terms_row_of (slice_index_or rows 0 [])) (AreOffers settle) (λ terms terms_are.
     offers_of_terms terms (ltb-false 257 (length rows) few) (some_is (terms_row_of (slice_index_or rows 0 [])) terms AreTerms terms_are (terms_row_if (slice_index_or rows 0 []))))))
   where
-  offers_of_terms : (terms : Terms) → length rows ≤ 257 → AreTerms terms → IfSome (each_of (offer_of settle terms) (drop 1 rows)) (AreOffers settle)
-  offers_of_terms terms few are =
-      IfSome_then (each_of (offer_of settle terms) (drop 1 rows)) (each_if (offer_of settle terms) (IsOffer settle) (λ row. offer_if settle terms row settlement are) (drop 1 rows))
-      (λ offers answers. (answers.0, omega (arith, few, answers.1, length-drop 1 rows)))
+    offers_of_terms : (terms : Terms) → length rows ≤ 257 → AreTerms terms → IfSome (each_of (offer_of settle terms) (drop 1 rows)) (AreOffers settle)
+    offers_of_terms terms few are =
+        IfSome_then (each_of (offer_of settle terms) (drop 1 rows)) (each_if (offer_of settle terms) (IsOffer settle) (λ row. offer_if settle terms row settlement are) (drop 1 rows))
+        (λ offers answers. (answers.0, omega (arith, few, answers.1, length-drop 1 rows)))
 
 -- lines that keep the limits
 abbrev AreLimited : ℤ → List Line → Type 0
@@ -314,11 +313,14 @@ no_cash_limits : IsCashLine no_cash
 no_cash_limits = record { kind = refl; step = refl; least = refl; most = omega arith }
 
 limited : (settle : ℤ) (offers : List Line) → AreOffers settle offers → AreLimited settle (no_cash ∷ offers)
-limited settle offers are =
-    ((no_cash_limits,
+limited settle offers are = (
+  (
+    no_cash_limits,
     All-weaker (IsOffer settle) (IsSecurityLine settle) (λ line offer. offer.0) offers are.0,
-    are.1),
-    All-weaker (IsOffer settle) IsZeroCertificate (λ line offer. offer.1) offers are.0)
+    are.1,
+  ),
+  All-weaker (IsOffer settle) IsZeroCertificate (λ line offer. offer.1) offers are.0,
+)
 
 lines_if : (settle : ℤ) (rows : List (List (List ℕ))) → IsSettlement settle → IfSome (lines_of settle rows) (AreLimited settle)
 lines_if settle rows settlement =

@@ -1,6 +1,6 @@
 -- Purchases that are offered keep a portfolio permitted.
-use Rattle.std.proofs.Common.{◌≡◌, ◌∙◌, ℕ, ◌<◌, ◌≢◌, Bool, true, false, not, cond, nat_lt, Option, Some, None, List, [], ◌∷◌, length, get_or, replicate, slice_set, refl, ap, inl, inr, arith}
-use Rattle.std.specs.List.{find, fold}
+use Rattle.std.proofs.Common.{◌≡◌, ◌∙◌, ℕ, ◌<◌, ◌≢◌, Bool, true, false, not, cond, nat_lt, Some, None, List, [], ◌∷◌, length, get_or, replicate, slice_set, refl, ap, inl, inr, arith}
+use Rattle.std.specs.List.{fold}
 use Rattle.std.proofs.lemmas.Bool.{and_parts, cases_lt}
 use Rattle.std.proofs.lemmas.Bool.Decides.{nat_tests}
 use Rattle.std.proofs.lemmas.List.{get_or_default, get_or-set_same, get_or-set_other, get_or-replicate, length-set, length-replicate}
