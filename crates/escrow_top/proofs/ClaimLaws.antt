@@ -1,7 +1,7 @@
 -- Purchases that are offered keep a portfolio permitted.
-use Rattle.std.proofs.Common.{◌≡◌, ◌∙◌, ℕ, ◌<◌, ◌≢◌, Bool, true, false, not, cond, nat_lt, ◌&&◌, Option, Some, None, List, [], ◌∷◌, length, get_or, replicate, slice_set, refl, ap, inl, inr, arith}
-use Rattle.std.specs.List.{find, fold}
-use Rattle.std.proofs.lemmas.Bool.{cases_lt}
+use Rattle.std.proofs.Common.{◌≡◌, ◌∙◌, ℕ, ◌<◌, ◌≢◌, Bool, true, false, not, cond, nat_lt, Some, None, List, [], ◌∷◌, length, get_or, replicate, slice_set, refl, ap, inl, inr, arith}
+use Rattle.std.specs.List.{fold}
+use Rattle.std.proofs.lemmas.Bool.{and_parts, cases_lt}
 use Rattle.std.proofs.lemmas.Bool.Decides.{nat_tests}
 use Rattle.std.proofs.lemmas.List.{get_or_default, get_or-set_same, get_or-set_other, get_or-replicate, length-set, length-replicate}
 use Rattle.cash_table.specs.declared.line.Line.{Line}
@@ -11,13 +11,6 @@ use Rattle.cash_table.proofs.PermitFacts.{PassBelow, permitted_from_tests, passe
 use Rattle.escrow_top.specs.CaseForm.{no_cash}
 use Rattle.escrow_top.specs.Answer.{is_offered, first_not_offered, portfolio_of}
 use Rattle.escrow_top.specs.declared.certificate.Purchase.{Purchase}
-
-abbrev BothTrue : Bool → Bool → Type 0
-BothTrue a b = (a ≡ true) × (b ≡ true)
-
-and_parts : (a b : Bool) → (a && b) ≡ true → BothTrue a b
-and_parts true b both = (refl, both)
-and_parts false b both = absurd (cc)
 
 -- 0 units of every line
 pub zero_permitted : (book : BookContents) → IsPermitted book (replicate (length book.lines) 0)
