@@ -20,11 +20,7 @@ mod security;
 
 pub use amount::{Cents, Price8, Rate, YieldUnits};
 pub use calendar::{days_between, half_back, index360, years_after};
-<<<<<<< HEAD
 pub use calendar_laws::{date_laws, index_laws, kind_laws, series_laws, year_laws};
-=======
-pub use calendar_laws::{date_laws, index_laws, series_laws, year_laws};
->>>>>>> ee9d365b59bbae694a5701eff01a6baa4cbfb5de
 pub use date_text::{print_day, read_day};
 pub use day::Day;
 pub use decimal::whole_number;
