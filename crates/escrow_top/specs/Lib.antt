@@ -5,3 +5,4 @@ pub mod Ending
 pub mod Accepted
 pub mod Reading
 pub mod Reply
+pub mod Stopping

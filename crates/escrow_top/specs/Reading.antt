@@ -1,11 +1,11 @@
 -- What was read of the files that a desk tells.
-use Rattle.std.specs.Prelude.{◌≡◌, ℕ, List, Option, None, Vec, MatchOption, IsSomeAnd, ◌⊎◌}
+use Rattle.std.specs.Prelude.{◌≡◌, ℕ, List, Option, Some, None, Vec, MatchOption, IsSomeAnd, ◌⊎◌}
 use Rattle.std.specs.declared.alloc.Global.{Global}
 use Rattle.escrow_desk.specs.Content.{Content, Told, file_of}
 use Rattle.escrow_top.specs.declared.case.InputFiles.{InputFiles}
 use Rattle.escrow_top.specs.declared.files.FileNames.{FileNames}
-use Rattle.escrow_top.specs.CaseForm.{bounded, file_limit, text_of}
-use Rattle.escrow_top.specs.Answer.{Names}
+use Rattle.escrow_top.specs.CaseForm.{CaseForm, bounded, file_limit, text_of}
+use Rattle.escrow_top.specs.Answer.{Answer, Names, certificate_answer, certificate_limit, named_answer}
 
 -- the names as bytes
 abbrev pub input_names : FileNames → Names
@@ -29,3 +29,20 @@ pub record AreRead (told : Told) (names : Names) (files : InputFiles) : Type 0 w
 abbrev pub IsAnyAbsent : Told → Names → Type 0
 IsAnyAbsent told names =
     MatchOption told (Unit {0}) (λ content. (file_of content names.issue ≡ None) ⊎ (file_of content names.rates ≡ None) ⊎ (file_of content names.prices ≡ None))
+
+-- the certificate of the name is there, and this is the answer to it
+abbrev pub CertificateAnswers : Told → List ℕ → CaseForm → Answer → Type 0
+CertificateAnswers told name case answer =
+    MatchOption told (Unit {0}) (λ content. IsSomeAnd (file_of content name) (λ file. answer ≡ certificate_answer case (bounded certificate_limit file)))
+
+-- the certificate of the name isn't there
+abbrev pub LacksCertificate : Told → List ℕ → Type 0
+LacksCertificate told name = MatchOption told (Unit {0}) (λ content. file_of content name ≡ None)
+
+-- the files that are read are there, and this is the answer to them
+abbrev pub FilesAnswer : Told → Names → Answer → Type 0
+FilesAnswer told names answer = MatchOption told (Unit {0}) (λ content. named_answer content names ≡ Some answer)
+
+-- a file that is read isn't there
+abbrev pub LacksNamed : Told → Names → Type 0
+LacksNamed told names = MatchOption told (Unit {0}) (λ content. named_answer content names ≡ None)

@@ -3,14 +3,17 @@
 
 mod case;
 mod certificate;
+mod check;
 mod files;
 mod issue;
 mod needs;
 mod offers;
 mod reply;
 mod row;
+mod run;
 mod status;
 mod stop;
 mod verdict;
 
+pub use run::run;
 pub use status::Status;

@@ -1,6 +1,7 @@
-ghost use Rattle.std.specs.Prelude.{◌≡◌, ◌++◌, IfOk, OnOk};
+ghost use Rattle.std.specs.Prelude.{◌≡◌, ◌++◌, IfOk, IsTrue, OnOk};
 ghost use Rattle.escrow_top.specs.Answer.{text_line, reason_text, yes_text as yes_text_of, yield_words as yield_words_of, file_word as file_word_of, unbuilt as unbuilt_answer, accepted, not_accepted};
 ghost use Rattle.escrow_top.specs.CaseForm.{case_view};
+ghost use Rattle.escrow_top.specs.Ending.{is_reached};
 ghost use Rattle.escrow_top.specs.Reply.{answer};
 ghost use Rattle.cash_table.specs.Portfolio.{IsPermitted};
 
@@ -68,7 +69,8 @@ fn file_word(kind: FileKind) -> &'static [u8]
 
 /// The reply that the form of a file isn't built yet.
 pub(crate) fn unbuilt(alloc: Global, kind: FileKind) -> Result<Reply, NoMemory>
-    ensures { IfOk result (λ reply. answer reply ≡ unbuilt_answer kind) }
+    ensures answer { IfOk result (λ reply. answer reply ≡ unbuilt_answer kind) }
+    ensures reached { IfOk result (λ reply. IsTrue (is_reached reply.status)) }
 {
     Ok(Reply {
         status: Status::Unbuilt,
@@ -103,7 +105,8 @@ fn yes_text(alloc: Global, case: &Case, plan: &Plan, gap: u64) -> Result<Vec<u8>
 /// The reply that accepts a portfolio with a gap.
 pub(crate) fn yes(alloc: Global, case: &Case, plan: &Plan, gap: u64) -> Result<Reply, NoMemory>
     requires { IsPermitted case.now.book plan.now }
-    ensures { IfOk result (λ reply. answer reply ≡ accepted (case_view case.now) plan.now gap) }
+    ensures answer { IfOk result (λ reply. answer reply ≡ accepted (case_view case.now) plan.now gap) }
+    ensures reached { IfOk result (λ reply. IsTrue (is_reached reply.status)) }
 {
     Ok(Reply {
         status: Status::Done,
@@ -113,7 +116,8 @@ pub(crate) fn yes(alloc: Global, case: &Case, plan: &Plan, gap: u64) -> Result<R
 
 /// The reply that doesn't accept a certificate, for a reason.
 pub(crate) fn refusal(alloc: Global, reason: Reason) -> Result<Reply, NoMemory>
-    ensures { IfOk result (λ reply. answer reply ≡ not_accepted reason) }
+    ensures answer { IfOk result (λ reply. answer reply ≡ not_accepted reason) }
+    ensures reached { IfOk result (λ reply. IsTrue (is_reached reply.status)) }
 {
     Ok(Reply {
         status: Status::No,

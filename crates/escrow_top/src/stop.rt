@@ -1,6 +1,7 @@
 ghost use Rattle.std.specs.Prelude.{◌≡◌};
 ghost use Rattle.escrow_top.specs.declared.stop.Stop.TheVariants.{NoMemory as OutOfMemory};
 
+use crate::status::Status;
 use escrow_desk::NoMemory;
 
 /// Why a run stopped before it had an answer.
@@ -19,5 +20,21 @@ impl From<NoMemory> for Stop {
 
     fn from(_memory: NoMemory) -> Stop {
         Stop::NoMemory
+    }
+}
+
+impl Stop {
+    ghost use Rattle.std.specs.Prelude.{◌≡◌};
+    ghost use Rattle.escrow_top.specs.Stopping.{status_of};
+
+    /// The status of the run.
+    pub(crate) fn status(self) -> Status
+        ensures { result ≡ status_of self }
+    {
+        match self {
+            Stop::ReadFault => Status::ReadFault,
+            Stop::NoFile => Status::NoFile,
+            Stop::NoMemory => Status::NoMemory,
+        }
     }
 }

@@ -1,8 +1,9 @@
-ghost use Rattle.std.specs.Prelude.{◌≡◌, ◌≤◌, ◌^◌, length, IfOk, MatchResult, Some, None, option_map};
+ghost use Rattle.std.specs.Prelude.{◌≡◌, ◌≤◌, ◌^◌, length, IfOk, IsTrue, MatchResult, Some, None, option_map};
 ghost use Rattle.cash_table.specs.Portfolio.{IsPermitted};
 ghost use Rattle.escrow_top.specs.Answer.{is_offered as is_offered_of, first_not_offered, portfolio_of, reason_against as reason_against_of, weighed, claim_answer};
 ghost use Rattle.escrow_top.specs.CertificateForm.{claim};
 ghost use Rattle.escrow_top.specs.CaseForm.{case_view};
+ghost use Rattle.escrow_top.specs.Ending.{is_reached};
 ghost use Rattle.escrow_top.specs.Reply.{answer};
 
 use crate::case::Case;
@@ -79,10 +80,11 @@ fn reason_against(book: &Book, plan: &Plan, gap: u64) -> Option<Reason>
 // The reply to a permitted portfolio with a gap.
 fn weigh_plan(alloc: Global, case: &Case, plan: &Plan, gap: u64) -> Result<Reply, NoMemory>
     requires { IsPermitted case.now.book plan.now }
-    ensures {
+    ensures answer {
         IfOk result (λ reply. answer reply
             ≡ weighed (case_view case.now) plan.now gap (reason_against_of case.now.book plan.now gap))
     }
+    ensures reached { IfOk result (λ reply. IsTrue (is_reached reply.status)) }
 {
     match reason_against(&case.book, plan, gap) {
         Some(reason) => refusal(alloc, reason),
@@ -98,9 +100,10 @@ pub(crate) fn weigh(
     case: &Case,
     certificate: &Certificate,
 ) -> Result<Reply, NoMemory>
-    ensures {
+    ensures answer {
         IfOk result (λ reply. answer reply ≡ claim_answer (case_view case.now) (Some (claim certificate.now)))
     }
+    ensures reached { IfOk result (λ reply. IsTrue (is_reached reply.status)) }
 {
     match plan_of(alloc, &case.book, certificate.purchases.as_slice())? {
         Ok(plan) => weigh_plan(alloc, case, &plan, certificate.gap),

@@ -5,7 +5,7 @@ use Rattle.escrow_top.specs.Answer.{first_not_offered, portfolio_of}
 use Rattle.escrow_top.proofs.PurchaseFacts.{claim_answer-offered}
 use Rattle.escrow_top.proofs.verdict.weigh.Goals as goal
 
-pub returns-in-Ok : goal.returns-in-Ok
-returns-in-Ok c =
+pub returns-in-Ok-clause-answer : goal.returns-in-Ok-clause-answer
+returns-in-Ok-clause-answer c =
     let found = rw (c.in-Ok.is, c.as_slice.ensures.value) at c.in_ok-plan.ensures in
-    rw (claim_answer-offered (case_view c.args.case.now) (claim c.args.certificate.now) c.in-Ok.plan found.0 found.1) c.weigh_plan.ensures
+    rw (claim_answer-offered (case_view c.args.case.now) (claim c.args.certificate.now) c.in-Ok.plan found.0 found.1) c.weigh_plan.ensures.answer
