@@ -8,12 +8,12 @@ mod files;
 mod issue;
 mod needs;
 mod offers;
+mod program;
 mod reply;
 mod row;
-mod run;
 mod status;
 mod stop;
 mod verdict;
 
-pub use run::run;
+pub use program::run;
 pub use status::Status;
