@@ -2,3 +2,4 @@ pub mod CertificateFacts
 pub mod EachFacts
 pub mod CaseLaws
 pub mod ClaimLaws
+pub mod AcceptedLaws
