@@ -1,15 +1,15 @@
 -- What `yes` means, proved.
-use Rattle.std.proofs.Common.{◌≡◌, ℕ, ◌+◌, ◌-◌, ◌≤◌, Bool, true, false, not, cond, nat_lt, ◌==◌, Option, Some, None, MatchOption, Result, Ok, Err, List, length, refl, subst, arith}
+use Rattle.std.proofs.Common.{◌≡◌, ℕ, ◌+◌, ◌-◌, ◌≤◌, Bool, true, false, not, ◌==◌, Option, Some, None, MatchOption, Result, Ok, Err, List, length, refl, subst, arith}
 use Rattle.std.specs.Prelude.{option_map, option_and_then}
 use Rattle.std.proofs.lemmas.Bool.{ltb-false}
-use Rattle.cash_table.specs.Book.{BookContents, IsBook, AreZeroCertificates}
-use Rattle.cash_table.specs.Portfolio.{IsPermitted, Meets, IsFirstShort, first_short_of, cost, total_needs}
+use Rattle.cash_table.specs.Book.{BookContents, IsBook}
+use Rattle.cash_table.specs.Portfolio.{Meets, IsFirstShort, first_short_of, cost, total_needs}
 use Rattle.cash_table.proofs.DayFacts.{first_short_is}
 use Rattle.cash_table.proofs.PortfolioLaws.{meets_cost, zero_yield}
 use Rattle.escrow_desk.specs.declared.refusal.FileKind.{FileKind}
 use Rattle.escrow_top.specs.CertificateForm.{Claim, claim_of}
 use Rattle.escrow_top.specs.CaseForm.{CaseForm, bounded, file_limit}
-use Rattle.escrow_top.specs.Answer.{first_not_offered, portfolio, given, or_else, is_leaf_weak, reason_of, yes_text, weighed, claim_answer, certificate_answer, case_answer, certificate_limit, files_case, check_answer}
+use Rattle.escrow_top.specs.Answer.{first_not_offered, portfolio, given, or_else, is_leaf_weak, reason_of, yes_text, weighed, claim_answer, case_answer, certificate_limit, files_case, check_answer}
 use Rattle.escrow_top.specs.Accepted.{Accepted}
 use Rattle.escrow_top.specs.declared.status.Status.TheVariants as status
 use Rattle.escrow_top.specs.declared.verdict.Reason.{Reason}
