@@ -82,8 +82,8 @@ impl Book {
         &self.lines[line as usize]
     }
 
-    // The needs.
-    pub(crate) fn needs(&self) -> &[Flow]
+    /// The needs, in order of day.
+    pub fn needs(&self) -> &[Flow]
         ensures value { result.now ≡ self.now.needs }
         ensures limits { IsBook self.now }
     {

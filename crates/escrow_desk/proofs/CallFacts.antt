@@ -1,5 +1,5 @@
 -- How many calls are listed.
-use Rattle.std.proofs.Common.{◌≡◌, ◌∙◌, ℕ, zero, suc, ◌+◌, ◌≤◌, List, Bool, true, false, cond, refl, arith}
+use Rattle.std.proofs.Common.{◌≡◌, ℕ, zero, suc, ◌+◌, ◌≤◌, List, Bool, true, false, cond, refl, arith}
 use Rattle.escrow_desk.specs.Memory.{is_listed, listed_below}
 
 pub listed-zero : (xs : List ℕ) → listed_below xs 0 ≡ 0

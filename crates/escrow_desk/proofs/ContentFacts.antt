@@ -1,10 +1,10 @@
 -- How reads, and what is said, add up.
-use Rattle.std.proofs.Common.{◌≡◌, ◌∙◌, ℕ, ◌+◌, ◌-◌, ◌<◌, ◌≤◌, ◌++◌, List, [], length, take, drop, Option, Some, None, refl, ap, sym, arith, append_assoc, length-append}
+use Rattle.std.proofs.Common.{◌≡◌, ◌∙◌, ℕ, ◌+◌, ◌-◌, ◌≤◌, ◌++◌, List, [], length, take, drop, Option, Some, None, refl, ap, sym, arith, append_assoc, length-append}
 use Rattle.std.proofs.lemmas.List.{append-nil}
 use Rattle.std.proofs.Math.Seq.{take-add, take-append_seam, take-length}
-use Rattle.std.proofs.lemmas.List.{length-take-le, length-drop, take-append-le}
+use Rattle.std.proofs.lemmas.List.{length-take-le, length-drop}
 use Rattle.std.specs.Option.{MatchOption, IsSomeAnd}
-use Rattle.escrow_desk.specs.Content.{Content, Told, Said, Given, IsFile, IsLonger, PartOf, file_of, with_said}
+use Rattle.escrow_desk.specs.Content.{Told, Said, Given, PartOf, file_of}
 
 -- these bytes are a prefix of the file, and with any byte the file is there
 abbrev pub IsFront : Told → List ℕ → List ℕ → Type 0

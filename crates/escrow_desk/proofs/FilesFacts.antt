@@ -1,8 +1,8 @@
 -- Files in a list, as a map.
-use Rattle.std.proofs.Common.{take, drop, ◌-◌, ◌≡◌, ◌≢◌, ◌∙◌, ℕ, zero, suc, ◌+◌, ◌<◌, ◌≤◌, List, [], ◌∷◌, ◌++◌, length, get_or, set, map, Option, Some, None, Bool, true, false, cond, refl, sym, ap, arith, string_bytes, unwrap_or, inl, inr}
+use Rattle.std.proofs.Common.{take, drop, ◌-◌, ◌≡◌, ◌≢◌, ◌∙◌, ℕ, zero, suc, ◌+◌, ◌<◌, List, [], ◌∷◌, ◌++◌, length, get_or, set, map, Option, Some, None, Bool, true, false, cond, refl, sym, ap, arith, string_bytes, inl, inr}
 use Rattle.std.specs.Ordering.{nat_cmp, eq_by_cmp}
 use Rattle.std.specs.Cmp.Lexicographic.{slice_cmp, nat_list_cmp_total}
-use Rattle.std.specs.FinMap.{FinMap, find, get, insert, get-insert, get-from_entries, same_map, from_entries, from_entries_push, slice_cmp-IsAntisymmetric, nat_cmp-IsAntisymmetric}
+use Rattle.std.specs.FinMap.{find, get, insert, get-insert, get-from_entries, same_map, from_entries, from_entries_push, slice_cmp-IsAntisymmetric, nat_cmp-IsAntisymmetric}
 use Rattle.std.proofs.lemmas.Map.Text.{is_eq-slice_cmp}
 use Rattle.std.proofs.lemmas.Slice.Eq.{bytes_eq-Decides}
 use Rattle.std.proofs.lemmas.Bool.{false_from_ne_true, cases_Bool}
@@ -86,6 +86,10 @@ files-push fs n new none a =
 
 pub get_inserted : (m : Files) (n v : List ℕ) → get (insert m n v) n ≡ Some v
 get_inserted m n v = get-insert nat_list_cmp_total m n v n ∙ rw (same_name n n refl) refl
+
+-- a file of another name stays
+pub get_other : (m : Files) (n v q : List ℕ) → q ≢ n → get (insert m n v) q ≡ get m q
+get_other m n v q apart = get-insert nat_list_cmp_total m n v q ∙ rw (other_name q n apart) refl
 
 pub insert_twice : (m : Files) (n v w : List ℕ) → insert (insert m n v) n w ≡ insert m n w
 insert_twice m n v w = same_map nat_list_cmp_total (slice_cmp-IsAntisymmetric nat_cmp-IsAntisymmetric) _ _ (λ q.

@@ -1,4 +1,5 @@
 pub mod CallFacts
 pub mod ContentFacts
+pub mod CountFacts
 pub mod FilesFacts
 pub mod RecordFacts

@@ -2,8 +2,7 @@
 use Rattle.csv.specs.Reading.{is_bom}
 use Rattle.csv.specs.Records.{field_at}
 use Rattle.escrow_desk.specs.Sizes.{AreSmall}
-use Rattle.std.proofs.Common.{get_or, ◌≡◌, ◌<◌, ◌≤◌, ◌+◌, ◌∙◌, ℕ, zero, suc, List, [], ◌∷◌, ◌++◌, Option, Some, None, Bool, true, false, refl, ap, sym, length, arith, length-append, cond}
-use Rattle.std.proofs.lemmas.Bool.{cases_Bool}
+use Rattle.std.proofs.Common.{get_or, ◌≡◌, ◌<◌, ◌≤◌, ◌+◌, ℕ, zero, suc, List, [], ◌∷◌, ◌++◌, Option, Some, None, Bool, true, false, refl, ap, length, arith, length-append, cond}
 use Rattle.csv.specs.Machine.{next_record, Read, step, is_end, fields_after, field_after, ends_at_end}
 use Rattle.csv.specs.Reading.{records_from, records_next, records, Reached, AreRecords, default_config, strip_bom}
 use Rattle.csv.specs.declared.parser.Config.{Config}

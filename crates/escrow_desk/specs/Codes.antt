@@ -5,12 +5,15 @@ use Rattle.std.specs.FinMap as map
 use Rattle.escrow_desk.specs.Content.{Content, Files}
 use Rattle.escrow_desk.specs.Memory.{MemoryState}
 
+-- of files
 abbrev pub files_code : Coded Files
 files_code = map.code (coded_list coded_ℕ) (coded_list coded_ℕ)
 
+-- of content
 abbrev pub content_code : Coded Content
 content_code = code_by (Files × List ℕ) (coded× files_code (coded_list coded_ℕ)) (λ c. (c.files, c.said)) (λ p. record { files = p.0; said = p.1 }) (λ _. refl)
 
+-- of a desk in memory
 abbrev pub memory_state_code : Coded MemoryState
 memory_state_code =
     code_by (Content × (List ℕ × (ℕ × (ℕ × (ℕ × (ℕ × ℕ)))))) (coded× content_code (coded× (coded_list coded_ℕ) (coded× coded_ℕ (coded× coded_ℕ (coded× coded_ℕ (coded× coded_ℕ coded_ℕ))))))

@@ -19,6 +19,10 @@ pub record Counts : Type 0 where
   pub write_faults : ℕ
   pub absences : ℕ
 
+-- the counts of these numbers
+abbrev pub counts : ℕ → ℕ → ℕ → Counts
+counts read_faults write_faults absences = record { read_faults = read_faults; write_faults = write_faults; absences = absences }
+
 -- no count rose between two times, and none stands at its last value
 pub record AllSteady (old new : Counts) : Type 0 where
   pub read_faults : IsSteady old.read_faults new.read_faults

@@ -1,5 +1,5 @@
 -- A desk in memory: its content, and which of its calls fail.
-use Rattle.std.specs.Prelude.{◌≡◌, ℕ, zero, suc, ◌+◌, ◌<◌, ◌==◌, nat_lt, List, [], if◌then◌else◌, Bool, false, min, IsTrue, ◌⊎◌}
+use Rattle.std.specs.Prelude.{◌≡◌, ℕ, zero, suc, ◌+◌, ◌==◌, nat_lt, List, [], if◌then◌else◌, Bool, false, min, IsTrue, ◌⊎◌}
 use Rattle.std.specs.List.{list_any}
 use Rattle.escrow_desk.specs.Content.{Content, Files}
 use Rattle.escrow_desk.specs.Counts.{last_count, Rose}
@@ -45,5 +45,10 @@ HasCause old new = IsTrue (is_next_listed old.failing old.calls) ⊎ Rose old.st
 abbrev pub new_desk : Files → List ℕ → MemoryState
 new_desk files failing = record {
   content = record { files = files; said = [] };
-  failing = failing; calls = 0; starved = 0; read_faults = 0; write_faults = 0; absences = 0;
+  failing = failing;
+  calls = 0;
+  starved = 0;
+  read_faults = 0;
+  write_faults = 0;
+  absences = 0;
 }

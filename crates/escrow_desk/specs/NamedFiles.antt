@@ -1,12 +1,14 @@
 -- Named bytes as files.
-use Rattle.std.specs.Prelude.{◌≡◌, ◌≢◌, ℕ, List, map, string_bytes, AllPairs}
+use Rattle.std.specs.Prelude.{◌≢◌, ℕ, List, map, string_bytes, AllPairs}
 use Rattle.std.specs.FinMap as fin
 use Rattle.escrow_desk.specs.declared.named.NamedBytes.{NamedBytes}
 use Rattle.escrow_desk.specs.Content.{Files}
 
+-- the bytes of a file's name
 abbrev pub name_of : NamedBytes → List ℕ
 name_of file = string_bytes file.name
 
+-- a file as an entry of a map
 abbrev pub entry_of : NamedBytes → List ℕ × List ℕ
 entry_of file = (name_of file, file.bytes.items)
 

@@ -38,11 +38,7 @@ pub fn copy_part(file: &[u8], at: u64, into: &mut [u8]) -> usize
     ensures part { PartOf file.now at into.old result into.new }
 {
     let size = file.len();
-    let start = if at < size as u64 {
-        at as usize
-    } else {
-        size
-    };
+    let start = if at < size as u64 { at as usize } else { size };
     let count = into.len().min(size - start);
     into[..count].copy_from_slice(&file[start..start + count]);
     count

@@ -21,3 +21,6 @@ pub use never::NeverFails;
 pub use refusal::{CaseError, FileKind, NoMemory, ReadRefusal, Refusal, RefusalKind};
 pub use rows::{Rows, read_rows};
 pub use transfer::{read_all, say_all, write_all};
+
+#[cfg(test)]
+mod tests;

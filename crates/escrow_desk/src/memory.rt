@@ -33,13 +33,13 @@ impl Model for MemoryDesk {
     ghost coded = { memory_state_code };
 
     ghost view = { λ desk. record {
-        content = record { files = files_of desk.files.items; said = desk.said.items };
-        failing = desk.tally.failing.items;
-        calls = desk.tally.calls;
-        starved = desk.tally.starved;
-        read_faults = desk.tally.listed_reads;
-        write_faults = desk.tally.listed_writes + desk.tally.starved;
-        absences = desk.tally.absences;
+      content = record { files = files_of desk.files.items; said = desk.said.items };
+      failing = desk.tally.failing.items;
+      calls = desk.tally.calls;
+      starved = desk.tally.starved;
+      read_faults = desk.tally.listed_reads;
+      write_faults = desk.tally.listed_writes + desk.tally.starved;
+      absences = desk.tally.absences;
     } };
 }
 
@@ -71,14 +71,15 @@ impl MemoryDesk {
         self.said.as_slice()
     }
 
-    /// How many calls came so far, at most 2^64 - 1.
+    /// How many calls came so far; it stands still at 2^64 - 1, and later calls have no number.
     pub fn calls(&self) -> u64
-        ensures { result ≡ self.now.calls }
+        ensures value { result ≡ self.now.calls }
+        ensures tallied { IsTallied self.now }
     {
         self.tally.calls()
     }
 
-    /// How many growths found no memory, at most 2^64 - 1. The other failures are the calls so far whose number is
+    /// How many growths found no memory; it stands still at 2^64 - 1. All other failures are of calls whose number is
     /// listed.
     pub fn starved(&self) -> u64
         ensures value { result ≡ self.now.starved }

@@ -13,6 +13,7 @@ use std::marker::Model;
 /// Lent files, seen as a map by name. No call fails, what is written is dropped, and nothing is told.
 ///
 /// A name without a lent file reads as an empty file.
+#[derive(Drop)]
 pub struct NeverFails<'a> {
     files: &'a [NamedBytes],
 }

@@ -62,11 +62,14 @@ pub enum RefusalKind {
     TooManyLines,
 }
 
-/// A file is refused at a row, counted from 1; row 0 stands for the file as a whole.
+/// Where a file is refused, and why.
 #[derive(Clone, Copy, Debug, PartialEq, Eq)]
 pub struct Refusal {
+    /// The file.
     pub file: FileKind,
+    /// The row, from 1; 0 for the whole file.
     pub row: u32,
+    /// Why.
     pub kind: RefusalKind,
 }
 

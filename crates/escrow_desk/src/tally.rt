@@ -84,7 +84,8 @@ impl Tally {
 
     /// How many calls came.
     pub fn calls(&self) -> u64
-        ensures { result ≡ self.now.calls }
+        ensures value { result ≡ self.now.calls }
+        ensures tallied { self.now.listed_reads + self.now.listed_writes ≡ listed_below self.now.failing.items self.now.calls }
     {
         self.calls
     }

@@ -68,10 +68,10 @@ pub fn write_all<D: Desk>(desk: &mut D, name: &str, bytes: &[u8]) -> Result<(), 
     ensures absences { D.absences desk.new ≡ D.absences desk.old }
 {
     desk.begin(name)?;
-    let mut done = 0;
-    while done < bytes.len() {
-        let count = desk.append(name, &bytes[done..])?;
-        done += count;
+    let mut written = 0;
+    while written < bytes.len() {
+        let count = desk.append(name, &bytes[written..])?;
+        written += count;
     }
     Ok(())
 }
@@ -90,10 +90,10 @@ pub fn say_all<D: Desk>(desk: &mut D, bytes: &[u8]) -> Result<(), Failed>
     ensures reads { D.read_faults desk.new ≡ D.read_faults desk.old }
     ensures absences { D.absences desk.new ≡ D.absences desk.old }
 {
-    let mut done = 0;
-    while done < bytes.len() {
-        let count = desk.say(&bytes[done..])?;
-        done += count;
+    let mut said = 0;
+    while said < bytes.len() {
+        let count = desk.say(&bytes[said..])?;
+        said += count;
     }
     Ok(())
 }

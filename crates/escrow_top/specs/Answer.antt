@@ -54,17 +54,22 @@ abbrev pub or_else : {A : Type 0} → Option A → Option A → Option A
 or_else None second = second
 or_else (Some first) second = Some first
 
--- the one leaf doesn't bear the cost less the gap out: at the price 1 the needs sum to less
-abbrev pub is_leaf_weak : BookContents → Claim → Bool
-is_leaf_weak book claim = nat_lt (total_needs book) (cost book (portfolio book claim) - claim.gap)
+-- the one leaf doesn't bear out the cost less the gap: at the price 1 the needs sum to less
+abbrev pub is_leaf_weak : BookContents → List ℕ → ℕ → Bool
+is_leaf_weak book plan gap = nat_lt (total_needs book) (cost book plan - gap)
+
+-- why a permitted portfolio isn't accepted with a gap: the first reason that stands. No gap is allowed so far
+abbrev pub reason_against : BookContents → List ℕ → ℕ → Option Reason
+reason_against book plan gap =
+    or_else (option_map reason.ShortOn (first_short_of book plan))
+    (or_else (given (is_leaf_weak book plan gap) (reason.WeakLeaf 1))
+    (given (not (gap == 0)) reason.GapAbove))
 
 -- why a claim isn't accepted: the first reason that stands
 abbrev pub reason_of : BookContents → Claim → Option Reason
 reason_of book claim =
     or_else (option_map (λ purchase. reason.NotPermitted purchase.line) (first_not_offered book.lines claim.purchases))
-    (or_else (option_map reason.ShortOn (first_short_of book (portfolio book claim)))
-    (or_else (given (is_leaf_weak book claim) (reason.WeakLeaf 1))
-    (given (not (claim.gap == 0)) reason.GapAbove)))
+    (reason_against book (portfolio book claim) claim.gap)
 
 abbrev pub reason_text : Reason → List ℕ
 reason_text (reason.NotPermitted line) = text_line (codes "no NotPermitted ") (decimal line)
@@ -83,9 +88,18 @@ yes_text case plan gap =
     ++ text_line (codes "yield ") (yield_words (security_cost case.book plan))
     ++ text_line (codes "limit ") (fixed 8 case.limit) ++ text_line (codes "gap ") (fixed 2 gap)
 
-abbrev pub weighed : CaseForm → Claim → Option Reason → Answer
-weighed case claim None = record { status = status.Done; text = yes_text case (portfolio case.book claim) claim.gap }
-weighed case claim (Some reason) = record { status = status.No; text = reason_text reason }
+-- a portfolio is accepted with a gap
+abbrev pub accepted : CaseForm → List ℕ → ℕ → Answer
+accepted case plan gap = record { status = status.Done; text = yes_text case plan gap }
+
+-- a certificate isn't accepted, for a reason
+abbrev pub not_accepted : Reason → Answer
+not_accepted reason = record { status = status.No; text = reason_text reason }
+
+-- a portfolio with a gap is accepted where no reason stands against it
+abbrev pub weighed : CaseForm → List ℕ → ℕ → Option Reason → Answer
+weighed case plan gap None = accepted case plan gap
+weighed case plan gap (Some reason) = not_accepted reason
 
 abbrev pub file_word : FileKind → List ℕ
 file_word file.Issue = codes "issue"
@@ -100,7 +114,7 @@ unbuilt kind = record { status = status.Unbuilt; text = text_line (codes "unbuil
 -- the answer to a certificate that may be read
 abbrev pub claim_answer : CaseForm → Option Claim → Answer
 claim_answer case None = unbuilt file.Cert
-claim_answer case (Some claim) = weighed case claim (reason_of case.book claim)
+claim_answer case (Some claim) = weighed case (portfolio case.book claim) claim.gap (reason_of case.book claim)
 
 -- the answer to the text of a certificate, where it is within its limit
 abbrev pub certificate_answer : CaseForm → Option (List ℕ) → Answer

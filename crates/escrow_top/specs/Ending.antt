@@ -1,7 +1,6 @@
--- How a run ends: its status, and the counts of the desk.
-use Rattle.std.specs.Prelude.{◌≡◌, ℕ, Bool, true, false, List, IsSomeAnd, MatchOption, Some, None, Option, option_map}
-use Rattle.escrow_desk.specs.Content.{Content, Told, file_of, with_said, SaidPart}
-use Rattle.escrow_desk.specs.Counts.{Counts, Rose}
+-- How a run ends.
+use Rattle.std.specs.Prelude.{◌≡◌, ℕ, Bool, true, false, List, Option, Some, None, IsSomeAnd, MatchOption}
+use Rattle.escrow_desk.specs.Content.{Content, Told, with_said, SaidPart}
 use Rattle.escrow_top.specs.Answer.{Answer, answer_to}
 use Rattle.escrow_top.specs.declared.status.Status.{Status}
 use Rattle.escrow_top.specs.declared.status.Status.TheVariants as status
@@ -21,7 +20,7 @@ code_of status.NoFile = 10
 code_of status.NoMemory = 11
 code_of status.Unbuilt = 12
 
--- the run wasn't cut off by a fault, an absent file or want of memory
+-- the run came to its answer: no fault, absent file or want of memory cut it off
 abbrev pub is_reached : Status → Bool
 is_reached status.ReadFault = false
 is_reached status.WriteFault = false
@@ -29,8 +28,19 @@ is_reached status.NoFile = false
 is_reached status.NoMemory = false
 is_reached status = true
 
--- no count changed
-pub record SameCounts (old new : Counts) : Type 0 where
-  pub read_faults : new.read_faults ≡ old.read_faults
-  pub write_faults : new.write_faults ≡ old.write_faults
-  pub absences : new.absences ≡ old.absences
+-- the status, and what was said, are the answer to the words over the content that the desk tells; no file changed
+abbrev pub Answers : Told → List (List ℕ) → Status → Told → Type 0
+Answers None words status new = new ≡ None
+Answers (Some content) words status new =
+    IsSomeAnd (answer_to words content) (λ answer. (status ≡ answer.status) × (new ≡ Some (with_said content answer.text)))
+
+-- what was said grew by a prefix of the text of the answer; no file changed
+abbrev pub AnswersPart : Told → List (List ℕ) → Told → Type 0
+AnswersPart None words new = new ≡ None
+AnswersPart (Some content) words new =
+    IsSomeAnd (answer_to words content) (λ answer. SaidPart (Some content) answer.text new)
+
+-- a file that the words have read isn't there
+abbrev pub LacksFile : Told → List (List ℕ) → Type 0
+LacksFile None words = Unit {0}
+LacksFile (Some content) words = answer_to words content ≡ None

@@ -5,6 +5,7 @@ ghost use Rattle.escrow_units.specs.SlgsTerms.{IsSettlement};
 ghost use Rattle.escrow_units.specs.Calendar.{years_after_of};
 ghost use Rattle.escrow_top.specs.CaseForm.{is_row as is_row_of, settle_of, need_of, restricted_of, each_of, middle_rows, are_needs as are_needs_of, is_need, rise_from, issue_of, issue_view};
 
+use crate::needs::needs_total;
 use crate::row::is_row;
 use escrow_desk::{NoMemory, Rows};
 use escrow_units::{Cents, Day, Flow, YieldUnits, read_cents, read_day, read_yield, years_after};
@@ -90,18 +91,6 @@ fn days_rise(needs: &[Flow], from: Day) -> bool
         least = need.day.number() + 1;
     }
     true
-}
-
-// The sum of at most 480 needs.
-fn needs_total(needs: &[Flow]) -> u128
-    requires { length needs.now ≤ 480 }
-    ensures { result ≡ total needs.now }
-{
-    let mut sum = 0;
-    for need in needs {
-        sum += need.cents.0 as u128;
-    }
-    sum
 }
 
 // Whether each need is of at least one cent and not later than the last day.

@@ -3,10 +3,14 @@
 
 mod case;
 mod certificate;
+mod files;
 mod issue;
+mod needs;
 mod offers;
+mod reply;
 mod row;
 mod status;
+mod stop;
 mod verdict;
 
 pub use status::Status;

@@ -4,9 +4,10 @@ use Rattle.std.proofs.Math.Nat.{pow-le-pow_right, pow-suc, mul-le-mul_right, one
 use Rattle.std.proofs.lemmas.Nat.{pow-add}
 use Rattle.std.proofs.lemmas.Int.Digits.{digits_value_more}
 use Rattle.std.proofs.lemmas.Grind.{common_steps}
-use Rattle.std.specs.List.{list_any, position_or_len, position}
+use Rattle.std.specs.List.{list_any, position_or_len, position, before_first, after_first}
 use Rattle.std.specs.Option.{option_map}
 use Rattle.escrow_units.specs.NumberText.{whole_of, parted_of, decimal_of, is_point}
+use Rattle.escrow_units.specs.PriceText.{is_hyphen, quoted_of, price_units_of}
 use Rattle.std.specs.Char.{is_ascii_digit, digit_value}
 use Rattle.std.specs.Str.Parse.{digits_value}
 
@@ -69,19 +70,46 @@ pub cond-None : (b : Bool) (i : ℕ) → cond b (Some i) None ≡ None → b ≡
 cond-None true i same = cc
 cond-None false i same = refl
 
+-- where a mark first stands, a list is parted there
+pub record IsParted (mark : ℕ → Bool) (bytes : List ℕ) (place : ℕ) : Type 0 where
+  pub found : list_any mark bytes ≡ true
+  pub front : before_first mark bytes ≡ take place bytes
+  pub back : after_first mark bytes ≡ drop (place + 1) bytes
+
+pub parted_at : (mark : ℕ → Bool) (bytes : List ℕ) (place : ℕ) → position mark bytes ≡ Some place → IsParted mark bytes place
+parted_at mark bytes place same =
+    let parts = cond-Some (ltb (position_or_len mark bytes) (length bytes)) (position_or_len mark bytes) place same in
+    record {
+      found = list_any-is mark bytes ∙ parts.0;
+      front = ap (λ i. take i bytes) parts.1;
+      back = ap (λ i. drop (i + 1) bytes) parts.1;
+    }
+
+pub missing_at : (mark : ℕ → Bool) (bytes : List ℕ) → position mark bytes ≡ None → list_any mark bytes ≡ false
+missing_at mark bytes same =
+    list_any-is mark bytes ∙ cond-None (ltb (position_or_len mark bytes) (length bytes)) (position_or_len mark bytes) same
+
 -- a field with a point is read in two parts, and one without a point in one
 pub decimal_of-parted : (most places : ℕ) (bytes : List ℕ) (point : ℕ) → position is_point bytes ≡ Some point →
     decimal_of most places bytes ≡ parted_of most places (take point bytes) (drop (point + 1) bytes)
 unfolding decimal_of
 decimal_of-parted most places bytes point same =
-    let place = cond-Some (ltb (position_or_len is_point bytes) (length bytes)) (position_or_len is_point bytes) point same in
-    let found : list_any is_point bytes ≡ true = list_any-is is_point bytes ∙ place.0 in
-    rw found (ap (λ i. parted_of most places (take i bytes) (drop (i + 1) bytes)) place.1)
+    let parts = parted_at is_point bytes point same in
+    rw (parts.found, parts.front, parts.back)
 
 pub decimal_of-unparted : (most places : ℕ) (bytes : List ℕ) → position is_point bytes ≡ None →
     decimal_of most places bytes ≡ option_map (λ whole. whole * 10 ^ places) (whole_of most bytes)
 unfolding decimal_of
-decimal_of-unparted most places bytes same =
-    let missing : list_any is_point bytes ≡ false =
-    list_any-is is_point bytes ∙ cond-None (ltb (position_or_len is_point bytes) (length bytes)) (position_or_len is_point bytes) same in
-    rw missing
+decimal_of-unparted most places bytes same = rw (missing_at is_point bytes same)
+
+-- the same of a price and its hyphen
+pub price_units_of-parted : (bytes : List ℕ) (hyphen : ℕ) → position is_hyphen bytes ≡ Some hyphen →
+    price_units_of bytes ≡ quoted_of (take hyphen bytes) (drop (hyphen + 1) bytes)
+unfolding price_units_of
+price_units_of-parted bytes hyphen same =
+    let parts = parted_at is_hyphen bytes hyphen same in
+    rw (parts.found, parts.front, parts.back)
+
+pub price_units_of-unparted : (bytes : List ℕ) → position is_hyphen bytes ≡ None → price_units_of bytes ≡ decimal_of 3 8 bytes
+unfolding price_units_of
+price_units_of-unparted bytes same = rw (missing_at is_hyphen bytes same)

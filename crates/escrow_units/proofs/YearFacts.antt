@@ -1,7 +1,8 @@
 -- Days some years later.
 use borrow.Author.Differences.{up, down}
-use Rattle.std.proofs.Common.{zero, suc, ◌≡◌, ℕ, ◌+◌, ◌-◌, ◌*◌, ◌<◌, ◌≤◌, min, arith, ℤ, pos, neg_ℤ, ◌+ℤ◌, ◌≤ℤ◌}
+use Rattle.std.proofs.Common.{refl, ◌<ℤ◌, zero, suc, ◌≡◌, ℕ, ◌+◌, ◌-◌, ◌*◌, ◌<◌, ◌≤◌, min, arith, ℤ, pos, neg_ℤ, ◌+ℤ◌, ◌≤ℤ◌}
 use Rattle.std.proofs.lemmas.Bool.Decides.{nat_tests}
+use Rattle.std.proofs.lemmas.Int.{by_lt_z}
 use Rattle.jiff_core.specs.Calendar.{days_in_month, days_in_year, days_of_months, day_count}
 use Rattle.jiff_core.proofs.SignedLemmas.{signed_arith}
 use Rattle.jiff_core.proofs.MarchLemmas.{days_in_year-leap_day, days_of_months-late}
@@ -9,7 +10,9 @@ use Rattle.jiff_core.proofs.CalendarLemmas.{days_from_civil-day_count, days_of_m
 use Rattle.escrow_units.specs.Calendar.{CivilDate, number_of, date_of, later_year, later_month, years_after_of, IsBaseDay}
 use Rattle.escrow_units.specs.CalendarLaws.{IsYears}
 use Rattle.escrow_units.specs.DayNumber.{IsDayNumber}
-use Rattle.escrow_units.specs.SlgsTerms.{IsSettlement}
+use Rattle.escrow_units.specs.SlgsTerms.{IsOfKind, IsSettlement}
+use Rattle.escrow_units.specs.declared.security.SlgsKind.{SlgsKind}
+use Rattle.escrow_units.specs.declared.security.SlgsKind.TheVariants as kind
 use Rattle.escrow_units.proofs.SeriesFacts.{clamped, count-clamped, leap_day_bound, february, clamped-day, IsBaseDate, base_date, years_after_of-none}
 
 month-later : (y z : ℤ) (m : ℕ) → 2 < m → days_in_month y m ≡ days_in_month z m
@@ -92,3 +95,27 @@ settlement-base settle n h after within =
     let years = years_after_of-passes settle 0 40 base (omega arith) in
     let none = years_after_of-none settle own in
     (omega (arith, signed_arith, h.0), omega (arith, signed_arith, h.1, years.most, none))
+
+ten_years : (settle : ℤ) → IsSettlement settle → years_after_of settle 1 <ℤ years_after_of settle 10
+ten_years settle h =
+    let base : IsBaseDay settle = (h.0, omega (arith, signed_arith, h.1)) in
+    omega (arith, signed_arith, (years_after_of-passes settle 1 9 base (omega arith)).least)
+
+pub kinds-exclusive : (settle maturity : ℤ) (a b : SlgsKind) → IsSettlement settle → IsOfKind a settle maturity → IsOfKind b settle maturity → a ≡ b
+kinds-exclusive settle maturity kind.Certificate kind.Certificate h p q = refl
+kinds-exclusive settle maturity kind.Certificate kind.Note h p q = absurd (omega (arith, signed_arith, p, q.0))
+kinds-exclusive settle maturity kind.Certificate kind.Bond h p q = absurd (omega (arith, signed_arith, p, q, ten_years settle h))
+kinds-exclusive settle maturity kind.Note kind.Certificate h p q = absurd (omega (arith, signed_arith, q, p.0))
+kinds-exclusive settle maturity kind.Note kind.Note h p q = refl
+kinds-exclusive settle maturity kind.Note kind.Bond h p q = absurd (omega (arith, signed_arith, p.1, q))
+kinds-exclusive settle maturity kind.Bond kind.Certificate h p q = absurd (omega (arith, signed_arith, q, p, ten_years settle h))
+kinds-exclusive settle maturity kind.Bond kind.Note h p q = absurd (omega (arith, signed_arith, q.1, p))
+kinds-exclusive settle maturity kind.Bond kind.Bond h p q = refl
+
+pub kinds-exhaustive : (settle maturity : ℤ) → (kind : SlgsKind) × IsOfKind kind settle maturity
+kinds-exhaustive settle maturity =
+    by_lt_z (years_after_of settle 1) maturity
+    (λ past. by_lt_z (years_after_of settle 10) maturity
+    (λ long. (kind.Bond, long))
+    (λ within. (kind.Note, (past, within))))
+    (λ within. (kind.Certificate, within))

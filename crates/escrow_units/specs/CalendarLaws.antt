@@ -1,10 +1,11 @@
--- What the definitions of dates, series, years and indices mean.
+-- What the definitions of dates, series, years, indices and kinds mean.
 use Rattle.std.specs.Prelude.{◌≡◌, ◌↔◌, ℕ, ◌+◌, ◌*◌, ◌<◌, ◌≤◌, min, IsTrue, List, Some, ℤ, pos, ◌+ℤ◌, ◌≤ℤ◌, ◌<ℤ◌}
 use Rattle.jiff_core.specs.Calendar.{IsCivilDate, days_in_month}
 use Rattle.escrow_units.specs.Calendar.{CivilDate, number_of, date_of, half_back_of, years_after_of, is_month_end, e_of, IsBaseDay}
 use Rattle.escrow_units.specs.DateText.{IsFieldDay, day_of, day_text}
 use Rattle.escrow_units.specs.DayNumber.{IsDayNumber}
-use Rattle.escrow_units.specs.SlgsTerms.{IsSettlement}
+use Rattle.escrow_units.specs.SlgsTerms.{IsOfKind, IsSettlement}
+use Rattle.escrow_units.specs.declared.security.SlgsKind.{SlgsKind}
 use Rattle.escrow_units.specs.declared.security.StepRule.{StepRule}
 use Rattle.escrow_units.specs.declared.security.StepRule.TheVariants as rule
 
@@ -104,3 +105,12 @@ abbrev pub IndexIsBounded : Type 0
 IndexIsBounded =
     (settle n : ℤ) → IsDayNumber settle → IsDayNumber n → n ≤ℤ years_after_of settle 40
     → e_of n ≤ e_of settle + 14_400
+
+-- each maturity has one kind
+abbrev pub KindsAreExclusive : Type 0
+KindsAreExclusive =
+    (settle maturity : ℤ) (a b : SlgsKind) → IsSettlement settle → IsOfKind a settle maturity → IsOfKind b settle maturity
+    → a ≡ b
+
+abbrev pub KindsAreExhaustive : Type 0
+KindsAreExhaustive = (settle maturity : ℤ) → (kind : SlgsKind) × IsOfKind kind settle maturity

@@ -6,4 +6,6 @@ pub mod Denomination
 pub mod Digits
 pub mod NumberText
 pub mod PresentValue
+pub mod PriceText
+pub mod Rounding
 pub mod SlgsTerms

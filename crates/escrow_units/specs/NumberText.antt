@@ -1,5 +1,5 @@
 -- The numbers that fields spell. The spellings and the limits are this project's own.
-use Rattle.std.specs.Prelude.{ℕ, ◌+◌, ◌-◌, ◌*◌, ◌^◌, List, length, Bool, nat_le, ◌&&◌, ◌==◌, if◌then◌else◌, Option, Some, None, Result, Ok, Err, option_map, option_and_then}
+use Rattle.std.specs.Prelude.{ℕ, ◌+◌, ◌-◌, ◌*◌, ◌^◌, List, length, Bool, nat_le, ◌&&◌, ◌==◌, if◌then◌else◌, Option, Some, None, Result, Ok, Err, option_map, option_and_then, ◌≡◌, ◌≤◌, [], ◌∷◌, ◌++◌, true}
 use Rattle.std.specs.List.{list_all, list_any, before_first, after_first}
 use Rattle.std.specs.Char.{is_ascii_digit}
 use Rattle.std.specs.Str.Parse.{digits_value}
@@ -31,6 +31,23 @@ decimal_of most places bytes =
     then parted_of most places (before_first is_point bytes) (after_first is_point bytes)
     else option_map (λ whole. whole * 10 ^ places) (whole_of most bytes)
 
+-- digits, and where there are decimals a point and these
+abbrev pub decimal_text : List ℕ → List ℕ → List ℕ
+decimal_text whole [] = whole
+decimal_text whole (digit ∷ digits) = whole ++ 46 ∷ digit ∷ digits
+
+-- bytes spell units of 10^-places: 1 to most digits, and at most places decimals. What all these digits write, over
+-- 10 for each decimal, is units over 10^places. A law has that this is just what decimal_of reads
+pub record SpellsDecimal (most places units : ℕ) (bytes : List ℕ) : Type 0 where
+  pub whole : List ℕ
+  pub decimals : List ℕ
+  pub text : bytes ≡ decimal_text whole decimals
+  pub digits : list_all is_ascii_digit (whole ++ decimals) ≡ true
+  pub some : 1 ≤ length whole
+  pub most_digits : length whole ≤ most
+  pub most_decimals : length decimals ≤ places
+  pub value : units * 10 ^ length decimals ≡ digits_value 10 (whole ++ decimals) * 10 ^ places
+
 -- a number from least to most, or else why the field has none: it spells no number, or one outside these
 abbrev pub ranged : {T : Type 0} → (ℕ → T) → ℕ → ℕ → NumberFault → Option ℕ → Result T NumberFault
 ranged make least most outside None = Err BadNumber
@@ -51,3 +68,7 @@ rate_of bytes = ranged (λ n. record { 0 = n }) 0 30_000 OutOfRange (decimal_of 
 -- 1 to 3 digits, then optionally a point and 1 to 8 digits: percent, at most 29.99
 unfoldable pub yield_of : List ℕ → Result YieldUnits NumberFault
 yield_of bytes = ranged (λ n. record { 0 = n }) 0 2_999_000_000 OutOfRange (decimal_of 3 8 bytes)
+
+-- 1 to 6 digits: a number from 1 to 10,000
+unfoldable pub count_of : List ℕ → Result ℕ NumberFault
+count_of bytes = ranged (λ n. n) 1 10_000 OutOfRange (whole_of 6 bytes)

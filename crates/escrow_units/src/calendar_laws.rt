@@ -1,4 +1,4 @@
-ghost use Rattle.escrow_units.specs.CalendarLaws.{DatesAreUnique, EachDayIsDated, IndexIsBounded, IndexRises, MonthEndIsSameDayElsewhere, MonthEndStays, NoYearsPass, SameDayKeepsDay, SeriesFalls, SeriesHasDays, SeriesStartsAtMaturity, SeriesStepsByHalfYears, SettlementLeadsToBaseDays, StepsCount180, TextsSpellDays, YearsLeadToDays, YearsPass};
+ghost use Rattle.escrow_units.specs.CalendarLaws.{DatesAreUnique, EachDayIsDated, IndexIsBounded, IndexRises, KindsAreExclusive, KindsAreExhaustive, MonthEndIsSameDayElsewhere, MonthEndStays, NoYearsPass, SameDayKeepsDay, SeriesFalls, SeriesHasDays, SeriesStartsAtMaturity, SeriesStepsByHalfYears, SettlementLeadsToBaseDays, StepsCount180, TextsSpellDays, YearsLeadToDays, YearsPass};
 
 /// What the date of a day number is, the one date of the calendar that has that number, and which bytes spell it.
 pub fn date_laws()
@@ -32,4 +32,10 @@ pub fn year_laws()
 pub fn index_laws()
     ensures rise { IndexRises }
     ensures bound { IndexIsBounded }
+{}
+
+/// What the kinds of SLGS securities are: each maturity has exactly one.
+pub fn kind_laws()
+    ensures exclusive { KindsAreExclusive }
+    ensures exhaustive { KindsAreExhaustive }
 {}

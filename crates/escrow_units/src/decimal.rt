@@ -1,9 +1,9 @@
-ghost use Rattle.std.specs.Prelude.{◌≡◌, ◌+◌, ◌*◌, ◌≤◌, ◌<◌, ◌^◌, length, IfSome, IfOk, OnSome, option_map, position};
-ghost use Rattle.escrow_units.specs.NumberText.{whole_of, parted_of, decimal_of, is_point, ranged};
+ghost use Rattle.std.specs.Prelude.{◌≡◌, ◌+◌, ◌*◌, ◌≤◌, ◌<◌, ◌^◌, ◌==◌, length, IfSome, IfOk, OnSome, option_map, position};
+ghost use Rattle.escrow_units.specs.NumberText.{whole_of, parted_of, decimal_of, ranged};
 
 use crate::fault::NumberFault;
 
-// The number that 1 to `most` digits write.
+/// The number that 1 to `most` digits write; None where the bytes are no such digits. Leading zeros are allowed.
 #[tactic(auto, unfolding(crate::specs::NumberText::whole_of))]
 pub fn whole_number(bytes: &[u8], most: usize) -> Option<u64>
     requires { most ≤ 19 }
@@ -53,11 +53,12 @@ fn unparted(bytes: &[u8], most: usize, places: usize) -> Option<u64>
     Some(scaled(whole, places))
 }
 
-fn point_place(bytes: &[u8]) -> Option<usize>
-    ensures place { result ≡ position is_point bytes.now }
-    ensures bound { IfSome result (λ point. point < length bytes.now) }
+// Where a byte first stands.
+pub(crate) fn place_of(bytes: &[u8], mark: u8) -> Option<usize>
+    ensures place { result ≡ position (λ byte. byte == mark) bytes.now }
+    ensures bound { IfSome result (λ place. place < length bytes.now) }
 {
-    bytes.iter().position(|byte| *byte == b'.')
+    bytes.iter().position(|byte| *byte == mark)
 }
 
 // The units of 10^-places that 1 to `most` digits write, then optionally a point and 1 to `places` digits.
@@ -66,7 +67,7 @@ pub(crate) fn decimal(bytes: &[u8], most: usize, places: usize) -> Option<u64>
     requires { most + places ≤ 19 }
     ensures { result ≡ decimal_of most places bytes.now }
 {
-    match point_place(bytes) {
+    match place_of(bytes, b'.') {
         Some(point) => parted(&bytes[..point], &bytes[point + 1..], most, places),
         None => unparted(bytes, most, places),
     }

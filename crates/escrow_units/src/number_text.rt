@@ -1,5 +1,5 @@
-ghost use Rattle.std.specs.Prelude.{◌≡◌, ◌≤◌, ◌^◌, IfOk};
-ghost use Rattle.escrow_units.specs.NumberText.{cents_of, dollars_of, rate_of, yield_of};
+ghost use Rattle.std.specs.Prelude.{ℕ, List, Some, ◌≡◌, ◌≤◌, ◌^◌, IfOk};
+ghost use Rattle.escrow_units.specs.NumberText.{decimal_of, SpellsDecimal, cents_of, dollars_of, rate_of, yield_of, count_of};
 
 use crate::amount::{Cents, Rate, YieldUnits};
 use crate::decimal::{decimal, in_range, whole_number};
@@ -56,3 +56,26 @@ pub fn read_yield(bytes: &[u8]) -> Result<YieldUnits, NumberFault>
     let number = decimal(bytes, 3, 8);
     Ok(YieldUnits(in_range(number, 0, 2_999_000_000, NumberFault::OutOfRange)?))
 }
+
+/// Reads a count: 1 to 6 digits.
+///
+/// From 1 to 10,000. Leading zeros are allowed; no sign, comma, point or blank is.
+#[tactic(auto, unfolding(crate::specs::NumberText::count_of))]
+pub fn read_count(bytes: &[u8]) -> Result<u32, NumberFault>
+    ensures value { result ≡ count_of bytes.now }
+    ensures limit { IfOk result (λ count. (1 ≤ count) × (count ≤ 10_000)) }
+{
+    let number = whole_number(bytes, 6);
+    Ok(in_range(number, 1, 10_000, NumberFault::OutOfRange)? as u32)
+}
+
+/// A law on the decimals that are read, which does nothing when it is called.
+///
+/// The readers take exactly digits and then, where a point stands, at least one digit more; leading
+/// zeros count. The number read is what all the digits write, over 10 for each decimal.
+pub fn decimal_spelling()
+    ensures spelled { (most places units : ℕ) (bytes : List ℕ) →
+        decimal_of most places bytes ≡ Some units → SpellsDecimal most places units bytes }
+    ensures read { (most places units : ℕ) (bytes : List ℕ) →
+        SpellsDecimal most places units bytes → decimal_of most places bytes ≡ Some units }
+{}

@@ -1,5 +1,6 @@
-ghost use Rattle.std.specs.Prelude.{◌≡◌, ◌≤◌, ◌^◌};
+ghost use Rattle.std.specs.Prelude.{◌≡◌, ◌≤◌, ◌^◌, Ok};
 ghost use Rattle.escrow_units.specs.Digits.{fixed};
+ghost use Rattle.escrow_units.specs.NumberText.{cents_of, rate_of, yield_of};
 
 use crate::amount::{Cents, Rate, YieldUnits};
 use crate::digits::{push_ascii, push_decimal, push_last};
@@ -20,22 +21,31 @@ fn fixed_text(n: u64, places: u8) -> ArrayString<32>
 }
 
 /// Prints an amount in dollars with two decimals, as `5000.00`.
+///
+/// `read_cents` reads it back, up to its limit of 10^13 cents.
 pub fn print_cents(value: Cents) -> ArrayString<32>
-    ensures { result.bytes ≡ fixed 2 value.0 }
+    ensures text { result.bytes ≡ fixed 2 value.0 }
+    ensures reads_back { value.0 ≤ 10 ^ 13 → cents_of result.bytes ≡ Ok value }
 {
     fixed_text(value.0, 2)
 }
 
 /// Prints a rate in percent with three decimals, as `4.250`.
+///
+/// `read_rate` reads it back, up to its limit of 30.000 percent.
 pub fn print_rate(value: Rate) -> ArrayString<32>
-    ensures { result.bytes ≡ fixed 3 value.0 }
+    ensures text { result.bytes ≡ fixed 3 value.0 }
+    ensures reads_back { value.0 ≤ 30_000 → rate_of result.bytes ≡ Ok value }
 {
     fixed_text(value.0 as u64, 3)
 }
 
 /// Prints a yield in percent with eight decimals, as `4.00100000`.
+///
+/// `read_yield` reads it back, up to its limit of 29.99 percent.
 pub fn print_yield(value: YieldUnits) -> ArrayString<32>
-    ensures { result.bytes ≡ fixed 8 value.0 }
+    ensures text { result.bytes ≡ fixed 8 value.0 }
+    ensures reads_back { value.0 ≤ 2_999_000_000 → yield_of result.bytes ≡ Ok value }
 {
     fixed_text(value.0, 8)
 }

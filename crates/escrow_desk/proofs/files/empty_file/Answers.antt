@@ -1,7 +1,6 @@
-use Rattle.std.proofs.Common.{rules, ◌≡◌, ◌≢◌, ◌∙◌, ◌<◌, ◌++◌, ℕ, [], Some, None, length, get_or, true, false, ap, sym, string_bytes, unwrap_or}
-use Rattle.std.specs.Result.{is_ok}
+use Rattle.std.proofs.Common.{◌≡◌, ◌∙◌, ap, string_bytes}
 use Rattle.escrow_desk.specs.declared.named.NamedBytes.{NamedBytes}
-use Rattle.escrow_desk.proofs.FilesFacts.{files-set, get_none, get_place, insert_same}
+use Rattle.escrow_desk.proofs.FilesFacts.{files-set, get_none}
 use Rattle.std.specs.FinMap.{insert}
 use Rattle.escrow_desk.specs.NamedFiles.{files_of}
 use Rattle.escrow_desk.proofs.files.empty_file.Goals as goal

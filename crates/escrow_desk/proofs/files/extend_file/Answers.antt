@@ -1,4 +1,4 @@
-use Rattle.std.proofs.Common.{rules, ◌≡◌, ◌≢◌, ◌∙◌, ◌<◌, ◌++◌, ℕ, [], Some, None, length, get_or, true, false, ap, sym, string_bytes, unwrap_or}
+use Rattle.std.proofs.Common.{rules, ◌≡◌, ◌∙◌, Some, true, false, ap, sym, string_bytes}
 use Rattle.std.specs.Result.{is_ok}
 use Rattle.escrow_desk.specs.declared.named.NamedBytes.{NamedBytes}
 use Rattle.std.specs.FinMap.{insert, get}

@@ -1,4 +1,4 @@
-use Rattle.std.proofs.Common.{◌≡◌, ◌≢◌, ◌<◌, ℕ, string_bytes, slice_index_or}
+use Rattle.std.proofs.Common.{◌≢◌, ◌<◌, ℕ, string_bytes, slice_index_or}
 use Rattle.escrow_desk.specs.declared.named.NamedBytes.{NamedBytes}
 use Rattle.escrow_desk.proofs.files.place_of.Given as goal
 

@@ -1,5 +1,4 @@
-use Rattle.std.proofs.Common.{add-one, ◌∙◌, ap, ◌+◌, cond}
-use Rattle.escrow_desk.specs.Memory.{listed_below}
+use Rattle.std.proofs.Common.{add-one}
 use Rattle.escrow_desk.proofs.CallFacts.{listed-suc}
 use Rattle.escrow_desk.proofs.tally.number_call.Goals as goal
 

@@ -1,4 +1,4 @@
-use Rattle.std.proofs.Common.{rules, ◌≡◌, true, sym, ◌∙◌, arith, length, take, drop}
+use Rattle.std.proofs.Common.{rules, ◌≡◌, true, ◌∙◌, length, take, drop}
 use Rattle.std.proofs.lemmas.List.{take-append-le}
 use Rattle.std.specs.Result.{is_ok}
 use Rattle.escrow_desk.specs.Content.{Given}

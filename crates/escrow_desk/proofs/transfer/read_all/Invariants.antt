@@ -1,4 +1,4 @@
-use Rattle.std.proofs.Common.{◌≡◌, ℕ, List, length, take, drop, ◌++◌, ◌+◌, ◌-◌, ◌≤◌, vec_len}
+use Rattle.std.proofs.Common.{◌≡◌, ◌+◌, ◌-◌, vec_len}
 use Rattle.escrow_desk.proofs.ContentFacts.{IsFront}
 use Rattle.escrow_desk.proofs.transfer.read_all.Given as goal
 

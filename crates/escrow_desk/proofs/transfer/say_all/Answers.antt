@@ -1,13 +1,13 @@
-use Rattle.std.proofs.Common.{rules, ◌∙◌, arith}
+use Rattle.std.proofs.Common.{rules, ◌∙◌}
 use Rattle.escrow_desk.proofs.ContentFacts.{said_rest}
 use Rattle.escrow_desk.proofs.transfer.say_all.Goals as goal
 
-pub loop-done-preserved : goal.loop-done-preserved
-loop-done-preserved g c =
-    let before = c.loop-done.invariant in
+pub loop-said-preserved : goal.loop-said-preserved
+loop-said-preserved g c =
+    let before = c.loop-said.invariant in
     record {
       within = search rules;
-      said = said_rest (g.D.Desk.told c.args.desk.now) (g.D.Desk.told c.loop-done.desk) (g.D.Desk.told c.say.new.self) c.args.bytes.now c.loop-done.done c.in_ok-count.count before.said c.in_ok-count.ensures.said;
+      said = said_rest (g.D.Desk.told c.args.desk.now) (g.D.Desk.told c.loop-said.desk) (g.D.Desk.told c.say.new.self) c.args.bytes.now c.loop-said.said c.in_ok-count.count before.said c.in_ok-count.ensures.said;
       calm = c.in_ok-count.ensures.calm ∙ before.calm;
       reads = c.say.ensures.reads ∙ before.reads;
       absences = c.say.ensures.absences ∙ before.absences;

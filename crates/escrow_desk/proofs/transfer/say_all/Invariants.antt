@@ -1,15 +1,15 @@
-use Rattle.std.proofs.Common.{◌≡◌, ℕ, List, length, take, drop, ◌++◌, ◌-◌, ◌≤◌}
+use Rattle.std.proofs.Common.{◌≡◌, length, ◌-◌, ◌≤◌}
 use Rattle.escrow_desk.specs.Content.{Said}
 use Rattle.escrow_desk.proofs.transfer.say_all.Given as goal
 
-abbrev pub invariant-loop-done : goal.invariant-loop-done
-invariant-loop-done g l = record {
-  within : l.done ≤ length l.bytes;
-  said : Said (g.D.Desk.told l.fn.desk) l.done l.bytes (g.D.Desk.told l.desk);
+abbrev pub invariant-loop-said : goal.invariant-loop-said
+invariant-loop-said g l = record {
+  within : l.said ≤ length l.bytes;
+  said : Said (g.D.Desk.told l.fn.desk) l.said l.bytes (g.D.Desk.told l.desk);
   calm : g.D.Desk.write_faults l.desk ≡ g.D.Desk.write_faults l.fn.desk;
   reads : g.D.Desk.read_faults l.desk ≡ g.D.Desk.read_faults l.fn.desk;
   absences : g.D.Desk.absences l.desk ≡ g.D.Desk.absences l.fn.desk;
 }
 
-abbrev pub decreases-loop-done : goal.decreases-loop-done
-decreases-loop-done g l = length l.bytes - l.done
+abbrev pub decreases-loop-said : goal.decreases-loop-said
+decreases-loop-said g l = length l.bytes - l.said

@@ -1,15 +1,15 @@
-use Rattle.std.proofs.Common.{◌≡◌, ℕ, List, length, take, drop, ◌++◌, ◌-◌, ◌≤◌}
+use Rattle.std.proofs.Common.{◌≡◌, length, ◌-◌, ◌≤◌}
 use Rattle.escrow_desk.specs.Content.{Wrote}
 use Rattle.escrow_desk.proofs.transfer.write_all.Given as goal
 
-abbrev pub invariant-loop-done : goal.invariant-loop-done
-invariant-loop-done g l = record {
-  within : l.done ≤ length l.bytes;
-  wrote : Wrote (g.D.Desk.told l.fn.desk) l.name l.done l.bytes (g.D.Desk.told l.desk);
+abbrev pub invariant-loop-written : goal.invariant-loop-written
+invariant-loop-written g l = record {
+  within : l.written ≤ length l.bytes;
+  wrote : Wrote (g.D.Desk.told l.fn.desk) l.name l.written l.bytes (g.D.Desk.told l.desk);
   calm : g.D.Desk.write_faults l.desk ≡ g.D.Desk.write_faults l.fn.desk;
   reads : g.D.Desk.read_faults l.desk ≡ g.D.Desk.read_faults l.fn.desk;
   absences : g.D.Desk.absences l.desk ≡ g.D.Desk.absences l.fn.desk;
 }
 
-abbrev pub decreases-loop-done : goal.decreases-loop-done
-decreases-loop-done g l = length l.bytes - l.done
+abbrev pub decreases-loop-written : goal.decreases-loop-written
+decreases-loop-written g l = length l.bytes - l.written

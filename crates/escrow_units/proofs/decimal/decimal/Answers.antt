@@ -5,8 +5,8 @@ use Rattle.escrow_units.proofs.decimal.decimal.Goals as goal
 
 pub returns-in-Some : goal.returns-in-Some
 returns-in-Some c =
-    let split = decimal_of-parted c.args.most c.args.places c.args.bytes.now c.in-Some.point (sym c.point_place.ensures.place ∙ c.in-Some.is) in
+    let split = decimal_of-parted c.args.most c.args.places c.args.bytes.now c.in-Some.point (sym c.place_of.ensures.place ∙ c.in-Some.is) in
     grind (arith, common_steps, split)
 
 pub returns-in-None : goal.returns-in-None
-returns-in-None c = c.unparted.ensures ∙ sym (decimal_of-unparted c.args.most c.args.places c.args.bytes.now (sym c.point_place.ensures.place ∙ c.in-None.is))
+returns-in-None c = c.unparted.ensures ∙ sym (decimal_of-unparted c.args.most c.args.places c.args.bytes.now (sym c.place_of.ensures.place ∙ c.in-None.is))

@@ -1,6 +1,6 @@
-use Rattle.std.proofs.Common.{arith, rules, ◌≡◌, ◌<◌, length, map, get_or, [], ap, sym, ◌∙◌, Some, ℕ, List}
+use Rattle.std.proofs.Common.{arith, ◌≡◌, ◌<◌, length, get_or, [], ap, sym, ◌∙◌, Some}
 use Rattle.std.proofs.lemmas.List.{get_or-map, length-map}
-use Rattle.csv.specs.Records.{fields_of, field_at}
+use Rattle.csv.specs.Records.{fields_of}
 use Rattle.escrow_desk.proofs.RecordFacts.{field-get}
 use Rattle.escrow_desk.proofs.rows.Rows.field.Goals as goal
 

@@ -1,4 +1,4 @@
-use Rattle.std.proofs.Common.{arith, rules, ◌≡◌, ◌<◌, length, map, get_or, [], ap, sym, ◌∙◌}
+use Rattle.std.proofs.Common.{arith, ◌<◌, length, [], ap}
 use Rattle.std.proofs.lemmas.List.{get_or-map, length-map}
 use Rattle.csv.specs.Records.{fields_of}
 use Rattle.escrow_desk.proofs.rows.Rows.width.Goals as goal

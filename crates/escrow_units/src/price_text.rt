@@ -1,0 +1,87 @@
+ghost use Rattle.std.specs.Prelude.{◌≡◌, ◌+◌, ◌*◌, ◌≤◌, ◌<◌, IfSome, IfOk};
+ghost use Rattle.escrow_units.specs.PriceText.{thirty_seconds_of, eighths_of, fraction_of, quoted_of, price_units_of, price_of};
+
+use crate::amount::Price8;
+use crate::decimal::{decimal, in_range, place_of, whole_number};
+use crate::fault::NumberFault;
+
+/// One percent of par, in units of 10^-8 percent.
+const PERCENT: u64 = 100_000_000;
+/// One thirty-second of a percent.
+const THIRTY_SECOND: u64 = 3_125_000;
+/// One eighth of a thirty-second.
+const EIGHTH: u64 = 390_625;
+
+fn thirty_seconds(tens: u8, ones: u8) -> Option<u64>
+    ensures value { result ≡ thirty_seconds_of tens ones }
+    ensures bound { IfSome result (λ n. n ≤ 31) }
+{
+    match whole_number(&[tens, ones], 2) {
+        Some(n) if n <= 31 => Some(n),
+        _ => None,
+    }
+}
+
+fn eighths(byte: u8) -> Option<u64>
+    ensures value { result ≡ eighths_of byte }
+    ensures bound { IfSome result (λ n. n < 8) }
+{
+    match byte {
+        b'+' => Some(4),
+        b'0'..=b'7' => Some((byte - b'0') as u64),
+        _ => None,
+    }
+}
+
+// The units of the thirty-seconds that follow a hyphen.
+#[tactic(auto, unfolding(crate::specs::PriceText::fraction_of))]
+fn fraction(bytes: &[u8]) -> Option<u64>
+    ensures value { result ≡ fraction_of bytes.now }
+    ensures bound { IfSome result (λ n. n < 100_000_000) }
+{
+    match bytes {
+        [tens, ones] => Some(thirty_seconds(*tens, *ones)? * THIRTY_SECOND),
+        [tens, ones, last] => {
+            let count = thirty_seconds(*tens, *ones)?;
+            Some(count * THIRTY_SECOND + eighths(*last)? * EIGHTH)
+        }
+        _ => None,
+    }
+}
+
+#[tactic(auto, unfolding(crate::specs::PriceText::quoted_of))]
+fn quoted(front: &[u8], back: &[u8]) -> Option<u64>
+    ensures { result ≡ quoted_of front.now back.now }
+{
+    let whole = whole_number(front, 3)?;
+    Some(whole * PERCENT + fraction(back)?)
+}
+
+fn price_units(bytes: &[u8]) -> Option<u64>
+    ensures { result ≡ price_units_of bytes.now }
+{
+    match place_of(bytes, b'-') {
+        Some(hyphen) => quoted(&bytes[..hyphen], &bytes[hyphen + 1..]),
+        None => decimal(bytes, 3, 8),
+    }
+}
+
+/// Reads a price in percent of par: a decimal as `99.5`, or thirty-seconds as `99-16`.
+///
+/// A decimal is 1 to 3 digits, then optionally a point and 1 to 8 digits. Else 1 to 3 digits of
+/// percent, a hyphen and two digits of thirty-seconds from 00 to 31 stand, then optionally one digit
+/// of eighths of a thirty-second from 0 to 7, or `+` for four. Leading zeros are allowed; no sign,
+/// comma or blank is. From 10 to 300 percent, else `PriceRange`.
+#[tactic(auto, unfolding(crate::specs::PriceText::price_of))]
+pub fn read_price(bytes: &[u8]) -> Result<Price8, NumberFault>
+    ensures value { result ≡ price_of bytes.now }
+    ensures limit { IfOk result (λ price. (1_000_000_000 ≤ price.0) × (price.0 ≤ 30_000_000_000)) }
+{
+    let number = price_units(bytes);
+    Ok(Price8(in_range(
+        number,
+        1_000_000_000,
+        30_000_000_000,
+        NumberFault::PriceRange,
+    )?))
+}

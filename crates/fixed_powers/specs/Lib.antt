@@ -1,0 +1,3 @@
+pub mod DiscountPowers
+pub mod PowerLaws
+pub mod Searches

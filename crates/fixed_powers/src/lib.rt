@@ -1,0 +1,16 @@
+//! Outward powers of the discount factor of one index day, in fixed point of 62 fraction bits.
+#![tactic(auto)]
+
+mod chain;
+mod laws;
+mod powers;
+mod root;
+mod side;
+
+pub use laws::{powers_are_ordered, powers_are_sharp, powers_enclose};
+pub use powers::Powers;
+pub use root::{root_high, root_low};
+pub use side::Side;
+
+#[cfg(test)]
+mod tests;
