@@ -9,7 +9,7 @@ use Rattle.cash_table.proofs.PortfolioLaws.{meets_cost, zero_yield}
 use Rattle.escrow_desk.specs.declared.refusal.FileKind.{FileKind}
 use Rattle.escrow_top.specs.CertificateForm.{Claim, claim_of}
 use Rattle.escrow_top.specs.CaseForm.{CaseForm, bounded, file_limit}
-use Rattle.escrow_top.specs.Answer.{first_not_offered, portfolio, given, or_else, is_leaf_weak, reason_of, yes_text, weighed, claim_answer, case_answer, certificate_limit, files_case, check_answer}
+use Rattle.escrow_top.specs.Answer.{first_not_offered, portfolio, given, or_else, is_leaf_weak, reason_against, reason_of, yes_text, weighed, claim_answer, case_answer, certificate_limit, files_case, check_answer}
 use Rattle.escrow_top.specs.Accepted.{Accepted}
 use Rattle.escrow_top.specs.declared.status.Status.TheVariants as status
 use Rattle.escrow_top.specs.declared.verdict.Reason.{Reason}
@@ -24,7 +24,7 @@ record IsClaimed (case : CaseForm) (found : Option Claim) : Type 0 where
   none : reason_of case.book claim ≡ None
   said : (claim_answer case found).text ≡ yes_text case (portfolio case.book claim) claim.gap
 
-claimed : (case : CaseForm) (claim : Claim) (found : Option Reason) → reason_of case.book claim ≡ found → (weighed case claim found).status ≡ status.Done → (reason_of case.book claim ≡ None) × ((weighed case claim found).text ≡ yes_text case (portfolio case.book claim) claim.gap)
+claimed : (case : CaseForm) (claim : Claim) (found : Option Reason) → reason_of case.book claim ≡ found → (weighed case (portfolio case.book claim) claim.gap found).status ≡ status.Done → (reason_of case.book claim ≡ None) × ((weighed case (portfolio case.book claim) claim.gap found).text ≡ yes_text case (portfolio case.book claim) claim.gap)
 claimed case claim None is done = (is, refl)
 claimed case claim (Some why) is done = absurd (cc)
 
@@ -63,24 +63,35 @@ given-none : {A : Type 0} (test : Bool) (x : A) → given test x ≡ None → te
 given-none true x none = absurd (cc)
 given-none false x none = refl
 
-record NoReason (book : BookContents) (claim : Claim) : Type 0 where
-  offered : first_not_offered book.lines claim.purchases ≡ None
-  covered : first_short_of book (portfolio book claim) ≡ None
-  borne : is_leaf_weak book claim ≡ false
+-- no reason stands against a portfolio with a gap
+record NoReason (book : BookContents) (plan : List ℕ) (gap : ℕ) : Type 0 where
+  covered : first_short_of book plan ≡ None
+  borne : is_leaf_weak book plan gap ≡ false
 
-no_reason : (book : BookContents) (claim : Claim) → reason_of book claim ≡ None → NoReason book claim
-no_reason book claim none =
-    let not_offered = option_map (λ purchase. reason.NotPermitted purchase.line) (first_not_offered book.lines claim.purchases) in
-    let short = option_map reason.ShortOn (first_short_of book (portfolio book claim)) in
-    let weak = given (is_leaf_weak book claim) (reason.WeakLeaf 1) in
-    let above = given (not (claim.gap == 0)) reason.GapAbove in
-    let first = or_else-none not_offered (or_else short (or_else weak above)) none in
-    let second = or_else-none short (or_else weak above) first.1 in
-    let third = or_else-none weak above second.1 in
+no_reason : (book : BookContents) (plan : List ℕ) (gap : ℕ) → reason_against book plan gap ≡ None → NoReason book plan gap
+no_reason book plan gap none =
+    let short = option_map reason.ShortOn (first_short_of book plan) in
+    let weak = given (is_leaf_weak book plan gap) (reason.WeakLeaf 1) in
+    let above = given (not (gap == 0)) reason.GapAbove in
+    let first = or_else-none short (or_else weak above) none in
+    let second = or_else-none weak above first.1 in
     record {
-      offered = option_map-none (λ purchase. reason.NotPermitted purchase.line) (first_not_offered book.lines claim.purchases) first.0;
-      covered = option_map-none reason.ShortOn (first_short_of book (portfolio book claim)) second.0;
-      borne = given-none (is_leaf_weak book claim) (reason.WeakLeaf 1) third.0;
+      covered = option_map-none reason.ShortOn (first_short_of book plan) first.0;
+      borne = given-none (is_leaf_weak book plan gap) (reason.WeakLeaf 1) second.0;
+    }
+
+-- nor against a claim
+record IsUnopposed (book : BookContents) (claim : Claim) : Type 0 where
+  offered : first_not_offered book.lines claim.purchases ≡ None
+  tests : NoReason book (portfolio book claim) claim.gap
+
+is_unopposed : (book : BookContents) (claim : Claim) → reason_of book claim ≡ None → IsUnopposed book claim
+is_unopposed book claim none =
+    let not_offered = option_map (λ purchase. reason.NotPermitted purchase.line) (first_not_offered book.lines claim.purchases) in
+    let both = or_else-none not_offered (reason_against book (portfolio book claim) claim.gap) none in
+    record {
+      offered = option_map-none (λ purchase. reason.NotPermitted purchase.line) (first_not_offered book.lines claim.purchases) both.0;
+      tests = no_reason book (portfolio book claim) claim.gap both.1;
     }
 
 meets_from_none : (book : BookContents) (plan : List ℕ) → IsBook book → first_short_of book plan ≡ None → Meets book plan
@@ -98,8 +109,9 @@ accepted issue rates prices cert done =
     let book = yes.case.book in
     let plan = portfolio book yes.claim in
     let limits = case_book (bounded file_limit issue) (bounded file_limit rates) (bounded file_limit prices) yes.case yes.is_case in
-    let tests = no_reason book yes.claim yes.none in
-    let permitted = portfolio_permitted book yes.claim.purchases tests.offered in
+    let unopposed = is_unopposed book yes.claim yes.none in
+    let tests = unopposed.tests in
+    let permitted = portfolio_permitted book yes.claim.purchases unopposed.offered in
     record {
       case = yes.case;
       claim = yes.claim;
