@@ -3,3 +3,4 @@ pub mod EachFacts
 pub mod PurchaseFacts
 pub mod CaseLaws
 pub mod ClaimLaws
+pub mod AcceptedLaws
