@@ -1,9 +1,8 @@
 -- What permitted portfolios cost.
-use Rattle.std.proofs.Common.{◌≡◌, ◌⊎◌, ℕ, zero, suc, ◌+◌, ◌*◌, ◌^◌, ◌<◌, ◌≤◌, List, [], ◌∷◌, length, get_or, take, drop, refl, sym, ap, ◌∙◌, inl, inr, ⊎_elim, subst, arith, ℤ}
+use Rattle.std.proofs.Common.{◌≡◌, ℕ, ◌+◌, ◌*◌, ◌^◌, ◌≤◌, List, [], ◌∷◌, length, get_or, drop, refl, ap, inl, inr, arith, ℤ}
 use Rattle.std.specs.List.{All, sum_by, zip}
 use Rattle.std.proofs.lemmas.List.Elements.{All-head, All-tail, All-cons, All-nil}
 use Rattle.std.proofs.lemmas.List.Sums.{sum_by-cons, sum_by-le}
-use Rattle.std.proofs.lemmas.List.{take_all, length-drop}
 use Rattle.std.proofs.lemmas.Slice.Zip.{length-zip}
 use Rattle.std.proofs.Math.Nat.{mul-le-mul_left, mul-le-mul_right}
 use Rattle.cash_table.specs.declared.line.Line.{Line}
@@ -27,8 +26,9 @@ security_at_most : (settle : ℤ) (line : Line) (units : ℕ) → IsSecurityLine
 security_at_most settle line units security permitted =
     let cap = security.cap in
     elim permitted [
-        inl none ↦ (let zero : line_cost line units ≡ line.step * 0 = ap (λ n. line.step * n) none in omega (arith, zero))
-      | inr some ↦ (let more = mul-le-mul_left line.step some.1 in omega (arith, more, cap)) ]
+      | inl none ↦ (let zero : line_cost line units ≡ line.step * 0 = ap (λ n. line.step * n) none in omega (arith, zero))
+      | inr some ↦ (let more = mul-le-mul_left line.step some.1 in omega (arith, more, cap))
+    ]
 
 securities_at_most : (settle : ℤ) (lines : List Line) (plan : List ℕ) → All (IsSecurityLine settle) lines → All PairIsPermitted (zip lines plan) → All (λ p. pair_cost p ≤ 10 ^ 11) (zip lines plan)
 securities_at_most settle [] plan securities permitted = All-nil (λ p. pair_cost p ≤ 10 ^ 11)
@@ -77,6 +77,6 @@ security_cost_at_most book plan limits permitted = omega (arith, cost_at_most bo
 pub lines_present : (book : BookContents) → IsBook book → 1 ≤ length book.lines
 lines_present book limits = present book.settle book.lines limits.lines
   where
-  present : (settle : ℤ) (lines : List Line) → AreLines settle lines → 1 ≤ length lines
-  present settle [] lines = absurd lines
-  present settle (cash ∷ securities) lines = omega arith
+    present : (settle : ℤ) (lines : List Line) → AreLines settle lines → 1 ≤ length lines
+    present settle [] lines = absurd lines
+    present settle (cash ∷ securities) lines = omega arith

@@ -1,5 +1,5 @@
 -- Needs met on every need date are met on every day, and the first short need date is the first short day.
-use Rattle.std.proofs.Common.{◌≡◌, ◌⊎◌, ℕ, zero, suc, ◌+◌, ◌<◌, ◌≤◌, Bool, true, false, not, cond, nat_lt, Option, Some, None, MatchOption, IfSome, IfNone, List, [], ◌∷◌, ◌++◌, length, get_or, take, drop, map, refl, sym, ap, ◌∙◌, subst, inl, inr, arith, ℤ, ◌<ℤ◌, ◌≤ℤ◌, int_lt, int_le}
+use Rattle.std.proofs.Common.{◌≡◌, ◌⊎◌, ℕ, zero, suc, ◌+◌, ◌<◌, ◌≤◌, Bool, true, false, cond, nat_lt, Option, Some, None, MatchOption, IfSome, IfNone, List, [], ◌∷◌, length, get_or, take, drop, map, refl, sym, ap, ◌∙◌, inl, inr, arith, ℤ, ◌<ℤ◌, ◌≤ℤ◌}
 use Rattle.std.specs.List.{All, sum, sum_by, find}
 use Rattle.std.proofs.lemmas.Bool.{cases_lt, lt-ltb, le-ltb, ltb-true}
 use Rattle.std.proofs.lemmas.Bool.Decides.{nat_tests}
@@ -42,11 +42,11 @@ total_by-le s t flows order = sum_by-le-sum_by (cents_by s) (cents_by t) flows (
 pub total_by-at_most : (t : ℤ) (flows : List Flow) → total_by t flows ≤ total flows
 total_by-at_most t flows = sum_by-le-sum_by (cents_by t) (λ flow. flow.cents.0) flows (λ flow. at_most flow)
   where
-  at_most : (flow : Flow) → cents_by t flow ≤ flow.cents.0
-  at_most flow =
-      by_lt_z t flow.day
-      (λ later. omega (arith, cents_by-later t flow later))
-      (λ due. omega (arith, cents_by-due t flow due))
+    at_most : (flow : Flow) → cents_by t flow ≤ flow.cents.0
+    at_most flow =
+        by_lt_z t flow.day
+        (λ later. omega (arith, cents_by-later t flow later))
+        (λ due. omega (arith, cents_by-due t flow due))
 
 -- s is the latest day of the flows up to and on t
 record IsLatest (t : ℤ) (flows : List Flow) (s : ℤ) : Type 0 where
@@ -77,44 +77,47 @@ latest-cons_here t flow flows due rest = record {
 latest : (t : ℤ) (flows : List Flow) → All (λ flow. t <ℤ flow.day) flows ⊎ ((s : ℤ) × IsLatest t flows s)
 latest t [] = inl (All-nil (λ flow. t <ℤ flow.day))
 latest t (flow ∷ flows) = elim (latest t flows) [
-    inl none ↦ by_lt_z t flow.day
+  | inl none ↦ by_lt_z t flow.day
       (λ later. inl (All-cons (λ (f : Flow). t <ℤ f.day) flow flows later none))
       (λ due. inr (flow.day, latest-cons_here t flow flows due (λ k d h due_too. absurd (clash (get_or flows k d).day (none k d h) due_too))))
   | inr found ↦ by_lt_z found.0 flow.day
       (λ more. by_lt_z t flow.day
-        (λ later. inr (found.0, latest-cons_later t flow flows found.0 found.1 (λ due. absurd (clash flow.day later due))))
-        (λ due. inr (flow.day, latest-cons_here t flow flows due (λ k d h due_too. less (get_or flows k d).day found.0 flow.day (found.1.greatest k d h due_too) more))))
-      (λ no_more. inr (found.0, latest-cons_later t flow flows found.0 found.1 (λ _. no_more))) ]
+      (λ later. inr (found.0, latest-cons_later t flow flows found.0 found.1 (λ due. absurd (clash flow.day later due))))
+      (λ due. inr (flow.day, latest-cons_here t flow flows due (λ k d h due_too. less (get_or flows k d).day found.0 flow.day (found.1.greatest k d h due_too) more))))
+      (λ no_more. inr (found.0, latest-cons_later t flow flows found.0 found.1 (λ _. no_more)))
+]
   where
-  clash : (a : ℤ) → t <ℤ a → a ≤ℤ t → ⊥
-  clash a h k = omega (arith, ints)
-  less : (a b e : ℤ) → a ≤ℤ b → b <ℤ e → a ≤ℤ e
-  less a b e h k = omega (arith, ints)
+    clash : (a : ℤ) → t <ℤ a → a ≤ℤ t → ⊥
+    clash a h k = omega (arith, ints)
+
+    less : (a b e : ℤ) → a ≤ℤ b → b <ℤ e → a ≤ℤ e
+    less a b e h k = omega (arith, ints)
 
 -- between the latest of its days and t nothing comes
 total_by-latest : (t : ℤ) (flows : List Flow) (s : ℤ) → IsLatest t flows s → total_by t flows ≡ total_by s flows
 total_by-latest t flows s l = sum_by-same (cents_by t) (cents_by s) flows (λ k d h. same (get_or flows k d) (l.greatest k d h))
   where
-  same : (flow : Flow) → (flow.day ≤ℤ t → flow.day ≤ℤ s) → cents_by t flow ≡ cents_by s flow
-  same flow within =
-      let order = l.not_after in
-      by_lt_z t flow.day
-      (λ later. let later_then : s <ℤ flow.day = omega (arith, ints) in cents_by-later t flow later ∙ sym (cents_by-later s flow later_then))
-      (λ due. cents_by-due t flow due ∙ sym (cents_by-due s flow (within due)))
+    same : (flow : Flow) → (flow.day ≤ℤ t → flow.day ≤ℤ s) → cents_by t flow ≡ cents_by s flow
+    same flow within =
+        let order = l.not_after in
+        by_lt_z t flow.day
+        (λ later. let later_then : s <ℤ flow.day = omega (arith, ints) in cents_by-later t flow later ∙ sym (cents_by-later s flow later_then))
+        (λ due. cents_by-due t flow due ∙ sym (cents_by-due s flow (within due)))
 
 -- what is met on each need date up to a day is met on the day
 pub met_on_every_day : (needs flows : List Flow) (t : ℤ) → ((k : ℕ) (d : Flow) → k < length needs → (get_or needs k d).day ≤ℤ t → total_by (get_or needs k d).day needs ≤ total_by (get_or needs k d).day flows) → total_by t needs ≤ total_by t flows
 met_on_every_day needs flows t met = elim (latest t needs) [
-    inl none ↦ omega (arith, total_by-later t needs none)
-  | inr found ↦ here found.0 found.1 ]
+  | inl none ↦ omega (arith, total_by-later t needs none)
+  | inr found ↦ here found.0 found.1
+]
   where
-  here : (s : ℤ) → IsLatest t needs s → total_by t needs ≤ total_by t flows
-  here s l =
-      let flow : Flow = record { day = s; cents = record { 0 = 0 } } in
-      let at = l.at flow in
-      let due : (get_or needs l.place flow).day ≤ℤ t = rw at l.not_after in
-      let day_met : total_by s needs ≤ total_by s flows = rw at at (met l.place flow l.within due) in
-      omega (arith, total_by-latest t needs s l, day_met, total_by-le s t flows l.not_after)
+    here : (s : ℤ) → IsLatest t needs s → total_by t needs ≤ total_by t flows
+    here s l =
+        let flow : Flow = record { day = s; cents = record { 0 = 0 } } in
+        let at = l.at flow in
+        let due : (get_or needs l.place flow).day ≤ℤ t = rw at l.not_after in
+        let day_met : total_by s needs ≤ total_by s flows = rw at at (met l.place flow l.within due) in
+        omega (arith, total_by-latest t needs s l, day_met, total_by-le s t flows l.not_after)
 
 -- the first element that passes, as `find` gives it
 pub find_at : {X : Type 0} (p : X → Bool) (xs : List X) (i : ℕ) (d : X) → i < length xs → ((k : ℕ) → k < i → p (get_or xs k d) ≡ false) → p (get_or xs i d) ≡ true → find p xs ≡ Some (get_or xs i d)
@@ -154,9 +157,9 @@ FailBelow {X} p xs n = (k : ℕ) (d : X) → k < n → p (get_or xs k d) ≡ fal
 fail_more : {X : Type 0} (p : X → Bool) (x : X) (xs : List X) (n : ℕ) → p x ≡ false → FailBelow p xs n → FailBelow p (x ∷ xs) (suc n)
 fail_more p x xs n fails rest = λ k d h. cases k d h
   where
-  cases : (k : ℕ) (d : _) → k < suc n → p (get_or (x ∷ xs) k d) ≡ false
-  cases zero d h = fails
-  cases (suc k) d h = rest k d (omega arith)
+    cases : (k : ℕ) (d : _) → k < suc n → p (get_or (x ∷ xs) k d) ≡ false
+    cases zero d h = fails
+    cases (suc k) d h = rest k d (omega arith)
 
 later_place : {X : Type 0} (p : X → Bool) (x : X) (xs : List X) (found : Option X) → p x ≡ false → FindTells p xs found → FindTells p (x ∷ xs) found
 later_place p x xs None fails rest = fail_more p x xs (length xs) fails rest
@@ -184,10 +187,11 @@ rising_lt needs rising i k e d order within =
 
 rising_le : (needs : List Flow) → IsRising needs → (i k : ℕ) (e d : Flow) → i ≤ k → k < length needs → (get_or needs i e).day ≤ℤ (get_or needs k d).day
 rising_le needs rising i k e d order within = elim (cases_lt i k) [
-    inl less ↦ (let later = rising_lt needs rising i k e d less within in omega (arith, ints))
+  | inl less ↦ (let later = rising_lt needs rising i k e d less within in omega (arith, ints))
   | inr more ↦ (let at : i ≡ k = omega arith in
       let same = ap (λ flow. flow.day) (ap (λ n. get_or needs n e) at ∙ get_or_default needs k e d within) in
-      omega (arith, ints)) ]
+      omega (arith, ints))
+]
 
 -- the needs up to a need date are those at its place and before
 pub total_by_need : (needs : List Flow) (k : ℕ) (d : Flow) → IsRising needs → k < length needs → total_by (get_or needs k d).day needs ≡ total (take (k + 1) needs)
@@ -195,17 +199,17 @@ total_by_need needs k d rising within =
     let t = (get_or needs k d).day in
     let parts = sum_by-take-drop (cents_by t) needs (k + 1) in
     let due = total_by-due t (take (k + 1) needs)
-      (λ i e h.
-        let low : i < k + 1 = omega (arith, length-take (k + 1) needs) in
-        let at = ap (λ flow. flow.day) (get_or-take (k + 1) needs i e low) in
-        let order = rising_le needs rising i k e d (omega arith) within in
-        omega (arith, ints)) in
+    (λ i e h.
+    let low : i < k + 1 = omega (arith, length-take (k + 1) needs) in
+    let at = ap (λ flow. flow.day) (get_or-take (k + 1) needs i e low) in
+    let order = rising_le needs rising i k e d (omega arith) within in
+    omega (arith, ints)) in
     let later = total_by-later t (drop (k + 1) needs)
-      (λ i e h.
-        let high : k + 1 + i < length needs = omega (arith, length-drop (k + 1) needs) in
-        let at = ap (λ flow. flow.day) (get_or-drop (k + 1) needs i e) in
-        let order = rising_lt needs rising k (k + 1 + i) d e (omega arith) high in
-        omega (arith, ints)) in
+    (λ i e h.
+    let high : k + 1 + i < length needs = omega (arith, length-drop (k + 1) needs) in
+    let at = ap (λ flow. flow.day) (get_or-drop (k + 1) needs i e) in
+    let order = rising_lt needs rising k (k + 1 + i) d e (omega arith) high in
+    omega (arith, ints)) in
     omega (arith, parts, due, later)
 
 -- the code's comparison at a need date is the test of the definition
@@ -223,47 +227,48 @@ days needs = map (λ need. need.day) needs
 pub first_short_value : (book : BookContents) (plan receipts : List ℕ) (found : Option ℤ) → IsRising book.needs → AreReceipts book.needs (payments book plan) receipts → IfNone found ((k : ℕ) → k < length book.needs → IsCovered book.needs receipts k) → IfSome found (λ day. (k : ℕ) × IsFirstUncovered book.needs receipts k × ((d : Flow) → day ≡ (get_or book.needs k d).day)) → found ≡ first_short_of book plan
 first_short_value book plan receipts None rising received none some =
     sym (find_none (is_short book plan) (days book.needs)
-      (λ k t h.
-        let within : k < length book.needs = omega (arith, length-map book.needs (λ need. need.day)) in
-        let flow : Flow = record { day = t; cents = record { 0 = 0 } } in
-        ap (is_short book plan) (get_or-map (λ need. need.day) book.needs k flow t within) ∙ is_short_at book plan receipts rising received k flow within ∙ covered_test book.needs receipts k (none k within)))
+    (λ k t h.
+    let within : k < length book.needs = omega (arith, length-map book.needs (λ need. need.day)) in
+    let flow : Flow = record { day = t; cents = record { 0 = 0 } } in
+    ap (is_short book plan) (get_or-map (λ need. need.day) book.needs k flow t within) ∙ is_short_at book plan receipts rising received k flow within ∙ covered_test book.needs receipts k (none k within)))
 first_short_value book plan receipts (Some day) rising received none some =
     let k = some.0 in
     let uncovered = some.1 in
     let flow : Flow = record { day = day; cents = record { 0 = 0 } } in
     let day_at = λ (j : ℕ) (h : j < length book.needs). get_or-map (λ need. need.day) book.needs j flow day h in
     let found = find_at (is_short book plan) (days book.needs) k day (omega (arith, uncovered.within, length-map book.needs (λ need. need.day)))
-      (λ j h.
-        let within : j < length book.needs = omega (arith, uncovered.within) in
-        ap (is_short book plan) (day_at j within) ∙ is_short_at book plan receipts rising received j flow within ∙ covered_test book.needs receipts j (uncovered.before j h))
-      (ap (is_short book plan) (day_at k uncovered.within) ∙ is_short_at book plan receipts rising received k flow uncovered.within ∙ lt-ltb (sum (take (k + 1) receipts)) (total (take (k + 1) book.needs)) uncovered.short) in
+    (λ j h.
+    let within : j < length book.needs = omega (arith, uncovered.within) in
+    ap (is_short book plan) (day_at j within) ∙ is_short_at book plan receipts rising received j flow within ∙ covered_test book.needs receipts j (uncovered.before j h))
+    (ap (is_short book plan) (day_at k uncovered.within) ∙ is_short_at book plan receipts rising received k flow uncovered.within ∙ lt-ltb (sum (take (k + 1) receipts)) (total (take (k + 1) book.needs)) uncovered.short) in
     sym (found ∙ ap Some (day_at k uncovered.within ∙ sym (some.2 flow)))
 
 not_short : (book : BookContents) (plan : List ℕ) (t : ℤ) → is_short book plan t ≡ false → total_by t book.needs ≤ total_by t (payments book plan)
 not_short book plan t test = ltb_fails (total_by t (payments book plan)) (total_by t book.needs) test
   where
-  ltb_fails : (a b : ℕ) → nat_lt a b ≡ false → b ≤ a
-  ltb_fails a b h = grind (arith, nat_tests)
+    ltb_fails : (a b : ℕ) → nat_lt a b ≡ false → b ≤ a
+    ltb_fails a b h = grind (arith, nat_tests)
 
 -- what `find` tells of the need dates, said of every day
 tells_of_days : (book : BookContents) (plan : List ℕ) (found : Option ℤ) → IsRising book.needs → FindTells (is_short book plan) (days book.needs) found → MatchOption found (Meets book plan) (IsFirstShort book plan)
 tells_of_days book plan None rising fails = λ t.
     met_on_every_day book.needs (payments book plan) t
     (λ k d within _.
-      let at = get_or-map (λ need. need.day) book.needs k d d.day within in
-      not_short book plan (get_or book.needs k d).day (ap (is_short book plan) (sym at) ∙ fails k d.day (omega (arith, length-map book.needs (λ need. need.day)))))
+    let at = get_or-map (λ need. need.day) book.needs k d d.day within in
+    not_short book plan (get_or book.needs k d).day (ap (is_short book plan) (sym at) ∙ fails k d.day (omega (arith, length-map book.needs (λ need. need.day)))))
 tells_of_days book plan (Some day) rising first = record {
   short = ltb-true (total_by day (payments book plan)) (total_by day book.needs) first.passes;
   before = λ s earlier.
       met_on_every_day book.needs (payments book plan) s
       (λ k d within due.
-        let here : first.place < length book.needs = omega (arith, first.within, length-map book.needs (λ need. need.day)) in
-        let day_is = sym (get_or-map (λ need. need.day) book.needs first.place d day here) ∙ first.at day in
-        let order : k < first.place = elim (cases_lt k first.place) [
-            inl less ↦ less
-          | inr more ↦ (let later = rising_le book.needs rising first.place k d d more within in absurd (omega (arith, ints))) ] in
-        let at = get_or-map (λ need. need.day) book.needs k d d.day within in
-        not_short book plan (get_or book.needs k d).day (ap (is_short book plan) (sym at) ∙ first.before k d.day order));
+      let here : first.place < length book.needs = omega (arith, first.within, length-map book.needs (λ need. need.day)) in
+      let day_is = sym (get_or-map (λ need. need.day) book.needs first.place d day here) ∙ first.at day in
+      let order : k < first.place = elim (cases_lt k first.place) [
+        | inl less ↦ less
+        | inr more ↦ (let later = rising_le book.needs rising first.place k d d more within in absurd (omega (arith, ints)))
+      ] in
+      let at = get_or-map (λ need. need.day) book.needs k d d.day within in
+      not_short book plan (get_or book.needs k d).day (ap (is_short book plan) (sym at) ∙ first.before k d.day order));
 }
 
 -- where a portfolio is short on no need date it meets the needs on every day, and else the first short need date is

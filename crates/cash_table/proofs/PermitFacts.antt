@@ -1,14 +1,14 @@
 -- The test of permitted units, and the first line that fails it.
-use Rattle.std.proofs.Common.{◌≡◌, ◌⊎◌, ℕ, ◌+◌, ◌<◌, ◌≤◌, Bool, true, false, not, ◌==◌, nat_lt, nat_le, ltb, Option, Some, None, List, [], ◌∷◌, length, get_or, refl, sym, ap, ◌∙◌, inl, inr, arith}
-use Rattle.std.specs.List.{All, position, position_or_len, zip}
+use Rattle.std.proofs.Common.{◌↔◌, cond, is_some, IsNone, nat_lt, Option, subst, ◌≡◌, ℕ, ◌+◌, ◌<◌, ◌≤◌, Bool, true, false, not, Some, None, List, [], ◌∷◌, length, get_or, refl, sym, ap, ◌∙◌, inl, inr, arith}
+use Rattle.std.specs.List.{position, position_or_len, zip}
 use Rattle.std.proofs.lemmas.Bool.{lt-ltb, le-ltb, cases_lt}
 use Rattle.std.proofs.lemmas.Bool.Decides.{nat_tests}
 use Rattle.std.proofs.lemmas.List.{get_or_default, get_or_read}
-use Rattle.std.proofs.lemmas.List.Sums.{position_or_len_is}
+use Rattle.std.proofs.lemmas.List.Sums.{position_or_len_is, fails_before_first}
 use Rattle.std.proofs.lemmas.Slice.Zip.{length-zip, get_or-zip}
 use Rattle.cash_table.specs.declared.line.Line.{Line}
 use Rattle.cash_table.specs.Book.{BookContents}
-use Rattle.cash_table.specs.Portfolio.{IsPermittedUnits, IsPermitted, permits}
+use Rattle.cash_table.specs.Portfolio.{IsPermittedUnits, IsPermitted, permits, first_unpermitted_of}
 
 pub permitted_from_test : (line : Line) (units : ℕ) → permits line units ≡ true → IsPermittedUnits line units
 permitted_from_test line units passes = grind (arith, nat_tests)
@@ -46,9 +46,9 @@ pub none_fails : (lines : List Line) (plan : List ℕ) → length plan ≡ lengt
 none_fails lines plan same passes =
     position_none FailsAt (zip lines plan)
     (λ k d h.
-        let within : k < length lines = omega (arith, length-zip lines plan) in
-        let units = get_or_default plan k d.1 0 (omega arith) in
-        ap FailsAt (get_or-zip lines plan k d within (omega arith)) ∙ ap (λ u. not (permits (get_or lines k d.0) u)) units ∙ ap not (passes k d.0 within))
+    let within : k < length lines = omega (arith, length-zip lines plan) in
+    let units = get_or_default plan k d.1 0 (omega arith) in
+    ap FailsAt (get_or-zip lines plan k d within (omega arith)) ∙ ap (λ u. not (permits (get_or lines k d.0) u)) units ∙ ap not (passes k d.0 within))
 
 pub permitted_from_tests : (book : BookContents) (plan : List ℕ) → length plan ≡ length book.lines → PassBelow book.lines plan (length book.lines) → IsPermitted book plan
 permitted_from_tests book plan same passes = record {
@@ -72,7 +72,47 @@ passes_from_permitted book plan i line permitted within at =
 pub pass_more : (lines : List Line) (plan : List ℕ) (i : ℕ) (line : Line) → i < length lines → line ≡ get_or lines i line → permits line (get_or plan i 0) ≡ true → PassBelow lines plan i → PassBelow lines plan (i + 1)
 pass_more lines plan i line within at passes before = λ k d h.
     elim (cases_lt k i) [
-        inl less ↦ before k d less
+      | inl less ↦ before k d less
       | inr more ↦ (let here : k ≡ i = omega arith in
           let read = get_or_read lines i line within at d in
-          ap (λ n. permits (get_or lines n d) (get_or plan n 0)) here ∙ ap (λ x. permits x (get_or plan i 0)) (sym read) ∙ passes) ]
+          ap (λ n. permits (get_or lines n d) (get_or plan n 0)) here ∙ ap (λ x. permits x (get_or plan i 0)) (sym read) ∙ passes)
+    ]
+
+-- no element passes where none is found
+position_fails : {X : Type 0} (p : X → Bool) (xs : List X) → position p xs ≡ None → (k : ℕ) (d : X) → k < length xs → p (get_or xs k d) ≡ false
+position_fails p xs none k d within =
+    fails_before_first p xs k d (at_end (nat_lt (position_or_len p xs) (length xs)) refl none)
+  where
+    at_end : (b : Bool) → nat_lt (position_or_len p xs) (length xs) ≡ b → cond b (Some (position_or_len p xs)) None ≡ None → k < position_or_len p xs
+    at_end true test found = cc
+    at_end false test found =
+        let past : length xs ≤ position_or_len p xs = grind (arith, nat_tests) in
+        omega arith
+
+none_found : {X : Type 0} (found : Option X) → IsNone found → found ≡ None
+none_found None h = refl
+none_found (Some x) h = cc
+
+passed_all : (book : BookContents) (plan : List ℕ) → length plan ≡ length book.lines → first_unpermitted_of book plan ≡ None → PassBelow book.lines plan (length book.lines)
+passed_all book plan same none = λ k d within.
+    let fails = position_fails FailsAt (zip book.lines plan) none k (d, 0) (omega (arith, length-zip book.lines plan)) in
+    let pair = get_or-zip book.lines plan k (d, 0) within (omega arith) in
+    not_false (permits (get_or book.lines k d) (get_or plan k 0)) (sym (ap FailsAt pair) ∙ fails)
+  where
+    not_false : (b : Bool) → not b ≡ false → b ≡ true
+    not_false true h = refl
+    not_false false h = cc
+
+-- no line is the first that isn't permitted exactly where the portfolio is permitted
+pub first_unpermitted_is : (book : BookContents) (plan : List ℕ) → length plan ≡ length book.lines → IsNone (first_unpermitted_of book plan) ↔ IsPermitted book plan
+first_unpermitted_is book plan same = (
+  (λ none. permitted_from_tests book plan same (passed_all book plan same (none_found (first_unpermitted_of book plan) none))),
+  (λ permitted. ap is_some (none_fails book.lines plan same (λ k d within.
+      let line = get_or book.lines k d in
+      passes_from_permitted book plan k line permitted within (get_or_default book.lines k d line within)))),
+)
+
+pub found_none : (book : BookContents) (plan : List ℕ) (found : Option ℕ) → length plan ≡ length book.lines → found ≡ first_unpermitted_of book plan → IsNone found ↔ IsPermitted book plan
+found_none book plan found same is =
+    let P : Option ℕ → Type 0 = λ o. IsNone o ↔ IsPermitted book plan in
+    subst P (sym is) (first_unpermitted_is book plan same)

@@ -1,5 +1,5 @@
 -- What permitted portfolios of zero-interest certificates cost, pay and yield.
-use Rattle.std.proofs.Common.{◌≡◌, ◌↔◌, ℕ, ◌+◌, ◌*◌, ◌<◌, ◌≤◌, Bool, true, false, cond, nat_lt, List, [], ◌∷◌, length, get_or, drop, slice_index, refl, sym, ap, ◌∙◌, subst, arith, ℤ, ◌≤ℤ◌}
+use Rattle.std.proofs.Common.{◌≡◌, ◌↔◌, ℕ, ◌+◌, ◌*◌, ◌<◌, ◌≤◌, Bool, true, false, cond, nat_lt, List, [], ◌∷◌, length, drop, slice_index, refl, sym, ap, ◌∙◌, subst, arith, ℤ, ◌≤ℤ◌}
 use Rattle.std.specs.List.{All, sum_by, flat_map, filter, zip}
 use Rattle.std.proofs.lemmas.List.Elements.{All-head, All-tail, All-cons, All-nil, All-weaker}
 use Rattle.std.proofs.lemmas.List.Sums.{sum_by-cons}
@@ -10,7 +10,7 @@ use Rattle.escrow_units.specs.PresentValue.{YieldLiesIn}
 use Rattle.escrow_units.specs.declared.security.Flow.{Flow}
 use Rattle.cash_table.specs.declared.line.Line.{Line}
 use Rattle.cash_table.specs.Book.{BookContents, IsSecurityLine, AreLines, IsBook, AreZeroCertificates, total}
-use Rattle.cash_table.specs.Portfolio.{IsPermitted, Meets, line_cost, line_payments, payment_day, payments, cost, security_cost, security_flows, indexed, total_needs, total_by}
+use Rattle.cash_table.specs.Portfolio.{IsPermitted, Meets, line_payments, payment_day, payments, cost, security_cost, security_flows, indexed, total_needs}
 use Rattle.cash_table.proofs.CostFacts.{pair_cost, cost_is}
 use Rattle.cash_table.proofs.DayFacts.{total_by-due, total_by-at_most}
 use Rattle.cash_table.proofs.YieldFacts.{total_cents, yields_nothing, total_cents-indexed}
@@ -33,12 +33,12 @@ total-paid : (flows : List Flow) → total (filter is_paid flows) ≡ total flow
 total-paid [] = refl
 total-paid (flow ∷ flows) = by_test (is_paid flow) flow flows refl (total-paid flows)
   where
-  by_test : (b : Bool) (flow : Flow) (flows : List Flow) → is_paid flow ≡ b → total (filter is_paid flows) ≡ total flows → total (cond b (flow ∷ filter is_paid flows) (filter is_paid flows)) ≡ total (flow ∷ flows)
-  by_test true flow flows test rest =
-      omega (arith, sum_by-cons (λ f. f.cents.0) flow (filter is_paid flows), sum_by-cons (λ f. f.cents.0) flow flows, rest)
-  by_test false flow flows test rest =
-      let none : flow.cents.0 ≡ 0 = grind (arith, nat_tests) in
-      omega (arith, none, sum_by-cons (λ f. f.cents.0) flow flows, rest)
+    by_test : (b : Bool) (flow : Flow) (flows : List Flow) → is_paid flow ≡ b → total (filter is_paid flows) ≡ total flows → total (cond b (flow ∷ filter is_paid flows) (filter is_paid flows)) ≡ total (flow ∷ flows)
+    by_test true flow flows test rest =
+        omega (arith, sum_by-cons (λ f. f.cents.0) flow (filter is_paid flows), sum_by-cons (λ f. f.cents.0) flow flows, rest)
+    by_test false flow flows test rest =
+        let none : flow.cents.0 ≡ 0 = grind (arith, nat_tests) in
+        omega (arith, none, sum_by-cons (λ f. f.cents.0) flow flows, rest)
 
 -- the security flows sum to the security cost
 pub total-security_flows : (book : BookContents) (plan : List ℕ) → total (security_flows book plan) ≡ security_cost book plan
@@ -50,9 +50,9 @@ total-security_flows book plan =
 pub meets_cost : (book : BookContents) (plan : List ℕ) → IsBook book → AreZeroCertificates book.lines → IsPermitted book plan → Meets book plan → total_needs book ≤ cost book plan
 meets_cost book plan limits certificates permitted meets = at (years_after_of book.settle 40) (λ k d h. (limits.needs.within k d h).1)
   where
-  at : (t : ℤ) → All (λ need. need.day ≤ℤ t) book.needs → total_needs book ≤ cost book plan
-  at t due =
-      omega (arith, total_by-due t book.needs due, meets t, total_by-at_most t (payments book plan), total-payments book.settle (zip book.lines plan))
+    at : (t : ℤ) → All (λ need. need.day ≤ℤ t) book.needs → total_needs book ≤ cost book plan
+    at t due =
+        omega (arith, total_by-due t book.needs due, meets t, total_by-at_most t (payments book plan), total-payments book.settle (zip book.lines plan))
 
 -- the exact yield of the security flows for the security cost is 0
 pub zero_yield : (book : BookContents) (plan : List ℕ) → IsBook book → AreZeroCertificates book.lines → IsPermitted book plan → YieldLiesIn (indexed book.settle (security_flows book plan)) (security_cost book plan) 0 0
@@ -85,11 +85,12 @@ none_bought settle (line ∷ lines) [] steps same empty = All-nil IsNone
 none_bought settle (line ∷ lines) (units ∷ plan) steps same empty =
     by_test (nat_lt 0 (line.step * units)) refl empty (none_bought settle lines plan (All-tail HasStep line lines steps) (omega (arith, same)))
   where
-  rest : List Flow
-  rest = filter is_paid (flat_map (pair_payments settle) (zip lines plan))
-  by_test : (b : Bool) → nat_lt 0 (line.step * units) ≡ b → cond b (record { day = payment_day settle line.kind; cents = record { 0 = line.step * units } } ∷ filter is_paid (flat_map (pair_payments settle) (zip lines plan))) (filter is_paid (flat_map (pair_payments settle) (zip lines plan))) ≡ [] → (filter is_paid (flat_map (pair_payments settle) (zip lines plan)) ≡ [] → All IsNone plan) → All IsNone (units ∷ plan)
-  by_test true test paid rest = cc
-  by_test false test paid rest = All-cons IsNone units plan (no_units line.step units (All-head HasStep line lines steps) test) (rest paid)
+    rest : List Flow
+    rest = filter is_paid (flat_map (pair_payments settle) (zip lines plan))
+
+    by_test : (b : Bool) → nat_lt 0 (line.step * units) ≡ b → cond b (record { day = payment_day settle line.kind; cents = record { 0 = line.step * units } } ∷ filter is_paid (flat_map (pair_payments settle) (zip lines plan))) (filter is_paid (flat_map (pair_payments settle) (zip lines plan))) ≡ [] → (filter is_paid (flat_map (pair_payments settle) (zip lines plan)) ≡ [] → All IsNone plan) → All IsNone (units ∷ plan)
+    by_test true test paid rest = cc
+    by_test false test paid rest = All-cons IsNone units plan (no_units line.step units (All-head HasStep line lines steps) test) (rest paid)
 
 -- and lines without units pay nothing
 nothing_paid : (settle : ℤ) (lines : List Line) (plan : List ℕ) → All IsNone plan → filter is_paid (flat_map (pair_payments settle) (zip lines plan)) ≡ []
@@ -105,10 +106,29 @@ nothing_paid settle (line ∷ lines) (units ∷ plan) none =
 empty_flows_of : (settle : ℤ) (lines : List Line) (plan : List ℕ) → AreLines settle lines → length plan ≡ length lines → (filter is_paid (flat_map (pair_payments settle) (drop 1 (zip lines plan))) ≡ []) ↔ All IsNone (drop 1 plan)
 empty_flows_of settle [] plan lines same = absurd lines
 empty_flows_of settle (cash ∷ securities) [] lines same = absurd (omega (arith, same))
-empty_flows_of settle (cash ∷ securities) (units ∷ plan) lines same =
-    ((λ empty. none_bought settle securities plan (All-weaker (IsSecurityLine settle) HasStep (λ line security. omega (arith, security.step_at_least)) securities lines.1) (omega (arith, same)) empty),
-    (λ none. nothing_paid settle securities plan none))
+empty_flows_of settle (cash ∷ securities) (units ∷ plan) lines same = (
+  (λ empty. none_bought settle securities plan (All-weaker (IsSecurityLine settle) HasStep (λ line security. omega (arith, security.step_at_least)) securities lines.1) (omega (arith, same)) empty),
+  (λ none. nothing_paid settle securities plan none),
+)
 
 -- the security flows are empty exactly where every line from 1 has 0 units
 pub empty_flows : (book : BookContents) (plan : List ℕ) → IsBook book → IsPermitted book plan → (security_flows book plan ≡ []) ↔ All (λ units. units ≡ 0) (drop 1 plan)
 empty_flows book plan limits permitted = empty_flows_of book.settle book.lines plan limits.lines permitted.same_length
+
+-- paid flows of 0 cents together are none
+none_from_total : (flows : List Flow) → total (filter is_paid flows) ≡ 0 → filter is_paid flows ≡ []
+none_from_total [] none = refl
+none_from_total (flow ∷ flows) none = by_test (is_paid flow) flow flows refl none (none_from_total flows)
+  where
+    by_test : (b : Bool) (flow : Flow) (flows : List Flow) → is_paid flow ≡ b → total (cond b (flow ∷ filter is_paid flows) (filter is_paid flows)) ≡ 0 → (total (filter is_paid flows) ≡ 0 → filter is_paid flows ≡ []) → cond b (flow ∷ filter is_paid flows) (filter is_paid flows) ≡ []
+    by_test true flow flows test none rest =
+        let some : 0 < flow.cents.0 = grind (arith, nat_tests) in
+        absurd (omega (arith, some, none, sum_by-cons (λ f. f.cents.0) flow (filter is_paid flows)))
+    by_test false flow flows test none rest = rest none
+
+-- and exactly where the security cost is 0
+pub empty_at_no_cost : (book : BookContents) (plan : List ℕ) → (security_flows book plan ≡ []) ↔ (security_cost book plan ≡ 0)
+empty_at_no_cost book plan = (
+  (λ empty. sym (total-security_flows book plan) ∙ ap total empty),
+  (λ none. none_from_total (flat_map (pair_payments book.settle) (drop 1 (zip book.lines plan))) (total-security_flows book plan ∙ none)),
+)

@@ -1,11 +1,11 @@
 -- Receipts by need date, one payment after another.
-use Rattle.std.proofs.Common.{◌≡◌, ◌⊎◌, ℕ, zero, suc, ◌+◌, ◌<◌, ◌≤◌, Bool, true, false, T, cond, List, [], ◌∷◌, ◌++◌, length, get_or, take, set, refl, sym, ap, ◌∙◌, inl, inr, arith, ℤ, ◌<ℤ◌, ◌≤ℤ◌, int_lt, int_le}
-use Rattle.std.specs.List.{All, AllWithin, sum, sum_by, flat_map, zip}
+use Rattle.std.proofs.Common.{◌≡◌, ℕ, zero, suc, ◌+◌, ◌<◌, Bool, true, false, T, cond, List, [], ◌∷◌, ◌++◌, length, get_or, take, set, refl, sym, ap, ◌∙◌, inl, inr, arith, ℤ, ◌<ℤ◌, ◌≤ℤ◌, int_lt, int_le}
+use Rattle.std.specs.List.{AllWithin, sum, sum_by, flat_map, zip}
 use Rattle.std.proofs.lemmas.Bool.{cases_lt}
 use Rattle.std.proofs.lemmas.Int.{ints}
-use Rattle.std.proofs.lemmas.List.{take-set-le, take_more, append-nil}
+use Rattle.std.proofs.lemmas.List.{take-set-le, take_more}
 use Rattle.std.proofs.lemmas.List.Concat.{flat_map-append}
-use Rattle.std.proofs.lemmas.List.Sums.{sum_by-cons, sum_by-append, sum_by_more}
+use Rattle.std.proofs.lemmas.List.Sums.{sum_by-cons, sum_by-append}
 use Rattle.std.specs.List.Sorted.{IsPartitionedBy}
 use Rattle.escrow_units.specs.declared.security.Flow.{Flow}
 use Rattle.cash_table.specs.declared.line.Line.{Line}
@@ -43,8 +43,9 @@ lt_trans a b c h k = omega (arith, ints)
 pub days_are_partitioned : (needs : List Flow) (day : ℤ) → IsRising needs → IsPartitionedBy (λ need. int_lt need.day day) needs
 days_are_partitioned needs day rising = λ i j d order within later.
     elim (cases_lt i j) [
-        inl less ↦ lt_test (get_or needs i d).day day (lt_trans (get_or needs i d).day (get_or needs j d).day day (rising i j d less within) (lt_from_test (get_or needs j d).day day later))
-      | inr same ↦ (let here : i ≡ j = omega arith in ap (λ n. int_lt (get_or needs n d).day day) here ∙ later) ]
+      | inl less ↦ lt_test (get_or needs i d).day day (lt_trans (get_or needs i d).day (get_or needs j d).day day (rising i j d less within) (lt_from_test (get_or needs j d).day day later))
+      | inr same ↦ (let here : i ≡ j = omega arith in ap (λ n. int_lt (get_or needs n d).day day) here ∙ later)
+    ]
 
 -- a part that holds the place of an addition grows by it
 pub sum-take-set_add : (xs : List ℕ) (p c n : ℕ) → p < n → p < length xs → sum (take n (set xs p (get_or xs p 0 + c))) ≡ sum (take n xs) + c
@@ -65,14 +66,15 @@ cents_by-later t flow later = ap (λ b. cond b flow.cents.0 0) (le_fails flow.da
 pub receipt_added : (needs : List Flow) (receipts : List ℕ) (flow : Flow) (place k : ℕ) (d : Flow) → place < length receipts → AllWithin (λ need. need.day <ℤ flow.day) needs 0 place → AllWithin (λ need. flow.day ≤ℤ need.day) needs place (length needs) → k < length needs → sum (take (k + 1) (set receipts place (get_or receipts place 0 + flow.cents.0))) ≡ sum (take (k + 1) receipts) + cents_by (get_or needs k d).day flow
 receipt_added needs receipts flow place k d within before from here =
     elim (cases_lt k place) [
-        inl less ↦
+      | inl less ↦
           (let same = ap sum (take-set-le (k + 1) receipts place (get_or receipts place 0 + flow.cents.0) (omega arith)) in
           let none = cents_by-later (get_or needs k d).day flow (before k d (omega arith) less) in
           omega (arith, same, none))
       | inr more ↦
           (let sum_more = sum-take-set_add receipts place flow.cents.0 (k + 1) (omega arith) within in
           let due = cents_by-due (get_or needs k d).day flow (from k d more here) in
-          omega (arith, sum_more, due)) ]
+          omega (arith, sum_more, due))
+    ]
 
 -- the payments of one line more
 pub receipts_more : (needs : List Flow) (settle : ℤ) (lines : List Line) (plan : List ℕ) (i : ℕ) (line : Line) (units : ℕ) (flow : Flow) (old new : List ℕ) → StandAt lines plan i line units → line_payments settle line units ≡ flow ∷ [] → AreReceipts needs (flat_map (λ p. line_payments settle p.0 p.1) (take i (zip lines plan))) old → ((k : ℕ) (d : Flow) → k < length needs → sum (take (k + 1) new) ≡ sum (take (k + 1) old) + cents_by (get_or needs k d).day flow) → AreReceipts needs (flat_map (λ p. line_payments settle p.0 p.1) (take (i + 1) (zip lines plan))) new
@@ -84,7 +86,7 @@ receipts_more needs settle lines plan i line units flow old new at pays had adde
     let pair = pair_at lines plan i line units at in
     let joined : take (i + 1) (zip lines plan) ≡ pairs ++ (line, units) ∷ [] = more ∙ ap (λ p. pairs ++ p ∷ []) pair in
     let flows : flat_map pay (take (i + 1) (zip lines plan)) ≡ flat_map pay pairs ++ flow ∷ [] =
-      ap (flat_map pay) joined ∙ flat_map-append pay pairs ((line, units) ∷ []) ∙ ap (λ fs. flat_map pay pairs ++ (fs ++ [])) pays in
+    ap (flat_map pay) joined ∙ flat_map-append pay pairs ((line, units) ∷ []) ∙ ap (λ fs. flat_map pay pairs ++ (fs ++ [])) pays in
     let parts = ap (total_by t) flows ∙ sum_by-append (cents_by t) (flat_map pay pairs) (flow ∷ []) in
     omega (arith, parts, had k d within, added k d within)
 

@@ -1,12 +1,12 @@
 -- Flows that sum to their cost have the yield 0.
-use Rattle.std.proofs.Common.{◌≡◌, ◌⊎◌, ℕ, zero, suc, ◌+◌, ◌-◌, ◌*◌, ◌^◌, ◌<◌, ◌≤◌, max, List, [], ◌∷◌, map, refl, sym, ap, ◌∙◌, inl, inr, arith, ℤ}
+use Rattle.std.proofs.Common.{◌≡◌, ℕ, ◌+◌, ◌-◌, ◌*◌, ◌^◌, ◌≤◌, List, [], ◌∷◌, refl, sym, ap, ◌∙◌, inl, inr, arith, ℤ}
 use Rattle.std.specs.List.{sum_by}
 use Rattle.std.proofs.lemmas.Bool.{cases_lt}
 use Rattle.std.proofs.lemmas.List.Sums.{sum_by-cons}
 use Rattle.std.proofs.lemmas.Nat.{pow-add}
 use Rattle.std.proofs.Math.Nat.{mul-le-mul_left, mul-le-mul_right, pow-le-pow_left, pow-lt-pow_left}
 use Rattle.escrow_units.specs.Calendar.{e_of}
-use Rattle.escrow_units.specs.PresentValue.{IndexedFlow, half_year, last_index, discounted, AtLeastDayFactor, AtMostDayFactor, YieldLiesIn}
+use Rattle.escrow_units.specs.PresentValue.{IndexedFlow, half_year, last_index, AtLeastDayFactor, AtMostDayFactor, YieldLiesIn}
 use Rattle.escrow_units.specs.declared.security.Flow.{Flow}
 use Rattle.cash_table.specs.Book.{total}
 use Rattle.cash_table.specs.Portfolio.{indexed}
@@ -58,13 +58,15 @@ not_zero h = omega (arith, h)
 
 at_least_one : (a b : ℕ) → AtLeastDayFactor 0 a b → b ≤ a
 at_least_one a b h = elim (cases_lt a b) [
-    inl less ↦ (let power = pow-lt-pow_left less not_zero in absurd (omega (arith, power, h)))
-  | inr more ↦ more ]
+  | inl less ↦ (let power = pow-lt-pow_left less not_zero in absurd (omega (arith, power, h)))
+  | inr more ↦ more
+]
 
 at_most_one : (a b : ℕ) → AtMostDayFactor 0 a b → a ≤ b
 at_most_one a b h = elim (cases_lt b a) [
-    inl less ↦ (let power = pow-lt-pow_left less not_zero in absurd (omega (arith, power, h)))
-  | inr more ↦ more ]
+  | inl less ↦ (let power = pow-lt-pow_left less not_zero in absurd (omega (arith, power, h)))
+  | inr more ↦ more
+]
 
 pub yields_nothing : (flows : List IndexedFlow) → YieldLiesIn flows (total_cents flows) 0 0
 yields_nothing flows = record {

@@ -1,6 +1,6 @@
 -- Portfolios of a book: which are permitted, what they pay and cost, and whether they meet the needs.
 -- A portfolio is a list with one number of units for each line.
-use Rattle.std.specs.Prelude.{◌≡◌, ℕ, ◌+◌, ◌-◌, ◌*◌, ◌<◌, ◌≤◌, ◌⊎◌, Bool, ◌&&◌, ◌||◌, not, nat_le, nat_lt, ◌==◌, if◌then◌else◌, Option, option_map, List, [], ◌∷◌, length, map, drop, ℤ, ◌<ℤ◌, int_le}
+use Rattle.std.specs.Prelude.{◌≡◌, ℕ, ◌-◌, ◌*◌, ◌<◌, ◌≤◌, ◌⊎◌, Bool, ◌&&◌, ◌||◌, not, nat_le, nat_lt, ◌==◌, if◌then◌else◌, Option, List, [], ◌∷◌, length, map, drop, ℤ, ◌<ℤ◌, int_le}
 use Rattle.std.specs.List.{All, sum_by, flat_map, filter, find, position, zip}
 use Rattle.escrow_units.specs.Calendar.{e_of}
 use Rattle.escrow_units.specs.PresentValue.{IndexedFlow}

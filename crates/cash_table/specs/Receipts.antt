@@ -1,6 +1,6 @@
 -- Receipts kept by need date: the place of a date has what comes after the date before it and up to that date.
-use Rattle.std.specs.Prelude.{◌≡◌, ℕ, ◌+◌, ◌<◌, ◌≤◌, List, length, take, slice_index_or, ℤ, ◌<ℤ◌}
-use Rattle.std.specs.List.{AllPairs, sum, sum_by}
+use Rattle.std.specs.Prelude.{◌≡◌, ℕ, ◌+◌, ◌<◌, ◌≤◌, List, length, take, slice_index_or, ◌<ℤ◌}
+use Rattle.std.specs.List.{AllPairs, sum}
 use Rattle.escrow_units.specs.declared.security.Flow.{Flow}
 use Rattle.cash_table.specs.Book.{total}
 use Rattle.cash_table.specs.Portfolio.{total_by}

@@ -70,7 +70,7 @@ fn add_receipt(receipts: &mut [u64], needs: &[Flow], payment: &Flow)
     requires room { sum receipts.old + payment.now.cents.0 < 2 ^ 64 }
     ensures by_day { (k : ℕ) (d : Flow) → k < length needs.now
         → sum (take (k + 1) receipts.new)
-            ≡ sum (take (k + 1) receipts.old) + cents_by (slice_index_or needs.now k d).day payment.now }
+        ≡ sum (take (k + 1) receipts.old) + cents_by (slice_index_or needs.now k d).day payment.now }
     ensures whole { sum receipts.new ≤ sum receipts.old + payment.now.cents.0 }
 {
     let place = place_of(needs, payment.day);

@@ -1,4 +1,4 @@
-ghost use Rattle.std.specs.Prelude.{◌≡◌, ℕ, ◌+◌, ◌≤◌, ◌↔◌, List, [], drop, slice_index, ℤ, MatchOption};
+ghost use Rattle.std.specs.Prelude.{◌≡◌, ℕ, ◌+◌, ◌≤◌, ◌↔◌, List, [], drop, slice_index};
 ghost use Rattle.std.specs.List.{All};
 ghost use Rattle.escrow_units.specs.PresentValue.{YieldLiesIn};
 ghost use Rattle.cash_table.specs.Book.{BookContents, IsBook, AreZeroCertificates};
@@ -13,8 +13,7 @@ pub fn meets_cost()
         → IsPermitted book plan
         → Meets book plan
         → total_needs book ≤ cost book plan }
-{
-}
+{}
 
 /// A law: the exact yield of every permitted portfolio of certificates at rate 0 is 0.
 pub fn zero_yield()
@@ -23,8 +22,7 @@ pub fn zero_yield()
         → AreZeroCertificates book.lines
         → IsPermitted book plan
         → YieldLiesIn (indexed book.settle (security_flows book plan)) (security_cost book plan) 0 0 }
-{
-}
+{}
 
 /// A law: the cost of a permitted portfolio is its opening cash, which is the units of line 0, and its security cost.
 pub fn cost_parts()
@@ -32,14 +30,17 @@ pub fn cost_parts()
         → IsBook book
         → IsPermitted book plan
         → cost book plan ≡ slice_index plan 0 + security_cost book plan }
-{
-}
+{}
 
-/// A law: a permitted portfolio has no security flows exactly where every line from 1 has 0 units.
+/// A law: a permitted portfolio has no security flows exactly where every line from 1 has 0 units, and exactly where
+/// its security cost is 0.
 pub fn empty_flows()
-    ensures { (book : BookContents) (plan : List ℕ)
+    ensures units { (book : BookContents) (plan : List ℕ)
         → IsBook book
         → IsPermitted book plan
         → (security_flows book plan ≡ []) ↔ All (λ units. units ≡ 0) (drop 1 plan) }
-{
-}
+    ensures cost { (book : BookContents) (plan : List ℕ)
+        → IsBook book
+        → IsPermitted book plan
+        → (security_flows book plan ≡ []) ↔ (security_cost book plan ≡ 0) }
+{}

@@ -15,3 +15,6 @@ pub use costs::{cost, security_cost};
 pub use laws::{cost_parts, empty_flows, meets_cost, zero_yield};
 pub use line::{Line, LineKind};
 pub use plan::{Plan, first_unpermitted};
+
+#[cfg(test)]
+mod tests;

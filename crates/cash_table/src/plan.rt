@@ -36,7 +36,7 @@ impl Plan {
         requires { line < length self.now }
         ensures { result ≡ slice_index self.now line }
     {
-        self.units[line as usize]
+        self.units[usize::from(line)]
     }
 
     /// Sets the number of units of a line, and changes no other.
@@ -44,7 +44,8 @@ impl Plan {
         requires { line < length self.old }
         ensures { self.new ≡ slice_set self.old line units }
     {
-        self.units[line as usize] = units;
+        let place = usize::from(line);
+        self.units[place] = units;
     }
 
     // The numbers of units.

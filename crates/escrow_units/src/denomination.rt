@@ -19,10 +19,11 @@ fn read_denomination(bytes: &[u8]) -> Result<u64, NumberFault>
     )
 }
 
-/// Reads the denominations of a file from the fields of its least purchase and its step.
+/// Reads the denominations of one file's securities from the fields of its minimum and its step.
 ///
-/// Each is 1 to 15 digits and from 1 to 1,000,000 dollars. A minimum that isn't a multiple of the
-/// step is `OutOfRange`, once both fields are read. The rule is this project's own.
+/// Each field is 1 to 15 digits of whole dollars, else `BadNumber`, and from 1 to 1,000,000, else
+/// `OutOfRange`; the minimum is tried first. A minimum that isn't a multiple of the step is
+/// `OutOfRange` once both are read. The rules are this project's own.
 #[tactic(auto, unfolding(crate::specs::Denomination::terms_of))]
 pub fn read_terms(minimum: &[u8], step: &[u8]) -> Result<Terms, NumberFault>
     ensures value { result ≡ terms_of minimum.now step.now }
@@ -36,9 +37,10 @@ pub fn read_terms(minimum: &[u8], step: &[u8]) -> Result<Terms, NumberFault>
     Ok(Terms { minimum, step })
 }
 
-/// Reads the greatest purchase of one security, in whole dollars: 1 to 15 digits.
+/// Reads the greatest purchase of one security, in whole dollars: 1 to 15 digits, else `BadNumber`.
 ///
-/// From 1 to 1,000,000,000 dollars, and at least the file's least purchase, else `OutOfRange`.
+/// A number outside 1 to 1,000,000,000, or below the minimum of the terms, is `OutOfRange`. The rule is
+/// this project's own.
 #[tactic(auto, unfolding(crate::specs::Denomination::cap_of))]
 pub fn read_cap(bytes: &[u8], terms: Terms) -> Result<u64, NumberFault>
     ensures value { result ≡ cap_of terms bytes.now }

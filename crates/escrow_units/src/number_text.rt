@@ -7,7 +7,8 @@ use crate::fault::NumberFault;
 
 /// Reads dollars and cents: 1 to 15 digits, then optionally a point and 1 or 2 digits.
 ///
-/// At most 10^13 cents. Leading zeros are allowed; no sign, comma or blank is.
+/// Leading zeros are allowed; no sign, comma or blank is. Other bytes are `BadNumber`, and more than
+/// 10^13 cents are `OutOfRange`. The spelling is this project's own.
 #[tactic(auto, unfolding(crate::specs::NumberText::cents_of))]
 pub fn read_cents(bytes: &[u8]) -> Result<Cents, NumberFault>
     ensures value { result ≡ cents_of bytes.now }
@@ -19,7 +20,8 @@ pub fn read_cents(bytes: &[u8]) -> Result<Cents, NumberFault>
 
 /// Reads whole dollars: 1 to 15 digits.
 ///
-/// From 1 to 1,000,000,000 dollars. Leading zeros are allowed; no sign, comma, point or blank is.
+/// Leading zeros are allowed; no sign, comma, point or blank is. Other bytes are `BadNumber`, and a
+/// number outside 1 to 1,000,000,000 is `OutOfRange`. The spelling is this project's own.
 #[tactic(auto, unfolding(crate::specs::NumberText::dollars_of))]
 pub fn read_dollars(bytes: &[u8]) -> Result<u64, NumberFault>
     ensures value { result ≡ dollars_of bytes.now }
@@ -35,7 +37,8 @@ pub fn read_dollars(bytes: &[u8]) -> Result<u64, NumberFault>
 
 /// Reads a rate or a coupon in percent: 1 to 3 digits, then optionally a point and 1 to 3 digits.
 ///
-/// At most 30.000 percent. Leading zeros are allowed; no sign, comma or blank is.
+/// Leading zeros are allowed; no sign, comma or blank is. Other bytes are `BadNumber`, and more than
+/// 30.000 percent are `OutOfRange`. The spelling is this project's own.
 #[tactic(auto, unfolding(crate::specs::NumberText::rate_of))]
 pub fn read_rate(bytes: &[u8]) -> Result<Rate, NumberFault>
     ensures value { result ≡ rate_of bytes.now }
@@ -47,7 +50,8 @@ pub fn read_rate(bytes: &[u8]) -> Result<Rate, NumberFault>
 
 /// Reads a yield in percent: 1 to 3 digits, then optionally a point and 1 to 8 digits.
 ///
-/// At most 29.99 percent. Leading zeros are allowed; no sign, comma or blank is.
+/// Leading zeros are allowed; no sign, comma or blank is. Other bytes are `BadNumber`, and more than
+/// 29.99 percent are `OutOfRange`. The spelling is this project's own.
 #[tactic(auto, unfolding(crate::specs::NumberText::yield_of))]
 pub fn read_yield(bytes: &[u8]) -> Result<YieldUnits, NumberFault>
     ensures value { result ≡ yield_of bytes.now }
@@ -59,7 +63,8 @@ pub fn read_yield(bytes: &[u8]) -> Result<YieldUnits, NumberFault>
 
 /// Reads a count: 1 to 6 digits.
 ///
-/// From 1 to 10,000. Leading zeros are allowed; no sign, comma, point or blank is.
+/// Leading zeros are allowed; no sign, comma, point or blank is. Other bytes are `BadNumber`, and a
+/// number outside 1 to 10,000 is `OutOfRange`. The spelling is this project's own.
 #[tactic(auto, unfolding(crate::specs::NumberText::count_of))]
 pub fn read_count(bytes: &[u8]) -> Result<u32, NumberFault>
     ensures value { result ≡ count_of bytes.now }

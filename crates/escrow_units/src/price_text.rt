@@ -68,10 +68,11 @@ fn price_units(bytes: &[u8]) -> Option<u64>
 
 /// Reads a price in percent of par: a decimal as `99.5`, or thirty-seconds as `99-16`.
 ///
-/// A decimal is 1 to 3 digits, then optionally a point and 1 to 8 digits. Else 1 to 3 digits of
-/// percent, a hyphen and two digits of thirty-seconds from 00 to 31 stand, then optionally one digit
-/// of eighths of a thirty-second from 0 to 7, or `+` for four. Leading zeros are allowed; no sign,
-/// comma or blank is. From 10 to 300 percent, else `PriceRange`.
+/// A decimal is 1 to 3 digits, then optionally a point and 1 to 8 digits. Thirty-seconds are 1 to 3
+/// digits of percent, a hyphen and two digits from 00 to 31, then optionally one digit from 0 to 7 for
+/// eighths of a thirty-second, or `+` for four of them. Leading zeros are allowed; no sign, comma or
+/// blank is. Other bytes are `BadNumber`, and a price outside 10 to 300 percent is `PriceRange`. The
+/// spelling is this project's own.
 #[tactic(auto, unfolding(crate::specs::PriceText::price_of))]
 pub fn read_price(bytes: &[u8]) -> Result<Price8, NumberFault>
     ensures value { result ≡ price_of bytes.now }

@@ -1,4 +1,4 @@
-use Rattle.std.proofs.Common.{◌≡◌, ◌≤◌, length, take}
+use Rattle.std.proofs.Common.{◌≤◌, length, take}
 use Rattle.std.specs.List.{sum, sum_by, flat_map, zip}
 use Rattle.cash_table.specs.Portfolio.{line_cost, line_payments}
 use Rattle.cash_table.specs.Receipts.{AreReceipts}

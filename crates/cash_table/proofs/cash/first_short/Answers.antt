@@ -1,5 +1,4 @@
-use Rattle.std.proofs.Common.{◌≡◌, ◌^◌, ◌<◌, List, ℕ, Option, MatchOption, subst, sym, arith, ℤ}
-use Rattle.cash_table.specs.Portfolio.{Meets, IsFirstShort, first_short_of}
+use Rattle.std.proofs.Common.{arith}
 use Rattle.cash_table.proofs.CostFacts.{cost_at_most}
 use Rattle.cash_table.proofs.DayFacts.{first_short_value, first_short_is}
 use Rattle.cash_table.proofs.cash.first_short.Goals as goal

@@ -1,7 +1,5 @@
-use Rattle.std.proofs.Common.{◌≡◌, ℕ, List, length, subst, arith, ◌^◌, ◌<◌}
-use Rattle.std.specs.List.{sum_by, zip}
-use Rattle.cash_table.specs.declared.line.Line.{Line}
-use Rattle.cash_table.proofs.CostFacts.{pair_cost, cost_at_most}
+use Rattle.std.proofs.Common.{arith}
+use Rattle.cash_table.proofs.CostFacts.{cost_at_most}
 use Rattle.cash_table.proofs.costs.cost.Goals as goal
 
 pub lines_cost-requires : goal.lines_cost-requires

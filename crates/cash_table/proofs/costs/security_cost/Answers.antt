@@ -1,9 +1,8 @@
-use Rattle.std.proofs.Common.{◌≡◌, ℕ, List, length, take, drop, arith, sym, ap}
-use Rattle.std.specs.List.{sum_by, zip}
+use Rattle.std.proofs.Common.{arith}
 use Rattle.std.proofs.lemmas.List.{take_rest}
-use Rattle.cash_table.proofs.CostFacts.{pair_cost, drop-zip, lines_present, security_cost_at_most}
+use Rattle.cash_table.proofs.CostFacts.{drop-zip, security_cost_at_most}
 use Rattle.cash_table.proofs.costs.security_cost.Goals as goal
 
 pub lines_cost-requires : goal.lines_cost-requires
 lines_cost-requires c =
-    rw (take_rest, take_rest, drop-zip, c.lines.ensures.value, c.units.ensures) (omega (arith, security_cost_at_most c.args.book.now c.args.plan.now c.lines.ensures.limits c.requires))
+    simp (take_rest, drop-zip, c.lines.ensures.value, c.units.ensures) (omega (arith, security_cost_at_most c.args.book.now c.args.plan.now c.lines.ensures.limits c.requires))

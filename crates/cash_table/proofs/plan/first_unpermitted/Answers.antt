@@ -1,7 +1,6 @@
-use Rattle.std.proofs.Common.{◌≡◌, ◌∙◌, length, true, false, refl, sym, arith}
-use Rattle.std.proofs.lemmas.Bool.{false≢true}
+use Rattle.std.proofs.Common.{◌≡◌, length, true, false, sym, arith}
 use Rattle.cash_table.specs.Portfolio.{permits}
-use Rattle.cash_table.proofs.PermitFacts.{first_fails, none_fails, permitted_from_tests, passes_from_permitted, pass_more}
+use Rattle.cash_table.proofs.PermitFacts.{first_fails, none_fails, found_none, pass_more}
 use Rattle.cash_table.proofs.plan.first_unpermitted.Goals as goal
 
 pub returns-then-not-permits-clause-value : goal.returns-then-not-permits-clause-value
@@ -11,9 +10,7 @@ returns-then-not-permits-clause-value c =
 
 pub returns-then-not-permits-clause-none : goal.returns-then-not-permits-clause-none
 returns-then-not-permits-clause-none c =
-    let fails : permits c.line.result.now c.get.result ≡ false = cc in
-    ((λ h. absurd (false≢true (sym h))),
-    (λ permitted. absurd (false≢true (sym fails ∙ rw c.get.ensures (passes_from_permitted c.args.book.now c.args.plan.now c.loop-line.line c.line.result.now permitted (omega arith) c.line.ensures)))))
+    found_none c.args.book.now c.args.plan.now _ c.requires (returns-then-not-permits-clause-value c)
 
 pub loop-line-preserved : goal.loop-line-preserved
 loop-line-preserved c =
@@ -27,5 +24,4 @@ returns-clause-value c =
 
 pub returns-clause-none : goal.returns-clause-none
 returns-clause-none c =
-    let all : c.loop-line.line ≡ length c.args.book.now.lines = omega arith in
-    ((λ _. permitted_from_tests c.args.book.now c.args.plan.now c.requires (rw (← all) c.loop-line.invariant)), (λ _. refl))
+    found_none c.args.book.now c.args.plan.now _ c.requires (returns-clause-value c)
