@@ -4,3 +4,4 @@ pub mod PurchaseFacts
 pub mod CaseLaws
 pub mod ClaimLaws
 pub mod AcceptedLaws
+pub mod AnswerLaws

@@ -17,7 +17,6 @@ pub record Accepted (issue rates prices cert : List ℕ) : Type 0 where
   pub is_case : files_case issue rates prices ≡ Ok case
   pub is_claim : option_and_then (claim_of (length case.book.needs)) (bounded certificate_limit cert) ≡ Some claim
   pub said : (check_answer issue rates prices cert).text ≡ yes_text case (portfolio case.book claim) claim.gap
-
   pub terms : IsBook case.book
   pub certificates : AreZeroCertificates case.book.lines
   pub permitted : IsPermitted case.book (portfolio case.book claim)

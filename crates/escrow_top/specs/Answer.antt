@@ -1,5 +1,5 @@
 -- What `check` answers: a status and the text that is said. The texts are this project's own.
-use Rattle.std.specs.Prelude.{◌≡◌, ℕ, ◌+◌, ◌-◌, Bool, not, ◌&&◌, ◌==◌, nat_lt, nat_le, nat_eq, if◌then◌else◌, List, [], ◌∷◌, ◌++◌, length, replicate, slice_index_or, slice_set, Option, Some, None, option_map, option_and_then, Result, Ok, Err, is_ok, codes, decimal}
+use Rattle.std.specs.Prelude.{◌≡◌, ℕ, ◌+◌, ◌-◌, Bool, false, not, ◌&&◌, ◌==◌, nat_lt, nat_le, nat_eq, if◌then◌else◌, List, [], ◌∷◌, ◌++◌, length, replicate, slice_index_or, slice_set, Option, Some, None, option_map, option_and_then, Result, Ok, Err, is_ok, codes, decimal}
 use Rattle.std.specs.List.{find, fold}
 use lib.Pointwise.{pointwise}
 use Rattle.escrow_desk.specs.Content.{Content, file_of}
@@ -163,10 +163,22 @@ usage = record { status = status.Usage; text = usage_text }
 abbrev pub unbuilt_structure : Answer
 unbuilt_structure = record { status = status.Unbuilt; text = text_line (codes "unbuilt ") (codes "structure") }
 
+-- the words are `structure ISSUE RATES PRICES CERT`
+abbrev pub is_structure : List (List ℕ) → Bool
+is_structure (word ∷ issue ∷ rates ∷ prices ∷ cert ∷ []) = pointwise nat_eq word (codes "structure")
+is_structure words = false
+
+-- the names that the words `check ISSUE RATES PRICES CERT` give
+abbrev pub check_names : List (List ℕ) → Option Names
+check_names (word ∷ issue ∷ rates ∷ prices ∷ cert ∷ []) =
+    given (pointwise nat_eq word (codes "check")) (record { issue = issue; rates = rates; prices = prices; cert = cert })
+check_names words = None
+
+abbrev pub answer_to_check : Content → Option Names → Option Answer
+answer_to_check content None = Some usage
+answer_to_check content (Some names) = named_answer content names
+
 -- the answer to the words of a command line, by their places; None where a file that is read isn't there
 abbrev pub answer_to : List (List ℕ) → Content → Option Answer
-answer_to (word ∷ issue ∷ rates ∷ prices ∷ cert ∷ []) content =
-    if pointwise nat_eq word (codes "structure") then Some unbuilt_structure
-    else (if pointwise nat_eq word (codes "check")
-    then named_answer content (record { issue = issue; rates = rates; prices = prices; cert = cert }) else Some usage)
-answer_to words content = Some usage
+answer_to words content =
+    if is_structure words then Some unbuilt_structure else answer_to_check content (check_names words)

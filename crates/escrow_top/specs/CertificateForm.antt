@@ -39,7 +39,7 @@ abbrev pub number_at : ℕ → List ℕ → Option (Read ℕ)
 number_at most text = do
   value ← whole_of 16 (digits_at text)
   if nat_lt most value || has_leading_zero (digits_at text) then None
-    else Some (record { value = value; rest = drop (prefix_len is_ascii_digit text) text })
+      else Some (record { value = value; rest = drop (prefix_len is_ascii_digit text) text })
 
 -- `buy LINE UNITS`, with a line from `from` to 65,535 and 1 to 10^13 units
 abbrev pub purchase_at : ℕ → List ℕ → Option (Read Purchase)
@@ -50,8 +50,8 @@ purchase_at from text = do
   units ← number_at (10 ^ 13) units_text
   rest ← after (10 ∷ []) units.rest
   if nat_le from line.value && nat_le 1 units.value
-    then Some (record { value = record { line = line.value; units = units.value }; rest = rest })
-    else None
+      then Some (record { value = record { line = line.value; units = units.value }; rest = rest })
+      else None
 
 -- so many purchases, whose lines rise
 abbrev pub purchases_at : ℕ → ℕ → List ℕ → Option (Read (List Purchase))

@@ -1,9 +1,8 @@
 -- How a run ends.
-use Rattle.std.specs.Prelude.{◌≡◌, ℕ, Bool, true, false, not, ◌||◌, nat_eq, IsTrue, List, [], ◌∷◌, Option, Some, None, IsSomeAnd, MatchOption, codes}
-use lib.Pointwise.{pointwise}
+use Rattle.std.specs.Prelude.{◌≡◌, ℕ, Bool, true, false, List, Option, Some, None, IsSomeAnd, MatchOption}
 use Rattle.escrow_desk.specs.Content.{Content, Told, file_of, with_said, SaidPart}
 use Rattle.escrow_top.specs.Accepted.{Accepted}
-use Rattle.escrow_top.specs.Answer.{Answer, Names, answer_to, named_answer}
+use Rattle.escrow_top.specs.Answer.{Answer, Names, answer_to, check_names, is_structure, named_answer}
 use Rattle.escrow_top.specs.declared.status.Status.{Status}
 use Rattle.escrow_top.specs.declared.status.Status.TheVariants as status
 
@@ -29,6 +28,13 @@ is_reached status.WriteFault = false
 is_reached status.NoFile = false
 is_reached status.NoMemory = false
 is_reached status = true
+
+-- the statuses that `check` comes to
+abbrev pub is_checked : Status → Bool
+is_checked status.Done = true
+is_checked status.No = true
+is_checked status.Unbuilt = true
+is_checked status = false
 
 -- of an answer, where there is one: this is the status, and its text was said; no file changed
 abbrev pub IsSaid : Content → Option Answer → Status → Told → Type 0
@@ -64,13 +70,9 @@ LacksFile None words = Unit {0}
 LacksFile (Some content) words = answer_to words content ≡ None
 
 -- the words are no command
-abbrev pub is_no_command : List (List ℕ) → Bool
-is_no_command (word ∷ issue ∷ rates ∷ prices ∷ cert ∷ []) =
-    not (pointwise nat_eq word (codes "structure") || pointwise nat_eq word (codes "check"))
-is_no_command words = true
-
-abbrev pub IsNoCommand : List (List ℕ) → Type 0
-IsNoCommand words = IsTrue (is_no_command words)
+pub record IsNoCommand (words : List (List ℕ)) : Type 0 where
+  pub no_structure : is_structure words ≡ false
+  pub no_check : check_names words ≡ None
 
 -- the files of these names are there, and accepted
 abbrev pub AreAccepted : Content → Names → Type 0
@@ -81,6 +83,5 @@ AreAccepted content names =
 
 -- the words are those of `check`, and where the desk tells, the four files that they name are there and accepted
 abbrev pub IsAccepted : Told → List (List ℕ) → Type 0
-IsAccepted told (word ∷ issue ∷ rates ∷ prices ∷ cert ∷ []) =
-    MatchOption told (Unit {0}) (λ content. AreAccepted content (record { issue = issue; rates = rates; prices = prices; cert = cert }))
-IsAccepted told words = ⊥
+IsAccepted told words =
+    IsSomeAnd (check_names words) (λ names. MatchOption told (Unit {0}) (λ content. AreAccepted content names))

@@ -6,3 +6,4 @@ pub mod Accepted
 pub mod Reading
 pub mod Reply
 pub mod Stopping
+pub mod Command

@@ -3,7 +3,6 @@ ghost use Rattle.std.specs.List.{prefix_len};
 ghost use Rattle.std.specs.Char.{is_ascii_digit};
 ghost use Rattle.escrow_top.specs.CertificateForm.{after, after_each, number_at, purchase_at, purchases_at, after_tree, head_at, closing_gap, claim, claim_of};
 
-
 use escrow_desk::NoMemory;
 use escrow_units::whole_number;
 use std::alloc::Global;
@@ -48,10 +47,8 @@ fn digit_count(text: &[u8]) -> usize
 
 // The number at the front of a text, where it is at most this.
 fn number_at(text: &[u8], most: u64) -> Option<NumberRead<'_>>
-    ensures {
-        MatchOption result (number_at most text.now ≡ None)
-            (λ read. number_at most text.now ≡ Some (record { value = read.value; rest = read.rest.now }))
-    }
+    ensures { MatchOption result (number_at most text.now ≡ None)
+        (λ read. number_at most text.now ≡ Some (record { value = read.value; rest = read.rest.now })) }
 {
     let count = digit_count(text);
     let digits = &text[..count];
@@ -74,10 +71,8 @@ struct PurchaseRead<'a> {
 
 // The purchase at the front of a text, of a line from this on.
 fn purchase_at(text: &[u8], from: u32) -> Option<PurchaseRead<'_>>
-    ensures {
-        MatchOption result (purchase_at from text.now ≡ None)
-            (λ read. purchase_at from text.now ≡ Some (record { value = read.purchase; rest = read.rest.now }))
-    }
+    ensures { MatchOption result (purchase_at from text.now ≡ None)
+        (λ read. purchase_at from text.now ≡ Some (record { value = read.purchase; rest = read.rest.now })) }
 {
     let line = number_at(after(text, b"buy ")?, 65_535)?;
     let units = number_at(after(line.rest, b" ")?, 10_000_000_000_000)?;
@@ -97,10 +92,8 @@ fn purchase_at(text: &[u8], from: u32) -> Option<PurchaseRead<'_>>
 // The text after these words, which stand at the front so many times.
 #[tactic(auto, using(crate::proofs::CertificateFacts::repeated))]
 fn after_each<'a>(text: &'a [u8], words: &[u8], count: u16) -> Option<&'a [u8]>
-    ensures {
-        MatchOption result (after_each count words.now text.now ≡ None)
-            (λ rest. after_each count words.now text.now ≡ Some rest.now)
-    }
+    ensures { MatchOption result (after_each count words.now text.now ≡ None)
+        (λ rest. after_each count words.now text.now ≡ Some rest.now) }
 {
     let mut rest = text;
     for _ in 0..count {
@@ -111,10 +104,8 @@ fn after_each<'a>(text: &'a [u8], words: &[u8], count: u16) -> Option<&'a [u8]>
 
 // The text after the tree of one leaf, which has the price 10^12 for each need date.
 fn after_tree(text: &[u8], dates: u16) -> Option<&[u8]>
-    ensures {
-        MatchOption result (after_tree dates text.now ≡ None)
-            (λ rest. after_tree dates text.now ≡ Some rest.now)
-    }
+    ensures { MatchOption result (after_tree dates text.now ≡ None)
+        (λ rest. after_tree dates text.now ≡ Some rest.now) }
 {
     let prices = after(text, b"\nnodes 1\nl 1 0")?;
     let closing = after_each(prices, b" 1000000000000", dates)?;
@@ -123,10 +114,8 @@ fn after_tree(text: &[u8], dates: u16) -> Option<&[u8]>
 
 // How many purchases there are, after the first line, and the text after that line.
 fn head_at(text: &[u8]) -> Option<NumberRead<'_>>
-    ensures value {
-        MatchOption result (head_at text.now ≡ None)
-            (λ read. head_at text.now ≡ Some (record { value = read.value; rest = read.rest.now }))
-    }
+    ensures value { MatchOption result (head_at text.now ≡ None)
+        (λ read. head_at text.now ≡ Some (record { value = read.value; rest = read.rest.now })) }
     ensures few { IfSome result (λ read. read.value ≤ 257) }
 {
     let count = number_at(after(text, b"escrow-certificate 1\nportfolio ")?, 257)?;
@@ -163,10 +152,8 @@ fn purchases_at(
     text: &[u8],
     count: u16,
 ) -> Result<Option<PurchasesRead<'_>>, NoMemory>
-    ensures {
-        IfOk result (λ found. MatchOption found (purchases_at count 0 text.now ≡ None)
-            (λ read. purchases_at count 0 text.now ≡ Some (record { value = read.purchases.items; rest = read.rest.now })))
-    }
+    ensures { IfOk result (λ found. MatchOption found (purchases_at count 0 text.now ≡ None)
+        (λ read. purchases_at count 0 text.now ≡ Some (record { value = read.purchases.items; rest = read.rest.now }))) }
 {
     let mut purchases = Vec::new(alloc);
     let mut rest = text;

@@ -3,7 +3,7 @@ ghost use Rattle.escrow_desk.specs.Counts.{Rose};
 ghost use Rattle.escrow_top.specs.Answer.{certificate_answer, certificate_limit};
 ghost use Rattle.escrow_top.specs.CaseForm.{IsWithin, case_view, text_of};
 ghost use Rattle.escrow_top.specs.Reading.{CertificateAnswers, FilesAnswer, LacksCertificate, LacksNamed, input_names};
-ghost use Rattle.escrow_top.specs.Ending.{is_reached};
+ghost use Rattle.escrow_top.specs.Ending.{is_checked};
 ghost use Rattle.escrow_top.specs.Reply.{answer};
 
 use crate::case::{Case, read_case};
@@ -19,13 +19,9 @@ use std::alloc::Global;
 const CERTIFICATE_LIMIT: u64 = 67_108_864;
 
 // The reply to the text of a certificate, which is None where it is over its limit.
-fn reply_to_text(
-    alloc: Global,
-    case: &Case,
-    text: &Option<Vec<u8>>,
-) -> Result<Reply, NoMemory>
+fn reply_to_text(alloc: Global, case: &Case, text: &Option<Vec<u8>>) -> Result<Reply, NoMemory>
     ensures answer { IfOk result (λ reply. answer reply ≡ certificate_answer (case_view case.now) (text_of text.now)) }
-    ensures reached { IfOk result (λ reply. IsTrue (is_reached reply.status)) }
+    ensures status { IfOk result (λ reply. IsTrue (is_checked reply.status)) }
 {
     let Some(bytes) = text else {
         return unbuilt(alloc, FileKind::Cert);
@@ -44,7 +40,7 @@ fn reply_to_certificate<D: Desk>(
     case: &Case,
 ) -> Result<Reply, Stop>
     ensures answer { IfOk result (λ reply. CertificateAnswers (D.told desk.old) name.now (case_view case.now) (answer reply)) }
-    ensures reached { IfOk result (λ reply. IsTrue (is_reached reply.status)) }
+    ensures status { IfOk result (λ reply. IsTrue (is_checked reply.status)) }
     ensures absent { IsErrOf result Stop.NoFile → LacksCertificate (D.told desk.old) name.now }
     ensures told { D.told desk.new ≡ D.told desk.old }
 
@@ -66,7 +62,7 @@ pub(crate) fn check<D: Desk>(
     names: &FileNames<'_>,
 ) -> Result<Reply, Stop>
     ensures answer { IfOk result (λ reply. FilesAnswer (D.told desk.old) (input_names names.now) (answer reply)) }
-    ensures reached { IfOk result (λ reply. IsTrue (is_reached reply.status)) }
+    ensures status { IfOk result (λ reply. IsTrue (is_checked reply.status)) }
     ensures absent { IsErrOf result Stop.NoFile → LacksNamed (D.told desk.old) (input_names names.now) }
     ensures told { D.told desk.new ≡ D.told desk.old }
 

@@ -21,6 +21,7 @@ pub(crate) struct Issue {
 
 // The first settlement day, 2000-01-01, and the last, 2150-01-01, by their numbers.
 const FIRST_SETTLEMENT: i32 = 10_957;
+
 const LAST_SETTLEMENT: i32 = 65_744;
 
 // `settle,DATE`
@@ -97,9 +98,7 @@ fn days_rise(needs: &[Flow], from: Day) -> bool
 fn each_is_need(needs: &[Flow], last: Day) -> bool
     ensures { result ≡ list_all (is_need last) needs.now }
 {
-    needs
-        .iter()
-        .all(|need| need.day.number() <= last.number() && need.cents.0 >= 1)
+    needs.iter().all(|need| need.day.number() <= last.number() && need.cents.0 >= 1)
 }
 
 // Whether these are needs from settlement on, within all limits.

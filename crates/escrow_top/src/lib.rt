@@ -4,6 +4,7 @@
 mod case;
 mod certificate;
 mod check;
+mod command;
 mod files;
 mod issue;
 mod needs;

@@ -106,10 +106,8 @@ fn offer_rows(
     requires rows { 1 ≤ length rows.now }
     requires settle { IsSettlement settle }
     requires terms { AreTerms terms }
-    ensures {
-        IfOk result (λ lines. option_map (λ v. v.items) lines
-            ≡ option_map (λ offers. no_cash_line ∷ offers) (each_of (offer_of settle terms) (drop 1 rows.now)))
-    }
+    ensures { IfOk result (λ lines. option_map (λ v. v.items) lines
+        ≡ option_map (λ offers. no_cash_line ∷ offers) (each_of (offer_of settle terms) (drop 1 rows.now))) }
 {
     let mut lines = vec![in alloc; no_cash()]?;
     for row in 1..rows.count() {

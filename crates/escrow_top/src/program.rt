@@ -1,17 +1,17 @@
 ghost use Rattle.std.specs.Prelude.{◌≡◌, map, string_bytes, IsTrue, MatchOption};
 ghost use Rattle.escrow_desk.specs.Content.{SaidAll, SaidPart};
 ghost use Rattle.escrow_desk.specs.Counts.{Rose};
-ghost use Rattle.escrow_top.specs.Ending.{Answers, AnswersPart, IsAccepted, IsNoCommand, LacksFile, NamedAnswers, NamedAnswersPart, is_reached};
+ghost use Rattle.escrow_top.specs.Ending.{Answers, AnswersPart, AreAccepted, IsAccepted, IsNoCommand, LacksFile, NamedAnswers, NamedAnswersPart, is_checked, is_reached};
 ghost use Rattle.escrow_top.specs.Reading.{LacksNamed, input_names};
 
 use crate::check::check;
+use crate::command::{Command, command_of};
 use crate::files::FileNames;
 use crate::status::Status;
 use escrow_desk::{Desk, say_all};
 use std::alloc::Global;
 
-const USAGE: &[u8] =
-    b"usage: structure ISSUE RATES PRICES CERT | check ISSUE RATES PRICES CERT\n";
+const USAGE: &[u8] = b"usage: structure ISSUE RATES PRICES CERT | check ISSUE RATES PRICES CERT\n";
 
 // Says the text of a status that was reached, and answers the status; `WriteFault` where a call of the desk failed.
 fn conclude<D: Desk>(desk: &mut D, status: Status, text: &[u8]) -> Status
@@ -37,6 +37,8 @@ fn run_check<D: Desk>(alloc: Global, names: &FileNames<'_>, desk: &mut D) -> Sta
     ensures answers { IsTrue (is_reached result) → NamedAnswers (D.told desk.old) (input_names names.now) result (D.told desk.new) }
     ensures part { result ≡ Status.WriteFault → NamedAnswersPart (D.told desk.old) (input_names names.now) (D.told desk.new) }
     ensures lacks { result ≡ Status.NoFile → LacksNamed (D.told desk.old) (input_names names.now) }
+    ensures checked { IsTrue (is_reached result) → IsTrue (is_checked result) }
+    ensures yes { result ≡ Status.Done → MatchOption (D.told desk.old) (Unit {0}) (λ content. AreAccepted content (input_names names.now)) }
 
     ensures read_fault { result ≡ Status.ReadFault → Rose (D.read_faults desk.old) (D.read_faults desk.new) × (D.write_faults desk.new ≡ D.write_faults desk.old) × (D.absences desk.new ≡ D.absences desk.old) × (D.told desk.new ≡ D.told desk.old) }
     ensures write_fault { result ≡ Status.WriteFault → Rose (D.write_faults desk.old) (D.write_faults desk.new) × (D.read_faults desk.new ≡ D.read_faults desk.old) × (D.absences desk.new ≡ D.absences desk.old) }
@@ -72,20 +74,9 @@ pub fn run<D: Desk>(alloc: Global, words: &[String], desk: &mut D) -> Status
     ensures no_memory { result ≡ Status.NoMemory → (D.read_faults desk.new ≡ D.read_faults desk.old) × (D.write_faults desk.new ≡ D.write_faults desk.old) × (D.absences desk.new ≡ D.absences desk.old) × (D.told desk.new ≡ D.told desk.old) }
     ensures calm { IsTrue (is_reached result) → (D.read_faults desk.new ≡ D.read_faults desk.old) × (D.write_faults desk.new ≡ D.write_faults desk.old) × (D.absences desk.new ≡ D.absences desk.old) }
 {
-    let [word, issue, rates, prices, cert] = words else {
-        return conclude(desk, Status::Usage, USAGE);
-    };
-    if word.as_str() == "structure" {
-        return conclude(desk, Status::Unbuilt, b"unbuilt structure\n");
+    match command_of(words) {
+        None => conclude(desk, Status::Usage, USAGE),
+        Some(Command::Structure) => conclude(desk, Status::Unbuilt, b"unbuilt structure\n"),
+        Some(Command::Check(names)) => run_check(alloc, &names, desk),
     }
-    if word.as_str() != "check" {
-        return conclude(desk, Status::Usage, USAGE);
-    }
-    let names = FileNames {
-        issue: issue.as_str(),
-        rates: rates.as_str(),
-        prices: prices.as_str(),
-        cert: cert.as_str(),
-    };
-    run_check(alloc, &names, desk)
 }

@@ -1,7 +1,7 @@
 ghost use Rattle.std.specs.Prelude.{◌≡◌, ◌++◌, IfOk, IsTrue, OnOk};
 ghost use Rattle.escrow_top.specs.Answer.{text_line, reason_text, yes_text as yes_text_of, yield_words as yield_words_of, file_word as file_word_of, unbuilt as unbuilt_answer, accepted, not_accepted};
 ghost use Rattle.escrow_top.specs.CaseForm.{case_view};
-ghost use Rattle.escrow_top.specs.Ending.{is_reached};
+ghost use Rattle.escrow_top.specs.Ending.{is_checked};
 ghost use Rattle.escrow_top.specs.Reply.{answer};
 ghost use Rattle.cash_table.specs.Portfolio.{IsPermitted};
 
@@ -45,7 +45,11 @@ fn reason_line(alloc: Global, reason: Reason) -> Result<Vec<u8>, NoMemory>
 {
     match reason {
         Reason::NotPermitted(line) => {
-            one_line(alloc, b"no NotPermitted ", line.to_string(alloc)?.as_bytes())
+            one_line(
+                alloc,
+                b"no NotPermitted ",
+                line.to_string(alloc)?.as_bytes(),
+            )
         }
         Reason::ShortOn(day) => one_line(alloc, b"no ShortOn ", print_day(day).as_bytes()),
         Reason::WeakLeaf(node) => {
@@ -70,7 +74,7 @@ fn file_word(kind: FileKind) -> &'static [u8]
 /// The reply that the form of a file isn't built yet.
 pub(crate) fn unbuilt(alloc: Global, kind: FileKind) -> Result<Reply, NoMemory>
     ensures answer { IfOk result (λ reply. answer reply ≡ unbuilt_answer kind) }
-    ensures reached { IfOk result (λ reply. IsTrue (is_reached reply.status)) }
+    ensures status { IfOk result (λ reply. IsTrue (is_checked reply.status)) }
 {
     Ok(Reply {
         status: Status::Unbuilt,
@@ -95,8 +99,16 @@ fn yes_text(alloc: Global, case: &Case, plan: &Plan, gap: u64) -> Result<Vec<u8>
     ensures { IfOk result (λ text. text.items ≡ yes_text_of (case_view case.now) plan.now gap) }
 {
     let mut text = one_line(alloc, b"yes", b"")?;
-    push_line(&mut text, b"cost ", print_cents(cost(&case.book, plan)).as_bytes())?;
-    push_line(&mut text, b"yield ", yield_words(security_cost(&case.book, plan)))?;
+    push_line(
+        &mut text,
+        b"cost ",
+        print_cents(cost(&case.book, plan)).as_bytes(),
+    )?;
+    push_line(
+        &mut text,
+        b"yield ",
+        yield_words(security_cost(&case.book, plan)),
+    )?;
     push_line(&mut text, b"limit ", print_yield(case.limit).as_bytes())?;
     push_line(&mut text, b"gap ", print_cents(Cents(gap)).as_bytes())?;
     Ok(text)
@@ -106,7 +118,7 @@ fn yes_text(alloc: Global, case: &Case, plan: &Plan, gap: u64) -> Result<Vec<u8>
 pub(crate) fn yes(alloc: Global, case: &Case, plan: &Plan, gap: u64) -> Result<Reply, NoMemory>
     requires { IsPermitted case.now.book plan.now }
     ensures answer { IfOk result (λ reply. answer reply ≡ accepted (case_view case.now) plan.now gap) }
-    ensures reached { IfOk result (λ reply. IsTrue (is_reached reply.status)) }
+    ensures status { IfOk result (λ reply. IsTrue (is_checked reply.status)) }
 {
     Ok(Reply {
         status: Status::Done,
@@ -117,7 +129,7 @@ pub(crate) fn yes(alloc: Global, case: &Case, plan: &Plan, gap: u64) -> Result<R
 /// The reply that doesn't accept a certificate, for a reason.
 pub(crate) fn refusal(alloc: Global, reason: Reason) -> Result<Reply, NoMemory>
     ensures answer { IfOk result (λ reply. answer reply ≡ not_accepted reason) }
-    ensures reached { IfOk result (λ reply. IsTrue (is_reached reply.status)) }
+    ensures status { IfOk result (λ reply. IsTrue (is_checked reply.status)) }
 {
     Ok(Reply {
         status: Status::No,

@@ -3,7 +3,7 @@ ghost use Rattle.cash_table.specs.Portfolio.{IsPermitted};
 ghost use Rattle.escrow_top.specs.Answer.{is_offered as is_offered_of, first_not_offered, portfolio_of, reason_against as reason_against_of, weighed, claim_answer};
 ghost use Rattle.escrow_top.specs.CertificateForm.{claim};
 ghost use Rattle.escrow_top.specs.CaseForm.{case_view};
-ghost use Rattle.escrow_top.specs.Ending.{is_reached};
+ghost use Rattle.escrow_top.specs.Ending.{is_checked};
 ghost use Rattle.escrow_top.specs.Reply.{answer};
 
 use crate::case::Case;
@@ -42,13 +42,11 @@ fn plan_of(
     book: &Book,
     purchases: &[Purchase],
 ) -> Result<Result<Plan, u16>, NoMemory>
-    ensures {
-        IfOk result (λ found. MatchResult found
-            (λ plan. (first_not_offered book.now.lines purchases.now ≡ None)
-                × (plan ≡ portfolio_of (length book.now.lines) purchases.now)
-                × IsPermitted book.now plan)
-            (λ line. option_map (λ purchase. purchase.line) (first_not_offered book.now.lines purchases.now) ≡ Some line))
-    }
+    ensures { IfOk result (λ found. MatchResult found
+        (λ plan. (first_not_offered book.now.lines purchases.now ≡ None)
+        × (plan ≡ portfolio_of (length book.now.lines) purchases.now)
+        × IsPermitted book.now plan)
+        (λ line. option_map (λ purchase. purchase.line) (first_not_offered book.now.lines purchases.now) ≡ Some line)) }
 {
     let mut plan = Plan::zero(alloc, book)?;
     for purchase in purchases {
@@ -80,11 +78,9 @@ fn reason_against(book: &Book, plan: &Plan, gap: u64) -> Option<Reason>
 // The reply to a permitted portfolio with a gap.
 fn weigh_plan(alloc: Global, case: &Case, plan: &Plan, gap: u64) -> Result<Reply, NoMemory>
     requires { IsPermitted case.now.book plan.now }
-    ensures answer {
-        IfOk result (λ reply. answer reply
-            ≡ weighed (case_view case.now) plan.now gap (reason_against_of case.now.book plan.now gap))
-    }
-    ensures reached { IfOk result (λ reply. IsTrue (is_reached reply.status)) }
+    ensures answer { IfOk result (λ reply. answer reply
+        ≡ weighed (case_view case.now) plan.now gap (reason_against_of case.now.book plan.now gap)) }
+    ensures status { IfOk result (λ reply. IsTrue (is_checked reply.status)) }
 {
     match reason_against(&case.book, plan, gap) {
         Some(reason) => refusal(alloc, reason),
@@ -100,10 +96,8 @@ pub(crate) fn weigh(
     case: &Case,
     certificate: &Certificate,
 ) -> Result<Reply, NoMemory>
-    ensures answer {
-        IfOk result (λ reply. answer reply ≡ claim_answer (case_view case.now) (Some (claim certificate.now)))
-    }
-    ensures reached { IfOk result (λ reply. IsTrue (is_reached reply.status)) }
+    ensures answer { IfOk result (λ reply. answer reply ≡ claim_answer (case_view case.now) (Some (claim certificate.now))) }
+    ensures status { IfOk result (λ reply. IsTrue (is_checked reply.status)) }
 {
     match plan_of(alloc, &case.book, certificate.purchases.as_slice())? {
         Ok(plan) => weigh_plan(alloc, case, &plan, certificate.gap),

@@ -7,5 +7,5 @@ abbrev pub invariant-loop-purchase : goal.invariant-loop-purchase
 invariant-loop-purchase l = record {
   offered : first_not_offered l.book.lines (take l.purchase-index l.purchases) ≡ None;
   plan : l.plan ≡ portfolio_of (length l.book.lines) (take l.purchase-index l.purchases);
-  permitted : IsPermitted l.book l.plan
+  permitted : IsPermitted l.book l.plan;
 }
