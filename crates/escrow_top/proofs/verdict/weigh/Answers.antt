@@ -1,0 +1,11 @@
+use Rattle.std.proofs.Common.{◌≡◌, ◌∙◌, length, None, refl}
+use Rattle.escrow_top.specs.CertificateForm.{claim}
+use Rattle.escrow_top.specs.CaseForm.{case_view}
+use Rattle.escrow_top.specs.Answer.{first_not_offered, portfolio_of}
+use Rattle.escrow_top.proofs.PurchaseFacts.{claim_answer-offered}
+use Rattle.escrow_top.proofs.verdict.weigh.Goals as goal
+
+pub returns-in-Ok-clause-answer : goal.returns-in-Ok-clause-answer
+returns-in-Ok-clause-answer c =
+    let found = rw (c.in-Ok.is, c.as_slice.ensures.value) at c.in_ok-plan.ensures in
+    rw (claim_answer-offered (case_view c.args.case.now) (claim c.args.certificate.now) c.in-Ok.plan found.0 found.1) c.weigh_plan.ensures.answer

@@ -1,0 +1,184 @@
+-- What `check` answers: a status and the text that is said. The texts are this project's own.
+use Rattle.std.specs.Prelude.{◌≡◌, ℕ, ◌+◌, ◌-◌, Bool, false, not, ◌&&◌, ◌==◌, nat_lt, nat_le, nat_eq, if◌then◌else◌, List, [], ◌∷◌, ◌++◌, length, replicate, slice_index_or, slice_set, Option, Some, None, option_map, option_and_then, Result, Ok, Err, is_ok, codes, decimal}
+use Rattle.std.specs.List.{find, fold}
+use lib.Pointwise.{pointwise}
+use Rattle.escrow_desk.specs.Content.{Content, file_of}
+use Rattle.escrow_desk.specs.declared.refusal.FileKind.{FileKind}
+use Rattle.escrow_desk.specs.declared.refusal.FileKind.TheVariants as file
+use Rattle.escrow_units.specs.DateText.{day_text}
+use Rattle.escrow_units.specs.Digits.{fixed}
+use Rattle.cash_table.specs.declared.line.Line.{Line}
+use Rattle.cash_table.specs.Book.{BookContents}
+use Rattle.cash_table.specs.Portfolio.{permits, first_short_of, total_needs, cost, security_cost}
+use Rattle.escrow_top.specs.CertificateForm.{Claim, claim_of, ◌>>=◌}
+use Rattle.escrow_top.specs.CaseForm.{CaseForm, case_of, bounded, file_limit, no_cash}
+use Rattle.escrow_top.specs.declared.certificate.Purchase.{Purchase}
+use Rattle.escrow_top.specs.declared.status.Status.{Status}
+use Rattle.escrow_top.specs.declared.status.Status.TheVariants as status
+use Rattle.escrow_top.specs.declared.verdict.Reason.{Reason}
+use Rattle.escrow_top.specs.declared.verdict.Reason.TheVariants as reason
+
+-- a status, and what is said with it
+pub record Answer : Type 0 where
+  pub status : Status
+  pub text : List ℕ
+
+-- a line of words and a value
+abbrev pub text_line : List ℕ → List ℕ → List ℕ
+text_line words value = words ++ value ++ 10 ∷ []
+
+-- a purchase names a line of the book, and its units are permitted
+abbrev pub is_offered : List Line → Purchase → Bool
+is_offered lines purchase =
+    nat_lt purchase.line (length lines) && permits (slice_index_or lines purchase.line no_cash) purchase.units
+
+-- the first purchase that isn't offered
+abbrev pub first_not_offered : List Line → List Purchase → Option Purchase
+first_not_offered lines purchases = find (λ purchase. not (is_offered lines purchase)) purchases
+
+-- the portfolio of purchases: 0 units of each line, but for those that are bought
+abbrev pub portfolio_of : ℕ → List Purchase → List ℕ
+portfolio_of lines purchases =
+    fold (λ plan purchase. slice_set plan purchase.line purchase.units) (replicate lines 0) purchases
+
+-- the portfolio of a claim over a book
+abbrev pub portfolio : BookContents → Claim → List ℕ
+portfolio book claim = portfolio_of (length book.lines) claim.purchases
+
+-- a value, where a test holds
+abbrev pub given : {A : Type 0} → Bool → A → Option A
+given test value = if test then Some value else None
+
+-- the first of two values that is there
+abbrev pub or_else : {A : Type 0} → Option A → Option A → Option A
+or_else None second = second
+or_else (Some first) second = Some first
+
+-- the one leaf doesn't bear out the cost less the gap: at the price 1 the needs sum to less
+abbrev pub is_leaf_weak : BookContents → List ℕ → ℕ → Bool
+is_leaf_weak book plan gap = nat_lt (total_needs book) (cost book plan - gap)
+
+-- why a permitted portfolio isn't accepted with a gap: the first reason that stands. No gap is allowed so far
+abbrev pub reason_against : BookContents → List ℕ → ℕ → Option Reason
+reason_against book plan gap =
+    or_else (option_map reason.ShortOn (first_short_of book plan))
+    (or_else (given (is_leaf_weak book plan gap) (reason.WeakLeaf 1))
+    (given (not (gap == 0)) reason.GapAbove))
+
+-- why a claim isn't accepted: the first reason that stands
+abbrev pub reason_of : BookContents → Claim → Option Reason
+reason_of book claim =
+    or_else (option_map (λ purchase. reason.NotPermitted purchase.line) (first_not_offered book.lines claim.purchases))
+    (reason_against book (portfolio book claim) claim.gap)
+
+abbrev pub reason_text : Reason → List ℕ
+reason_text (reason.NotPermitted line) = text_line (codes "no NotPermitted ") (decimal line)
+reason_text (reason.ShortOn day) = text_line (codes "no ShortOn ") (day_text day)
+reason_text (reason.WeakLeaf node) = text_line (codes "no WeakLeaf ") (decimal node)
+reason_text reason.GapAbove = text_line (codes "no GapAbove") []
+
+-- `empty` where no security is bought; else both ends of the yield's interval, in percent
+abbrev pub yield_words : ℕ → List ℕ
+yield_words security_cost = if security_cost == 0 then codes "empty" else codes "0.00000000 0.00000000"
+
+-- `yes` and the summary of a portfolio
+abbrev pub yes_text : CaseForm → List ℕ → ℕ → List ℕ
+yes_text case plan gap =
+    text_line (codes "yes") [] ++ text_line (codes "cost ") (fixed 2 (cost case.book plan))
+    ++ text_line (codes "yield ") (yield_words (security_cost case.book plan))
+    ++ text_line (codes "limit ") (fixed 8 case.limit) ++ text_line (codes "gap ") (fixed 2 gap)
+
+-- a portfolio is accepted with a gap
+abbrev pub accepted : CaseForm → List ℕ → ℕ → Answer
+accepted case plan gap = record { status = status.Done; text = yes_text case plan gap }
+
+-- a certificate isn't accepted, for a reason
+abbrev pub not_accepted : Reason → Answer
+not_accepted reason = record { status = status.No; text = reason_text reason }
+
+-- a portfolio with a gap is accepted where no reason stands against it
+abbrev pub weighed : CaseForm → List ℕ → ℕ → Option Reason → Answer
+weighed case plan gap None = accepted case plan gap
+weighed case plan gap (Some reason) = not_accepted reason
+
+abbrev pub file_word : FileKind → List ℕ
+file_word file.Issue = codes "issue"
+file_word file.Rates = codes "rates"
+file_word file.Prices = codes "prices"
+file_word file.Cert = codes "cert"
+
+-- the form of a file isn't built yet
+abbrev pub unbuilt : FileKind → Answer
+unbuilt kind = record { status = status.Unbuilt; text = text_line (codes "unbuilt ") (file_word kind) }
+
+-- the answer to a certificate that may be read
+abbrev pub claim_answer : CaseForm → Option Claim → Answer
+claim_answer case None = unbuilt file.Cert
+claim_answer case (Some claim) = weighed case (portfolio case.book claim) claim.gap (reason_of case.book claim)
+
+-- the answer to the text of a certificate, where it is within its limit
+abbrev pub certificate_answer : CaseForm → Option (List ℕ) → Answer
+certificate_answer case text =
+    claim_answer case (option_and_then (claim_of (length case.book.needs)) text)
+
+abbrev pub case_answer : Result CaseForm FileKind → Option (List ℕ) → Answer
+case_answer (Err kind) text = unbuilt kind
+case_answer (Ok case) text = certificate_answer case text
+
+-- the most bytes of a certificate
+abbrev pub certificate_limit : ℕ
+certificate_limit = 67_108_864
+
+-- the case of the bytes of three files
+abbrev pub files_case : List ℕ → List ℕ → List ℕ → Result CaseForm FileKind
+files_case issue rates prices =
+    case_of (bounded file_limit issue) (bounded file_limit rates) (bounded file_limit prices)
+
+-- what `check` answers to the bytes of the four files
+abbrev pub check_answer : List ℕ → List ℕ → List ℕ → List ℕ → Answer
+check_answer issue rates prices cert = case_answer (files_case issue rates prices) (bounded certificate_limit cert)
+
+-- the names of the four files
+pub record Names : Type 0 where
+  pub issue : List ℕ
+  pub rates : List ℕ
+  pub prices : List ℕ
+  pub cert : List ℕ
+
+-- what `check` answers where the files are there: the certificate is read last, and only where the others give a case
+abbrev pub named_answer : Content → Names → Option Answer
+named_answer content names = do
+  issue ← file_of content names.issue
+  rates ← file_of content names.rates
+  prices ← file_of content names.prices
+  cert ← if is_ok (files_case issue rates prices) then file_of content names.cert else Some []
+  Some (check_answer issue rates prices cert)
+
+abbrev pub usage_text : List ℕ
+usage_text = text_line (codes "usage: structure ISSUE RATES PRICES CERT | check ISSUE RATES PRICES CERT") []
+
+abbrev pub usage : Answer
+usage = record { status = status.Usage; text = usage_text }
+
+abbrev pub unbuilt_structure : Answer
+unbuilt_structure = record { status = status.Unbuilt; text = text_line (codes "unbuilt ") (codes "structure") }
+
+-- the words are `structure ISSUE RATES PRICES CERT`
+abbrev pub is_structure : List (List ℕ) → Bool
+is_structure (word ∷ issue ∷ rates ∷ prices ∷ cert ∷ []) = pointwise nat_eq word (codes "structure")
+is_structure words = false
+
+-- the names that the words `check ISSUE RATES PRICES CERT` give
+abbrev pub check_names : List (List ℕ) → Option Names
+check_names (word ∷ issue ∷ rates ∷ prices ∷ cert ∷ []) =
+    given (pointwise nat_eq word (codes "check")) (record { issue = issue; rates = rates; prices = prices; cert = cert })
+check_names words = None
+
+abbrev pub answer_to_check : Content → Option Names → Option Answer
+answer_to_check content None = Some usage
+answer_to_check content (Some names) = named_answer content names
+
+-- the answer to the words of a command line, by their places; None where a file that is read isn't there
+abbrev pub answer_to : List (List ℕ) → Content → Option Answer
+answer_to words content =
+    if is_structure words then Some unbuilt_structure else answer_to_check content (check_names words)

@@ -1,0 +1,87 @@
+-- How a run ends.
+use Rattle.std.specs.Prelude.{◌≡◌, ℕ, Bool, true, false, List, Option, Some, None, IsSomeAnd, MatchOption}
+use Rattle.escrow_desk.specs.Content.{Content, Told, file_of, with_said, SaidPart}
+use Rattle.escrow_top.specs.Accepted.{Accepted}
+use Rattle.escrow_top.specs.Answer.{Answer, Names, answer_to, check_names, is_structure, named_answer}
+use Rattle.escrow_top.specs.declared.status.Status.{Status}
+use Rattle.escrow_top.specs.declared.status.Status.TheVariants as status
+
+-- the exit status of the program
+abbrev pub code_of : Status → ℕ
+code_of status.Done = 0
+code_of status.No = 1
+code_of status.Usage = 2
+code_of status.Refused = 3
+code_of status.Infeasible = 4
+code_of status.NoneWithinYield = 5
+code_of status.BudgetSpent = 6
+code_of status.ReadFault = 8
+code_of status.WriteFault = 9
+code_of status.NoFile = 10
+code_of status.NoMemory = 11
+code_of status.Unbuilt = 12
+
+-- the run came to its answer: no fault, absent file or want of memory cut it off
+abbrev pub is_reached : Status → Bool
+is_reached status.ReadFault = false
+is_reached status.WriteFault = false
+is_reached status.NoFile = false
+is_reached status.NoMemory = false
+is_reached status = true
+
+-- the statuses that `check` comes to
+abbrev pub is_checked : Status → Bool
+is_checked status.Done = true
+is_checked status.No = true
+is_checked status.Unbuilt = true
+is_checked status = false
+
+-- of an answer, where there is one: this is the status, and its text was said; no file changed
+abbrev pub IsSaid : Content → Option Answer → Status → Told → Type 0
+IsSaid content found status new =
+    IsSomeAnd found (λ answer. (status ≡ answer.status) × (new ≡ Some (with_said content answer.text)))
+
+-- a prefix of its text was said; no file changed
+abbrev pub IsSaidPart : Content → Option Answer → Told → Type 0
+IsSaidPart content found new = IsSomeAnd found (λ answer. SaidPart (Some content) answer.text new)
+
+-- the answer to the files of these names was said
+abbrev pub NamedAnswers : Told → Names → Status → Told → Type 0
+NamedAnswers None names status new = new ≡ None
+NamedAnswers (Some content) names status new = IsSaid content (named_answer content names) status new
+
+abbrev pub NamedAnswersPart : Told → Names → Told → Type 0
+NamedAnswersPart None names new = new ≡ None
+NamedAnswersPart (Some content) names new = IsSaidPart content (named_answer content names) new
+
+-- the status, and what was said, are the answer to the words over the content that the desk tells; no file changed
+abbrev pub Answers : Told → List (List ℕ) → Status → Told → Type 0
+Answers None words status new = new ≡ None
+Answers (Some content) words status new = IsSaid content (answer_to words content) status new
+
+-- what was said grew by a prefix of the text of the answer; no file changed
+abbrev pub AnswersPart : Told → List (List ℕ) → Told → Type 0
+AnswersPart None words new = new ≡ None
+AnswersPart (Some content) words new = IsSaidPart content (answer_to words content) new
+
+-- a file that the words have read isn't there
+abbrev pub LacksFile : Told → List (List ℕ) → Type 0
+LacksFile None words = Unit {0}
+LacksFile (Some content) words = answer_to words content ≡ None
+
+-- the words are no command
+pub record IsNoCommand (words : List (List ℕ)) : Type 0 where
+  pub no_structure : is_structure words ≡ false
+  pub no_check : check_names words ≡ None
+
+-- the files of these names are there, and accepted
+abbrev pub AreAccepted : Content → Names → Type 0
+AreAccepted content names =
+    IsSomeAnd (file_of content names.issue) (λ issue. IsSomeAnd (file_of content names.rates) (λ rates.
+    IsSomeAnd (file_of content names.prices) (λ prices. IsSomeAnd (file_of content names.cert) (λ cert.
+    Accepted issue rates prices cert))))
+
+-- the words are those of `check`, and where the desk tells, the four files that they name are there and accepted
+abbrev pub IsAccepted : Told → List (List ℕ) → Type 0
+IsAccepted told words =
+    IsSomeAnd (check_names words) (λ names. MatchOption told (Unit {0}) (λ content. AreAccepted content names))

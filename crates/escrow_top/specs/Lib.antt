@@ -1,0 +1,9 @@
+pub mod CertificateForm
+pub mod CaseForm
+pub mod Answer
+pub mod Ending
+pub mod Accepted
+pub mod Reading
+pub mod Reply
+pub mod Stopping
+pub mod Command

@@ -1,0 +1,82 @@
+ghost use Rattle.std.specs.Prelude.{◌≡◌, map, string_bytes, IsTrue, MatchOption};
+ghost use Rattle.escrow_desk.specs.Content.{SaidAll, SaidPart};
+ghost use Rattle.escrow_desk.specs.Counts.{Rose};
+ghost use Rattle.escrow_top.specs.Ending.{Answers, AnswersPart, AreAccepted, IsAccepted, IsNoCommand, LacksFile, NamedAnswers, NamedAnswersPart, is_checked, is_reached};
+ghost use Rattle.escrow_top.specs.Reading.{LacksNamed, input_names};
+
+use crate::check::check;
+use crate::command::{Command, command_of};
+use crate::files::FileNames;
+use crate::status::Status;
+use escrow_desk::{Desk, say_all};
+use std::alloc::Global;
+
+const USAGE: &[u8] = b"usage: structure ISSUE RATES PRICES CERT | check ISSUE RATES PRICES CERT\n";
+
+// Says the text of a status that was reached, and answers the status; `WriteFault` where a call of the desk failed.
+fn conclude<D: Desk>(desk: &mut D, status: Status, text: &[u8]) -> Status
+    requires { IsTrue (is_reached status) }
+    ensures status { IsTrue (is_reached result) → result ≡ status }
+    ensures said { IsTrue (is_reached result) → SaidAll (D.told desk.old) text.now (D.told desk.new) }
+    ensures part { result ≡ Status.WriteFault → SaidPart (D.told desk.old) text.now (D.told desk.new) }
+    ensures no_other { (result ≡ Status.ReadFault → ⊥) × (result ≡ Status.NoFile → ⊥) × (result ≡ Status.NoMemory → ⊥) }
+
+    ensures calm { IsTrue (is_reached result) → D.write_faults desk.new ≡ D.write_faults desk.old }
+    ensures failed { result ≡ Status.WriteFault → Rose (D.write_faults desk.old) (D.write_faults desk.new) }
+    ensures reads { D.read_faults desk.new ≡ D.read_faults desk.old }
+    ensures absences { D.absences desk.new ≡ D.absences desk.old }
+{
+    match say_all(desk, text) {
+        Ok(()) => status,
+        Err(_) => Status::WriteFault,
+    }
+}
+
+// Carries `check` out on the files of these names.
+fn run_check<D: Desk>(alloc: Global, names: &FileNames<'_>, desk: &mut D) -> Status
+    ensures answers { IsTrue (is_reached result) → NamedAnswers (D.told desk.old) (input_names names.now) result (D.told desk.new) }
+    ensures part { result ≡ Status.WriteFault → NamedAnswersPart (D.told desk.old) (input_names names.now) (D.told desk.new) }
+    ensures lacks { result ≡ Status.NoFile → LacksNamed (D.told desk.old) (input_names names.now) }
+    ensures checked { IsTrue (is_reached result) → IsTrue (is_checked result) }
+    ensures yes { result ≡ Status.Done → MatchOption (D.told desk.old) (Unit {0}) (λ content. AreAccepted content (input_names names.now)) }
+
+    ensures read_fault { result ≡ Status.ReadFault → Rose (D.read_faults desk.old) (D.read_faults desk.new) × (D.write_faults desk.new ≡ D.write_faults desk.old) × (D.absences desk.new ≡ D.absences desk.old) × (D.told desk.new ≡ D.told desk.old) }
+    ensures write_fault { result ≡ Status.WriteFault → Rose (D.write_faults desk.old) (D.write_faults desk.new) × (D.read_faults desk.new ≡ D.read_faults desk.old) × (D.absences desk.new ≡ D.absences desk.old) }
+    ensures no_file { result ≡ Status.NoFile → Rose (D.absences desk.old) (D.absences desk.new) × (D.read_faults desk.new ≡ D.read_faults desk.old) × (D.write_faults desk.new ≡ D.write_faults desk.old) × (D.told desk.new ≡ D.told desk.old) }
+    ensures no_memory { result ≡ Status.NoMemory → (D.read_faults desk.new ≡ D.read_faults desk.old) × (D.write_faults desk.new ≡ D.write_faults desk.old) × (D.absences desk.new ≡ D.absences desk.old) × (D.told desk.new ≡ D.told desk.old) }
+    ensures calm { IsTrue (is_reached result) → (D.read_faults desk.new ≡ D.read_faults desk.old) × (D.write_faults desk.new ≡ D.write_faults desk.old) × (D.absences desk.new ≡ D.absences desk.old) }
+{
+    match check(alloc, desk, names) {
+        Ok(reply) => conclude(desk, reply.status, reply.text.as_slice()),
+        Err(stop) => stop.status(),
+    }
+}
+
+/// Carries out the words of a command line, which are those after the program's name, over a desk.
+///
+/// `check ISSUE RATES PRICES CERT` answers whether the certificate is accepted for the three input files, and says why
+/// or why not. `structure ISSUE RATES PRICES CERT` isn't built yet. All other words are `Usage`.
+///
+/// It returns for all words and every desk. It writes no file. The texts are this project's own.
+pub fn run<D: Desk>(alloc: Global, words: &[String], desk: &mut D) -> Status
+    // Where the run wasn't cut off, the status and what was said are the answer to the words over the desk's content.
+    ensures answers { IsTrue (is_reached result) → Answers (D.told desk.old) (map string_bytes words.now) result (D.told desk.new) }
+    // What `yes` means, of the bytes of the four files.
+    ensures yes { result ≡ Status.Done → IsAccepted (D.told desk.old) (map string_bytes words.now) }
+    ensures part { result ≡ Status.WriteFault → AnswersPart (D.told desk.old) (map string_bytes words.now) (D.told desk.new) }
+    ensures lacks { result ≡ Status.NoFile → LacksFile (D.told desk.old) (map string_bytes words.now) }
+    ensures usage { result ≡ Status.Usage → IsNoCommand (map string_bytes words.now) }
+
+    // Each way of being cut off has its cause: a count of the desk that rose in this call, or stands at its last value.
+    ensures read_fault { result ≡ Status.ReadFault → Rose (D.read_faults desk.old) (D.read_faults desk.new) × (D.write_faults desk.new ≡ D.write_faults desk.old) × (D.absences desk.new ≡ D.absences desk.old) × (D.told desk.new ≡ D.told desk.old) }
+    ensures write_fault { result ≡ Status.WriteFault → Rose (D.write_faults desk.old) (D.write_faults desk.new) × (D.read_faults desk.new ≡ D.read_faults desk.old) × (D.absences desk.new ≡ D.absences desk.old) }
+    ensures no_file { result ≡ Status.NoFile → Rose (D.absences desk.old) (D.absences desk.new) × (D.read_faults desk.new ≡ D.read_faults desk.old) × (D.write_faults desk.new ≡ D.write_faults desk.old) × (D.told desk.new ≡ D.told desk.old) }
+    ensures no_memory { result ≡ Status.NoMemory → (D.read_faults desk.new ≡ D.read_faults desk.old) × (D.write_faults desk.new ≡ D.write_faults desk.old) × (D.absences desk.new ≡ D.absences desk.old) × (D.told desk.new ≡ D.told desk.old) }
+    ensures calm { IsTrue (is_reached result) → (D.read_faults desk.new ≡ D.read_faults desk.old) × (D.write_faults desk.new ≡ D.write_faults desk.old) × (D.absences desk.new ≡ D.absences desk.old) }
+{
+    match command_of(words) {
+        None => conclude(desk, Status::Usage, USAGE),
+        Some(Command::Structure) => conclude(desk, Status::Unbuilt, b"unbuilt structure\n"),
+        Some(Command::Check(names)) => run_check(alloc, &names, desk),
+    }
+}

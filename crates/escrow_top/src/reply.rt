@@ -1,0 +1,138 @@
+ghost use Rattle.std.specs.Prelude.{◌≡◌, ◌++◌, IfOk, IsTrue, OnOk};
+ghost use Rattle.escrow_top.specs.Answer.{text_line, reason_text, yes_text as yes_text_of, yield_words as yield_words_of, file_word as file_word_of, unbuilt as unbuilt_answer, accepted, not_accepted};
+ghost use Rattle.escrow_top.specs.CaseForm.{case_view};
+ghost use Rattle.escrow_top.specs.Ending.{is_checked};
+ghost use Rattle.escrow_top.specs.Reply.{answer};
+ghost use Rattle.cash_table.specs.Portfolio.{IsPermitted};
+
+use crate::case::Case;
+use crate::status::Status;
+use crate::verdict::Reason;
+use cash_table::{Plan, cost, security_cost};
+use escrow_desk::{FileKind, NoMemory};
+use escrow_units::{Cents, print_cents, print_day, print_yield};
+use std::alloc::Global;
+
+/// A status, and the text that is said with it.
+#[derive(Debug, Drop)]
+pub(crate) struct Reply {
+    pub status: Status,
+    pub text: Vec<u8>,
+}
+
+// Adds a line of words and a value.
+fn push_line(text: &mut Vec<u8>, words: &[u8], value: &[u8]) -> Result<(), NoMemory>
+    ensures { OnOk result (text.new.items ≡ text.old.items ++ text_line words.now value.now) }
+{
+    text.extend_from_slice(words)?;
+    text.extend_from_slice(value)?;
+    text.push(b'\n')?;
+    Ok(())
+}
+
+// A text of one line.
+fn one_line(alloc: Global, words: &[u8], value: &[u8]) -> Result<Vec<u8>, NoMemory>
+    ensures { IfOk result (λ text. text.items ≡ text_line words.now value.now) }
+{
+    let mut text = Vec::new(alloc);
+    push_line(&mut text, words, value)?;
+    Ok(text)
+}
+
+// The text of a reason.
+fn reason_line(alloc: Global, reason: Reason) -> Result<Vec<u8>, NoMemory>
+    ensures { IfOk result (λ text. text.items ≡ reason_text reason) }
+{
+    match reason {
+        Reason::NotPermitted(line) => {
+            one_line(
+                alloc,
+                b"no NotPermitted ",
+                line.to_string(alloc)?.as_bytes(),
+            )
+        }
+        Reason::ShortOn(day) => one_line(alloc, b"no ShortOn ", print_day(day).as_bytes()),
+        Reason::WeakLeaf(node) => {
+            one_line(alloc, b"no WeakLeaf ", node.to_string(alloc)?.as_bytes())
+        }
+        Reason::GapAbove => one_line(alloc, b"no GapAbove", b""),
+    }
+}
+
+// The word of a file in the texts.
+fn file_word(kind: FileKind) -> &'static [u8]
+    ensures { result.now ≡ file_word_of kind }
+{
+    match kind {
+        FileKind::Issue => b"issue",
+        FileKind::Rates => b"rates",
+        FileKind::Prices => b"prices",
+        FileKind::Cert => b"cert",
+    }
+}
+
+/// The reply that the form of a file isn't built yet.
+pub(crate) fn unbuilt(alloc: Global, kind: FileKind) -> Result<Reply, NoMemory>
+    ensures answer { IfOk result (λ reply. answer reply ≡ unbuilt_answer kind) }
+    ensures status { IfOk result (λ reply. IsTrue (is_checked reply.status)) }
+{
+    Ok(Reply {
+        status: Status::Unbuilt,
+        text: one_line(alloc, b"unbuilt ", file_word(kind))?,
+    })
+}
+
+// The interval of the yield in words.
+fn yield_words(security_cost: Cents) -> &'static [u8]
+    ensures { result.now ≡ yield_words_of security_cost.0 }
+{
+    if security_cost.0 == 0 {
+        b"empty"
+    } else {
+        b"0.00000000 0.00000000"
+    }
+}
+
+// `yes` and the summary of a portfolio.
+fn yes_text(alloc: Global, case: &Case, plan: &Plan, gap: u64) -> Result<Vec<u8>, NoMemory>
+    requires { IsPermitted case.now.book plan.now }
+    ensures { IfOk result (λ text. text.items ≡ yes_text_of (case_view case.now) plan.now gap) }
+{
+    let mut text = one_line(alloc, b"yes", b"")?;
+    push_line(
+        &mut text,
+        b"cost ",
+        print_cents(cost(&case.book, plan)).as_bytes(),
+    )?;
+    push_line(
+        &mut text,
+        b"yield ",
+        yield_words(security_cost(&case.book, plan)),
+    )?;
+    push_line(&mut text, b"limit ", print_yield(case.limit).as_bytes())?;
+    push_line(&mut text, b"gap ", print_cents(Cents(gap)).as_bytes())?;
+    Ok(text)
+}
+
+/// The reply that accepts a portfolio with a gap.
+pub(crate) fn yes(alloc: Global, case: &Case, plan: &Plan, gap: u64) -> Result<Reply, NoMemory>
+    requires { IsPermitted case.now.book plan.now }
+    ensures answer { IfOk result (λ reply. answer reply ≡ accepted (case_view case.now) plan.now gap) }
+    ensures status { IfOk result (λ reply. IsTrue (is_checked reply.status)) }
+{
+    Ok(Reply {
+        status: Status::Done,
+        text: yes_text(alloc, case, plan, gap)?,
+    })
+}
+
+/// The reply that doesn't accept a certificate, for a reason.
+pub(crate) fn refusal(alloc: Global, reason: Reason) -> Result<Reply, NoMemory>
+    ensures answer { IfOk result (λ reply. answer reply ≡ not_accepted reason) }
+    ensures status { IfOk result (λ reply. IsTrue (is_checked reply.status)) }
+{
+    Ok(Reply {
+        status: Status::No,
+        text: reason_line(alloc, reason)?,
+    })
+}

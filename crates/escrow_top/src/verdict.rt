@@ -1,0 +1,106 @@
+ghost use Rattle.std.specs.Prelude.{◌≡◌, ◌≤◌, ◌^◌, length, IfOk, IsTrue, MatchResult, Some, None, option_map};
+ghost use Rattle.cash_table.specs.Portfolio.{IsPermitted};
+ghost use Rattle.escrow_top.specs.Answer.{is_offered as is_offered_of, first_not_offered, portfolio_of, reason_against as reason_against_of, weighed, claim_answer};
+ghost use Rattle.escrow_top.specs.CertificateForm.{claim};
+ghost use Rattle.escrow_top.specs.CaseForm.{case_view};
+ghost use Rattle.escrow_top.specs.Ending.{is_checked};
+ghost use Rattle.escrow_top.specs.Reply.{answer};
+
+use crate::case::Case;
+use crate::certificate::{Certificate, Purchase};
+use crate::needs::needs_total;
+use crate::reply::{Reply, refusal, yes};
+use cash_table::{Book, Plan, cost, first_short};
+use escrow_desk::NoMemory;
+use escrow_units::Day;
+use std::alloc::Global;
+
+/// Why a certificate isn't accepted.
+#[derive(Clone, Copy, Debug, PartialEq, Eq)]
+pub enum Reason {
+    /// A purchase of this line isn't offered, or its units aren't permitted.
+    NotPermitted(u16),
+    /// The portfolio doesn't meet the needs; this is the first day on which it doesn't.
+    ShortOn(Day),
+    /// The leaf at this node of the tree, counted from 1, isn't closed.
+    WeakLeaf(u32),
+    /// The gap is more than is allowed.
+    GapAbove,
+}
+
+// Whether a purchase names a line of the book, and its units are permitted.
+fn is_offered(book: &Book, purchase: Purchase) -> bool
+    ensures { result ≡ is_offered_of book.now.lines purchase }
+{
+    purchase.line < book.line_count() && book.line(purchase.line).permits(purchase.units)
+}
+
+// The portfolio of purchases, which is permitted; or the line of the first purchase that isn't offered.
+#[tactic(auto, using(crate::proofs::ClaimLaws::put_permitted, crate::proofs::ClaimLaws::zero_permitted))]
+fn plan_of(
+    alloc: Global,
+    book: &Book,
+    purchases: &[Purchase],
+) -> Result<Result<Plan, u16>, NoMemory>
+    ensures { IfOk result (λ found. MatchResult found
+        (λ plan. (first_not_offered book.now.lines purchases.now ≡ None)
+        × (plan ≡ portfolio_of (length book.now.lines) purchases.now)
+        × IsPermitted book.now plan)
+        (λ line. option_map (λ purchase. purchase.line) (first_not_offered book.now.lines purchases.now) ≡ Some line)) }
+{
+    let mut plan = Plan::zero(alloc, book)?;
+    for purchase in purchases {
+        if !is_offered(book, *purchase) {
+            return Ok(Err(purchase.line));
+        }
+        plan.put(purchase.line, purchase.units);
+    }
+    Ok(Ok(plan))
+}
+
+// Why a permitted portfolio isn't accepted with a gap.
+fn reason_against(book: &Book, plan: &Plan, gap: u64) -> Option<Reason>
+    requires { IsPermitted book.now plan.now }
+    ensures { result ≡ reason_against_of book.now plan.now gap }
+{
+    if let Some(day) = first_short(book, plan) {
+        return Some(Reason::ShortOn(day));
+    }
+    if needs_total(book.needs()) < cost(book, plan).0.saturating_sub(gap) as u128 {
+        return Some(Reason::WeakLeaf(1));
+    }
+    if gap != 0 {
+        return Some(Reason::GapAbove);
+    }
+    None
+}
+
+// The reply to a permitted portfolio with a gap.
+fn weigh_plan(alloc: Global, case: &Case, plan: &Plan, gap: u64) -> Result<Reply, NoMemory>
+    requires { IsPermitted case.now.book plan.now }
+    ensures answer { IfOk result (λ reply. answer reply
+        ≡ weighed (case_view case.now) plan.now gap (reason_against_of case.now.book plan.now gap)) }
+    ensures status { IfOk result (λ reply. IsTrue (is_checked reply.status)) }
+{
+    match reason_against(&case.book, plan, gap) {
+        Some(reason) => refusal(alloc, reason),
+        None => yes(alloc, case, plan, gap),
+    }
+}
+
+/// The reply to a certificate of the first form: `yes` with the summary, or the first reason against it.
+///
+/// `NoMemory` is the one error.
+pub(crate) fn weigh(
+    alloc: Global,
+    case: &Case,
+    certificate: &Certificate,
+) -> Result<Reply, NoMemory>
+    ensures answer { IfOk result (λ reply. answer reply ≡ claim_answer (case_view case.now) (Some (claim certificate.now))) }
+    ensures status { IfOk result (λ reply. IsTrue (is_checked reply.status)) }
+{
+    match plan_of(alloc, &case.book, certificate.purchases.as_slice())? {
+        Ok(plan) => weigh_plan(alloc, case, &plan, certificate.gap),
+        Err(line) => refusal(alloc, Reason::NotPermitted(line)),
+    }
+}
