@@ -18,3 +18,6 @@ mod verdict;
 
 pub use program::run;
 pub use status::Status;
+
+#[cfg(test)]
+mod tests;
