@@ -1,13 +1,8 @@
-// A library with one function.
+//! The payments of SLGS time deposit securities: interest to the cent, and the principal at maturity.
 #![tactic(auto)]
 
-ghost use Rattle.std.specs.Prelude.{◌≡◌};
-ghost use Rattle.slgs_interest.specs.Echo.{echo_of};
+mod flows;
+mod interest;
+mod leap_day;
 
-// The `ensures` clause is the contract: what `echo` returns is `echo_of` of its argument, a definition
-// in `specs/Echo.antt`, which a caller's clause can cite too.
-pub fn echo(x: usize) -> usize
-    ensures { result ≡ echo_of x }
-{
-    x
-}
+pub use flows::payments;

@@ -123,8 +123,13 @@ fn refuses(rt: HostRuntime) {
             RuleFault::FirstDate,
         ),
     ] {
-        assert_eq!(rt; classify(settle, maturity, rate, first, most), Err(fault));
+        match classify(settle, maturity, rate, first, most) {
+            Ok(_) => assert!(rt; false),
+            Err(refusal) => assert_eq!(rt; refusal, fault),
+        }
     }
-    let day_before = classify(Day::new(20102), Day::new(20833), four, in_a_year, table);
-    assert_eq!(rt; day_before, Err(RuleFault::FirstDate));
+    match classify(Day::new(20102), Day::new(20833), four, in_a_year, table) {
+        Ok(_) => assert!(rt; false),
+        Err(refusal) => assert_eq!(rt; refusal, RuleFault::FirstDate),
+    }
 }
