@@ -1,5 +1,5 @@
 -- Rounded interest.
-use Rattle.std.proofs.Common.{◌≡◌, ℕ, ◌+◌, ◌*◌, ◌/◌, ◌<◌, ◌∙◌, zero, sym, ap, arith, refl}
+use Rattle.std.proofs.Common.{◌≡◌, ℕ, ◌+◌, ◌*◌, ◌/◌, ◌<◌, sym, ap, arith, refl}
 use Rattle.std.proofs.Math.Nat.{mul-div-mul_right, div-eq_of_lt}
 use Rattle.std.specs.Prelude.{ℤ, pos, ◌+ℤ◌, ◌-ℤ◌, ◌≤ℤ◌, ◌<ℤ◌, int_lt, unsigned_abs, Bool, true, false, if◌then◌else◌}
 use Rattle.std.proofs.lemmas.Int.{ints}
@@ -74,6 +74,6 @@ no-interest face rate settle first before second e less second_less =
     nothing days = rw e (omega arith)
 
     at : (t : Bool) → (if t then near (face * rate * (days_to second before + days_to settle before)) (200_000 * days_to second before)
-            else near (face * rate * days_to settle first) (200_000 * days_to before first)) ≡ 0
+        else near (face * rate * days_to settle first) (200_000 * days_to before first)) ≡ 0
     at true = near-zero _ _ (nothing (days_to second before + days_to settle before)) (let some = days-some second before second_less in omega arith)
     at false = near-zero _ _ (nothing (days_to settle first)) (let some = days-some before first less in omega arith)

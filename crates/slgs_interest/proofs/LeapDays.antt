@@ -1,14 +1,13 @@
 -- Which days are a 29 February.
-use Rattle.std.proofs.Common.{◌≡◌, ◌∙◌, ℕ, ◌+◌, ◌-◌, ◌*◌, ◌<◌, ◌≤◌, ◌==◌, ◌&&◌, ◌||◌, min, zero, suc, refl, sym, ap, arith, ℤ, pos, ◌+ℤ◌, ◌-ℤ◌, ◌≤ℤ◌, ◌<ℤ◌, neg_ℤ, inl, inr, ◌⊎◌, Bool, true, false, eq-eqb, eqb-true, if◌then◌else◌}
+use Rattle.std.proofs.Common.{◌≡◌, ◌∙◌, ℕ, ◌+◌, ◌≤◌, ◌==◌, ◌&&◌, ◌||◌, min, zero, suc, refl, sym, ap, arith, ℤ, pos, ◌+ℤ◌, ◌-ℤ◌, ◌≤ℤ◌, ◌<ℤ◌, inl, inr, ◌⊎◌, Bool, true, false, eq-eqb, eqb-true, if◌then◌else◌}
 use Rattle.std.proofs.lemmas.Bool.{cases_lt}
 use Rattle.std.proofs.lemmas.Int.{by_lt_z}
-use Rattle.std.proofs.lemmas.Bool.Decides.{nat_tests}
 use Rattle.jiff_core.specs.Calendar.{IsYear, IsCivilDate, days_from_civil, days_in_month}
 use Rattle.jiff_core.specs.Date.{epoch_day}
 use Rattle.jiff_core.specs.declared.civil.date.Date.{Date}
 use Rattle.jiff_core.proofs.SignedLemmas.{signed_arith}
 use Rattle.jiff_core.proofs.CalendarLemmas.{days_in_month_bounds}
-use Rattle.escrow_units.specs.Calendar.{CivilDate, date_of, number_of, later_year, later_month, months_later, years_after_of, e_of, e_of_date, IsBaseDay}
+use Rattle.escrow_units.specs.Calendar.{CivilDate, date_of, number_of, later_year, later_month, months_later, years_after_of, e_of_date, IsBaseDay}
 use Rattle.escrow_units.specs.DayNumber.{IsDayNumber}
 use Rattle.escrow_units.specs.SlgsTerms.{IsSettlement}
 use Rattle.escrow_units.proofs.DateFacts.{date_of-stands, pos_abs}
@@ -17,7 +16,6 @@ use Rattle.escrow_units.proofs.SeriesFacts.{base_date, IsBaseDate, leap_day_boun
 use Rattle.escrow_units.proofs.YearFacts.{years_after_of-passes, years_after_of-day}
 use Rattle.slgs_interest.specs.LeapDay.{HasLeapDay}
 use Rattle.slgs_interest.specs.Payments.{is_leap_day, has_leap_day, days_to, basis_of}
-use Rattle.slgs_interest.proofs.Amounts.{days_to-count}
 
 -- a 29 February among some days after a day
 found_by_more : (a b : Bool) → a ≡ true → (a || b) ≡ true
@@ -83,10 +81,11 @@ next_year settle h =
     let month : later_month (date_of settle) (pos 12) ≡ (date_of settle).month = omega (arith, signed_arith, base.low_month, base.high_month, base.low_year) in
     let long = days_in_month_bounds (later_year (date_of settle) (pos 12)) (later_month (date_of settle) (pos 12)) in
     let civil : IsCivilDate (later_year (date_of settle) (pos 12)) (later_month (date_of settle) (pos 12))
-            (min (date_of settle).day (days_in_month (later_year (date_of settle) (pos 12)) (later_month (date_of settle) (pos 12)))) =
-        ((omega (arith, signed_arith, year, base.low_year), omega (arith, signed_arith, year, base.high_year)),
-         (omega (arith, month, base.low_month), omega (arith, month, base.high_month)),
-         (omega (arith, base.low_day), omega arith)) in
+    (min (date_of settle).day (days_in_month (later_year (date_of settle) (pos 12)) (later_month (date_of settle) (pos 12)))) = (
+      (omega (arith, signed_arith, year, base.low_year), omega (arith, signed_arith, year, base.high_year)),
+      (omega (arith, month, base.low_month), omega (arith, month, base.high_month)),
+      (omega (arith, base.low_day), omega arith),
+    ) in
     ap (λ (d : CivilDate). d.year) (date_of-number (years_after_of settle 1) (months_later (date_of settle) (pos 12)) own civil refl) ∙ year
 
 -- days in order have years in order
@@ -200,7 +199,7 @@ basis-common settle maturity h base order term none = at (has_leap_day settle (d
         let found = has_leap_day-found settle (days_to settle maturity) e in
         let whole = pos_abs (maturity -ℤ settle) (omega (arith, signed_arith, order)) in
         absurd (none (leap-year settle maturity (settle +ℤ pos found.place) h base term
-          (omega (arith, signed_arith, found.some)) (omega (arith, signed_arith, found.few, whole)) found.leap))
+        (omega (arith, signed_arith, found.some)) (omega (arith, signed_arith, found.few, whole)) found.leap))
 
 same_day : (date : Date) (year : ℤ) → date.year ≡ year → date.month ≡ 2 → date.day ≡ 29 → days_from_civil year 2 29 ≡ epoch_day date
 same_day date year e f g = λ i. days_from_civil (sym e i) (sym f i) (sym g i)

@@ -1,5 +1,5 @@
 -- What the payments of a security are.
-use Rattle.std.proofs.Common.{◌≡◌, ◌∙◌, ℕ, ◌+◌, ◌*◌, ◌<◌, ◌≤◌, zero, suc, refl, sym, ap, subst, arith, ℤ, pos, ◌+ℤ◌, ◌≤ℤ◌, ◌<ℤ◌, Bool, true, false, if◌then◌else◌, List, [], ◌∷◌, ◌++◌, map, length, take, All, AllPairs, sum_by, get_or}
+use Rattle.std.proofs.Common.{◌≡◌, ◌∙◌, ℕ, ◌+◌, ◌*◌, ◌<◌, ◌≤◌, zero, suc, refl, sym, ap, subst, arith, ℤ, ◌≤ℤ◌, ◌<ℤ◌, Bool, true, false, if◌then◌else◌, List, [], ◌∷◌, map, length, take, AllPairs, sum_by, get_or}
 use Rattle.std.specs.Ordering.{int_eq}
 use Rattle.std.proofs.lemmas.Bool.Decides.{Decides-int_eq}
 use Rattle.std.proofs.lemmas.List.{map-append, take_all}
@@ -7,14 +7,13 @@ use Rattle.std.proofs.lemmas.List.Elements.{All-map, All-weaker, All-same}
 use Rattle.std.proofs.lemmas.List.Kept.{AllPairs-cons}
 use Rattle.std.proofs.lemmas.List.Sums.{sum_by-cons}
 use Rattle.jiff_core.proofs.SignedLemmas.{signed_arith}
-use Rattle.escrow_units.specs.Calendar.{half_back_of, IsBaseDay}
-use Rattle.escrow_units.specs.Rounding.{near}
+use Rattle.escrow_units.specs.Calendar.{half_back_of}
 use Rattle.escrow_units.specs.declared.security.Flow.{Flow}
 use Rattle.escrow_units.specs.declared.security.Slgs.{Slgs}
 use Rattle.escrow_units.specs.declared.security.SlgsKind.{SlgsKind}
 use Rattle.escrow_units.specs.declared.security.SlgsKind.TheVariants as kind
 use Rattle.escrow_units.specs.declared.security.StepRule.TheVariants as rule
-use Rattle.slgs_interest.specs.Payments.{series_dates, payment_dates, payments_of, payment_on, interest_on, principal_on, first_interest, first_interest_of_kind, first_period_interest, half_year_interest, certificate_interest, before_first, second_before_first, interest_to, has_leap_day, basis_of, days_to}
+use Rattle.slgs_interest.specs.Payments.{series_dates, payment_dates, payments_of, payment_on, interest_on, principal_on, first_interest, first_interest_of_kind, first_period_interest, half_year_interest, before_first, second_before_first, has_leap_day, basis_of, days_to}
 use Rattle.slgs_interest.specs.PaymentLaws.{Rise, EndsOn, AreWithinTerm, PayPrincipalOnce, PayFaceAlone, PayEqualInterest}
 use Rattle.slgs_interest.proofs.Amounts.{near-zero, no-interest, whole-period}
 use Rattle.slgs_interest.proofs.Series.{IsPaid, series_dates-within, series_dates-rise, series_dates-last, dates_before, half_back_of-zero, half_back_of-reach}
@@ -53,9 +52,9 @@ pub payments-within : (slgs : Slgs) (face : ℕ) → IsPaid slgs → AreWithinTe
 payments-within slgs face p =
     All-same (λ (flow : Flow). (slgs.settle <ℤ flow.day) × (flow.day ≤ℤ slgs.maturity)) (payments_of slgs face) (map (payment_on slgs face) (series_dates slgs.maturity p.steps)) (payments-series slgs face p)
     (All-map (λ (flow : Flow). (slgs.settle <ℤ flow.day) × (flow.day ≤ℤ slgs.maturity)) (payment_on slgs face) (series_dates slgs.maturity p.steps)
-      (All-weaker (λ date. (half_back_of slgs.maturity p.steps rule.SameDay ≤ℤ date) × (date ≤ℤ slgs.maturity)) (λ date. (slgs.settle <ℤ date) × (date ≤ℤ slgs.maturity))
-        (λ date w. (omega (arith, signed_arith, p.late, p.first, w.0), w.1)) (series_dates slgs.maturity p.steps)
-        (series_dates-within slgs.maturity p.steps p.base (omega (arith, p.few)))))
+    (All-weaker (λ date. (half_back_of slgs.maturity p.steps rule.SameDay ≤ℤ date) × (date ≤ℤ slgs.maturity)) (λ date. (slgs.settle <ℤ date) × (date ≤ℤ slgs.maturity))
+    (λ date w. (omega (arith, signed_arith, p.late, p.first, w.0), w.1)) (series_dates slgs.maturity p.steps)
+    (series_dates-within slgs.maturity p.steps p.base (omega (arith, p.few)))))
 
 -- flows of interest and principal
 flow_of : (ℤ → ℕ) → (ℤ → ℕ) → ℤ → Flow
@@ -76,9 +75,13 @@ principal-sum interest principal face maturity zero last none =
 principal-sum interest principal face maturity (suc k) last none =
     let day = half_back_of maturity (k + 1) rule.SameDay in
     let rest = principal-sum interest principal face maturity k last (λ j some few. none j some (omega arith)) in
-    omega (arith, sum_by-cons cents_of (flow_of interest principal day) (map (flow_of interest principal) (series_dates maturity k)),
+    omega (
+      arith,
+      sum_by-cons cents_of (flow_of interest principal day) (map (flow_of interest principal) (series_dates maturity k)),
       sum_by-cons (λ (flow : Flow). interest flow.day) (flow_of interest principal day) (map (flow_of interest principal) (series_dates maturity k)),
-      rest, none (k + 1) (omega arith) (omega arith))
+      rest,
+      none (k + 1) (omega arith) (omega arith),
+    )
 
 choice-true : (t : Bool) (a b : ℕ) → t ≡ true → (if t then a else b) ≡ a
 choice-true t a b e = rw e refl
@@ -96,11 +99,11 @@ unfolding flow_of cents_of
 payments-principal slgs face p =
     subst (PayPrincipalOnce slgs face) (sym (payments-series slgs face p))
     (principal-sum (interest_on slgs face) (principal_on slgs face) face slgs.maturity p.steps
-      (choice-true (int_eq (half_back_of slgs.maturity 0 rule.SameDay) slgs.maturity) face 0 ((Decides-int_eq (half_back_of slgs.maturity 0 rule.SameDay) slgs.maturity).1 (half_back_of-zero slgs.maturity p.base)))
-      (λ j some few.
-        let reach = half_back_of-reach slgs.maturity j p.base (omega (arith, p.few)) in
-        choice-false (int_eq (half_back_of slgs.maturity j rule.SameDay) slgs.maturity) face 0
-        (λ t. omega (arith, signed_arith, reach, (Decides-int_eq (half_back_of slgs.maturity j rule.SameDay) slgs.maturity).0 t))))
+    (choice-true (int_eq (half_back_of slgs.maturity 0 rule.SameDay) slgs.maturity) face 0 ((Decides-int_eq (half_back_of slgs.maturity 0 rule.SameDay) slgs.maturity).1 (half_back_of-zero slgs.maturity p.base)))
+    (λ j some few.
+    let reach = half_back_of-reach slgs.maturity j p.base (omega (arith, p.few)) in
+    choice-false (int_eq (half_back_of slgs.maturity j rule.SameDay) slgs.maturity) face 0
+    (λ t. omega (arith, signed_arith, reach, (Decides-int_eq (half_back_of slgs.maturity j rule.SameDay) slgs.maturity).0 t))))
 
 -- no interest without a rate
 basis-some : (settle maturity : ℤ) → 0 < basis_of settle maturity

@@ -1,8 +1,8 @@
 -- The dates on which a security pays.
-use Rattle.std.proofs.Common.{◌≡◌, ◌≢◌, ◌∙◌, ℕ, ◌+◌, ◌-◌, ◌*◌, ◌<◌, ◌≤◌, zero, suc, refl, sym, ap, arith, ℤ, pos, ◌+ℤ◌, ◌-ℤ◌, ◌≤ℤ◌, ◌<ℤ◌, int_lt, int_le, unsigned_abs, inl, inr, Bool, true, false, cond, ◌==◌, List, [], ◌∷◌, ◌++◌, length, reverse, take, drop, All, AllPairs, filter}
+use Rattle.std.proofs.Common.{◌≡◌, ◌∙◌, ℕ, ◌+◌, ◌-◌, ◌*◌, ◌<◌, ◌≤◌, zero, suc, refl, sym, ap, arith, ℤ, pos, ◌+ℤ◌, ◌≤ℤ◌, ◌<ℤ◌, int_le, inl, inr, Bool, true, false, cond, ◌==◌, List, [], ◌∷◌, ◌++◌, length, reverse, take, drop, All, AllPairs, filter}
 use Rattle.std.proofs.lemmas.List.{reverse-append, length-append, length-reverse, take-append-le, take_all}
 use Rattle.std.proofs.lemmas.Bool.{cases_lt}
-use Rattle.std.proofs.lemmas.Int.{by_lt_z, ints}
+use Rattle.std.proofs.lemmas.Int.{ints}
 use Rattle.std.proofs.lemmas.List.Elements.{All-cons, All-nil, All-weaker}
 use Rattle.std.proofs.lemmas.List.Kept.{AllPairs-cons}
 use Rattle.jiff_core.proofs.SignedLemmas.{signed_arith}
@@ -77,9 +77,9 @@ series_dates-within maturity (suc k) h few =
     let more : suc k ≡ k + 1 = omega arith in
     let step = half_back_of-steps maturity rule.SameDay k h (omega arith) in
     rw more (All-cons (λ date. (half_back_of maturity (k + 1) rule.SameDay ≤ℤ date) × (date ≤ℤ maturity)) _ (series_dates maturity k)
-      (omega (arith, signed_arith), omega (arith, signed_arith, half_back_of-reach maturity (k + 1) h (omega arith)))
-      (All-weaker (λ date. (half_back_of maturity k rule.SameDay ≤ℤ date) × (date ≤ℤ maturity)) (λ date. (half_back_of maturity (k + 1) rule.SameDay ≤ℤ date) × (date ≤ℤ maturity))
-        (λ date w. (omega (arith, signed_arith, step.least, w.0), w.1)) (series_dates maturity k) (series_dates-within maturity k h (omega arith))))
+    (omega (arith, signed_arith), omega (arith, signed_arith, half_back_of-reach maturity (k + 1) h (omega arith)))
+    (All-weaker (λ date. (half_back_of maturity k rule.SameDay ≤ℤ date) × (date ≤ℤ maturity)) (λ date. (half_back_of maturity (k + 1) rule.SameDay ≤ℤ date) × (date ≤ℤ maturity))
+    (λ date w. (omega (arith, signed_arith, step.least, w.0), w.1)) (series_dates maturity k) (series_dates-within maturity k h (omega arith))))
 
 -- and rises
 pub series_dates-rise : (maturity : ℤ) (k : ℕ) → IsBaseDay maturity → k ≤ 84 → AllPairs (λ a b. a <ℤ b) (series_dates maturity k)
@@ -89,7 +89,7 @@ series_dates-rise maturity (suc k) h few =
     let step = half_back_of-steps maturity rule.SameDay k h (omega arith) in
     AllPairs-cons (λ a b. a <ℤ b) _ (series_dates maturity k)
     (All-weaker (λ date. (half_back_of maturity k rule.SameDay ≤ℤ date) × (date ≤ℤ maturity)) (λ date. half_back_of maturity (k + 1) rule.SameDay <ℤ date)
-      (λ date w. omega (arith, signed_arith, step.least, w.0)) (series_dates maturity k) (series_dates-within maturity k h (omega arith)))
+    (λ date w. omega (arith, signed_arith, step.least, w.0)) (series_dates maturity k) (series_dates-within maturity k h (omega arith)))
     (series_dates-rise maturity k h (omega arith))
 
 pub length-series_dates : (maturity : ℤ) (k : ℕ) → length (series_dates maturity k) ≡ k + 1
@@ -197,12 +197,18 @@ first-step slgs h terms = by_kind slgs.kind terms.kind terms.first
       early = omega (arith, signed_arith, e, of_kind);
     }
     by_kind kind.Note of_kind p = record {
-      steps = p.series.steps; few = p.series.few; first = p.series.back;
-      late = omega (arith, signed_arith, p.late); early = p.early;
+      steps = p.series.steps;
+      few = p.series.few;
+      first = p.series.back;
+      late = omega (arith, signed_arith, p.late);
+      early = p.early;
     }
     by_kind kind.Bond of_kind p = record {
-      steps = p.series.steps; few = p.series.few; first = p.series.back;
-      late = omega (arith, signed_arith, p.late); early = p.early;
+      steps = p.series.steps;
+      few = p.series.few;
+      first = p.series.back;
+      late = omega (arith, signed_arith, p.late);
+      early = p.early;
     }
 
 pub paid : (slgs : Slgs) → IsSettlement slgs.settle → IsSlgs slgs → IsPaid slgs
@@ -223,7 +229,14 @@ paid slgs h terms =
     let before = half_back_of-steps slgs.maturity rule.SameDay step.steps base (omega arith) in
     let second_before = half_back_of-steps slgs.maturity rule.SameDay (step.steps + 1) base (omega arith) in
     record {
-      base = base; order = order; steps = step.steps; few = few; first = step.first; dates = dates; count = count; late = step.late;
+      base = base;
+      order = order;
+      steps = step.steps;
+      few = few;
+      first = step.first;
+      dates = dates;
+      count = count;
+      late = step.late;
       early = omega (arith, signed_arith, step.early, one.most, none);
       before = along _ _ _ _ (ap at count) step.first before;
       second_before = along _ _ _ _ (ap (λ n. at (n + 1)) count) (ap at count) second_before;

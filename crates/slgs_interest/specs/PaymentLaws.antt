@@ -1,10 +1,8 @@
 -- What the payments of a SLGS security are, in the terms of bonds.
-use Rattle.std.specs.Prelude.{◌≡◌, ℕ, ◌+◌, ◌*◌, ◌^◌, ◌≤◌, List, [], ◌∷◌, ◌++◌, All, AllPairs, sum_by, ℤ, ◌≤ℤ◌, ◌<ℤ◌}
-use Rattle.escrow_units.specs.Calendar.{IsSeriesDate}
+use Rattle.std.specs.Prelude.{◌≡◌, ℕ, ◌+◌, List, [], ◌∷◌, ◌++◌, All, AllPairs, sum_by, ℤ, ◌≤ℤ◌, ◌<ℤ◌}
 use Rattle.escrow_units.specs.declared.security.Flow.{Flow}
 use Rattle.escrow_units.specs.declared.security.Slgs.{Slgs}
 use Rattle.escrow_units.specs.declared.security.SlgsKind.TheVariants as kind
-use Rattle.escrow_units.specs.declared.security.StepRule.TheVariants as rule
 use Rattle.slgs_interest.specs.Payments.{before_first, half_year_interest, interest_on, principal_on}
 
 -- each payment falls before each later one

@@ -3,10 +3,9 @@ ghost use Rattle.escrow_units.specs.SlgsTerms.{IsSettlement, IsSlgs};
 ghost use Rattle.slgs_interest.specs.PaymentLaws.{AreWithinTerm, EndsOn, PayEqualInterest, PayFaceAlone, PayPrincipalOnce, Rise};
 ghost use Rattle.slgs_interest.specs.Payments.{payment_dates, payments_of};
 
+use crate::interest::{half_year, of_first_payment};
 use arrayvec::ArrayVec;
 use escrow_units::{Cents, Day, Flow, Slgs, StepRule, half_back};
-
-use crate::interest::{half_year, of_first_payment};
 
 // The dates on which a security pays, in order.
 fn dates_of(slgs: &Slgs) -> ArrayVec<Day, 84>
@@ -55,7 +54,10 @@ pub fn payments(slgs: &Slgs, face: Cents) -> ArrayVec<Flow, 84>
     for date in dates.as_slice() {
         let interest = if *date == slgs.first { first } else { later };
         let principal = if *date == slgs.maturity { face.0 } else { 0 };
-        flows.push(Flow { day: *date, cents: Cents(interest + principal) });
+        flows.push(Flow {
+            day: *date,
+            cents: Cents(interest + principal),
+        });
     }
     flows
 }

@@ -15,7 +15,10 @@ fn earned(face: Cents, rate: Rate, parts: u32, whole: u32) -> u64
     ensures value { result ≡ near (face.0 * rate.0 * parts) whole }
     ensures bound { result < 2 ^ 62 }
 {
-    near(face.0 as u128 * rate.0 as u128 * parts as u128, whole as u128) as u64
+    near(
+        face.0 as u128 * rate.0 as u128 * parts as u128,
+        whole as u128,
+    ) as u64
 }
 
 /// The interest of a half-year on a face of at most 10^11 cents, at a rate of at most 30 percent.
@@ -39,7 +42,12 @@ fn of_certificate(slgs: &Slgs, face: Cents) -> u64
     ensures bound { result < 2 ^ 62 }
 {
     let days = days_between(slgs.settle, slgs.maturity);
-    earned(face, slgs.rate, days, 100_000 * basis(slgs.settle, slgs.maturity))
+    earned(
+        face,
+        slgs.rate,
+        days,
+        100_000 * basis(slgs.settle, slgs.maturity),
+    )
 }
 
 // The first interest of a note or bond that pays on so many dates.
@@ -61,7 +69,12 @@ fn of_first_period(slgs: &Slgs, face: Cents, dates: u32) -> u64
         earned(face, slgs.rate, days, 200_000 * half_year)
     } else {
         let half_year = days_between(before, slgs.first);
-        earned(face, slgs.rate, days_between(slgs.settle, slgs.first), 200_000 * half_year)
+        earned(
+            face,
+            slgs.rate,
+            days_between(slgs.settle, slgs.first),
+            200_000 * half_year,
+        )
     }
 }
 

@@ -4,5 +4,7 @@
 mod flows;
 mod interest;
 mod leap_day;
+#[cfg(test)]
+mod tests;
 
 pub use flows::payments;

@@ -1,4 +1,4 @@
-use Rattle.std.proofs.Common.{arith, rules, ◌≡◌, ◌∙◌, ◌<ℤ◌, ◌≤ℤ◌, ap, List, [], ◌∷◌, ◌++◌, ℤ, refl, reverse}
+use Rattle.std.proofs.Common.{arith, rules, ◌∙◌, ◌<ℤ◌, ◌≤ℤ◌, ap, List, [], ◌∷◌, ◌++◌, ℤ, refl, reverse}
 use Rattle.jiff_core.proofs.SignedLemmas.{signed_arith}
 use Rattle.escrow_units.specs.Calendar.{half_back_of}
 use Rattle.escrow_units.specs.declared.security.StepRule.TheVariants as rule

@@ -1,5 +1,4 @@
-use Rattle.std.proofs.Common.{◌≡◌, ◌∙◌, sym, subst, List}
-use Rattle.escrow_units.specs.declared.security.Flow.{Flow}
+use Rattle.std.proofs.Common.{◌∙◌, sym, subst}
 use Rattle.slgs_interest.specs.PaymentLaws.{AreWithinTerm, EndsOn, PayEqualInterest, PayFaceAlone, PayPrincipalOnce, Rise}
 use Rattle.slgs_interest.proofs.PaymentFacts.{payments-are, payments-rise, payments-end, payments-within, payments-principal, payments-face, payments-equal}
 use Rattle.slgs_interest.proofs.Series.{paid}

@@ -1,7 +1,5 @@
-use Rattle.std.proofs.Common.{arith, rules, ◌≡◌, ◌*◌, ◌∙◌, ap, ℕ, ◌≤ℤ◌, ◌+ℤ◌, pos}
+use Rattle.std.proofs.Common.{arith}
 use Rattle.jiff_core.proofs.SignedLemmas.{signed_arith}
-use Rattle.escrow_units.specs.Rounding.{near}
-use Rattle.escrow_units.specs.Calendar.{years_after_of}
 use Rattle.slgs_interest.proofs.Series.{paid, certificate-first}
 use Rattle.slgs_interest.proofs.interest.of_certificate.Goals as goal
 

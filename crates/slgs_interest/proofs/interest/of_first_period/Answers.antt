@@ -1,4 +1,4 @@
-use Rattle.std.proofs.Common.{arith, rules, ◌≡◌, ◌∙◌, ◌+◌, ap, ℕ, ℤ, ◌≤ℤ◌, ◌<ℤ◌, ◌≤◌}
+use Rattle.std.proofs.Common.{arith, rules, ◌≡◌, ◌∙◌, ◌+◌, ap, ℤ, ◌≤ℤ◌, ◌<ℤ◌, ◌≤◌}
 use Rattle.jiff_core.proofs.SignedLemmas.{signed_arith}
 use Rattle.escrow_units.specs.Calendar.{half_back_of}
 use Rattle.escrow_units.specs.declared.security.StepRule.TheVariants as rule
@@ -26,18 +26,18 @@ pub days_between-half_year-requires : goal.days_between-half_year-requires
 days_between-half_year-requires c =
     let p = paid c.args.slgs.now c.requires.settlement c.requires.terms in
     let before : c.half_back-before.result ≡ before_first c.args.slgs.now =
-        c.half_back-before.ensures ∙ ap (λ n. half_back_of c.args.slgs.now.maturity n rule.SameDay) c.requires.dates in
+    c.half_back-before.ensures ∙ ap (λ n. half_back_of c.args.slgs.now.maturity n rule.SameDay) c.requires.dates in
     let second : c.half_back-second_before.result ≡ second_before_first c.args.slgs.now =
-        c.half_back-second_before.ensures ∙ ap (λ n. half_back_of c.args.slgs.now.maturity (n + 1) rule.SameDay) c.requires.dates in
+    c.half_back-second_before.ensures ∙ ap (λ n. half_back_of c.args.slgs.now.maturity (n + 1) rule.SameDay) c.requires.dates in
     omega (arith, signed_arith, before, second, p.second_before.least)
 
 pub overflow_mul-half_year : goal.overflow_mul-half_year
 overflow_mul-half_year c =
     let p = paid c.args.slgs.now c.requires.settlement c.requires.terms in
     let before : c.half_back-before.result ≡ before_first c.args.slgs.now =
-        c.half_back-before.ensures ∙ ap (λ n. half_back_of c.args.slgs.now.maturity n rule.SameDay) c.requires.dates in
+    c.half_back-before.ensures ∙ ap (λ n. half_back_of c.args.slgs.now.maturity n rule.SameDay) c.requires.dates in
     let second : c.half_back-second_before.result ≡ second_before_first c.args.slgs.now =
-        c.half_back-second_before.ensures ∙ ap (λ n. half_back_of c.args.slgs.now.maturity (n + 1) rule.SameDay) c.requires.dates in
+    c.half_back-second_before.ensures ∙ ap (λ n. half_back_of c.args.slgs.now.maturity (n + 1) rule.SameDay) c.requires.dates in
     let few : c.days_between-half_year.result ≤ 184 = omega (arith, signed_arith, before, second, p.second_before.most, c.days_between-half_year.ensures) in
     record { fits = omega arith }
 
@@ -45,32 +45,32 @@ pub earned-requires-clause-parts : goal.earned-requires-clause-parts
 earned-requires-clause-parts c =
     let p = paid c.args.slgs.now c.requires.settlement c.requires.terms in
     let before : c.half_back-before.result ≡ before_first c.args.slgs.now =
-        c.half_back-before.ensures ∙ ap (λ n. half_back_of c.args.slgs.now.maturity n rule.SameDay) c.requires.dates in
+    c.half_back-before.ensures ∙ ap (λ n. half_back_of c.args.slgs.now.maturity n rule.SameDay) c.requires.dates in
     let second : c.half_back-second_before.result ≡ second_before_first c.args.slgs.now =
-        c.half_back-second_before.ensures ∙ ap (λ n. half_back_of c.args.slgs.now.maturity (n + 1) rule.SameDay) c.requires.dates in
+    c.half_back-second_before.ensures ∙ ap (λ n. half_back_of c.args.slgs.now.maturity (n + 1) rule.SameDay) c.requires.dates in
     omega (arith, signed_arith, before, second, p.second_before.most, p.before.least, p.early, c.days_between-half_year.ensures, c.days_between.ensures)
 
 pub earned-requires-clause-whole : goal.earned-requires-clause-whole
 earned-requires-clause-whole c =
     let p = paid c.args.slgs.now c.requires.settlement c.requires.terms in
     let before : c.half_back-before.result ≡ before_first c.args.slgs.now =
-        c.half_back-before.ensures ∙ ap (λ n. half_back_of c.args.slgs.now.maturity n rule.SameDay) c.requires.dates in
+    c.half_back-before.ensures ∙ ap (λ n. half_back_of c.args.slgs.now.maturity n rule.SameDay) c.requires.dates in
     let second : c.half_back-second_before.result ≡ second_before_first c.args.slgs.now =
-        c.half_back-second_before.ensures ∙ ap (λ n. half_back_of c.args.slgs.now.maturity (n + 1) rule.SameDay) c.requires.dates in
+    c.half_back-second_before.ensures ∙ ap (λ n. half_back_of c.args.slgs.now.maturity (n + 1) rule.SameDay) c.requires.dates in
     omega (arith, signed_arith, before, second, p.second_before.least, c.days_between-half_year.ensures)
 
 pub days_between-half_year-requires-else-lt : goal.days_between-half_year-requires-else-lt
 days_between-half_year-requires-else-lt c =
     let p = paid c.args.slgs.now c.requires.settlement c.requires.terms in
     let before : c.half_back-before.result ≡ before_first c.args.slgs.now =
-        c.half_back-before.ensures ∙ ap (λ n. half_back_of c.args.slgs.now.maturity n rule.SameDay) c.requires.dates in
+    c.half_back-before.ensures ∙ ap (λ n. half_back_of c.args.slgs.now.maturity n rule.SameDay) c.requires.dates in
     omega (arith, signed_arith, before, p.before.least)
 
 pub overflow_mul-half_year-else-lt : goal.overflow_mul-half_year-else-lt
 overflow_mul-half_year-else-lt c =
     let p = paid c.args.slgs.now c.requires.settlement c.requires.terms in
     let before : c.half_back-before.result ≡ before_first c.args.slgs.now =
-        c.half_back-before.ensures ∙ ap (λ n. half_back_of c.args.slgs.now.maturity n rule.SameDay) c.requires.dates in
+    c.half_back-before.ensures ∙ ap (λ n. half_back_of c.args.slgs.now.maturity n rule.SameDay) c.requires.dates in
     let few : c.days_between-half_year-else-lt.result ≤ 184 = omega (arith, signed_arith, before, p.before.most, c.days_between-half_year-else-lt.ensures) in
     record { fits = omega arith }
 
@@ -83,15 +83,15 @@ pub earned-requires-else-lt-clause-whole : goal.earned-requires-else-lt-clause-w
 earned-requires-else-lt-clause-whole c =
     let p = paid c.args.slgs.now c.requires.settlement c.requires.terms in
     let before : c.half_back-before.result ≡ before_first c.args.slgs.now =
-        c.half_back-before.ensures ∙ ap (λ n. half_back_of c.args.slgs.now.maturity n rule.SameDay) c.requires.dates in
+    c.half_back-before.ensures ∙ ap (λ n. half_back_of c.args.slgs.now.maturity n rule.SameDay) c.requires.dates in
     omega (arith, signed_arith, before, p.before.least, c.days_between-half_year-else-lt.ensures)
 
 pub returns-then-lt-clause-value : goal.returns-then-lt-clause-value
 returns-then-lt-clause-value c =
     let before : c.half_back-before.result ≡ before_first c.args.slgs.now =
-        c.half_back-before.ensures ∙ ap (λ n. half_back_of c.args.slgs.now.maturity n rule.SameDay) c.requires.dates in
+    c.half_back-before.ensures ∙ ap (λ n. half_back_of c.args.slgs.now.maturity n rule.SameDay) c.requires.dates in
     let second : c.half_back-second_before.result ≡ second_before_first c.args.slgs.now =
-        c.half_back-second_before.ensures ∙ ap (λ n. half_back_of c.args.slgs.now.maturity (n + 1) rule.SameDay) c.requires.dates in
+    c.half_back-second_before.ensures ∙ ap (λ n. half_back_of c.args.slgs.now.maturity (n + 1) rule.SameDay) c.requires.dates in
     let less : c.args.slgs.now.settle <ℤ c.half_back-before.result = search rules in
     c.earned.ensures.value
     ∙ long-period c.args.face.0 c.args.slgs.now.rate.0 c.args.slgs.now.settle c.args.slgs.now.first c.half_back-before.result c.half_back-second_before.result _ _ less c.days_between-half_year.ensures c.days_between.ensures
@@ -100,7 +100,7 @@ returns-then-lt-clause-value c =
 pub returns-else-lt-clause-value : goal.returns-else-lt-clause-value
 returns-else-lt-clause-value c =
     let before : c.half_back-before.result ≡ before_first c.args.slgs.now =
-        c.half_back-before.ensures ∙ ap (λ n. half_back_of c.args.slgs.now.maturity n rule.SameDay) c.requires.dates in
+    c.half_back-before.ensures ∙ ap (λ n. half_back_of c.args.slgs.now.maturity n rule.SameDay) c.requires.dates in
     let least : c.half_back-before.result ≤ℤ c.args.slgs.now.settle = search rules in
     c.earned-else-lt.ensures.value
     ∙ short-period c.args.face.0 c.args.slgs.now.rate.0 c.args.slgs.now.settle c.args.slgs.now.first c.half_back-before.result (second_before_first c.args.slgs.now) _ _ least c.days_between-half_year-else-lt.ensures c.days_between-else-lt.ensures

@@ -1,6 +1,3 @@
-use Rattle.std.proofs.Common.{arith, refl}
-use Rattle.escrow_units.specs.Calendar.{IsBaseDay}
-use Rattle.jiff_core.proofs.SignedLemmas.{signed_arith}
 use Rattle.slgs_interest.proofs.Series.{certificate-base}
 use Rattle.slgs_interest.proofs.LeapDays.{basis-leap, basis-common}
 use Rattle.slgs_interest.proofs.leap_day.basis.Goals as goal

@@ -12,7 +12,8 @@ returns c =
     let date = c.constrain-end_of_february.result in
     let year = c.constrain-end_of_february.ensures.year ∙ same in
     let month = c.constrain-end_of_february.ensures.month in
-    let day = rw same at c.constrain-end_of_february.ensures.day in
-    (λ t. let within = rw number at (c.lies_after.ensures.0 t) in
-      leap-end c.args.year c.args.after c.args.last date year month day c.if-end_of_february-lt29.false within.0 within.1,
-    λ leap. c.lies_after.ensures.1 (rw number (end-leap c.args.year c.args.after c.args.last date year month day leap)))
+    let day = rw same at c.constrain-end_of_february.ensures.day in (
+      λ t. let within = rw number at (c.lies_after.ensures.0 t) in
+          leap-end c.args.year c.args.after c.args.last date year month day c.if-end_of_february-lt29.false within.0 within.1,
+      λ leap. c.lies_after.ensures.1 (rw number (end-leap c.args.year c.args.after c.args.last date year month day leap)),
+    )
