@@ -1,19 +1,18 @@
 -- The earliest date of a series, and the one answer to a request.
-use Rattle.std.proofs.Common.{◌≡◌, ◌∙◌, ℕ, ◌+◌, ◌-◌, ◌*◌, ◌<◌, ◌≤◌, ◌≢◌, zero, suc, refl, sym, ap, arith, ℤ, pos, ◌+ℤ◌, ◌≤ℤ◌, ◌<ℤ◌, inl, inr, ◌⊎◌, Option, None, Some, IfSome, Result, Ok, Err}
+use Rattle.std.proofs.Common.{◌≡◌, ◌∙◌, ℕ, ◌+◌, ◌-◌, ◌*◌, ◌≤◌, zero, suc, refl, sym, ap, arith, ℤ, pos, ◌+ℤ◌, ◌≤ℤ◌, ◌<ℤ◌, inl, inr, ◌⊎◌, Option, None, Some, IfSome, Result, Ok, Err}
 use Rattle.std.proofs.lemmas.Bool.{cases_lt}
 use Rattle.std.proofs.lemmas.Int.{by_lt_z}
 use Rattle.jiff_core.proofs.SignedLemmas.{signed_arith}
 use Rattle.escrow_units.specs.Calendar.{half_back_of, years_after_of, IsBaseDay, IsSeriesDate}
 use Rattle.escrow_units.specs.DayNumber.{IsDayNumber}
-use Rattle.escrow_units.specs.SlgsTerms.{IsSettlement, IsSlgs, IsOfKind, IsFirstInterest, IsFirstPayment, shortest_term}
-use Rattle.escrow_units.specs.declared.amount.Rate.{Rate}
+use Rattle.escrow_units.specs.SlgsTerms.{IsSettlement, IsSlgs, IsOfKind, IsFirstInterest, IsFirstPayment}
 use Rattle.escrow_units.specs.declared.security.Slgs.{Slgs}
 use Rattle.escrow_units.specs.declared.security.SlgsKind.{SlgsKind}
 use Rattle.escrow_units.specs.declared.security.SlgsKind.TheVariants as kind
 use Rattle.escrow_units.specs.declared.security.StepRule.TheVariants as rule
 use Rattle.escrow_units.proofs.SeriesFacts.{half_back_of-start, half_back_of-falls, half_back_of-steps, years_after_of-none}
 use Rattle.escrow_units.proofs.YearFacts.{years_after_of-passes, settlement-base, kinds-exclusive}
-use Rattle.slgs_rules.specs.TermRules.{Request, IsAnswer, IsSubscription, IsFirstFault, IsEarliestFrom, IsNamedOrEarliest, IsFirstOfKind, IsNameable, Keeps, place, rate_of}
+use Rattle.slgs_rules.specs.TermRules.{Request, IsAnswer, IsSubscription, IsFirstFault, IsEarliestFrom, IsNamedOrEarliest, IsFirstOfKind, IsNameable, place}
 use Rattle.slgs_rules.specs.declared.fault.RuleFault.{RuleFault}
 use Rattle.slgs_rules.specs.declared.fault.RuleFault.TheVariants as fault
 

@@ -79,7 +79,6 @@ fn refuses(rt: HostRuntime) {
     let zero = AskedRate::At(Rate(0));
     let four = AskedRate::At(Rate(4000));
     let table = Some(Rate(4000));
-    let in_a_year = Some(Day::new(20468));
     for (maturity, rate, first, most, fault) in [
         (
             Day::new(20468),
@@ -97,10 +96,28 @@ fn refuses(rt: HostRuntime) {
             RuleFault::RateAboveTable,
         ),
         (Day::new(20102), zero, None, None, RuleFault::TooShort),
-        (Day::new(20117), zero, in_a_year, None, RuleFault::TooShort),
+        (
+            Day::new(20117),
+            zero,
+            Some(Day::new(20468)),
+            None,
+            RuleFault::TooShort,
+        ),
         (Day::new(20132), four, None, table, RuleFault::TooShort),
-        (Day::new(34714), zero, in_a_year, None, RuleFault::TooLong),
-        (Day::new(20468), zero, in_a_year, None, RuleFault::FirstDate),
+        (
+            Day::new(34714),
+            zero,
+            Some(Day::new(20468)),
+            None,
+            RuleFault::TooLong,
+        ),
+        (
+            Day::new(20468),
+            zero,
+            Some(Day::new(20468)),
+            None,
+            RuleFault::FirstDate,
+        ),
         (
             Day::new(20833),
             four,
@@ -128,7 +145,13 @@ fn refuses(rt: HostRuntime) {
             Err(refusal) => assert_eq!(rt; refusal, fault),
         }
     }
-    match classify(Day::new(20102), Day::new(20833), four, in_a_year, table) {
+    match classify(
+        Day::new(20102),
+        Day::new(20833),
+        four,
+        Some(Day::new(20468)),
+        table,
+    ) {
         Ok(_) => assert!(rt; false),
         Err(refusal) => assert_eq!(rt; refusal, RuleFault::FirstDate),
     }

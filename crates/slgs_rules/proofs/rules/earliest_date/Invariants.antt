@@ -1,4 +1,4 @@
-use Rattle.std.proofs.Common.{◌≡◌, ◌≤◌, ◌-◌, ◌≤ℤ◌}
+use Rattle.std.proofs.Common.{◌≡◌, ◌-◌, ◌≤ℤ◌}
 use Rattle.escrow_units.specs.Calendar.{half_back_of}
 use Rattle.escrow_units.specs.declared.security.StepRule.TheVariants as rule
 use Rattle.slgs_rules.proofs.rules.earliest_date.Given as goal

@@ -1,4 +1,4 @@
-use Rattle.std.proofs.Common.{arith, rules}
+use Rattle.std.proofs.Common.{arith}
 use Rattle.jiff_core.proofs.SignedLemmas.{signed_arith}
 use Rattle.slgs_rules.proofs.RuleFacts.{maturity-base, span}
 use Rattle.slgs_rules.proofs.rules.first_interest.Goals as goal

@@ -1,4 +1,4 @@
-use Rattle.std.proofs.Common.{arith, rules, ◌≡◌, ◌∙◌, sym, true}
+use Rattle.std.proofs.Common.{arith, ◌∙◌, sym}
 use Rattle.jiff_core.proofs.SignedLemmas.{signed_arith}
 use Rattle.slgs_rules.proofs.RuleFacts.{maturity-base, interest-date, earliest-self}
 use Rattle.std.proofs.lemmas.Bool.Decides.{Decides-int_eq}
