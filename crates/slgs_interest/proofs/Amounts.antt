@@ -1,6 +1,7 @@
 -- Rounded interest.
-use Rattle.std.proofs.Common.{◌≡◌, ℕ, ◌+◌, ◌*◌, ◌/◌, ◌<◌, sym, ap, arith, refl}
-use Rattle.std.proofs.Math.Nat.{mul-div-mul_right, div-eq_of_lt}
+use Rattle.std.proofs.Common.{◌≡◌, ℕ, ◌+◌, ◌*◌, ◌/◌, ◌^◌, ◌<◌, ◌≤◌, sym, ap, arith, refl}
+use Rattle.std.proofs.Math.Nat.{mul-div-mul_right, div-eq_of_lt, mul-le-mul, mul-le-mul_right}
+use Rattle.std.proofs.lemmas.Nat.{div_below}
 use Rattle.std.specs.Prelude.{ℤ, pos, ◌+ℤ◌, ◌-ℤ◌, ◌≤ℤ◌, ◌<ℤ◌, int_lt, unsigned_abs, Bool, true, false, if◌then◌else◌}
 use Rattle.std.proofs.lemmas.Int.{ints}
 use Rattle.escrow_units.proofs.DateFacts.{pos_abs}
@@ -77,3 +78,23 @@ no-interest face rate settle first before second e less second_less =
         else near (face * rate * days_to settle first) (200_000 * days_to before first)) ≡ 0
     at true = near-zero _ _ (nothing (days_to second before + days_to settle before)) (let some = days-some second before second_less in omega arith)
     at false = near-zero _ _ (nothing (days_to settle first)) (let some = days-some before first less in omega arith)
+
+-- a part of a whole that is at most c times the whole
+pub near-at-most : (a b c : ℕ) → 0 < b → a ≤ c * b → near a b ≤ c
+unfolding near
+near-at-most a b c h le =
+    let below = div_below (2 * a + b) (2 * b) (c + 1) (omega arith) (omega arith) in
+    omega (arith, below)
+
+yearly : (face rate days : ℕ) → face ≤ 10 ^ 11 → rate ≤ 30_000 → face * rate * days ≤ 3_000_000_000_000_000 * days
+yearly face rate days f r =
+    let product = mul-le-mul f r in
+    mul-le-mul_right days (omega (arith, product))
+
+-- interest of up to three times a half-year's days, at no more than 30 percent
+pub interest-at-most : (face rate days whole per : ℕ) → face ≤ 10 ^ 11 → rate ≤ 30_000 → 0 < whole → days ≤ 3 * whole → 100_000 ≤ per
+    → near (face * rate * days) (per * whole) ≤ 10 ^ 11
+interest-at-most face rate days whole per f r some few large =
+    let product = yearly face rate days f r in
+    let scaled = mul-le-mul_right whole large in
+    near-at-most (face * rate * days) (per * whole) (10 ^ 11) (omega (arith, scaled)) (omega (arith, product, scaled))

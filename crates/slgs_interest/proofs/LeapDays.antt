@@ -15,6 +15,7 @@ use Rattle.escrow_units.proofs.DayFacts.{date_of-number, e_of-mono}
 use Rattle.escrow_units.proofs.SeriesFacts.{base_date, IsBaseDate, leap_day_bound, february, years_after_of-none}
 use Rattle.escrow_units.proofs.YearFacts.{years_after_of-passes, years_after_of-day}
 use Rattle.slgs_interest.specs.LeapDay.{HasLeapDay}
+use Rattle.slgs_interest.specs.PaymentLaws.{IsLeapDayBetween}
 use Rattle.slgs_interest.specs.Payments.{is_leap_day, has_leap_day, days_to, basis_of}
 
 -- a 29 February among some days after a day
@@ -218,3 +219,37 @@ pub end-leap : (year after last : ℤ) (date : Date) → date.year ≡ year → 
 end-leap year after last date e f g has =
     let at : days_from_civil year 2 29 ≡ epoch_day date = same_day date year e f (omega (arith, g, has.leap)) in
     (omega (arith, signed_arith, at, has.late), omega (arith, signed_arith, at, has.early))
+
+-- the basis is 366 exactly where one of the days is a 29 February
+pub basis-counts : (settle maturity : ℤ) → settle ≤ℤ maturity
+    → ((basis_of settle maturity ≡ 366) → ((day : ℤ) × IsLeapDayBetween settle maturity day))
+    × (((day : ℤ) × IsLeapDayBetween settle maturity day) → basis_of settle maturity ≡ 366)
+basis-counts settle maturity order =
+    (λ e. found (has_leap_day settle (days_to settle maturity)) refl e, λ leap. counted leap.0 leap.1)
+  where
+    whole : maturity -ℤ settle ≡ pos (days_to settle maturity)
+    whole = pos_abs (maturity -ℤ settle) (omega (arith, signed_arith, order))
+
+    found : (t : Bool) → has_leap_day settle (days_to settle maturity) ≡ t → ◌≡◌ {A = ℕ} (if t then 366 else 365) 366
+        → (day : ℤ) × IsLeapDayBetween settle maturity day
+    found false e f = absurd (omega arith)
+    found true e f =
+        let leap = has_leap_day-found settle (days_to settle maturity) e in (
+          settle +ℤ pos leap.place,
+          record {
+            late = omega (arith, signed_arith, leap.some);
+            early = omega (arith, signed_arith, leap.few, whole);
+            leap = leap.leap;
+          },
+        )
+
+    choice-366 : (t : Bool) → t ≡ true → ◌≡◌ {A = ℕ} (if t then 366 else 365) 366
+    choice-366 t e = rw e refl
+
+    counted : (day : ℤ) → IsLeapDayBetween settle maturity day → basis_of settle maturity ≡ 366
+    counted day leap =
+        let part = pos_abs (day -ℤ settle) (omega (arith, signed_arith, leap.late)) in
+        let at : settle +ℤ pos (days_to settle day) ≡ day = omega (arith, signed_arith, part) in
+        let has = has_leap_day-at settle (days_to settle maturity) (days_to settle day)
+        (omega (arith, signed_arith, part, leap.late)) (omega (arith, signed_arith, part, whole, leap.early)) (rw at leap.leap) in
+        choice-366 (has_leap_day settle (days_to settle maturity)) has

@@ -1,5 +1,9 @@
 -- What the payments of a security are.
-use Rattle.std.proofs.Common.{◌≡◌, ◌∙◌, ℕ, ◌+◌, ◌*◌, ◌<◌, ◌≤◌, zero, suc, refl, sym, ap, subst, arith, ℤ, ◌≤ℤ◌, ◌<ℤ◌, Bool, true, false, if◌then◌else◌, List, [], ◌∷◌, map, length, take, AllPairs, sum_by, get_or}
+use Rattle.std.proofs.Common.{◌≡◌, ◌∙◌, ℕ, ◌+◌, ◌*◌, ◌<◌, ◌≤◌, zero, suc, refl, sym, ap, subst, arith, ℤ, ◌≤ℤ◌, ◌<ℤ◌, Bool, true, false, if◌then◌else◌, List, [], ◌∷◌, map, length, take, AllPairs, sum_by, get_or, pos, ◌+ℤ◌, ◌-ℤ◌, ◌^◌, int_lt}
+use Rattle.std.proofs.Math.Nat.{mul-le-mul}
+use Rattle.std.proofs.lemmas.Int.{ints}
+use Rattle.escrow_units.proofs.DateFacts.{pos_abs}
+use Rattle.escrow_units.specs.Rounding.{near}
 use Rattle.std.specs.Ordering.{int_eq}
 use Rattle.std.proofs.lemmas.Bool.Decides.{Decides-int_eq}
 use Rattle.std.proofs.lemmas.List.{map-append, take_all}
@@ -14,8 +18,8 @@ use Rattle.escrow_units.specs.declared.security.SlgsKind.{SlgsKind}
 use Rattle.escrow_units.specs.declared.security.SlgsKind.TheVariants as kind
 use Rattle.escrow_units.specs.declared.security.StepRule.TheVariants as rule
 use Rattle.slgs_interest.specs.Payments.{series_dates, payment_dates, payments_of, payment_on, interest_on, principal_on, first_interest, first_interest_of_kind, first_period_interest, half_year_interest, before_first, second_before_first, has_leap_day, basis_of, days_to}
-use Rattle.slgs_interest.specs.PaymentLaws.{Rise, EndsOn, AreWithinTerm, PayPrincipalOnce, PayFaceAlone, PayEqualInterest}
-use Rattle.slgs_interest.proofs.Amounts.{near-zero, no-interest, whole-period}
+use Rattle.slgs_interest.specs.PaymentLaws.{Rise, EndsOn, AreSmall, AreWithinTerm, PayPrincipalOnce, PayFaceAlone, PayEqualInterest}
+use Rattle.slgs_interest.proofs.Amounts.{near-zero, near-at-most, interest-at-most, no-interest, whole-period}
 use Rattle.slgs_interest.proofs.Series.{IsPaid, series_dates-within, series_dates-rise, series_dates-last, dates_before, half_back_of-zero, half_back_of-reach}
 
 pub payments-are : (slgs : Slgs) (face : ℕ) (flows : List Flow) (i : ℕ) (dates : List ℤ) → flows ≡ map (payment_on slgs face) (take i dates)
@@ -174,3 +178,75 @@ payments-equal slgs face p = λ other e.
     equal : (day : ℤ) → first_interest slgs face ≡ half_year_interest slgs face
         → interest_on slgs face day + principal_on slgs face day ≡ half_year_interest slgs face + principal_on slgs face day
     equal day f = ap (λ n. n + principal_on slgs face day) (choice-both (int_eq day slgs.first) (first_interest slgs face) (half_year_interest slgs face) (half_year_interest slgs face) f refl)
+
+-- no interest is above the greatest face
+basis-least : (settle maturity : ℤ) → 365 ≤ basis_of settle maturity
+basis-least settle maturity = at (has_leap_day settle (days_to settle maturity))
+  where
+    at : (t : Bool) → 365 ≤ (if t then 366 else 365)
+    at true = omega arith
+    at false = omega arith
+
+days_to-whole : (from to : ℤ) → from ≤ℤ to → from +ℤ pos (days_to from to) ≡ to
+days_to-whole from to order =
+    let e = pos_abs (to -ℤ from) (omega (arith, signed_arith, order)) in
+    omega (arith, signed_arith, e)
+
+choice-most : (t : Bool) (a b c : ℕ) → a ≤ c → b ≤ c → (if t then a else b) ≤ c
+choice-most true a b c e f = e
+choice-most false a b c e f = f
+
+first-small : (slgs : Slgs) (face : ℕ) → IsPaid slgs → (slgs.kind ≡ kind.Certificate → slgs.first ≡ slgs.maturity) → face ≤ 10 ^ 11 → slgs.rate.0 ≤ 30_000
+    → first_interest slgs face ≤ 10 ^ 11
+unfolding first_interest
+first-small slgs face p same f r = at slgs.kind same
+  where
+    before : before_first slgs +ℤ pos (days_to (before_first slgs) slgs.first) ≡ slgs.first
+    before = days_to-whole (before_first slgs) slgs.first (omega (arith, signed_arith, p.before.least))
+
+    second : second_before_first slgs +ℤ pos (days_to (second_before_first slgs) (before_first slgs)) ≡ before_first slgs
+    second = days_to-whole (second_before_first slgs) (before_first slgs) (omega (arith, signed_arith, p.second_before.least))
+
+    term : slgs.settle +ℤ pos (days_to slgs.settle slgs.first) ≡ slgs.first
+    term = days_to-whole slgs.settle slgs.first (omega (arith, signed_arith, p.late))
+
+    long : (t : Bool) → int_lt slgs.settle (before_first slgs) ≡ t
+        → (if t
+        then near (face * slgs.rate.0 * (days_to (second_before_first slgs) (before_first slgs) + days_to slgs.settle (before_first slgs)))
+        (200_000 * days_to (second_before_first slgs) (before_first slgs))
+        else near (face * slgs.rate.0 * days_to slgs.settle slgs.first) (200_000 * days_to (before_first slgs) slgs.first)) ≤ 10 ^ 11
+    long true e =
+        let less : slgs.settle <ℤ before_first slgs = omega (arith, ints) in
+        let days = days_to-whole slgs.settle (before_first slgs) (omega (arith, signed_arith, less)) in
+        interest-at-most face slgs.rate.0 _ (days_to (second_before_first slgs) (before_first slgs)) 200_000 f r
+        (omega (arith, signed_arith, second, p.second_before.least))
+        (omega (arith, signed_arith, second, days, p.second_before.least, p.second_before.most, p.before.least, p.early)) (omega arith)
+    long false e =
+        interest-at-most face slgs.rate.0 (days_to slgs.settle slgs.first) (days_to (before_first slgs) slgs.first) 200_000 f r
+        (omega (arith, signed_arith, before, p.before.least)) (omega (arith, signed_arith, before, term, p.before.least, p.early)) (omega arith)
+
+    at : (k : SlgsKind) → (k ≡ kind.Certificate → slgs.first ≡ slgs.maturity) → first_interest_of_kind k slgs face ≤ 10 ^ 11
+    at kind.Certificate same =
+        let e : days_to slgs.settle slgs.maturity ≡ days_to slgs.settle slgs.first = ap (λ (day : ℤ). days_to slgs.settle day) (sym (same refl)) in
+        interest-at-most face slgs.rate.0 (days_to slgs.settle slgs.maturity) (basis_of slgs.settle slgs.maturity) 100_000 f r
+        (basis-some slgs.settle slgs.maturity) (omega (arith, signed_arith, e, term, p.early, basis-least slgs.settle slgs.maturity)) (omega arith)
+    at kind.Note same = long (int_lt slgs.settle (before_first slgs)) refl
+    at kind.Bond same = long (int_lt slgs.settle (before_first slgs)) refl
+
+payment-small : (slgs : Slgs) (face : ℕ) → face ≤ 10 ^ 11 → slgs.rate.0 ≤ 30_000 → first_interest slgs face ≤ 10 ^ 11
+    → (day : ℤ) → interest_on slgs face day + principal_on slgs face day ≤ 2 * 10 ^ 11
+payment-small slgs face f r first day =
+    let later = near-at-most (face * slgs.rate.0) 200_000 (10 ^ 11) (omega arith) (omega (arith, mul-le-mul f r)) in
+    let interest = choice-most (int_eq day slgs.first) (first_interest slgs face) (half_year_interest slgs face) (10 ^ 11) first later in
+    let principal = choice-most (int_eq day slgs.maturity) face 0 (10 ^ 11) f (omega arith) in
+    sum_at_most _ _ interest principal
+  where
+    sum_at_most : (m n : ℕ) → m ≤ 10 ^ 11 → n ≤ 10 ^ 11 → m + n ≤ 2 * 10 ^ 11
+    sum_at_most m n a b = omega arith
+
+pub payments-small : (slgs : Slgs) (face : ℕ) → IsPaid slgs → (slgs.kind ≡ kind.Certificate → slgs.first ≡ slgs.maturity) → face ≤ 10 ^ 11 → slgs.rate.0 ≤ 30_000
+    → AreSmall (payments_of slgs face)
+unfolding payments_of
+payments-small slgs face p same f r =
+    All-map (λ (flow : Flow). flow.cents.0 ≤ 2 * 10 ^ 11) (payment_on slgs face) (payment_dates slgs)
+    (λ k d lt. payment-small slgs face f r (first-small slgs face p same f r) (get_or (payment_dates slgs) k d))

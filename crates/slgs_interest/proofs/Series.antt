@@ -16,6 +16,7 @@ use Rattle.escrow_units.specs.declared.security.SlgsKind.TheVariants as kind
 use Rattle.escrow_units.specs.declared.security.StepRule.TheVariants as rule
 use Rattle.escrow_units.proofs.SeriesFacts.{half_back_of-start, half_back_of-falls, half_back_of-steps, years_after_of-none}
 use Rattle.escrow_units.proofs.YearFacts.{years_after_of-passes, settlement-base}
+use Rattle.slgs_interest.specs.PaymentLaws.{IsLatestBefore}
 use Rattle.slgs_interest.specs.Payments.{series_dates, payment_dates, before_first, second_before_first}
 
 -- tests of signed numbers
@@ -310,3 +311,22 @@ certificate-first slgs terms e = at slgs.kind e terms.first
     at kind.Certificate e first = first
     at kind.Note e first = cc e
     at kind.Bond e first = cc e
+
+latest-before : (maturity day date : ℤ) (k : ℕ) → IsBaseDay maturity → k < 84 → day ≡ half_back_of maturity k rule.SameDay
+    → date ≡ half_back_of maturity (k + 1) rule.SameDay → IsLatestBefore maturity day date
+latest-before maturity day date k h few e f = record {
+  series = record { steps = k + 1; few = omega arith; back = f };
+  before = omega (arith, signed_arith, e, f, half_back_of-falls maturity rule.SameDay k (k + 1) h (omega arith) (omega arith));
+  latest = λ other series less.
+      let more = fewer-steps maturity k series.steps h (omega arith) (omega (arith, signed_arith, e, series.back, less)) in
+      omega (arith, signed_arith, f, series.back, half_back_of-order maturity (k + 1) series.steps h (omega arith) series.few);
+}
+
+pub dates-before : (slgs : Slgs) → IsSettlement slgs.settle → IsSlgs slgs
+    → IsLatestBefore slgs.maturity slgs.first (before_first slgs) × IsLatestBefore slgs.maturity (before_first slgs) (second_before_first slgs)
+dates-before slgs h terms =
+    let p = paid slgs h terms in
+    let at = λ (n : ℕ). half_back_of slgs.maturity n rule.SameDay in (
+      latest-before slgs.maturity slgs.first (before_first slgs) p.steps p.base (omega (arith, p.few)) p.first (ap at p.count),
+      latest-before slgs.maturity (before_first slgs) (second_before_first slgs) (p.steps + 1) p.base (omega (arith, p.few)) (ap at p.count) (ap (λ n. at (n + 1)) p.count),
+    )

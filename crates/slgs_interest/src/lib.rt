@@ -3,8 +3,10 @@
 
 mod flows;
 mod interest;
+mod laws;
 mod leap_day;
 #[cfg(test)]
 mod tests;
 
 pub use flows::payments;
+pub use laws::interest_laws;

@@ -1,7 +1,7 @@
 use Rattle.std.proofs.Common.{◌∙◌, sym, subst}
-use Rattle.slgs_interest.specs.PaymentLaws.{AreWithinTerm, EndsOn, PayEqualInterest, PayFaceAlone, PayPrincipalOnce, Rise}
-use Rattle.slgs_interest.proofs.PaymentFacts.{payments-are, payments-rise, payments-end, payments-within, payments-principal, payments-face, payments-equal}
-use Rattle.slgs_interest.proofs.Series.{paid}
+use Rattle.slgs_interest.specs.PaymentLaws.{AreSmall, AreWithinTerm, EndsOn, PayEqualInterest, PayFaceAlone, PayPrincipalOnce, Rise}
+use Rattle.slgs_interest.proofs.PaymentFacts.{payments-are, payments-rise, payments-end, payments-within, payments-small, payments-principal, payments-face, payments-equal}
+use Rattle.slgs_interest.proofs.Series.{paid, certificate-first}
 use Rattle.slgs_interest.proofs.flows.payments.Goals as goal
 
 pub returns-clause-payments : goal.returns-clause-payments
@@ -32,3 +32,8 @@ returns-clause-face_alone c =
 pub returns-clause-equal_interest : goal.returns-clause-equal_interest
 returns-clause-equal_interest c =
     subst (PayEqualInterest c.args.slgs.now c.args.face.0) (sym (returns-clause-payments c)) (payments-equal c.args.slgs.now c.args.face.0 (paid c.args.slgs.now c.requires.settlement c.requires.terms))
+
+pub returns-clause-small : goal.returns-clause-small
+returns-clause-small c =
+    subst AreSmall (sym (returns-clause-payments c))
+    (payments-small c.args.slgs.now c.args.face.0 (paid c.args.slgs.now c.requires.settlement c.requires.terms) (certificate-first c.args.slgs.now c.requires.terms) c.requires.face c.requires.rate)
