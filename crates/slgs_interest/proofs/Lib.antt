@@ -1,0 +1,4 @@
+pub mod Amounts
+pub mod LeapDays
+pub mod PaymentFacts
+pub mod Series

@@ -1,0 +1,39 @@
+use Rattle.std.proofs.Common.{◌∙◌, sym, subst}
+use Rattle.slgs_interest.specs.PaymentLaws.{AreSmall, AreWithinTerm, EndsOn, PayEqualInterest, PayFaceAlone, PayPrincipalOnce, Rise}
+use Rattle.slgs_interest.proofs.PaymentFacts.{payments-are, payments-rise, payments-end, payments-within, payments-small, payments-principal, payments-face, payments-equal}
+use Rattle.slgs_interest.proofs.Series.{paid, certificate-first}
+use Rattle.slgs_interest.proofs.flows.payments.Goals as goal
+
+pub returns-clause-payments : goal.returns-clause-payments
+returns-clause-payments c =
+    payments-are c.args.slgs.now c.args.face.0 c.loop-date.flows.items c.loop-date.date-index c.as_slice-date-items.result.now c.loop-date.invariant
+    c.loop-date-test.false (c.as_slice-date-items.ensures.value ∙ c.dates_of-dates.ensures)
+
+pub returns-clause-rise : goal.returns-clause-rise
+returns-clause-rise c =
+    subst Rise (sym (returns-clause-payments c)) (payments-rise c.args.slgs.now c.args.face.0 (paid c.args.slgs.now c.requires.settlement c.requires.terms))
+
+pub returns-clause-end_at_maturity : goal.returns-clause-end_at_maturity
+returns-clause-end_at_maturity c =
+    subst (EndsOn c.args.slgs.now.maturity) (sym (returns-clause-payments c)) (payments-end c.args.slgs.now c.args.face.0 (paid c.args.slgs.now c.requires.settlement c.requires.terms))
+
+pub returns-clause-within_term : goal.returns-clause-within_term
+returns-clause-within_term c =
+    subst (AreWithinTerm c.args.slgs.now) (sym (returns-clause-payments c)) (payments-within c.args.slgs.now c.args.face.0 (paid c.args.slgs.now c.requires.settlement c.requires.terms))
+
+pub returns-clause-principal_once : goal.returns-clause-principal_once
+returns-clause-principal_once c =
+    subst (PayPrincipalOnce c.args.slgs.now c.args.face.0) (sym (returns-clause-payments c)) (payments-principal c.args.slgs.now c.args.face.0 (paid c.args.slgs.now c.requires.settlement c.requires.terms))
+
+pub returns-clause-face_alone : goal.returns-clause-face_alone
+returns-clause-face_alone c =
+    subst (PayFaceAlone c.args.slgs.now c.args.face.0) (sym (returns-clause-payments c)) (payments-face c.args.slgs.now c.args.face.0 (paid c.args.slgs.now c.requires.settlement c.requires.terms))
+
+pub returns-clause-equal_interest : goal.returns-clause-equal_interest
+returns-clause-equal_interest c =
+    subst (PayEqualInterest c.args.slgs.now c.args.face.0) (sym (returns-clause-payments c)) (payments-equal c.args.slgs.now c.args.face.0 (paid c.args.slgs.now c.requires.settlement c.requires.terms))
+
+pub returns-clause-small : goal.returns-clause-small
+returns-clause-small c =
+    subst AreSmall (sym (returns-clause-payments c))
+    (payments-small c.args.slgs.now c.args.face.0 (paid c.args.slgs.now c.requires.settlement c.requires.terms) (certificate-first c.args.slgs.now c.requires.terms) c.requires.face c.requires.rate)

@@ -1,0 +1,68 @@
+-- What the payments of a SLGS security are, in the terms of bonds.
+use Rattle.std.specs.Prelude.{◌≡◌, ◌↔◌, ℕ, ◌+◌, ◌*◌, ◌^◌, ◌≤◌, IsTrue, List, [], ◌∷◌, ◌++◌, All, AllPairs, sum_by, ℤ, ◌≤ℤ◌, ◌<ℤ◌}
+use Rattle.escrow_units.specs.Calendar.{IsSeriesDate}
+use Rattle.escrow_units.specs.SlgsTerms.{IsSettlement, IsSlgs}
+use Rattle.escrow_units.specs.declared.security.Flow.{Flow}
+use Rattle.escrow_units.specs.declared.security.Slgs.{Slgs}
+use Rattle.escrow_units.specs.declared.security.SlgsKind.TheVariants as kind
+use Rattle.escrow_units.specs.declared.security.StepRule.TheVariants as rule
+use Rattle.slgs_interest.specs.Payments.{basis_of, before_first, half_year_interest, interest_on, is_leap_day, principal_on, second_before_first}
+
+-- each payment falls before each later one
+abbrev pub Rise : List Flow → Type 0
+Rise flows = AllPairs (λ earlier later. earlier.day <ℤ later.day) flows
+
+-- the last payment falls on a day
+pub record EndsOn (day : ℤ) (flows : List Flow) : Type 0 where
+  pub before : List Flow
+  pub last : Flow
+  pub order : flows ≡ before ++ last ∷ []
+  pub falls : last.day ≡ day
+
+-- all payments come after settlement, and none after maturity
+abbrev pub AreWithinTerm : Slgs → List Flow → Type 0
+AreWithinTerm slgs flows = All (λ flow. (slgs.settle <ℤ flow.day) × (flow.day ≤ℤ slgs.maturity)) flows
+
+-- the payments are the principal, once, and the interest
+abbrev pub PayPrincipalOnce : Slgs → ℕ → List Flow → Type 0
+PayPrincipalOnce slgs face flows =
+    sum_by (λ flow. flow.cents.0) flows ≡ face + sum_by (λ flow. interest_on slgs face flow.day) flows
+
+-- without interest they are the principal
+abbrev pub PayFaceAlone : Slgs → ℕ → List Flow → Type 0
+PayFaceAlone slgs face flows = slgs.rate.0 ≡ 0 → sum_by (λ flow. flow.cents.0) flows ≡ face
+
+-- a note or bond that settles on the date of its series before the first payment pays the same interest each time
+abbrev pub PayEqualInterest : Slgs → ℕ → List Flow → Type 0
+PayEqualInterest slgs face flows =
+    ¬ (slgs.kind ≡ kind.Certificate) → slgs.settle ≡ before_first slgs
+    → All (λ flow. flow.cents.0 ≡ half_year_interest slgs face + principal_on slgs face flow.day) flows
+
+-- no payment of a permitted face is above 2 billion dollars
+abbrev pub AreSmall : List Flow → Type 0
+AreSmall flows = All (λ flow. flow.cents.0 ≤ 2 * 10 ^ 11) flows
+
+-- the latest date of the series before a day
+pub record IsLatestBefore (maturity day date : ℤ) : Type 0 where
+  pub series : IsSeriesDate maturity rule.SameDay date
+  pub before : date <ℤ day
+  pub latest : (other : ℤ) → IsSeriesDate maturity rule.SameDay other → other <ℤ day → other ≤ℤ date
+
+-- the two dates that the first interest is counted by
+abbrev pub DatesBeforeFirst : Type 0
+DatesBeforeFirst =
+    (slgs : Slgs) → IsSettlement slgs.settle → IsSlgs slgs
+    → IsLatestBefore slgs.maturity slgs.first (before_first slgs)
+    × IsLatestBefore slgs.maturity (before_first slgs) (second_before_first slgs)
+
+-- a 29 February after one day and not after another
+pub record IsLeapDayBetween (after last day : ℤ) : Type 0 where
+  pub late : after <ℤ day
+  pub early : day ≤ℤ last
+  pub leap : IsTrue (is_leap_day day)
+
+-- the basis is 366 exactly where there is one
+abbrev pub BasisCountsLeapDays : Type 0
+BasisCountsLeapDays =
+    (settle maturity : ℤ) → settle ≤ℤ maturity
+    → (basis_of settle maturity ≡ 366) ↔ ((day : ℤ) × IsLeapDayBetween settle maturity day)

@@ -1,0 +1,88 @@
+-- The payments of SLGS time deposit securities. Kinds and semiannual interest are those of 31 CFR part 344; the basis of a
+-- certificate, the interest of short and long first periods and the rounding of each payment are this project's own.
+use Rattle.std.specs.Prelude.{ℕ, zero, suc, ◌+◌, ◌*◌, ◌==◌, Bool, false, ◌&&◌, ◌||◌, if◌then◌else◌, List, [], ◌∷◌, map, filter, length, ℤ, pos, ◌+ℤ◌, ◌-ℤ◌, int_lt, int_le, unsigned_abs}
+use Rattle.std.specs.Ordering.{int_eq}
+use Rattle.escrow_units.specs.Calendar.{date_of, half_back_of}
+use Rattle.escrow_units.specs.Rounding.{near}
+use Rattle.escrow_units.specs.declared.security.Flow.{Flow}
+use Rattle.escrow_units.specs.declared.security.Slgs.{Slgs}
+use Rattle.escrow_units.specs.declared.security.SlgsKind.{SlgsKind}
+use Rattle.escrow_units.specs.declared.security.SlgsKind.TheVariants as kind
+use Rattle.escrow_units.specs.declared.security.StepRule.TheVariants as rule
+
+-- the days from one day to a later one
+abbrev pub days_to : ℤ → ℤ → ℕ
+days_to from to = unsigned_abs (to -ℤ from)
+
+abbrev pub is_leap_day : ℤ → Bool
+is_leap_day day = ((date_of day).month == 2) && ((date_of day).day == 29)
+
+-- whether a 29 February is among so many days after a day
+unfoldable pub has_leap_day : ℤ → ℕ → Bool
+has_leap_day day zero = false
+has_leap_day day (suc n) = is_leap_day (day +ℤ pos (n + 1)) || has_leap_day day n
+
+-- the days of a certificate's year: 366 where a 29 February lies after settlement and not after maturity
+abbrev pub basis_of : ℤ → ℤ → ℕ
+basis_of settle maturity = if has_leap_day settle (days_to settle maturity) then 366 else 365
+
+-- the dates of the series from so many half-years before maturity on, in order
+unfoldable pub series_dates : ℤ → ℕ → List ℤ
+series_dates maturity zero = half_back_of maturity 0 rule.SameDay ∷ []
+series_dates maturity (suc k) = half_back_of maturity (k + 1) rule.SameDay ∷ series_dates maturity k
+
+-- a security pays on the dates of its series that are not before its first payment date
+unfoldable pub payment_dates : Slgs → List ℤ
+payment_dates slgs = filter (λ date. int_le slgs.first date) (series_dates slgs.maturity 84)
+
+-- the date of the series before the first payment, and the one before that
+abbrev pub before_first : Slgs → ℤ
+before_first slgs = half_back_of slgs.maturity (length (payment_dates slgs)) rule.SameDay
+
+abbrev pub second_before_first : Slgs → ℤ
+second_before_first slgs = half_back_of slgs.maturity (length (payment_dates slgs) + 1) rule.SameDay
+
+-- a certificate's interest, by days of a year of 365 or 366 days
+abbrev pub certificate_interest : Slgs → ℕ → ℕ
+certificate_interest slgs face =
+    near (face * slgs.rate.0 * days_to slgs.settle slgs.maturity) (100_000 * basis_of slgs.settle slgs.maturity)
+
+-- the interest to a first payment date, where `before` is the date of the series before it and `second` the one before that:
+-- a short period earns its days of a half-year, and a long one a half-year and its days of the half-year before that
+abbrev pub interest_to : ℕ → ℕ → ℤ → ℤ → ℤ → ℤ → ℕ
+interest_to face rate settle first before second =
+    if int_lt settle before
+    then near (face * rate * (days_to second before + days_to settle before)) (200_000 * days_to second before)
+    else near (face * rate * days_to settle first) (200_000 * days_to before first)
+
+-- the first interest of a note or bond
+abbrev pub first_period_interest : Slgs → ℕ → ℕ
+first_period_interest slgs face =
+    interest_to face slgs.rate.0 slgs.settle slgs.first (before_first slgs) (second_before_first slgs)
+
+abbrev pub first_interest_of_kind : SlgsKind → Slgs → ℕ → ℕ
+first_interest_of_kind kind.Certificate slgs face = certificate_interest slgs face
+first_interest_of_kind kind.Note slgs face = first_period_interest slgs face
+first_interest_of_kind kind.Bond slgs face = first_period_interest slgs face
+
+-- the interest of the first payment
+unfoldable pub first_interest : Slgs → ℕ → ℕ
+first_interest slgs face = first_interest_of_kind slgs.kind slgs face
+
+-- the interest of a half-year, half the rate
+abbrev pub half_year_interest : Slgs → ℕ → ℕ
+half_year_interest slgs face = near (face * slgs.rate.0) 200_000
+
+abbrev pub interest_on : Slgs → ℕ → ℤ → ℕ
+interest_on slgs face day = if int_eq day slgs.first then first_interest slgs face else half_year_interest slgs face
+
+-- the face is paid at maturity
+abbrev pub principal_on : Slgs → ℕ → ℤ → ℕ
+principal_on slgs face day = if int_eq day slgs.maturity then face else 0
+
+abbrev pub payment_on : Slgs → ℕ → ℤ → Flow
+payment_on slgs face day = record { day = day; cents = record { 0 = interest_on slgs face day + principal_on slgs face day } }
+
+-- what a face of so many cents pays, in order of date
+unfoldable pub payments_of : Slgs → ℕ → List Flow
+payments_of slgs face = map (payment_on slgs face) (payment_dates slgs)

@@ -1,0 +1,182 @@
+ghost use Rattle.std.specs.Prelude.{◌≡◌, ◌≤◌, IfSome};
+ghost use Rattle.escrow_units.specs.Calendar.{IsBaseDay};
+ghost use Rattle.escrow_units.specs.SlgsTerms.{IsSettlement, IsSlgs};
+
+use crate::flows::payments;
+use arrayvec::ArrayVec;
+use escrow_units::{Cents, Day, Flow, Rate, Slgs, SlgsKind, StepRule, half_back, years_after};
+
+// A payment by its day number and cents.
+#[derive(Clone, Copy)]
+struct Paid {
+    day: i32,
+    cents: u64,
+}
+
+fn are_paid(flows: &ArrayVec<Flow, 84>, rows: &[Paid]) -> bool {
+    flows.len() == rows.len()
+        && flows.as_slice().iter().zip(rows).all(|(flow, row)| flow.day.number() == row.day
+            && flow.cents.0 == row.cents)
+}
+
+// A certificate at 4 percent.
+fn certificate(settle: Day, maturity: Day) -> Option<Slgs>
+    requires { IsSettlement settle }
+    ensures settlement { IfSome result (λ slgs. IsSettlement slgs.settle) }
+    ensures terms { IfSome result IsSlgs }
+    ensures rate { IfSome result (λ slgs. slgs.rate.0 ≤ 30_000) }
+{
+    if maturity.number() < settle.number() + 30 {
+        return None;
+    }
+    if maturity > years_after(settle, 1) {
+        return None;
+    }
+    if maturity > years_after(settle, 40) {
+        return None;
+    }
+    Some(Slgs {
+        settle,
+        maturity,
+        rate: Rate(4000),
+        kind: SlgsKind::Certificate,
+        first: maturity,
+    })
+}
+
+// A note at 4 percent that first pays so many half-years before maturity.
+fn note(settle: Day, maturity: Day, steps: u32) -> Option<Slgs>
+    requires settlement { IsSettlement settle }
+    requires base { IsBaseDay maturity }
+    requires few { steps ≤ 84 }
+    ensures settlement { IfSome result (λ slgs. IsSettlement slgs.settle) }
+    ensures terms { IfSome result IsSlgs }
+    ensures rate { IfSome result (λ slgs. slgs.rate.0 ≤ 30_000) }
+{
+    let first = half_back(maturity, steps, StepRule::SameDay);
+    if first.number() < settle.number() + 30 {
+        return None;
+    }
+    if first > years_after(settle, 1) {
+        return None;
+    }
+    if maturity <= years_after(settle, 1) {
+        return None;
+    }
+    if maturity > years_after(settle, 10) {
+        return None;
+    }
+    Some(Slgs {
+        settle,
+        maturity,
+        rate: Rate(4000),
+        kind: SlgsKind::Note,
+        first,
+    })
+}
+
+// Settled on 2025-01-15 and 2024-01-15, for 90 days.
+#[test]
+fn pays_certificates(rt: HostRuntime) {
+    let face = Cents(10_000_000);
+    let plain = [Paid {
+        day: 20193,
+        cents: 10_098_630,
+    }];
+    let leap = [Paid {
+        day: 19827,
+        cents: 10_098_361,
+    }];
+    match certificate(Day::new(20103), Day::new(20193)) {
+        Some(slgs) => assert!(rt; are_paid(&payments(&slgs, face), &plain)),
+        None => assert!(rt; false),
+    }
+    match certificate(Day::new(19737), Day::new(19827)) {
+        Some(slgs) => assert!(rt; are_paid(&payments(&slgs, face), &leap)),
+        None => assert!(rt; false),
+    }
+}
+
+// The first payment 90 days after settlement, in a half-year of 182 days, and on the earliest date.
+#[test]
+fn pays_short_first_periods(rt: HostRuntime) {
+    let face = Cents(10_000_000);
+    let early = [
+        Paid {
+            day: 20193,
+            cents: 98_901,
+        },
+        Paid {
+            day: 20376,
+            cents: 200_000,
+        },
+        Paid {
+            day: 20558,
+            cents: 10_200_000,
+        },
+    ];
+    match note(Day::new(20103), Day::new(20558), 2) {
+        Some(slgs) => assert!(rt; are_paid(&payments(&slgs, face), &early)),
+        None => assert!(rt; false),
+    }
+}
+
+// The first payment a year after settlement; a day more than a half-year; and over the end of February.
+#[test]
+fn pays_long_first_periods(rt: HostRuntime) {
+    let face = Cents(10_000_000);
+    let year = [
+        Paid {
+            day: 20468,
+            cents: 400_000,
+        },
+        Paid {
+            day: 20649,
+            cents: 200_000,
+        },
+        Paid {
+            day: 20833,
+            cents: 10_200_000,
+        },
+    ];
+    let found = [
+        Paid {
+            day: 20285,
+            cents: 201_087,
+        },
+        Paid {
+            day: 20469,
+            cents: 10_200_000,
+        },
+    ];
+    let february = [
+        Paid {
+            day: 20147,
+            cents: 401_087,
+        },
+        Paid {
+            day: 20331,
+            cents: 200_000,
+        },
+        Paid {
+            day: 20512,
+            cents: 200_000,
+        },
+        Paid {
+            day: 20696,
+            cents: 10_200_000,
+        },
+    ];
+    match note(Day::new(20103), Day::new(20833), 2) {
+        Some(slgs) => assert!(rt; are_paid(&payments(&slgs, face), &year)),
+        None => assert!(rt; false),
+    }
+    match note(Day::new(20103), Day::new(20469), 1) {
+        Some(slgs) => assert!(rt; are_paid(&payments(&slgs, face), &found)),
+        None => assert!(rt; false),
+    }
+    match note(Day::new(19781), Day::new(20696), 3) {
+        Some(slgs) => assert!(rt; are_paid(&payments(&slgs, face), &february)),
+        None => assert!(rt; false),
+    }
+}
