@@ -5,6 +5,7 @@ mod draft;
 mod fields;
 mod lookup;
 mod overlap;
+mod read;
 mod row;
 mod table;
 

@@ -3,19 +3,18 @@ ghost use Rattle.std.specs.List.{list_any};
 ghost use Rattle.rate_table.specs.RangeIndex.{IsDraft, IsLatest, HasNoneBy};
 ghost use Rattle.rate_table.specs.Table.{meets};
 
-use crate::draft::{Draft, Ends};
+use crate::draft::Draft;
 use crate::table::RateRange;
 use std::collections::BTreeMap;
 
-// The ends whose first day is the latest up to this day.
-fn latest_by(last_days: &BTreeMap<i32, i32>, day: i32) -> Option<Ends>
-    ensures { MatchOption result (HasNoneBy last_days.now day) (IsLatest last_days.now day) }
+// The range at the latest first day up to this day.
+fn latest_by(by_first: &BTreeMap<i32, RateRange>, day: i32) -> Option<RateRange>
+    ensures { MatchOption result (HasNoneBy by_first.now day) (IsLatest by_first.now day) }
 {
-    let (from, to) = last_days.range(..=day).next_back()?;
-    Some(Ends {
-        from: *from,
-        to: *to,
-    })
+    match by_first.range(..=day).next_back() {
+        Some((_, range)) => Some(*range),
+        None => None,
+    }
 }
 
 /// Whether a range has a day in common with an earlier one.
@@ -26,8 +25,8 @@ pub(crate) fn overlaps(draft: &Draft, range: &RateRange) -> bool
     requires { IsDraft draft.now }
     ensures { result ≡ list_any (meets range.now) draft.now.ranges.items }
 {
-    match latest_by(&draft.last_days, range.to.number()) {
-        Some(ends) => range.from.number() <= ends.to,
+    match latest_by(&draft.by_first, range.to.number()) {
+        Some(latest) => range.from <= latest.to,
         None => false,
     }
 }
