@@ -1,1 +1,2 @@
+pub mod IndexFacts
 pub mod OverlapFacts

@@ -47,7 +47,7 @@ absurd-option e = cc
 IsSome-Some : {A : Type 0} {o : Option A} {x : A} → o ≡ Some x → IsSome o
 IsSome-Some e = rw e (search rules)
 
-meets-true : (a b : RateRange) → a.from ≤ℤ b.to → b.from ≤ℤ a.to → meets a b ≡ true
+pub meets-true : (a b : RateRange) → a.from ≤ℤ b.to → b.from ≤ℤ a.to → meets a b ≡ true
 meets-true a b h k = grind (arith, ints)
 
 meets-false : (a b : RateRange) → (a.from ≤ℤ b.to → b.from ≤ℤ a.to → ⊥) → meets a b ≡ false

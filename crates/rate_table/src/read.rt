@@ -1,9 +1,9 @@
-ghost use Rattle.std.specs.Prelude.{◌≡◌, ◌<◌, ◌+◌, ◌^◌, [], ◌∷◌, ◌++◌, Some, Ok, false, length, slice_index_or, IfOk, OnOk};
+ghost use Rattle.std.specs.Prelude.{◌≡◌, ◌<◌, ◌+◌, ◌^◌, [], ◌∷◌, ◌++◌, Some, Ok, false, All, length, slice_index_or, IfOk, OnOk};
 ghost use Rattle.std.specs.List.{list_any};
 ghost use Rattle.std.specs.Result.{result_and};
 ghost use Rattle.escrow_units.specs.Denomination.{AreTerms};
 ghost use Rattle.rate_table.specs.RateForm.{Answers, at_row as answer_at_row, bare_file, rate_file_of, with_row, with_rows};
-ghost use Rattle.rate_table.specs.RangeIndex.{IsDraft, draft_file};
+ghost use Rattle.rate_table.specs.RangeIndex.{IsDraft, IsIndex, draft_file};
 ghost use Rattle.rate_table.specs.Table.{IsRateFile, IsRange, IsOffer, meets};
 
 use crate::draft::Draft;
@@ -45,27 +45,27 @@ fn new_draft(alloc: Global, terms: Terms) -> Draft
 }
 
 // One more range, which has no day in common with an earlier one.
-fn push_range(draft: &mut Draft, range: RateRange) -> Result<(), NoMemory>
-    requires draft { IsDraft draft.old }
-    requires range { IsRange range }
-    requires apart { list_any (meets range) draft.old.ranges.items ≡ false }
-    ensures terms { draft.new.terms ≡ draft.old.terms }
-    ensures offers { draft.new.offers.items ≡ draft.old.offers.items }
-    ensures ranges { OnOk result (draft.new.ranges.items ≡ draft.old.ranges.items ++ range ∷ []) }
-    ensures kept { OnOk result (IsDraft draft.new) }
+fn push_range(
+    ranges: &mut Vec<RateRange>,
+    by_first: &mut BTreeMap<i32, RateRange>,
+    range: &RateRange,
+) -> Result<(), NoMemory>
+    requires index { IsIndex ranges.old.items by_first.old }
+    requires order { All IsRange ranges.old.items }
+    requires range { IsRange range.now }
+    requires apart { list_any (meets range.now) ranges.old.items ≡ false }
+    ensures ranges { OnOk result (ranges.new.items ≡ ranges.old.items ++ range.now ∷ []) }
+    ensures index { OnOk result (IsIndex ranges.new.items by_first.new) }
 {
-    draft.ranges.push(range)?;
-    draft.by_first.insert(range.from.number(), range)?;
+    ranges.push(*range)?;
+    by_first.insert(range.from.number(), *range)?;
     Ok(())
 }
 
 // One more offer.
-fn push_offer(draft: &mut Draft, offer: Offer) -> Result<(), NoMemory>
-    requires draft { IsDraft draft.old }
-    requires offer { IsOffer draft.old.terms offer }
-    ensures file { OnOk result (draft_file draft.new ≡ record (draft_file draft.old) { offers = draft.old.offers.items ++ offer ∷ [] }) }
-    ensures kept { OnOk result (IsDraft draft.new) }
+fn push_offer(offers: &mut Vec<Offer>, offer: &Offer) -> Result<(), NoMemory>
+    ensures { OnOk result (offers.new.items ≡ offers.old.items ++ offer.now ∷ []) }
 {
-    draft.offers.push(offer)?;
+    offers.push(Offer { ..*offer })?;
     Ok(())
 }
