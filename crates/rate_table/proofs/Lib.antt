@@ -1,2 +1,3 @@
+pub mod FileFacts
 pub mod IndexFacts
 pub mod OverlapFacts

@@ -53,7 +53,7 @@ meets-true a b h k = grind (arith, ints)
 meets-false : (a b : RateRange) → (a.from ≤ℤ b.to → b.from ≤ℤ a.to → ⊥) → meets a b ≡ false
 meets-false a b h = grind (arith, ints)
 
-meets-sym : (a b : RateRange) → meets a b ≡ false → meets b a ≡ false
+pub meets-sym : (a b : RateRange) → meets a b ≡ false → meets b a ≡ false
 meets-sym a b h = meets-false b a (λ k l. grind (arith, ints, h))
 
 apart-at : (ranges : List RateRange) (i j : ℕ) (a b d : RateRange) → AreApart ranges → i < length ranges → j < length ranges → get_or ranges i d ≡ a → get_or ranges j d ≡ b → (a ≡ b → ⊥) → meets a b ≡ false

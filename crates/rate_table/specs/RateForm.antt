@@ -17,6 +17,8 @@ use Rattle.escrow_units.specs.declared.fault.NumberFault.TheVariants as fault
 use Rattle.escrow_units.specs.declared.security.AskedRate.{AskedRate}
 use Rattle.escrow_units.specs.declared.security.AskedRate.TheVariants.{Max, At}
 use Rattle.escrow_units.specs.declared.security.Terms.{Terms}
+use Rattle.rate_table.specs.declared.fields.RowKind.{RowKind}
+use Rattle.rate_table.specs.declared.fields.RowKind.TheVariants as row_kind
 use Rattle.rate_table.specs.declared.table.RateRange.{RateRange}
 use Rattle.rate_table.specs.declared.table.Offer.{Offer}
 use Rattle.rate_table.specs.declared.table.RateFile.{RateFile}
@@ -104,25 +106,45 @@ offer_row terms number row = of_width 5 row (do
   cap ← or_refused (cap_of terms (field_of row 4))
   Ok (record { row = number; maturity = maturity; rate = rate; first = first; cap = cap }))
 
--- one more range, which has no day in common with an earlier one
+-- what a row is, by its first field
+abbrev pub kind_of_row : List ℕ → Option RowKind
+kind_of_row word =
+    if is_word (codes "terms") word then Some row_kind.Terms else
+    (if is_word (codes "rate") word then Some row_kind.Range else
+    (if is_word (codes "offer") word then Some row_kind.Offer else None))
+
+-- a second `terms` row
+abbrev pub repeated_terms : Row → Result RateFile RefusalKind
+repeated_terms row = do
+  _ ← terms_row row
+  Err kind.Repeated
+
+-- a file with one more range, which has no day in common with an earlier one
 abbrev pub with_range : RateFile → RateRange → Result RateFile RefusalKind
 with_range file range =
     if list_any (meets range) file.ranges then Err kind.Overlap
     else Ok (record file { ranges = file.ranges ++ range ∷ [] })
 
--- what one more row adds to a file; its terms are those of row 1, and stand once
+abbrev pub with_range_row : RateFile → Row → Result RateFile RefusalKind
+with_range_row file row = do
+  range ← range_row row
+  with_range file range
+
+-- a file with one more offer
+abbrev pub with_offer_row : Terms → RateFile → ℕ → Row → Result RateFile RefusalKind
+with_offer_row terms file number row = do
+  offer ← offer_row terms number row
+  Ok (record file { offers = file.offers ++ offer ∷ [] })
+
+-- a file with one more row, by the row's number; its terms are those of row 1, and stand once
+abbrev pub with_row_of : Option RowKind → Terms → RateFile → ℕ → Row → Result RateFile RefusalKind
+with_row_of (Some row_kind.Terms) terms file number row = repeated_terms row
+with_row_of (Some row_kind.Range) terms file number row = with_range_row file row
+with_row_of (Some row_kind.Offer) terms file number row = with_offer_row terms file number row
+with_row_of None terms file number row = Err kind.UnknownRow
+
 abbrev pub with_row : Terms → RateFile → ℕ → Row → Result RateFile RefusalKind
-with_row terms file number row =
-    if is_word (codes "terms") (field_of row 0) then (do
-      _ ← terms_row row
-      Err kind.Repeated)
-    else (if is_word (codes "rate") (field_of row 0) then (do
-      range ← range_row row
-      with_range file range)
-    else (if is_word (codes "offer") (field_of row 0) then (do
-      offer ← offer_row terms number row
-      Ok (record file { offers = file.offers ++ offer ∷ [] }))
-    else Err kind.UnknownRow))
+with_row terms file number row = with_row_of (kind_of_row (field_of row 0)) terms file number row
 
 -- row 1 is `terms`
 abbrev pub first_row : Row → Result Terms RefusalKind

@@ -1,6 +1,6 @@
 ghost use Rattle.std.specs.Prelude.{◌≡◌, ◌<◌, [], length, slice_index_or, IfOk, IfSome};
 ghost use Rattle.escrow_units.specs.DateText.{IsFieldDay};
-ghost use Rattle.rate_table.specs.RateForm.{field_of, kind_of, day_field as day_of_field, hundredths_field as hundredths_of_field, asked_field as asked_of_field, optional_day_field as optional_day_of_field};
+ghost use Rattle.rate_table.specs.RateForm.{field_of, kind_of, kind_of_row, day_field as day_of_field, hundredths_field as hundredths_of_field, asked_field as asked_of_field, optional_day_field as optional_day_of_field};
 ghost use Rattle.rate_table.specs.Table.{IsTableRate, IsAsked};
 
 use escrow_desk::{RefusalKind, Rows};
@@ -27,6 +27,32 @@ pub(crate) fn row_word(rows: &Rows, row: u32) -> &[u8]
         return &[];
     }
     rows.field(row, 0)
+}
+
+/// The rows that a rate file has.
+#[derive(Clone, Copy)]
+pub(crate) enum RowKind {
+    /// `terms,MINIMUM,STEP`
+    Terms,
+    /// `rate,FROM,TO,MAXIMUM`
+    Range,
+    /// `offer,MATURITY,RATE,FIRST,CAP`
+    Offer,
+}
+
+/// What a row is, by its first field.
+pub(crate) fn row_kind(word: &[u8]) -> Option<RowKind>
+    ensures { result ≡ kind_of_row word.now }
+{
+    if word == b"terms".as_slice() {
+        Some(RowKind::Terms)
+    } else if word == b"rate".as_slice() {
+        Some(RowKind::Range)
+    } else if word == b"offer".as_slice() {
+        Some(RowKind::Offer)
+    } else {
+        None
+    }
 }
 
 /// A date.

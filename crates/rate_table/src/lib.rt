@@ -10,4 +10,5 @@ mod row;
 mod table;
 
 pub use lookup::maximum;
+pub use read::read_rates;
 pub use table::{Offer, Offers, RateFile, RateRange, RateRanges};
