@@ -28,9 +28,9 @@ same-from_cmp a b h = grind (arith, ints, int_ranked a b (int_cmp a b) refl)
 
 differ-by_cmp : (a b : ℤ) → (b ≡ a → ⊥) → is_eq (int_cmp a b) ≡ false
 differ-by_cmp a b h = elim (cases_Bool (is_eq (int_cmp a b))) [
-      | inl equal ↦ absurd (h (sym (same-from_cmp a b equal)))
-      | inr other_day ↦ other_day
-    ]
+  | inl equal ↦ absurd (h (sym (same-from_cmp a b equal)))
+  | inr other_day ↦ other_day
+]
 
 push-has : (ranges : List RateRange) (m n : BTreeMap ℤ RateRange) (range other : RateRange) → IsIndex ranges m → All IsRange ranges → IsRange range → list_any (meets range) ranges ≡ false → Updates int_cmp m n range.from (Some range) → Contains (ranges ++ range ∷ []) other → get int_cmp n other.from ≡ Some other
 push-has ranges m n range other index in_order good apart updates among =

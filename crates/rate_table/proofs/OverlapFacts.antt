@@ -1,5 +1,5 @@
 -- Ranges by their first days: which one is the latest, and what has a day in common with it.
-use Rattle.std.proofs.Common.{◌≡◌, ◌∙◌, refl, sym, ap, arith, rules, ℕ, ◌<◌, ◌≤◌, ◌+◌, length, List, [], ◌∷◌, ◌++◌, ℤ, ◌≤ℤ◌, ◌<ℤ◌, Bool, true, false, get_or, inl, inr}
+use Rattle.std.proofs.Common.{◌≡◌, ◌∙◌, refl, sym, ap, arith, rules, ℕ, ◌<◌, ◌≤◌, ◌+◌, length, List, [], ◌∷◌, ◌++◌, ℤ, ◌≤ℤ◌, ◌<ℤ◌, Bool, true, false, get_or, ◌⊎◌, inl, inr}
 use Rattle.std.specs.Prelude.{Option, Some, None, IsSome, Contains, All, AllPairs, Any}
 use Rattle.std.specs.List.{list_any}
 use Rattle.std.specs.Ordering.{int_cmp, is_gt, is_lt, is_le}
@@ -56,20 +56,27 @@ meets-false a b h = grind (arith, ints)
 pub meets-sym : (a b : RateRange) → meets a b ≡ false → meets b a ≡ false
 meets-sym a b h = meets-false b a (λ k l. grind (arith, ints, h))
 
-apart-at : (ranges : List RateRange) (i j : ℕ) (a b d : RateRange) → AreApart ranges → i < length ranges → j < length ranges → get_or ranges i d ≡ a → get_or ranges j d ≡ b → (a ≡ b → ⊥) → meets a b ≡ false
-apart-at ranges i j a b d apart i-short j-short a-is b-is differ = 
+-- two ranges of the list are the same or have no day in common
+same_or_apart-at : (ranges : List RateRange) (i j : ℕ) (a b d : RateRange) → AreApart ranges → i < length ranges → j < length ranges → get_or ranges i d ≡ a → get_or ranges j d ≡ b → (a ≡ b) ⊎ (meets a b ≡ false)
+same_or_apart-at ranges i j a b d apart i-short j-short a-is b-is =
     elim (cases_order i j) [
-      | inl same ↦ absurd (differ (sym a-is ∙ ap (λ (k : ℕ). get_or ranges k d) same ∙ b-is))
+      | inl same ↦ inl (sym a-is ∙ ap (λ (k : ℕ). get_or ranges k d) same ∙ b-is)
       | inr order ↦ elim order [
-          | inl below ↦ rw (← a-is, ← b-is) (apart i j d below j-short)
-          | inr above ↦ meets-sym b a (rw (← a-is, ← b-is) (apart j i d above i-short))
-        ]
+        | inl below ↦ inr (rw (← a-is, ← b-is) (apart i j d below j-short))
+        | inr above ↦ inr (meets-sym b a (rw (← a-is, ← b-is) (apart j i d above i-short)))
+      ]
     ]
 
--- two ranges of the list that don't begin on one day
+pub same_or_apart : (ranges : List RateRange) (a b : RateRange) → AreApart ranges → Contains ranges a → Contains ranges b → (a ≡ b) ⊎ (meets a b ≡ false)
+same_or_apart ranges a b apart has-a has-b =
+    same_or_apart-at ranges has-a.0 has-b.0 a b a apart has-a.1 has-b.1 has-a.2 (get_or_default ranges has-b.0 a b has-b.1 ∙ has-b.2)
+
 apart-listed : (ranges : List RateRange) (a b : RateRange) → AreApart ranges → Contains ranges a → Contains ranges b → (a ≡ b → ⊥) → meets a b ≡ false
 apart-listed ranges a b apart has-a has-b differ =
-    apart-at ranges has-a.0 has-b.0 a b a apart has-a.1 has-b.1 has-a.2 (get_or_default ranges has-b.0 a b has-b.1 ∙ has-b.2) differ
+    elim (same_or_apart ranges a b apart has-a has-b) [
+      | inl same ↦ absurd (differ same)
+      | inr none ↦ none
+    ]
 
 -- no range begins by the end of another
 pub overlap-none : (ranges : List RateRange) (m : BTreeMap ℤ RateRange) (range : RateRange) → IsIndex ranges m → HasNoneBy m range.to → list_any (meets range) ranges ≡ false

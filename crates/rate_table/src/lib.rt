@@ -12,3 +12,6 @@ mod table;
 pub use lookup::maximum;
 pub use read::read_rates;
 pub use table::{Offer, Offers, RateFile, RateRange, RateRanges};
+
+#[cfg(test)]
+mod tests;

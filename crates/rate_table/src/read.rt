@@ -102,10 +102,8 @@ fn add_range(draft: &mut Draft, rows: &Rows, row: u32) -> Result<(), CaseError>
     requires row { row < length rows.now }
     requires count { length rows.now < 2 ^ 32 }
     requires draft { IsDraft draft.old }
-    ensures added {
-        Answers (result_and result (Ok (draft_file draft.new)))
-            (answer_at_row (row + 1) (with_range_row (draft_file draft.old) (slice_index_or rows.now row [])))
-    }
+    ensures added { Answers (result_and result (Ok (draft_file draft.new)))
+        (answer_at_row (row + 1) (with_range_row (draft_file draft.old) (slice_index_or rows.now row []))) }
     ensures terms { draft.new.terms ≡ draft.old.terms }
     ensures kept { OnOk result (IsDraft draft.new) }
 {
@@ -122,10 +120,8 @@ fn add_offer(draft: &mut Draft, rows: &Rows, row: u32) -> Result<(), CaseError>
     requires row { row < length rows.now }
     requires count { length rows.now < 2 ^ 32 }
     requires draft { IsDraft draft.old }
-    ensures added {
-        Answers (result_and result (Ok (draft_file draft.new)))
-            (answer_at_row (row + 1) (with_offer_row draft.old.terms (draft_file draft.old) (row + 1) (slice_index_or rows.now row [])))
-    }
+    ensures added { Answers (result_and result (Ok (draft_file draft.new)))
+        (answer_at_row (row + 1) (with_offer_row draft.old.terms (draft_file draft.old) (row + 1) (slice_index_or rows.now row []))) }
     ensures terms { draft.new.terms ≡ draft.old.terms }
     ensures kept { OnOk result (IsDraft draft.new) }
 {
@@ -140,10 +136,8 @@ fn add_row(draft: &mut Draft, rows: &Rows, row: u32) -> Result<(), CaseError>
     requires row { row < length rows.now }
     requires count { length rows.now < 2 ^ 32 }
     requires draft { IsDraft draft.old }
-    ensures added {
-        Answers (result_and result (Ok (draft_file draft.new)))
-            (answer_at_row (row + 1) (with_row draft.old.terms (draft_file draft.old) (row + 1) (slice_index_or rows.now row [])))
-    }
+    ensures added { Answers (result_and result (Ok (draft_file draft.new)))
+        (answer_at_row (row + 1) (with_row draft.old.terms (draft_file draft.old) (row + 1) (slice_index_or rows.now row []))) }
     ensures terms { draft.new.terms ≡ draft.old.terms }
     ensures kept { OnOk result (IsDraft draft.new) }
 {
