@@ -1,20 +1,15 @@
 -- What a file keeps with one more range.
-use Rattle.std.proofs.Common.{◌≡◌, ◌∙◌, refl, sym, ap, arith, ℕ, ◌+◌, ◌<◌, ◌≤◌, length, drop, List, [], ◌∷◌, ◌++◌, Bool, true, false, get_or, inl, inr}
-use Rattle.std.specs.Prelude.{Option, Some, None, Result, Ok, Err, All}
+use Rattle.std.proofs.Common.{◌≡◌, ℕ, ◌<◌, length, List, [], ◌∷◌, ◌++◌, true, false, get_or, inl, inr}
+use Rattle.std.specs.Prelude.{Some}
 use Rattle.std.specs.List.{list_any}
 use Rattle.std.proofs.lemmas.Bool.{cases_Bool}
-use Rattle.std.proofs.lemmas.List.{drop_more, drop_all}
 use Rattle.std.proofs.lemmas.List.Folds.{list_any_at}
 use Rattle.std.proofs.lemmas.List.Elements.{All-push}
 use Rattle.std.proofs.lemmas.List.Quantifiers.{all_pairs_push}
-use Rattle.escrow_desk.specs.declared.refusal.CaseError.{CaseError}
-use Rattle.escrow_desk.specs.declared.refusal.CaseError.TheVariants as error
 use Rattle.escrow_units.specs.declared.security.Terms.{Terms}
 use Rattle.rate_table.specs.declared.table.Offer.{Offer}
-use Rattle.rate_table.specs.declared.table.RateFile.{RateFile}
 use Rattle.rate_table.specs.declared.table.RateRange.{RateRange}
-use Rattle.rate_table.specs.RateForm.{Answers, Row, at_row, with_row, with_rows}
-use Rattle.rate_table.specs.Table.{IsRateFile, IsRange, IsOffer, meets}
+use Rattle.rate_table.specs.Table.{IsRateFile, IsRange, meets}
 use Rattle.rate_table.proofs.OverlapFacts.{meets-sym}
 
 meets-none : (ranges : List RateRange) (range d : RateRange) (k : ℕ) → list_any (meets range) ranges ≡ false → k < length ranges → meets range (get_or ranges k d) ≡ false

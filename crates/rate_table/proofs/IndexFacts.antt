@@ -1,6 +1,6 @@
 -- One more range by its first day.
-use Rattle.std.proofs.Common.{◌≡◌, ◌∙◌, refl, sym, ap, arith, ℕ, ◌<◌, ◌≤◌, length, List, [], ◌∷◌, ◌++◌, ℤ, ◌≤ℤ◌, ◌<ℤ◌, Bool, true, false, get_or, inl, inr, subst}
-use Rattle.std.specs.Prelude.{Option, Some, None, Contains, All}
+use Rattle.std.proofs.Common.{◌≡◌, ◌∙◌, refl, sym, arith, List, [], ◌∷◌, ◌++◌, ℤ, ◌≤ℤ◌, true, false, inl, inr, subst}
+use Rattle.std.specs.Prelude.{Some, Contains, All}
 use Rattle.std.specs.List.{list_any}
 use Rattle.std.specs.Ordering.{int_cmp, is_eq}
 use Rattle.std.specs.BTreeMap.{BTreeMap, get, Updates}

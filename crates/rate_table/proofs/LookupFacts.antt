@@ -1,14 +1,12 @@
 -- The range that holds a day.
-use Rattle.std.proofs.Common.{◌≡◌, ◌∙◌, refl, sym, ap, arith, ℕ, ◌<◌, ◌≤◌, length, List, [], ◌∷◌, ◌++◌, ℤ, Bool, true, false, get_or, ◌⊎◌, inl, inr, rules}
-use Rattle.std.specs.Prelude.{◌↔◌, Option, Some, None, IsNone, IfSome, Contains, All, Any, find, option_map, is_some}
-use Rattle.std.specs.List.{AllByRecursion}
+use Rattle.std.proofs.Common.{◌≡◌, ◌∙◌, refl, ap, arith, List, [], ◌∷◌, ℤ, true, false, ◌⊎◌, inl, inr, rules}
+use Rattle.std.specs.Prelude.{◌↔◌, Some, None, IsNone, IfSome, Contains, All, Any, is_some}
 use Rattle.std.proofs.lemmas.Int.{ints}
 use Rattle.std.proofs.lemmas.Bool.{cases_Bool}
 use Rattle.std.proofs.lemmas.List.Elements.{All-contains, Contains-append_right, All-nil, All-cons}
-use Rattle.escrow_units.specs.declared.amount.Rate.{Rate}
 use Rattle.rate_table.specs.declared.table.RateRange.{RateRange}
 use Rattle.rate_table.specs.Table.{AreApart, holds, meets, maximum_of}
-use Rattle.rate_table.proofs.OverlapFacts.{meets-true, same_or_apart}
+use Rattle.rate_table.proofs.OverlapFacts.{same_or_apart}
 
 -- what is found is among the ranges and holds the day
 pub record IsFound (ranges : List RateRange) (day : ℤ) (range : RateRange) : Type 0 where

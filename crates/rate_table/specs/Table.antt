@@ -1,5 +1,5 @@
 -- Tables of rates by ranges of days, and the offers of one file. The rows are this project's own.
-use Rattle.std.specs.Prelude.{◌≡◌, ℕ, ◌%◌, ◌≤◌, ◌≤ℤ◌, int_le, ⊤, Bool, false, ◌&&◌, List, All, AllPairs, Contains, Option, option_map, find, IfSome, IsSomeAnd, ℤ}
+use Rattle.std.specs.Prelude.{◌≡◌, ◌%◌, ◌≤◌, ◌≤ℤ◌, int_le, ⊤, Bool, false, ◌&&◌, List, All, AllPairs, Option, option_map, find, IfSome, IsSomeAnd, ℤ}
 use Rattle.escrow_units.specs.DateText.{IsFieldDay}
 use Rattle.escrow_units.specs.Denomination.{AreTerms}
 use Rattle.escrow_units.specs.declared.amount.Rate.{Rate}

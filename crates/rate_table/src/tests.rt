@@ -1,4 +1,5 @@
-ghost use Rattle.std.specs.Prelude.{◌≤◌, length};
+ghost use Rattle.std.specs.Prelude.{IfOk};
+ghost use Rattle.rate_table.specs.Table.{AreApart};
 
 use crate::{Offer, RateFile, RateRange, maximum, read_rates};
 use escrow_desk::{CaseError, FileKind, Refusal, RefusalKind, read_rows};
@@ -8,8 +9,11 @@ use std::test::Fail;
 
 // The rate file of a text, settled on 2025-01-15.
 fn rates_of(alloc: Global, text: &[u8]) -> Result<Result<RateFile, CaseError>, Fail>
-    requires { length text.now ≤ 1048576 }
+    ensures { IfOk result (λ read. IfOk read (λ file. AreApart file.ranges)) }
 {
+    if text.len() > 1_048_576 {
+        return Err(Fail::new("too long"));
+    }
     let Ok(rows) = read_rows(alloc, text) else {
         return Err(Fail::new("no memory"));
     };
@@ -181,17 +185,11 @@ fn rates_and_offers_are_read(rt: HostRuntime) -> Result<(), Fail> {
         },
     ];
     assert_eq!(rt; file.offers.as_slice(), offers.as_slice());
-    let rates = [
-        (20_088, None),
-        (20_089, Some(Rate(4_250))),
-        (20_269, Some(Rate(4_250))),
-        (20_270, Some(Rate(4_500))),
-        (20_453, Some(Rate(4_500))),
-        (20_454, None),
-    ];
-    for (day, rate) in rates {
-        assert_eq!(rt; maximum(&file, Day::new(day)), rate, "at {day}");
-    }
+    assert_eq!(rt; maximum(&file, Day::new(20_088)), None);
+    assert_eq!(rt; maximum(&file, Day::new(20_269)), Some(Rate(4_250)));
+    assert_eq!(rt; maximum(&file, Day::new(20_453)), Some(Rate(4_500)));
+    let wide = rates_of(rt.alloc(), b"terms,1,1\nrate,1950-01-01,2199-12-31,30\n")??;
+    assert_eq!(rt; maximum(&wide, Day::new(-7_305)), Some(Rate(30_000)));
     Ok(())
 }
 

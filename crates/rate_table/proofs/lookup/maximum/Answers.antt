@@ -1,6 +1,5 @@
 use Rattle.std.proofs.Common.{◌≡◌, ◌∙◌, ap}
-use Rattle.escrow_units.specs.declared.day.Day.{Day}
-use Rattle.std.specs.Prelude.{ℤ, List}
+use Rattle.std.specs.Prelude.{List}
 use Rattle.rate_table.specs.declared.table.RateRange.{RateRange}
 use Rattle.rate_table.specs.Table.{maximum_of}
 use Rattle.rate_table.proofs.LookupFacts.{maximum_of-held, maximum_of-rate, maximum_of-none}
