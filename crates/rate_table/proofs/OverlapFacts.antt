@@ -1,9 +1,8 @@
 -- Ranges by their first days: which one is the latest, and what has a day in common with it.
 use Rattle.std.proofs.Common.{◌≡◌, ◌∙◌, refl, sym, ap, arith, rules, ℕ, ◌<◌, length, List, [], ◌∷◌, ◌++◌, ℤ, ◌≤ℤ◌, ◌<ℤ◌, Bool, true, false, get_or, ◌⊎◌, inl, inr}
-use Rattle.std.specs.Prelude.{Option, Some, None, IsSome, Contains, All}
+use Rattle.std.specs.Prelude.{int_le, Option, Some, None, IsSome, Contains, All}
 use Rattle.std.specs.List.{list_any}
-use Rattle.std.specs.Ordering.{int_cmp, is_gt, is_lt, is_le}
-use Rattle.std.specs.declared.cmp.Ordering.{Ordering}
+use Rattle.std.specs.Ordering.{int_cmp, is_gt, is_lt}
 use Rattle.std.specs.BTreeMap.{BTreeMap}
 use Rattle.std.specs.BTreeMap.Range.{IsRangeOf}
 use Rattle.std.specs.declared.ops.Bound.TheVariants.{Included, Unbounded}
@@ -26,11 +25,11 @@ cmp-from_le a b h = grind (arith, ints, int_ranked a b (int_cmp a b) refl)
 not_below : (a b : ℤ) → is_lt (int_cmp a b) ≡ false → b ≤ℤ a
 not_below a b h = grind (arith, ints, int_ranked a b (int_cmp a b) refl)
 
-not_gt : (o : Ordering) → is_le o ≡ true → is_gt o ≡ false
-not_gt o h = grind arith
+le-from_test : (a b : ℤ) → int_le a b ≡ true → a ≤ℤ b
+le-from_test a b h = grind (arith, ints)
 
-gt-from_cmp : (a b : ℤ) → is_le (int_cmp a b) ≡ false → b <ℤ a
-gt-from_cmp a b h = grind (arith, ints, int_ranked a b (int_cmp a b) refl)
+gt-from_test : (a b : ℤ) → int_le a b ≡ false → b <ℤ a
+gt-from_test a b h = grind (arith, ints)
 
 -- the last entry up to a day is the latest
 pub latest-from_last : (m : BTreeMap ℤ RateRange) (day : ℤ) (r t : List (ℤ × RateRange)) (first : ℤ) (range : RateRange) → IsRangeOf int_cmp Unbounded (Included day) m r → r ≡ t ++ (first, range) ∷ [] → IsLatest m day range
@@ -111,8 +110,8 @@ overlap-early ranges m range latest index in_order apart found early =
     list_any_none (meets range) ranges (λ k d short.
     early-apart ranges m range latest (get_or ranges k d) index in_order apart found early (Contains-get_or ranges k d short))
 
-pub overlap-latest : (ranges : List RateRange) (m : BTreeMap ℤ RateRange) (range latest : RateRange) → IsIndex ranges m → All IsRange ranges → AreApart ranges → IsLatest m range.to latest → (late : Bool) → late ≡ is_le (int_cmp range.from latest.to) → late ≡ list_any (meets range) ranges
+pub overlap-latest : (ranges : List RateRange) (m : BTreeMap ℤ RateRange) (range latest : RateRange) → IsIndex ranges m → All IsRange ranges → AreApart ranges → IsLatest m range.to latest → (late : Bool) → late ≡ int_le range.from latest.to → late ≡ list_any (meets range) ranges
 overlap-latest ranges m range latest index in_order apart found true is =
-    sym (overlap-late ranges m range latest index found (le-from_cmp range.from latest.to (not_gt (int_cmp range.from latest.to) (sym is))))
+    sym (overlap-late ranges m range latest index found (le-from_test range.from latest.to (sym is)))
 overlap-latest ranges m range latest index in_order apart found false is =
-    sym (overlap-early ranges m range latest index in_order apart found (gt-from_cmp range.from latest.to (sym is)))
+    sym (overlap-early ranges m range latest index in_order apart found (gt-from_test range.from latest.to (sym is)))

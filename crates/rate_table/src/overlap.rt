@@ -1,4 +1,4 @@
-ghost use Rattle.std.specs.Prelude.{◌≡◌, MatchOption};
+ghost use Rattle.std.specs.Prelude.{◌≡◌, int_le, MatchOption};
 ghost use Rattle.std.specs.List.{list_any};
 ghost use Rattle.rate_table.specs.RangeIndex.{IsDraft, IsLatest, HasNoneBy};
 ghost use Rattle.rate_table.specs.Table.{meets};
@@ -17,6 +17,13 @@ fn latest_by(by_first: &BTreeMap<i32, RateRange>, day: i32) -> Option<RateRange>
     }
 }
 
+// Whether a range begins by the end of another.
+fn begins_by_end(range: &RateRange, other: &RateRange) -> bool
+    ensures { result ≡ int_le range.now.from other.now.to }
+{
+    range.from <= other.to
+}
+
 /// Whether a range has a day in common with an earlier one.
 ///
 /// Earlier ranges have no days in common, so the one that begins last among those that begin by the range's end
@@ -26,7 +33,7 @@ pub(crate) fn overlaps(draft: &Draft, range: &RateRange) -> bool
     ensures { result ≡ list_any (meets range.now) draft.now.ranges.items }
 {
     match latest_by(&draft.by_first, range.to.number()) {
-        Some(latest) => range.from <= latest.to,
+        Some(latest) => begins_by_end(range, &latest),
         None => false,
     }
 }
