@@ -1,0 +1,4 @@
+pub mod FileFacts
+pub mod IndexFacts
+pub mod LookupFacts
+pub mod OverlapFacts

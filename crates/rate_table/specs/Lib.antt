@@ -1,0 +1,3 @@
+pub mod RangeIndex
+pub mod RateForm
+pub mod Table
