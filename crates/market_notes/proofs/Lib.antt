@@ -1,1 +1,3 @@
-
+pub mod FlowFacts
+pub mod ReadFacts
+pub mod SeriesFacts

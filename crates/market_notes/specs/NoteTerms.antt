@@ -1,5 +1,5 @@
 -- What marketable notes and price files keep. The limits are this project's own.
-use Rattle.std.specs.Prelude.{◌≡◌, ℕ, ◌-◌, ◌≤◌, ℤ, ◌≤ℤ◌, All, IfSome, IsSomeAnd}
+use Rattle.std.specs.Prelude.{◌≡◌, ℕ, ◌-◌, ◌≤◌, ℤ, ◌≤ℤ◌, ◌<ℤ◌, All, IfSome, IsSomeAnd}
 use Rattle.escrow_units.specs.Calendar.{e_of, years_after_of}
 use Rattle.escrow_units.specs.Denomination.{AreTerms}
 use Rattle.escrow_units.specs.SlgsTerms.{IsSettlement}
@@ -11,10 +11,11 @@ use Rattle.market_notes.specs.declared.note.NoteFile.{NoteFile}
 abbrev pub index_of : ℤ → ℤ → ℕ
 index_of settle day = e_of day - e_of settle
 
--- a note that matures at an index of at least 1 and at most 40 years after settlement, with a coupon of at most 30
+-- a note that matures after settlement, at an index of at least 1 and at most 40 years later, with a coupon of at most 30
 -- percent and a price from 10 to 300 percent of par
 pub record IsNote (note : Note) : Type 0 where
   pub settle : IsSettlement note.settle
+  pub after : note.settle <ℤ note.maturity
   pub index : 1 ≤ index_of note.settle note.maturity
   pub term : note.maturity ≤ℤ years_after_of note.settle 40
   pub coupon : note.coupon.0 ≤ 30_000

@@ -1,5 +1,6 @@
 ghost use Rattle.std.specs.Prelude.{◌≡◌, ◌≤◌, length};
 ghost use Rattle.arrayvec.specs.ArrayVec.{array_vec_len};
+ghost use Rattle.escrow_units.specs.CalendarLaws.{IsHalfYear};
 ghost use Rattle.market_notes.specs.NoteFlows.{next_date, payment_dates, previous_date};
 ghost use Rattle.market_notes.specs.NoteLaws.{SettlesIn};
 ghost use Rattle.market_notes.specs.NoteTerms.{IsNote};
@@ -26,6 +27,7 @@ pub(crate) fn schedule_of(note: &Note) -> Schedule
     ensures next { result.next ≡ next_date note.now }
     ensures dates { result.dates.items ≡ payment_dates note.now }
     ensures around { SettlesIn note.now result.previous result.next }
+    ensures half_year { IsHalfYear result.previous result.next }
 {
     let mut dates = ArrayVec::new();
     let mut next = note.maturity;
@@ -35,7 +37,7 @@ pub(crate) fn schedule_of(note: &Note) -> Schedule
         next = date;
         date = half_back(note.maturity, dates.len() as u32, StepRule::MonthEnd);
     }
-    dates.as_mut_slice().reverse();
+    dates.reverse();
     Schedule {
         previous: date,
         next,
