@@ -60,7 +60,7 @@ half_back_of-reach maturity r (suc k) h few =
     omega (arith, signed_arith, step.least, half_back_of-reach maturity r k h (omega arith))
 
 -- the dates of a series that has at least one
-pub dates_after : ℤ → StepRule → ℕ → List ℤ
+unfoldable pub dates_after : ℤ → StepRule → ℕ → List ℤ
 dates_after maturity r zero = []
 dates_after maturity r (suc k) = half_back_of maturity k r ∷ dates_after maturity r k
 
@@ -214,8 +214,8 @@ walk-more note date next back dates more t walk late f g =
 -- where it ends, all dates were found
 pub record IsWalked (note : Note) (date next : ℤ) (dates : List ℤ) : Type 0 where
   pub previous : date ≡ previous_date note
-  pub next : next ≡ next_date note
-  pub dates : reverse dates ≡ payment_dates note
+  pub following : next ≡ next_date note
+  pub all : reverse dates ≡ payment_dates note
   pub around : SettlesIn note date next
   pub half_year : IsHalfYear date next
 
@@ -234,7 +234,8 @@ half_year-before : (maturity : ℤ) (r : StepRule) (n : ℕ) → IsBaseDay matur
 half_year-before maturity r zero h some few = absurd (omega arith)
 half_year-before maturity r (suc k) h some few =
     let more : k + 1 ≡ suc k = omega arith in
-    rw more at (half_back_of-steps maturity r k h (omega arith))
+    let less : suc k - 1 ≡ k = omega arith in
+    rw less (rw more at (half_back_of-steps maturity r k h (omega arith)))
 
 pub walk-end : (note : Note) (date next : ℤ) (dates : List ℤ) → IsTerm note → IsWalk note date next dates → date ≤ℤ note.settle → IsWalked note date next dates
 walk-end note date next dates t walk early =
@@ -244,11 +245,30 @@ walk-end note date next dates t walk early =
     let p = pays_on note (length dates) t some (omega (arith, walk.few)) late by in
     record {
       previous = walk.at ∙ sym p.start;
-      next = walk.before ∙ sym p.next;
-      dates = walk.walked ∙ sym p.dates;
+      following = walk.before ∙ sym p.next;
+      all = walk.walked ∙ sym p.dates;
       around = around-along note date next _ _ walk.at walk.before (settles_in note (length dates) t some (omega (arith, walk.few)) late by);
       half_year = half_year-along date next _ _ walk.at walk.before (half_year-before note.maturity rule.MonthEnd (length dates) t.base some (omega (arith, walk.few)));
     }
+
+-- from the half-year of settlement to the dates on which a note pays
+pub record HasDates (note : Note) : Type 0 where
+  pub count : ℕ
+  pub on : PaysOn note count
+
+pub has_dates : (note : Note) (start finish : ℤ) → IsTerm note → SettlesIn note start finish → HasDates note
+has_dates note start finish t around =
+    let k = around.last.steps in
+    let late : note.settle <ℤ half_back_of note.maturity k rule.MonthEnd = omega (arith, signed_arith, around.unpaid, around.last.back) in
+    let few = few_steps note k t around.last.few late in
+    let less : k + 1 - 1 ≡ k = omega arith in
+    let fall = half_back_of-falls note.maturity rule.MonthEnd k (k + 1) t.base (omega arith) (omega arith) in
+    let early : half_back_of note.maturity (k + 1) rule.MonthEnd ≤ℤ note.settle =
+      elim (around.between (half_back_of note.maturity (k + 1) rule.MonthEnd) (record { steps = k + 1; few = omega arith; back = refl })) [
+        | inl by ↦ omega (arith, signed_arith, by, around.begun)
+        | inr past ↦ absurd (omega (arith, signed_arith, past, around.last.back, fall))
+      ] in
+    record { count = k + 1; on = pays_on note (k + 1) t (omega arith) (omega arith) (rw less late) early }
 
 pub refill-reverse : (n : ℕ) (xs ys : List ℤ) → n ≡ length xs → ys ≡ reverse xs → take n (ys ++ drop (length ys) xs) ≡ reverse xs
 refill-reverse n xs ys e f =
@@ -281,7 +301,7 @@ dates_after-rise maturity r (suc k) h few =
     (dates_after-rise maturity r k h (omega arith))
 
 -- the dates before maturity
-pub dates_before : ℤ → StepRule → ℕ → List ℤ
+unfoldable pub dates_before : ℤ → StepRule → ℕ → List ℤ
 dates_before maturity r zero = []
 dates_before maturity r (suc k) = half_back_of maturity (suc k) r ∷ dates_before maturity r k
 

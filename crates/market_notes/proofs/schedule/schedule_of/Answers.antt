@@ -26,13 +26,13 @@ returns-clause-previous c =
 pub returns-clause-next : goal.returns-clause-next
 returns-clause-next c =
     let by : c.loop-next.date ≤ℤ c.args.note.now.settle = search rules in
-    (walk-end c.args.note.now c.loop-next.date c.loop-next.next c.loop-next.dates.items (term c.args.note.now c.requires) c.loop-next.invariant by).next
+    (walk-end c.args.note.now c.loop-next.date c.loop-next.next c.loop-next.dates.items (term c.args.note.now c.requires) c.loop-next.invariant by).following
 
 pub returns-clause-dates : goal.returns-clause-dates
 returns-clause-dates c =
     let by : c.loop-next.date ≤ℤ c.args.note.now.settle = search rules in
     refill-reverse _ c.loop-next.dates.items c.reverse.new.self refl (c.reverse.ensures.after ∙ ap reverse c.deref_mut.ensures.value)
-    ∙ (walk-end c.args.note.now c.loop-next.date c.loop-next.next c.loop-next.dates.items (term c.args.note.now c.requires) c.loop-next.invariant by).dates
+    ∙ (walk-end c.args.note.now c.loop-next.date c.loop-next.next c.loop-next.dates.items (term c.args.note.now c.requires) c.loop-next.invariant by).all
 
 pub returns-clause-around : goal.returns-clause-around
 returns-clause-around c =
