@@ -7,6 +7,8 @@ mod note;
 mod read;
 mod row;
 mod schedule;
+#[cfg(test)]
+mod tests;
 
 pub use flows::{note_cost, note_payments};
 pub use note::{Note, NoteFile, Notes};
