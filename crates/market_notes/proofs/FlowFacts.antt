@@ -1,7 +1,7 @@
 -- What a note costs and pays.
-use Rattle.std.proofs.Common.{◌≡◌, ◌∙◌, ℕ, ◌+◌, ◌-◌, ◌*◌, ◌/◌, ◌^◌, ◌<◌, ◌≤◌, zero, suc, refl, sym, ap, subst, arith, ℤ, pos, ◌+ℤ◌, ◌-ℤ◌, ◌≤ℤ◌, ◌<ℤ◌, int_lt, int_le, unsigned_abs, inl, inr, Bool, true, false, if◌then◌else◌, List, [], ◌∷◌, ◌++◌, map, length, take, All, AllPairs, sum_by, get_or, ◌||◌, ◌==◌}
+use Rattle.std.proofs.Common.{◌≡◌, ◌∙◌, ℕ, ◌+◌, ◌-◌, ◌*◌, ◌/◌, ◌<◌, ◌≤◌, zero, suc, refl, sym, ap, subst, arith, ℤ, pos, ◌+ℤ◌, ◌-ℤ◌, ◌<ℤ◌, unsigned_abs, inl, inr, Bool, true, false, if◌then◌else◌, List, [], ◌∷◌, map, length, take, AllPairs, sum_by, get_or}
 use Rattle.std.specs.Ordering.{int_eq}
-use Rattle.std.proofs.Math.Nat.{div-eq_of_lt, div-mul-le_self, mul-le-mul_right, mul-le-mul_left}
+use Rattle.std.proofs.Math.Nat.{div-eq_of_lt, div-mul-le_self, mul-le-mul_right}
 use Rattle.std.proofs.lemmas.Nat.{le-div}
 use Rattle.std.proofs.lemmas.Bool.Decides.{Decides-int_eq}
 use Rattle.std.proofs.lemmas.Int.{ints}
@@ -11,8 +11,7 @@ use Rattle.std.proofs.lemmas.List.Kept.{AllPairs-cons}
 use Rattle.std.proofs.lemmas.List.Sums.{sum_by-cons}
 use Rattle.jiff_core.proofs.SignedLemmas.{signed_arith}
 use Rattle.escrow_units.proofs.DateFacts.{pos_abs}
-use Rattle.escrow_units.specs.Calendar.{half_back_of, IsBaseDay}
-use Rattle.escrow_units.specs.CalendarLaws.{IsHalfYear}
+use Rattle.escrow_units.specs.Calendar.{half_back_of}
 use Rattle.escrow_units.specs.Rounding.{near}
 use Rattle.escrow_units.specs.declared.security.Flow.{Flow}
 use Rattle.escrow_units.specs.declared.security.StepRule.{StepRule}
@@ -23,7 +22,7 @@ use Rattle.market_notes.specs.NoteTerms.{index_of}
 use Rattle.market_notes.specs.PriceForm.{has_matured}
 use Rattle.market_notes.specs.Series.{days_to}
 use Rattle.market_notes.specs.declared.note.Note.{Note}
-use Rattle.market_notes.proofs.SeriesFacts.{IsTerm, PaysOn, dates_after, dates_before, dates_after-late, dates_after-rise, dates_after-last, half_back_of-zero, half_back_of-reach, IsUnpaid}
+use Rattle.market_notes.proofs.SeriesFacts.{IsTerm, PaysOn, dates_after, dates_before, dates_after-late, dates_after-rise, dates_after-last, half_back_of-zero, half_back_of-reach}
 
 -- a maturity that is late enough
 pub record IsLater (settle maturity : ℤ) : Type 0 where

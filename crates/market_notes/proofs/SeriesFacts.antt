@@ -1,21 +1,20 @@
 -- The dates on which a note pays.
-use Rattle.std.proofs.Common.{◌≡◌, ◌∙◌, ℕ, ◌+◌, ◌-◌, ◌*◌, ◌<◌, ◌≤◌, zero, suc, refl, sym, ap, arith, ℤ, pos, ◌+ℤ◌, ◌-ℤ◌, ◌≤ℤ◌, ◌<ℤ◌, int_lt, unsigned_abs, ◌⊎◌, inl, inr, Bool, true, false, cond, List, [], ◌∷◌, ◌++◌, length, take, drop, reverse, All, AllPairs, filter}
+use Rattle.std.proofs.Common.{◌≡◌, ◌∙◌, ℕ, ◌+◌, ◌-◌, ◌*◌, ◌<◌, ◌≤◌, zero, suc, refl, sym, ap, arith, ℤ, pos, ◌+ℤ◌, ◌≤ℤ◌, ◌<ℤ◌, int_lt, inl, inr, Bool, true, false, cond, List, [], ◌∷◌, ◌++◌, length, take, drop, reverse, All, AllPairs, filter}
 use Rattle.std.proofs.lemmas.Bool.{cases_lt}
 use Rattle.std.proofs.lemmas.Int.{ints}
 use Rattle.std.proofs.lemmas.List.{reverse-append, length-append, length-reverse, take-append-le, take_all}
 use Rattle.std.proofs.lemmas.List.Elements.{All-cons, All-nil, All-weaker}
 use Rattle.std.proofs.lemmas.List.Kept.{AllPairs-cons}
 use Rattle.jiff_core.proofs.SignedLemmas.{signed_arith}
-use Rattle.escrow_units.specs.Calendar.{half_back_of, years_after_of, IsBaseDay, IsSeriesDate}
+use Rattle.escrow_units.specs.Calendar.{half_back_of, IsBaseDay, IsSeriesDate}
 use Rattle.escrow_units.specs.CalendarLaws.{IsHalfYear}
 use Rattle.escrow_units.specs.DayNumber.{IsDayNumber}
-use Rattle.escrow_units.specs.SlgsTerms.{IsSettlement}
 use Rattle.escrow_units.specs.declared.security.StepRule.{StepRule}
 use Rattle.escrow_units.specs.declared.security.StepRule.TheVariants as rule
 use Rattle.escrow_units.proofs.SeriesFacts.{half_back_of-start, half_back_of-falls, half_back_of-steps, years_after_of-none}
 use Rattle.escrow_units.proofs.YearFacts.{years_after_of-passes, settlement-base}
 use Rattle.market_notes.specs.NoteFlows.{payment_dates, previous_date, next_date}
-use Rattle.market_notes.specs.NoteLaws.{IsCouponDate, SettlesIn}
+use Rattle.market_notes.specs.NoteLaws.{SettlesIn}
 use Rattle.market_notes.specs.NoteTerms.{IsNote}
 use Rattle.market_notes.specs.Series.{series_dates}
 use Rattle.market_notes.specs.declared.note.Note.{Note}
@@ -145,7 +144,7 @@ pays_on note n t some few late early =
     let steps = few_steps note (n - 1) t (omega arith) late in
     let all : series_dates note.maturity rule.MonthEnd 84 ≡ dates_after note.maturity rule.MonthEnd 85 = series_dates-after note.maturity rule.MonthEnd 84 in
     let dates : payment_dates note ≡ dates_after note.maturity rule.MonthEnd n =
-      ap (filter (int_lt note.settle)) all ∙ filter-after note.maturity note.settle rule.MonthEnd n 85 t.base some (omega arith) (omega arith) late early in
+    ap (filter (int_lt note.settle)) all ∙ filter-after note.maturity note.settle rule.MonthEnd n 85 t.base some (omega arith) (omega arith) late early in
     let count : length (payment_dates note) ≡ n = ap length dates ∙ length-dates_after note.maturity rule.MonthEnd n in
     record {
       some = some;
@@ -166,9 +165,9 @@ settles_in note n t some few late early = record {
   begun = early;
   unpaid = late;
   between = λ day on. elim (cases_lt on.steps n) [
-        | inl sooner ↦ inr (rw on.back (half_back_of-order note.maturity rule.MonthEnd on.steps (n - 1) t.base (omega arith) (omega arith)))
-        | inr later ↦ inl (rw on.back (half_back_of-order note.maturity rule.MonthEnd n on.steps t.base later on.few))
-      ];
+    | inl sooner ↦ inr (rw on.back (half_back_of-order note.maturity rule.MonthEnd on.steps (n - 1) t.base (omega arith) (omega arith)))
+    | inr later ↦ inl (rw on.back (half_back_of-order note.maturity rule.MonthEnd n on.steps t.base later on.few))
+  ];
 }
 
 -- the walk from maturity back to the last date up to settlement
@@ -264,10 +263,10 @@ has_dates note start finish t around =
     let less : k + 1 - 1 ≡ k = omega arith in
     let fall = half_back_of-falls note.maturity rule.MonthEnd k (k + 1) t.base (omega arith) (omega arith) in
     let early : half_back_of note.maturity (k + 1) rule.MonthEnd ≤ℤ note.settle =
-      elim (around.between (half_back_of note.maturity (k + 1) rule.MonthEnd) (record { steps = k + 1; few = omega arith; back = refl })) [
-        | inl by ↦ omega (arith, signed_arith, by, around.begun)
-        | inr past ↦ absurd (omega (arith, signed_arith, past, around.last.back, fall))
-      ] in
+    elim (around.between (half_back_of note.maturity (k + 1) rule.MonthEnd) (record { steps = k + 1; few = omega arith; back = refl })) [
+      | inl by ↦ omega (arith, signed_arith, by, around.begun)
+      | inr past ↦ absurd (omega (arith, signed_arith, past, around.last.back, fall))
+    ] in
     record { count = k + 1; on = pays_on note (k + 1) t (omega arith) (omega arith) (rw less late) early }
 
 pub refill-reverse : (n : ℕ) (xs ys : List ℤ) → n ≡ length xs → ys ≡ reverse xs → take n (ys ++ drop (length ys) xs) ≡ reverse xs
@@ -297,7 +296,7 @@ dates_after-rise maturity r zero h few = λ i j d lt within. absurd (omega arith
 dates_after-rise maturity r (suc k) h few =
     AllPairs-cons (λ a b. a <ℤ b) (half_back_of maturity k r) (dates_after maturity r k)
     (All-weaker (IsUnpaid maturity r (half_back_of maturity k r)) (λ date. half_back_of maturity k r <ℤ date) (λ date on. on.1) (dates_after maturity r k)
-      (dates_after-late maturity (half_back_of maturity k r) r k h (omega arith) (λ some. half_back_of-falls maturity r (k - 1) k h (omega arith) (omega arith))))
+    (dates_after-late maturity (half_back_of maturity k r) r k h (omega arith) (λ some. half_back_of-falls maturity r (k - 1) k h (omega arith) (omega arith))))
     (dates_after-rise maturity r k h (omega arith))
 
 -- the dates before maturity

@@ -29,7 +29,10 @@ fn earned(note: &Note, face: Cents, parts: u32, whole: u32) -> u64
     ensures value { result ≡ near (face.0 * note.now.coupon.0 * parts) whole }
     ensures bound { result < 2 ^ 62 }
 {
-    near(face.0 as u128 * note.coupon.0 as u128 * parts as u128, whole as u128) as u64
+    near(
+        face.0 as u128 * note.coupon.0 as u128 * parts as u128,
+        whole as u128,
+    ) as u64
 }
 
 // The interest of a half-year.

@@ -9,11 +9,7 @@ use std::alloc::Global;
 use std::test::Fail;
 
 // The price file of a text.
-fn notes_of(
-    alloc: Global,
-    settle: Day,
-    text: &[u8],
-) -> Result<Result<NoteFile, CaseError>, Fail>
+fn notes_of(alloc: Global, settle: Day, text: &[u8]) -> Result<Result<NoteFile, CaseError>, Fail>
     requires { IsSettlement settle }
 {
     if text.len() > 1_048_576 {
@@ -39,16 +35,56 @@ fn faulty_rows_are_refused(rt: HostRuntime) -> Result<(), Fail> {
         (b"terms,100,50\nterms,200,30", 2, RefusalKind::OutOfRange),
         (b"terms,100,50\nbond,1", 2, RefusalKind::UnknownRow),
         (b"terms,100,50\nnote,x,4", 2, RefusalKind::WrongFields),
-        (b"terms,100,50\nnote,2025-02-29,x,x,x", 2, RefusalKind::BadDate),
-        (b"terms,100,50\nnote,2065-01-16,x,x,x", 2, RefusalKind::OutOfRange),
-        (b"terms,100,50\nnote,2025-01-15,x,x,x", 2, RefusalKind::BadNumber),
-        (b"terms,100,50\nnote,2025-01-15,30.001,x,x", 2, RefusalKind::OutOfRange),
-        (b"terms,100,50\nnote,2025-01-15,4,99-32,x", 2, RefusalKind::BadNumber),
-        (b"terms,100,50\nnote,2025-01-15,4,9.99,x", 2, RefusalKind::PriceRange),
-        (b"terms,100,50\nnote,2025-01-15,4,300-001,x", 2, RefusalKind::PriceRange),
-        (b"terms,100,50\nnote,2025-01-15,4,100,x", 2, RefusalKind::BadNumber),
-        (b"terms,100,50\nnote,2025-01-15,4,100,99", 2, RefusalKind::OutOfRange),
-        (b"terms,100,50\nnote,2025-01-15,4,100,100", 2, RefusalKind::Matured),
+        (
+            b"terms,100,50\nnote,2025-02-29,x,x,x",
+            2,
+            RefusalKind::BadDate,
+        ),
+        (
+            b"terms,100,50\nnote,2065-01-16,x,x,x",
+            2,
+            RefusalKind::OutOfRange,
+        ),
+        (
+            b"terms,100,50\nnote,2025-01-15,x,x,x",
+            2,
+            RefusalKind::BadNumber,
+        ),
+        (
+            b"terms,100,50\nnote,2025-01-15,30.001,x,x",
+            2,
+            RefusalKind::OutOfRange,
+        ),
+        (
+            b"terms,100,50\nnote,2025-01-15,4,99-32,x",
+            2,
+            RefusalKind::BadNumber,
+        ),
+        (
+            b"terms,100,50\nnote,2025-01-15,4,9.99,x",
+            2,
+            RefusalKind::PriceRange,
+        ),
+        (
+            b"terms,100,50\nnote,2025-01-15,4,300-001,x",
+            2,
+            RefusalKind::PriceRange,
+        ),
+        (
+            b"terms,100,50\nnote,2025-01-15,4,100,x",
+            2,
+            RefusalKind::BadNumber,
+        ),
+        (
+            b"terms,100,50\nnote,2025-01-15,4,100,99",
+            2,
+            RefusalKind::OutOfRange,
+        ),
+        (
+            b"terms,100,50\nnote,2025-01-15,4,100,100",
+            2,
+            RefusalKind::Matured,
+        ),
         (
             b"terms,100,50\nnote,2065-01-15,4,100,100\nnote,2025-01-14,4,100,100",
             3,
@@ -62,7 +98,11 @@ fn faulty_rows_are_refused(rt: HostRuntime) -> Result<(), Fail> {
             kind: *kind,
         };
         let read = notes_of(rt.alloc(), Day::new(20_103), text)?;
-        assert_eq!(rt; read.map(|_| ()), Err(CaseError::Refused(refusal)), "at {row}");
+        assert_eq!(rt;
+            read.map(|_| ()),
+            Err(CaseError::Refused(refusal)),
+            "at {row}"
+        );
     }
     Ok(())
 }

@@ -1,6 +1,6 @@
-use Rattle.std.proofs.Common.{◌≡◌, ◌∙◌, ◌≤◌, sym, arith, ◌+◌}
+use Rattle.std.proofs.Common.{◌≡◌, ◌∙◌, ◌≤◌, arith, ◌+◌}
 use Rattle.jiff_core.proofs.SignedLemmas.{signed_arith}
-use Rattle.market_notes.specs.NoteFlows.{accrued_interest, cost_of, previous_date, next_date}
+use Rattle.market_notes.specs.NoteFlows.{accrued_interest, previous_date, next_date}
 use Rattle.market_notes.specs.NoteLaws.{SettlesIn}
 use Rattle.market_notes.proofs.FlowFacts.{accrued-is, costs-price, costs-more}
 use Rattle.market_notes.proofs.flows.note_cost.Goals as goal

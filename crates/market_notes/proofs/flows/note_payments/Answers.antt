@@ -1,6 +1,5 @@
-use Rattle.std.proofs.Common.{◌≡◌, ◌∙◌, ◌<ℤ◌, sym, subst, List, arith}
+use Rattle.std.proofs.Common.{◌∙◌, ◌<ℤ◌, sym, subst, arith}
 use Rattle.jiff_core.proofs.SignedLemmas.{signed_arith}
-use Rattle.escrow_units.specs.declared.security.Flow.{Flow}
 use Rattle.market_notes.specs.NoteFlows.{next_date}
 use Rattle.market_notes.specs.NoteLaws.{AreAfterSettlement, EndsOn, PayFaceOnce, PayNoLessForMore, Rise}
 use Rattle.market_notes.proofs.FlowFacts.{payments-are, payments-rise, payments-after, payments-end, payments-face, payments-more}

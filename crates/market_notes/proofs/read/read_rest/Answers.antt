@@ -1,4 +1,4 @@
-use Rattle.std.proofs.Common.{◌≡◌, ◌∙◌, ◌+◌, ◌<◌, [], ◌∷◌, ◌++◌, Ok, rules, length, arith}
+use Rattle.std.proofs.Common.{◌≡◌, ◌∙◌, ◌+◌, ◌<◌, [], ◌∷◌, ◌++◌, Ok, rules, length}
 use Rattle.std.proofs.lemmas.List.Elements.{All-push}
 use Rattle.market_notes.specs.NoteTerms.{IsOffered}
 use Rattle.market_notes.proofs.ReadFacts.{at_row-ok, notes_of-more}

@@ -1,4 +1,4 @@
-use Rattle.std.proofs.Common.{◌≡◌, ◌∙◌, ◌≤ℤ◌, sym, refl, rules}
+use Rattle.std.proofs.Common.{◌∙◌, ◌≤ℤ◌, sym, refl, rules}
 use Rattle.escrow_units.specs.Calendar.{years_after_of}
 use Rattle.market_notes.specs.NoteTerms.{IsNote}
 use Rattle.market_notes.proofs.FlowFacts.{later}

@@ -1,4 +1,4 @@
-use Rattle.std.proofs.Common.{rules, ◌≡◌, ◌∙◌, ◌<ℤ◌, ◌≤ℤ◌, ap, refl, reverse}
+use Rattle.std.proofs.Common.{rules, ◌∙◌, ◌<ℤ◌, ◌≤ℤ◌, ap, refl, reverse}
 use Rattle.escrow_units.specs.Calendar.{half_back_of}
 use Rattle.escrow_units.specs.declared.security.StepRule.TheVariants as rule
 use Rattle.market_notes.proofs.SeriesFacts.{term, walk-start, walk-more, walk-end, refill-reverse}
