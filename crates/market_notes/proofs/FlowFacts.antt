@@ -1,0 +1,207 @@
+-- What a note costs and pays.
+use Rattle.std.proofs.Common.{◌≡◌, ◌∙◌, ℕ, ◌+◌, ◌-◌, ◌*◌, ◌/◌, ◌<◌, ◌≤◌, zero, suc, refl, sym, ap, subst, arith, ℤ, pos, ◌+ℤ◌, ◌-ℤ◌, ◌<ℤ◌, unsigned_abs, inl, inr, Bool, true, false, if◌then◌else◌, List, [], ◌∷◌, map, length, take, AllPairs, sum_by, get_or}
+use Rattle.std.specs.Ordering.{int_eq}
+use Rattle.std.proofs.Math.Nat.{div-eq_of_lt, div-mul-le_self, mul-le-mul_right}
+use Rattle.std.proofs.lemmas.Nat.{le-div}
+use Rattle.std.proofs.lemmas.Bool.Decides.{Decides-int_eq}
+use Rattle.std.proofs.lemmas.Int.{ints}
+use Rattle.std.proofs.lemmas.List.{map-append, take_all, get_or-map, length-map}
+use Rattle.std.proofs.lemmas.List.Elements.{All-map, All-same}
+use Rattle.std.proofs.lemmas.List.Kept.{AllPairs-cons}
+use Rattle.std.proofs.lemmas.List.Sums.{sum_by-cons}
+use Rattle.jiff_core.proofs.SignedLemmas.{signed_arith}
+use Rattle.escrow_units.proofs.DateFacts.{pos_abs}
+use Rattle.escrow_units.specs.Calendar.{half_back_of}
+use Rattle.escrow_units.specs.Rounding.{near}
+use Rattle.escrow_units.specs.declared.security.Flow.{Flow}
+use Rattle.escrow_units.specs.declared.security.StepRule.{StepRule}
+use Rattle.escrow_units.specs.declared.security.StepRule.TheVariants as rule
+use Rattle.market_notes.specs.NoteFlows.{payment_dates, payments_of, payment_on, principal_on, half_year_interest, price_part, accrued_interest, cost_of, previous_date, next_date}
+use Rattle.market_notes.specs.NoteLaws.{IsCouponDate, SettlesIn, CostsPriceOnCouponDate, Rise, AreAfterSettlement, EndsOn, PayFaceOnce, AreAtMost, PayNoLessForMore}
+use Rattle.market_notes.specs.NoteTerms.{index_of}
+use Rattle.market_notes.specs.PriceForm.{has_matured}
+use Rattle.market_notes.specs.Series.{days_to}
+use Rattle.market_notes.specs.declared.note.Note.{Note}
+use Rattle.market_notes.proofs.SeriesFacts.{IsTerm, PaysOn, dates_after, dates_before, dates_after-late, dates_after-rise, dates_after-last, half_back_of-zero, half_back_of-reach}
+
+-- a maturity that is late enough
+pub record IsLater (settle maturity : ℤ) : Type 0 where
+  pub after : settle <ℤ maturity
+  pub index : 1 ≤ index_of settle maturity
+
+pub later : (settle maturity : ℤ) → has_matured settle maturity ≡ false → IsLater settle maturity
+later settle maturity h = record { after = grind (arith, ints); index = grind (arith, ints) }
+
+-- rounded parts
+pub near-zero : (a b : ℕ) → a ≡ 0 → 0 < b → near a b ≡ 0
+unfolding near
+near-zero a b e h = rw e (below b (2 * b) (omega arith))
+  where
+    below : (n m : ℕ) → n < m → (2 * 0 + n) / m ≡ 0
+    below n m h = let e : 2 * 0 + n ≡ n = omega arith in rw e (div-eq_of_lt h)
+
+pub near-mono : (a b c : ℕ) → 0 < b → a ≤ c → near a b ≤ near c b
+unfolding near
+near-mono a b c h le =
+    let less = div-mul-le_self (2 * a + b) (2 * b) in
+    le-div ((2 * a + b) / (2 * b)) (2 * c + b) (2 * b) (omega arith) (omega (arith, less))
+
+pub days_to-count : (from to : ℤ) (n : ℕ) → from +ℤ pos n ≡ to → days_to from to ≡ n
+days_to-count from to n e = let apart : to -ℤ from ≡ pos n = omega (arith, signed_arith, e) in ap unsigned_abs apart
+
+pub days-some : (from to : ℤ) → from <ℤ to → 0 < days_to from to
+days-some from to less =
+    let apart : to -ℤ from ≡ pos (unsigned_abs (to -ℤ from)) = pos_abs (to -ℤ from) (omega (arith, signed_arith, less)) in
+    omega (arith, signed_arith, apart, less)
+
+-- the accrued interest, by the days of its half-year
+pub accrued-is : (note : Note) (face : ℕ) (from to : ℤ) (elapsed whole : ℕ) → from ≡ previous_date note → to ≡ next_date note
+    → from +ℤ pos elapsed ≡ note.settle → from +ℤ pos whole ≡ to
+    → near (face * note.coupon.0 * elapsed) (200_000 * whole) ≡ accrued_interest note face
+unfolding accrued_interest
+accrued-is note face from to elapsed whole e f g h =
+    rw (← e, ← f, days_to-count from note.settle elapsed g, days_to-count from to whole h) refl
+
+none-accrued : (note : Note) (face : ℕ) → SettlesIn note (previous_date note) (next_date note) → IsCouponDate note note.settle → accrued_interest note face ≡ 0
+unfolding accrued_interest
+none-accrued note face around on =
+    let some : 0 < days_to (previous_date note) (next_date note) = days-some (previous_date note) (next_date note) (omega (arith, signed_arith, around.begun, around.unpaid)) in
+    elim (around.between note.settle on) [
+      | inl by ↦
+          let none : days_to (previous_date note) note.settle ≡ 0 = days_to-count (previous_date note) note.settle 0 (omega (arith, signed_arith, by, around.begun)) in
+          near-zero _ _ (rw none (omega arith)) (omega arith)
+      | inr past ↦ absurd (omega (arith, signed_arith, past, around.unpaid))
+    ]
+
+pub costs-price : (note : Note) (face cost : ℕ) → SettlesIn note (previous_date note) (next_date note) → cost ≡ cost_of note face → CostsPriceOnCouponDate note face cost
+costs-price note face cost around is = λ on. omega (arith, is, none-accrued note face around on)
+
+price-more : (note : Note) (face more : ℕ) → face ≤ more → price_part note face ≤ price_part note more
+unfolding price_part
+price-more note face more le = near-mono _ _ _ (omega arith) (mul-le-mul_right note.price.0 le)
+
+accrued-more : (note : Note) (face more : ℕ) → SettlesIn note (previous_date note) (next_date note) → face ≤ more → accrued_interest note face ≤ accrued_interest note more
+unfolding accrued_interest
+accrued-more note face more around le =
+    let some : 0 < days_to (previous_date note) (next_date note) = days-some (previous_date note) (next_date note) (omega (arith, signed_arith, around.begun, around.unpaid)) in
+    near-mono _ _ _ (omega arith) (mul-le-mul_right (days_to (previous_date note) note.settle) (mul-le-mul_right note.coupon.0 le))
+
+pub costs-more : (note : Note) (face more : ℕ) → SettlesIn note (previous_date note) (next_date note) → face ≤ more → cost_of note face ≤ cost_of note more
+costs-more note face more around le = omega (arith, price-more note face more le, accrued-more note face more around le)
+
+-- payments
+pub payments-are : (note : Note) (face : ℕ) (flows : List Flow) (i : ℕ) (dates : List ℤ) → flows ≡ map (payment_on note face) (take i dates)
+    → length dates ≤ i → dates ≡ payment_dates note → flows ≡ payments_of note face
+unfolding payments_of
+payments-are note face flows i dates e all f = e ∙ ap (map (payment_on note face)) (take_all i dates all ∙ f)
+
+payments-series : (note : Note) (face n : ℕ) → PaysOn note n → payments_of note face ≡ map (payment_on note face) (dates_after note.maturity rule.MonthEnd n)
+unfolding payments_of
+payments-series note face n p = ap (map (payment_on note face)) p.dates
+
+rise-map : (note : Note) (face : ℕ) (dates : List ℤ) → AllPairs (λ a b. a <ℤ b) dates → Rise (map (payment_on note face) dates)
+rise-map note face [] h = λ i j d lt within. absurd (omega arith)
+rise-map note face (x ∷ xs) h =
+    AllPairs-cons (λ (a b : Flow). a.day <ℤ b.day) (payment_on note face x) (map (payment_on note face) xs)
+    (All-map (λ (b : Flow). x <ℤ b.day) (payment_on note face) xs (λ k d lt. h 0 (suc k) d (omega arith) (omega arith)))
+    (rise-map note face xs (λ i j d lt within. h (suc i) (suc j) d (omega arith) (omega arith)))
+
+pub payments-rise : (note : Note) (face n : ℕ) → IsTerm note → PaysOn note n → Rise (payments_of note face)
+payments-rise note face n t p =
+    subst Rise (sym (payments-series note face n p))
+    (rise-map note face (dates_after note.maturity rule.MonthEnd n) (dates_after-rise note.maturity rule.MonthEnd n t.base (omega (arith, p.few))))
+
+pub payments-after : (note : Note) (face n : ℕ) → IsTerm note → PaysOn note n → note.settle <ℤ next_date note → AreAfterSettlement note (payments_of note face)
+payments-after note face n t p late =
+    All-same (λ (flow : Flow). IsCouponDate note flow.day × (note.settle <ℤ flow.day)) (payments_of note face) (map (payment_on note face) (dates_after note.maturity rule.MonthEnd n)) (payments-series note face n p)
+    (All-map (λ (flow : Flow). IsCouponDate note flow.day × (note.settle <ℤ flow.day)) (payment_on note face) (dates_after note.maturity rule.MonthEnd n)
+    (dates_after-late note.maturity note.settle rule.MonthEnd n t.base (omega (arith, p.few)) (λ _. omega (arith, signed_arith, late, p.next))))
+
+pub payments-end : (note : Note) (face n : ℕ) → IsTerm note → PaysOn note n → EndsOn note.maturity (payments_of note face)
+payments-end note face n t p = record {
+  before = map (payment_on note face) (dates_before note.maturity rule.MonthEnd (n - 1));
+  last = payment_on note face note.maturity;
+  order = payments-series note face n p
+      ∙ (ap (map (payment_on note face)) (dates_after-last note.maturity rule.MonthEnd n t.base p.some)
+      ∙ map-append (payment_on note face) (dates_before note.maturity rule.MonthEnd (n - 1)) (note.maturity ∷ []));
+  falls = refl;
+}
+
+-- flows of one interest and a principal
+flow_of : ℕ → (ℤ → ℕ) → ℤ → Flow
+flow_of interest principal day = record { day = day; cents = record { 0 = interest + principal day } }
+
+cents_of : Flow → ℕ
+cents_of flow = flow.cents.0
+
+-- where the principal falls at maturity alone, it is paid once
+face-sum : (interest : ℕ) (principal : ℤ → ℕ) (face : ℕ) (maturity : ℤ) (r : StepRule) (k : ℕ) → principal (half_back_of maturity 0 r) ≡ face
+    → ((j : ℕ) → 1 ≤ j → j ≤ k → principal (half_back_of maturity j r) ≡ 0)
+    → sum_by cents_of (map (flow_of interest principal) (dates_after maturity r (suc k)))
+    ≡ face + length (map (flow_of interest principal) (dates_after maturity r (suc k))) * interest
+unfolding dates_after flow_of cents_of
+face-sum interest principal face maturity r zero last none =
+    let day = half_back_of maturity 0 r in
+    omega (arith, sum_by-cons cents_of (flow_of interest principal day) [], last)
+face-sum interest principal face maturity r (suc k) last none =
+    let day = half_back_of maturity (suc k) r in
+    let rest = face-sum interest principal face maturity r k last (λ j some few. none j some (omega arith)) in
+    omega (
+      arith,
+      sum_by-cons cents_of (flow_of interest principal day) (map (flow_of interest principal) (dates_after maturity r (suc k))),
+      rest,
+      none (suc k) (omega arith) (omega arith),
+    )
+
+choice-true : (t : Bool) (a b : ℕ) → t ≡ true → (if t then a else b) ≡ a
+choice-true t a b e = rw e refl
+
+choice-false : (t : Bool) (a b : ℕ) → (t ≡ true → ⊥) → (if t then a else b) ≡ b
+choice-false true a b h = absurd (h refl)
+choice-false false a b h = refl
+
+choice-mono : (t : Bool) (a b : ℕ) → a ≤ b → (if t then a else 0) ≤ (if t then b else 0)
+choice-mono true a b h = h
+choice-mono false a b h = omega arith
+
+face-once : (note : Note) (face k : ℕ) → IsTerm note → k ≤ 84
+    → PayFaceOnce note face (map (payment_on note face) (dates_after note.maturity rule.MonthEnd (suc k)))
+unfolding flow_of cents_of
+face-once note face k t few =
+    face-sum (half_year_interest note face) (principal_on note face) face note.maturity rule.MonthEnd k
+    (choice-true (int_eq (half_back_of note.maturity 0 rule.MonthEnd) note.maturity) face 0 ((Decides-int_eq (half_back_of note.maturity 0 rule.MonthEnd) note.maturity).1 (half_back_of-zero note.maturity rule.MonthEnd t.base)))
+    (λ j some le.
+    let reach = half_back_of-reach note.maturity rule.MonthEnd j t.base (omega arith) in
+    choice-false (int_eq (half_back_of note.maturity j rule.MonthEnd) note.maturity) face 0
+    (λ e. omega (arith, signed_arith, reach, (Decides-int_eq (half_back_of note.maturity j rule.MonthEnd) note.maturity).0 e)))
+
+pub payments-face : (note : Note) (face n : ℕ) → IsTerm note → PaysOn note n → PayFaceOnce note face (payments_of note face)
+payments-face note face n t p =
+    let more : n ≡ suc (n - 1) = omega (arith, p.some) in
+    subst (PayFaceOnce note face) (sym (payments-series note face n p ∙ ap (λ (m : ℕ). map (payment_on note face) (dates_after note.maturity rule.MonthEnd m)) more))
+    (face-once note face (n - 1) t (omega (arith, p.few)))
+
+-- a greater face
+interest-more : (note : Note) (face more : ℕ) → face ≤ more → half_year_interest note face ≤ half_year_interest note more
+unfolding half_year_interest
+interest-more note face more le = near-mono _ _ _ (omega arith) (mul-le-mul_right note.coupon.0 le)
+
+payment-more : (note : Note) (face more : ℕ) (day : ℤ) → face ≤ more → (payment_on note face day).cents.0 ≤ (payment_on note more day).cents.0
+payment-more note face more day le = omega (arith, interest-more note face more le, choice-mono (int_eq day note.maturity) face more le)
+
+days-same : (note : Note) (face more : ℕ) (dates : List ℤ) → map (λ (flow : Flow). flow.day) (map (payment_on note face) dates) ≡ map (λ (flow : Flow). flow.day) (map (payment_on note more) dates)
+days-same note face more [] = refl
+days-same note face more (x ∷ xs) = ap (λ days. x ∷ days) (days-same note face more xs)
+
+at-most : (note : Note) (face more : ℕ) (dates : List ℤ) → face ≤ more → AreAtMost (map (payment_on note face) dates) (map (payment_on note more) dates)
+at-most note face more dates le = record {
+  days = days-same note face more dates;
+  cents = λ place d short.
+      let within : place < length dates = omega (arith, length-map dates (payment_on note face)) in
+      rw (get_or-map (payment_on note face) dates place d.day d within, get_or-map (payment_on note more) dates place d.day d within)
+      (payment-more note face more (get_or dates place d.day) le);
+}
+
+pub payments-more : (note : Note) (face : ℕ) → PayNoLessForMore note face (payments_of note face)
+unfolding payments_of
+payments-more note face = λ more le. at-most note face more (payment_dates note) le

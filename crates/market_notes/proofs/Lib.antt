@@ -1,0 +1,4 @@
+pub mod FlowFacts
+pub mod ReadFacts
+pub mod SeriesFacts
+pub mod TestTerms

@@ -1,0 +1,6 @@
+pub mod NoteFlows
+pub mod NoteLaws
+pub mod NoteRules
+pub mod NoteTerms
+pub mod PriceForm
+pub mod Series

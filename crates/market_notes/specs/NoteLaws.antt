@@ -1,0 +1,56 @@
+-- What the cost and the payments of a marketable note are, in the terms of bonds.
+use Rattle.std.specs.Prelude.{◌≡◌, ℕ, ◌+◌, ◌*◌, ◌<◌, ◌≤◌, List, [], ◌∷◌, ◌++◌, length, get_or, map, All, AllPairs, sum_by, ℤ, ◌≤ℤ◌, ◌<ℤ◌, ◌⊎◌}
+use Rattle.escrow_units.specs.Calendar.{IsSeriesDate}
+use Rattle.escrow_units.specs.declared.security.Flow.{Flow}
+use Rattle.escrow_units.specs.declared.security.StepRule.TheVariants as rule
+use Rattle.market_notes.specs.NoteFlows.{cost_of, half_year_interest, payments_of, price_part}
+use Rattle.market_notes.specs.declared.note.Note.{Note}
+
+-- a date of the note's series, where month ends are kept
+abbrev pub IsCouponDate : Note → ℤ → Type 0
+IsCouponDate note day = IsSeriesDate note.maturity rule.MonthEnd day
+
+-- settlement falls in the half-year from one coupon date to the next: on the first of them, or between them
+pub record SettlesIn (note : Note) (start «end» : ℤ) : Type 0 where
+  pub first : IsCouponDate note start
+  pub last : IsCouponDate note «end»
+  pub begun : start ≤ℤ note.settle
+  pub unpaid : note.settle <ℤ «end»
+  pub between : (day : ℤ) → IsCouponDate note day → (day ≤ℤ start) ⊎ («end» ≤ℤ day)
+
+-- where settlement falls on a coupon date nothing is accrued, and the price alone is paid
+abbrev pub CostsPriceOnCouponDate : Note → ℕ → ℕ → Type 0
+CostsPriceOnCouponDate note face cost = IsCouponDate note note.settle → cost ≡ price_part note face
+
+-- a greater face doesn't cost less
+abbrev pub CostsNoLessForMore : Note → ℕ → ℕ → Type 0
+CostsNoLessForMore note face cost = (more : ℕ) → face ≤ more → cost ≤ cost_of note more
+
+-- each payment falls before each later one
+abbrev pub Rise : List Flow → Type 0
+Rise flows = AllPairs (λ earlier later. earlier.day <ℤ later.day) flows
+
+-- all payments fall on coupon dates after settlement
+abbrev pub AreAfterSettlement : Note → List Flow → Type 0
+AreAfterSettlement note flows = All (λ flow. IsCouponDate note flow.day × (note.settle <ℤ flow.day)) flows
+
+-- the last payment falls on a day
+pub record EndsOn (day : ℤ) (flows : List Flow) : Type 0 where
+  pub before : List Flow
+  pub last : Flow
+  pub order : flows ≡ before ++ last ∷ []
+  pub falls : last.day ≡ day
+
+-- the face is paid once, and half a year's interest with each payment
+abbrev pub PayFaceOnce : Note → ℕ → List Flow → Type 0
+PayFaceOnce note face flows =
+    sum_by (λ flow. flow.cents.0) flows ≡ face + length flows * half_year_interest note face
+
+-- payments on the same days, none of them less than the one in its place
+pub record AreAtMost (flows others : List Flow) : Type 0 where
+  pub days : map (λ flow. flow.day) flows ≡ map (λ flow. flow.day) others
+  pub cents : (place : ℕ) (d : Flow) → place < length flows → (get_or flows place d).cents.0 ≤ (get_or others place d).cents.0
+
+-- a greater face doesn't pay less
+abbrev pub PayNoLessForMore : Note → ℕ → List Flow → Type 0
+PayNoLessForMore note face flows = (more : ℕ) → face ≤ more → AreAtMost flows (payments_of note more)

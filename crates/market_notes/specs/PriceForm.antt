@@ -1,0 +1,144 @@
+-- The price file: its rows, and what they give or where they are refused. The rows are this project's own.
+use Rattle.std.specs.Prelude.{◌≡◌, ℕ, ◌+◌, Bool, ◌||◌, ◌==◌, nat_eq, int_lt, int_le, if◌then◌else◌, List, [], ◌∷◌, length, slice_index_or, Option, Some, None, Result, Ok, Err, codes, ℤ, ⊤}
+use lib.Pointwise.{pointwise}
+use Rattle.escrow_desk.specs.declared.refusal.CaseError.{CaseError}
+use Rattle.escrow_desk.specs.declared.refusal.CaseError.TheVariants as error
+use Rattle.escrow_desk.specs.declared.refusal.FileKind.TheVariants as file
+use Rattle.escrow_desk.specs.declared.refusal.Refusal.{Refusal}
+use Rattle.escrow_desk.specs.declared.refusal.RefusalKind.{RefusalKind}
+use Rattle.escrow_desk.specs.declared.refusal.RefusalKind.TheVariants as kind
+use Rattle.escrow_units.specs.Calendar.{years_after_of}
+use Rattle.escrow_units.specs.DateText.{day_of}
+use Rattle.escrow_units.specs.NumberText.{rate_of}
+use Rattle.escrow_units.specs.PriceText.{price_of}
+use Rattle.escrow_units.specs.Denomination.{terms_of, cap_of}
+use Rattle.escrow_units.specs.declared.fault.NumberFault.{NumberFault}
+use Rattle.escrow_units.specs.declared.fault.NumberFault.TheVariants as fault
+use Rattle.escrow_units.specs.declared.security.Terms.{Terms}
+use Rattle.market_notes.specs.declared.fields.RowKind.{RowKind}
+use Rattle.market_notes.specs.declared.fields.RowKind.TheVariants as row_kind
+use Rattle.market_notes.specs.declared.note.Note.{Note}
+use Rattle.market_notes.specs.declared.note.NoteFile.{NoteFile}
+use Rattle.market_notes.specs.NoteTerms.{index_of}
+
+-- a record of fields
+abbrev pub Row : Type 0
+Row = List (List ℕ)
+
+-- the field of a row at a place; a place that isn't there is an empty field
+abbrev pub field_of : Row → ℕ → List ℕ
+field_of row place = slice_index_or row place []
+
+-- bytes are this word
+abbrev pub is_word : List ℕ → List ℕ → Bool
+is_word word bytes = pointwise nat_eq bytes word
+
+-- what follows from a value, or else the same refusal
+infixl 10 ◌>>=◌
+abbrev pub ◌>>=◌ : {T U E : Type 0} → Result T E → (T → Result U E) → Result U E
+Ok value >>= next = next value
+Err refusal >>= next = Err refusal
+
+-- a field is refused by the name of its fault
+abbrev pub kind_of : NumberFault → RefusalKind
+kind_of fault.BadNumber = kind.BadNumber
+kind_of fault.BadDate = kind.BadDate
+kind_of fault.OutOfRange = kind.OutOfRange
+kind_of fault.PriceRange = kind.PriceRange
+
+abbrev pub or_refused : {T : Type 0} → Result T NumberFault → Result T RefusalKind
+or_refused (Ok value) = Ok value
+or_refused (Err fault) = Err (kind_of fault)
+
+abbrev pub or_bad_date : Option ℤ → Result ℤ RefusalKind
+or_bad_date None = Err kind.BadDate
+or_bad_date (Some day) = Ok day
+
+-- a date
+abbrev pub day_field : List ℕ → Result ℤ RefusalKind
+day_field bytes = or_bad_date (day_of bytes)
+
+-- a date up to the latest maturity
+abbrev pub maturity_field : ℤ → List ℕ → Result ℤ RefusalKind
+maturity_field latest bytes = do
+  day ← day_field bytes
+  if int_lt latest day then Err kind.OutOfRange else Ok day
+
+-- a maturity at or before settlement; and one of the index 0, which is the 31st where settlement is on the 30th
+abbrev pub has_matured : ℤ → ℤ → Bool
+has_matured settle maturity = int_le maturity settle || (index_of settle maturity == 0)
+
+abbrev pub unmatured : Note → Result Note RefusalKind
+unmatured note = if has_matured note.settle note.maturity then Err kind.Matured else Ok note
+
+-- a row of so many fields
+abbrev pub of_width : {T : Type 0} → ℕ → Row → Result T RefusalKind → Result T RefusalKind
+of_width width row answer = if length row == width then answer else Err kind.WrongFields
+
+-- `terms,MINIMUM,STEP`: the denominations of each note of the file
+abbrev pub terms_row : Row → Result Terms RefusalKind
+terms_row row = of_width 3 row (or_refused (terms_of (field_of row 1) (field_of row 2)))
+
+-- `note,MATURITY,COUPON,PRICE,CAP`: a note on offer, which matures after settlement and at most 40 years after it
+abbrev pub note_row : ℤ → Terms → Row → Result Note RefusalKind
+note_row settle terms row = of_width 5 row (do
+  maturity ← maturity_field (years_after_of settle 40) (field_of row 1)
+  coupon ← or_refused (rate_of (field_of row 2))
+  price ← or_refused (price_of (field_of row 3))
+  cap ← or_refused (cap_of terms (field_of row 4))
+  unmatured (record { settle = settle; maturity = maturity; coupon = coupon; price = price; cap = cap }))
+
+-- what a row is, by its first field
+abbrev pub kind_of_row : List ℕ → Option RowKind
+kind_of_row word =
+    if is_word (codes "terms") word then Some row_kind.Terms else
+    (if is_word (codes "note") word then Some row_kind.Note else None)
+
+-- a second `terms` row
+abbrev pub repeated_terms : Row → Result Note RefusalKind
+repeated_terms row = do
+  _ ← terms_row row
+  Err kind.Repeated
+
+-- the note of a row after the first: `terms` stands once
+abbrev pub row_note_of : Option RowKind → ℤ → Terms → Row → Result Note RefusalKind
+row_note_of (Some row_kind.Terms) settle terms row = repeated_terms row
+row_note_of (Some row_kind.Note) settle terms row = note_row settle terms row
+row_note_of None settle terms row = Err kind.UnknownRow
+
+abbrev pub row_note : ℤ → Terms → Row → Result Note RefusalKind
+row_note settle terms row = row_note_of (kind_of_row (field_of row 0)) settle terms row
+
+-- row 1 is `terms`
+abbrev pub first_row : Row → Result Terms RefusalKind
+first_row row = if is_word (codes "terms") (field_of row 0) then terms_row row else Err kind.Missing
+
+-- a refusal of the file at the row with this number
+abbrev pub refusal_at : ℕ → RefusalKind → Refusal
+refusal_at number refused = record { file = file.Prices; row = number; kind = refused }
+
+abbrev pub at_row : {T : Type 0} → ℕ → Result T RefusalKind → Result T Refusal
+at_row number (Ok value) = Ok value
+at_row number (Err refused) = Err (refusal_at number refused)
+
+-- the notes of rows from this number on, in order, or the refusal of the first row that has none
+abbrev pub notes_of : ℤ → Terms → ℕ → List Row → Result (List Note) Refusal
+notes_of settle terms number [] = Ok []
+notes_of settle terms number (row ∷ rows) = do
+  note ← at_row number (row_note settle terms row)
+  notes ← notes_of settle terms (number + 1) rows
+  Ok (note ∷ notes)
+
+-- the price file of rows, which are numbered from 1, or its first refusal: no rows offer nothing
+unfoldable pub note_file_of : ℤ → List Row → Result NoteFile Refusal
+note_file_of settle [] = Ok (record { terms = None; notes = [] })
+note_file_of settle (row ∷ rows) = do
+  terms ← at_row 1 (first_row row)
+  notes ← notes_of settle terms 2 rows
+  Ok (record { terms = Some terms; notes = notes })
+
+-- a call answers what is defined, or want of memory
+abbrev pub Answers : {T : Type 0} → Result T CaseError → Result T Refusal → Type 0
+Answers (Ok value) answer = answer ≡ Ok value
+Answers (Err (error.Refused refusal)) answer = answer ≡ Err refusal
+Answers (Err error.NoMemory) answer = ⊤

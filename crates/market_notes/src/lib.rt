@@ -1,0 +1,15 @@
+//! Marketable Treasury notes: the price file, what a note costs and what it pays.
+#![tactic(auto)]
+
+mod fields;
+mod flows;
+mod note;
+mod read;
+mod row;
+mod schedule;
+#[cfg(test)]
+mod tests;
+
+pub use flows::{note_cost, note_payments};
+pub use note::{Note, NoteFile, Notes};
+pub use read::read_notes;

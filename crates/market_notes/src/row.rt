@@ -1,0 +1,81 @@
+ghost use Rattle.std.specs.Prelude.{◌≡◌, ◌<◌, ◌≤ℤ◌, [], length, slice_index_or, IfOk};
+ghost use Rattle.escrow_units.specs.Calendar.{years_after_of};
+ghost use Rattle.escrow_units.specs.DateText.{IsFieldDay};
+ghost use Rattle.escrow_units.specs.Denomination.{AreTerms};
+ghost use Rattle.market_notes.specs.NoteTerms.{IsOffered};
+ghost use Rattle.market_notes.specs.NoteRules.{AreRules};
+ghost use Rattle.market_notes.specs.PriceForm.{has_matured as has_matured_of, terms_row as terms_of_row, first_row as first_of_rows, note_row as note_of_row};
+
+use crate::fields::{maturity_field, refusal_kind, row_word};
+use crate::note::Note;
+use escrow_desk::{RefusalKind, Rows};
+use escrow_units::{Day, Terms, index360, read_cap, read_price, read_rate, read_terms};
+
+/// What the rows of notes are read by.
+#[derive(Clone, Copy)]
+pub(crate) struct NoteRules {
+    /// The day on which the notes are bought.
+    pub settle: Day,
+    /// The latest maturity, 40 years after settlement.
+    pub latest: Day,
+    /// The denominations of the file.
+    pub terms: Terms,
+}
+
+/// `terms,MINIMUM,STEP`
+pub(crate) fn terms_row(rows: &Rows, row: u32) -> Result<Terms, RefusalKind>
+    requires { row < length rows.now }
+    ensures value { result ≡ terms_of_row (slice_index_or rows.now row []) }
+    ensures terms { IfOk result AreTerms }
+{
+    if rows.width(row) != 3 {
+        return Err(RefusalKind::WrongFields);
+    }
+    read_terms(rows.field(row, 1), rows.field(row, 2)).map_err(refusal_kind)
+}
+
+/// The terms of row 1, which is the first.
+pub(crate) fn first_row(rows: &Rows) -> Result<Terms, RefusalKind>
+    requires { 0 < length rows.now }
+    ensures value { result ≡ first_of_rows (slice_index_or rows.now 0 []) }
+    ensures terms { IfOk result AreTerms }
+{
+    if row_word(rows, 0) != b"terms".as_slice() {
+        return Err(RefusalKind::Missing);
+    }
+    terms_row(rows, 0)
+}
+
+// Whether a maturity is at or before settlement, or has the index 0.
+fn has_matured(settle: Day, maturity: Day) -> bool
+    requires { maturity ≤ℤ years_after_of settle 40 }
+    ensures { result ≡ has_matured_of settle maturity }
+{
+    maturity.number() <= settle.number() || index360(settle, maturity) == 0
+}
+
+/// `note,MATURITY,COUPON,PRICE,CAP`
+pub(crate) fn note_row(rules: &NoteRules, rows: &Rows, row: u32) -> Result<Note, RefusalKind>
+    requires row { row < length rows.now }
+    requires rules { AreRules rules.now }
+    ensures value { result ≡ note_of_row rules.now.settle rules.now.terms (slice_index_or rows.now row []) }
+    ensures note { IfOk result (IsOffered rules.now.settle rules.now.terms) }
+{
+    if rows.width(row) != 5 {
+        return Err(RefusalKind::WrongFields);
+    }
+    let maturity = maturity_field(rows.field(row, 1), rules.latest)?;
+    let coupon = read_rate(rows.field(row, 2)).map_err(refusal_kind)?;
+    let price = read_price(rows.field(row, 3)).map_err(refusal_kind)?;
+    let cap = read_cap(rows.field(row, 4), rules.terms).map_err(refusal_kind)?;
+    if has_matured(rules.settle, maturity) {
+        return Err(RefusalKind::Matured);
+    }
+    Ok(Note {
+        settle: rules.settle,
+        maturity,
+        coupon,
+        price,
+        cap,
+    })
+}
