@@ -20,43 +20,7 @@ use Rattle.market_notes.specs.declared.fields.RowKind.TheVariants as row_kind
 use Rattle.market_notes.specs.declared.note.Note.{Note}
 use Rattle.market_notes.specs.declared.note.NoteFile.{NoteFile}
 use Rattle.market_notes.specs.NoteTerms.{index_of}
-
--- a record of fields
-abbrev pub Row : Type 0
-Row = List (List ℕ)
-
--- the field of a row at a place; a place that isn't there is an empty field
-abbrev pub field_of : Row → ℕ → List ℕ
-field_of row place = slice_index_or row place []
-
--- bytes are this word
-abbrev pub is_word : List ℕ → List ℕ → Bool
-is_word word bytes = pointwise nat_eq bytes word
-
--- what follows from a value, or else the same refusal
-infixl 10 ◌>>=◌
-abbrev pub ◌>>=◌ : {T U E : Type 0} → Result T E → (T → Result U E) → Result U E
-Ok value >>= next = next value
-Err refusal >>= next = Err refusal
-
--- a field is refused by the name of its fault
-abbrev pub kind_of : NumberFault → RefusalKind
-kind_of fault.BadNumber = kind.BadNumber
-kind_of fault.BadDate = kind.BadDate
-kind_of fault.OutOfRange = kind.OutOfRange
-kind_of fault.PriceRange = kind.PriceRange
-
-abbrev pub or_refused : {T : Type 0} → Result T NumberFault → Result T RefusalKind
-or_refused (Ok value) = Ok value
-or_refused (Err fault) = Err (kind_of fault)
-
-abbrev pub or_bad_date : Option ℤ → Result ℤ RefusalKind
-or_bad_date None = Err kind.BadDate
-or_bad_date (Some day) = Ok day
-
--- a date
-abbrev pub day_field : List ℕ → Result ℤ RefusalKind
-day_field bytes = or_bad_date (day_of bytes)
+pub use Rattle.row_fields.specs.RowForm.{Row, field_of, is_word, ◌>>=◌, or_refused, day_field, of_width, terms_row, first_row, refusal_of, answer_of_row, Answers}
 
 -- a date up to the latest maturity
 abbrev pub maturity_field : ℤ → List ℕ → Result ℤ RefusalKind
@@ -70,14 +34,6 @@ has_matured settle maturity = int_le maturity settle || (index_of settle maturit
 
 abbrev pub unmatured : Note → Result Note RefusalKind
 unmatured note = if has_matured note.settle note.maturity then Err kind.Matured else Ok note
-
--- a row of so many fields
-abbrev pub of_width : {T : Type 0} → ℕ → Row → Result T RefusalKind → Result T RefusalKind
-of_width width row answer = if length row == width then answer else Err kind.WrongFields
-
--- `terms,MINIMUM,STEP`: the denominations of each note of the file
-abbrev pub terms_row : Row → Result Terms RefusalKind
-terms_row row = of_width 3 row (or_refused (terms_of (field_of row 1) (field_of row 2)))
 
 -- `note,MATURITY,COUPON,PRICE,CAP`: a note on offer, which matures after settlement and at most 40 years after it
 abbrev pub note_row : ℤ → Terms → Row → Result Note RefusalKind
@@ -109,17 +65,12 @@ row_note_of None settle terms row = Err kind.UnknownRow
 abbrev pub row_note : ℤ → Terms → Row → Result Note RefusalKind
 row_note settle terms row = row_note_of (kind_of_row (field_of row 0)) settle terms row
 
--- row 1 is `terms`
-abbrev pub first_row : Row → Result Terms RefusalKind
-first_row row = if is_word (codes "terms") (field_of row 0) then terms_row row else Err kind.Missing
-
 -- a refusal of the file at the row with this number
 abbrev pub refusal_at : ℕ → RefusalKind → Refusal
-refusal_at number refused = record { file = file.Prices; row = number; kind = refused }
+refusal_at number refused = refusal_of file.Prices number refused
 
 abbrev pub at_row : {T : Type 0} → ℕ → Result T RefusalKind → Result T Refusal
-at_row number (Ok value) = Ok value
-at_row number (Err refused) = Err (refusal_at number refused)
+at_row number answer = answer_of_row file.Prices number answer
 
 -- the notes of rows from this number on, in order, or the refusal of the first row that has none
 abbrev pub notes_of : ℤ → Terms → ℕ → List Row → Result (List Note) Refusal
@@ -136,9 +87,3 @@ note_file_of settle (row ∷ rows) = do
   terms ← at_row 1 (first_row row)
   notes ← notes_of settle terms 2 rows
   Ok (record { terms = Some terms; notes = notes })
-
--- a call answers what is defined, or want of memory
-abbrev pub Answers : {T : Type 0} → Result T CaseError → Result T Refusal → Type 0
-Answers (Ok value) answer = answer ≡ Ok value
-Answers (Err (error.Refused refusal)) answer = answer ≡ Err refusal
-Answers (Err error.NoMemory) answer = ⊤

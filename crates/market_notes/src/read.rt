@@ -5,33 +5,13 @@ ghost use Rattle.market_notes.specs.NoteTerms.{IsNoteFile, IsOffered};
 ghost use Rattle.market_notes.specs.NoteRules.{AreRules};
 ghost use Rattle.market_notes.specs.PriceForm.{Answers, at_row as answer_at_row, note_file_of, notes_of, refusal_at, repeated_terms as repeated_terms_of, row_note as note_of_row};
 
-use crate::fields::{RowKind, row_kind, row_word};
+use crate::fields::{RowKind, row_kind};
 use crate::note::{Note, NoteFile, Notes};
-use crate::row::{NoteRules, first_row, note_row, terms_row};
-use escrow_desk::{CaseError, FileKind, Refusal, RefusalKind, Rows};
+use crate::row::{NoteRules, note_row};
+use escrow_desk::{CaseError, FileKind, RefusalKind, Rows};
 use escrow_units::{Day, years_after};
+use row_fields::{at_row, first_row, row_word, terms_row};
 use std::alloc::Global;
-
-// A refusal of the file at a row, by its number from 1.
-fn refused(number: u32, kind: RefusalKind) -> CaseError
-    ensures { result ≡ Refused (refusal_at number kind) }
-{
-    CaseError::Refused(Refusal {
-        file: FileKind::Prices,
-        row: number,
-        kind,
-    })
-}
-
-// The answer of a row, by its number from 1.
-fn at_row<T>(number: u32, answer: Result<T, RefusalKind>) -> Result<T, CaseError>
-    ensures { Answers result (answer_at_row number answer) }
-{
-    match answer {
-        Ok(value) => Ok(value),
-        Err(kind) => Err(refused(number, kind)),
-    }
-}
 
 // A second `terms` row, which may not stand.
 fn repeated_terms(rows: &Rows, row: u32) -> RefusalKind
@@ -78,7 +58,7 @@ fn read_rest(alloc: Global, rules: &NoteRules, rows: &Rows) -> Result<Notes, Cas
 {
     let mut notes = Vec::new(alloc);
     for row in 1..rows.count() {
-        let note = at_row(row + 1, row_note(rules, rows, row))?;
+        let note = at_row(FileKind::Prices, row + 1, row_note(rules, rows, row))?;
         push_note(&mut notes, &note)?;
     }
     Ok(Notes::new(notes))
@@ -109,7 +89,7 @@ pub fn read_notes(alloc: Global, settle: Day, rows: &Rows) -> Result<NoteFile, C
             notes: Notes::new(Vec::new(alloc)),
         });
     }
-    let terms = at_row(1, first_row(rows))?;
+    let terms = at_row(FileKind::Prices, 1, first_row(rows))?;
     let rules = NoteRules {
         settle,
         latest: years_after(settle, 40),

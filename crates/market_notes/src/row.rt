@@ -1,15 +1,15 @@
 ghost use Rattle.std.specs.Prelude.{◌≡◌, ◌<◌, ◌≤ℤ◌, [], length, slice_index_or, IfOk};
 ghost use Rattle.escrow_units.specs.Calendar.{years_after_of};
 ghost use Rattle.escrow_units.specs.DateText.{IsFieldDay};
-ghost use Rattle.escrow_units.specs.Denomination.{AreTerms};
 ghost use Rattle.market_notes.specs.NoteTerms.{IsOffered};
 ghost use Rattle.market_notes.specs.NoteRules.{AreRules};
-ghost use Rattle.market_notes.specs.PriceForm.{has_matured as has_matured_of, terms_row as terms_of_row, first_row as first_of_rows, note_row as note_of_row};
+ghost use Rattle.market_notes.specs.PriceForm.{has_matured as has_matured_of, note_row as note_of_row};
 
-use crate::fields::{maturity_field, refusal_kind, row_word};
+use crate::fields::maturity_field;
 use crate::note::Note;
 use escrow_desk::{RefusalKind, Rows};
-use escrow_units::{Day, Terms, index360, read_cap, read_price, read_rate, read_terms};
+use escrow_units::{Day, Terms, index360, read_cap, read_price, read_rate};
+use row_fields::refusal_kind;
 
 /// What the rows of notes are read by.
 #[derive(Clone, Copy)]
@@ -20,30 +20,6 @@ pub(crate) struct NoteRules {
     pub latest: Day,
     /// The denominations of the file.
     pub terms: Terms,
-}
-
-/// `terms,MINIMUM,STEP`
-pub(crate) fn terms_row(rows: &Rows, row: u32) -> Result<Terms, RefusalKind>
-    requires { row < length rows.now }
-    ensures value { result ≡ terms_of_row (slice_index_or rows.now row []) }
-    ensures terms { IfOk result AreTerms }
-{
-    if rows.width(row) != 3 {
-        return Err(RefusalKind::WrongFields);
-    }
-    read_terms(rows.field(row, 1), rows.field(row, 2)).map_err(refusal_kind)
-}
-
-/// The terms of row 1, which is the first.
-pub(crate) fn first_row(rows: &Rows) -> Result<Terms, RefusalKind>
-    requires { 0 < length rows.now }
-    ensures value { result ≡ first_of_rows (slice_index_or rows.now 0 []) }
-    ensures terms { IfOk result AreTerms }
-{
-    if row_word(rows, 0) != b"terms".as_slice() {
-        return Err(RefusalKind::Missing);
-    }
-    terms_row(rows, 0)
 }
 
 // Whether a maturity is at or before settlement, or has the index 0.

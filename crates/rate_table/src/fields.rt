@@ -1,33 +1,11 @@
 ghost use Rattle.std.specs.Prelude.{◌≡◌, ◌<◌, [], length, slice_index_or, IfOk, IfSome};
 ghost use Rattle.escrow_units.specs.DateText.{IsFieldDay};
-ghost use Rattle.rate_table.specs.RateForm.{field_of, kind_of, kind_of_row, day_field as day_of_field, hundredths_field as hundredths_of_field, asked_field as asked_of_field, optional_day_field as optional_day_of_field};
+ghost use Rattle.rate_table.specs.RateForm.{kind_of_row, hundredths_field as hundredths_of_field, asked_field as asked_of_field, optional_day_field as optional_day_of_field};
 ghost use Rattle.rate_table.specs.Table.{IsTableRate, IsAsked};
 
-use escrow_desk::{RefusalKind, Rows};
-use escrow_units::{AskedRate, Day, NumberFault, Rate, read_day, read_rate};
-
-/// The name of the refusal for a fault of a field.
-pub(crate) fn refusal_kind(fault: NumberFault) -> RefusalKind
-    ensures { result ≡ kind_of fault }
-{
-    match fault {
-        NumberFault::BadNumber => RefusalKind::BadNumber,
-        NumberFault::BadDate => RefusalKind::BadDate,
-        NumberFault::OutOfRange => RefusalKind::OutOfRange,
-        NumberFault::PriceRange => RefusalKind::PriceRange,
-    }
-}
-
-/// The first field of a row, which says what the row is; a row without fields has an empty one.
-pub(crate) fn row_word(rows: &Rows, row: u32) -> &[u8]
-    requires { row < length rows.now }
-    ensures { result.now ≡ field_of (slice_index_or rows.now row []) 0 }
-{
-    if rows.width(row) == 0 {
-        return &[];
-    }
-    rows.field(row, 0)
-}
+use escrow_desk::RefusalKind;
+use escrow_units::{AskedRate, Day, Rate, read_rate};
+use row_fields::{day_field, refusal_kind};
 
 /// The rows that a rate file has.
 #[derive(Clone, Copy)]
@@ -52,17 +30,6 @@ pub(crate) fn row_kind(word: &[u8]) -> Option<RowKind>
         Some(RowKind::Offer)
     } else {
         None
-    }
-}
-
-/// A date.
-pub(crate) fn day_field(bytes: &[u8]) -> Result<Day, RefusalKind>
-    ensures value { result ≡ day_of_field bytes.now }
-    ensures years { IfOk result IsFieldDay }
-{
-    match read_day(bytes) {
-        Ok(day) => Ok(day),
-        Err(_) => Err(RefusalKind::BadDate),
     }
 }
 

@@ -8,35 +8,15 @@ ghost use Rattle.rate_table.specs.RangeIndex.{IsDraft, IsIndex, draft_file};
 ghost use Rattle.rate_table.specs.Table.{IsRateFile, IsRange, IsOffer, meets};
 
 use crate::draft::Draft;
-use crate::fields::{RowKind, row_kind, row_word};
+use crate::fields::{RowKind, row_kind};
 use crate::overlap::overlaps;
-use crate::row::{first_row, offer_row, range_row, terms_row};
+use crate::row::{offer_row, range_row};
 use crate::table::{Offer, Offers, RateFile, RateRange, RateRanges};
-use escrow_desk::{CaseError, FileKind, Refusal, RefusalKind, Rows};
+use escrow_desk::{CaseError, FileKind, RefusalKind, Rows};
 use escrow_units::{Day, Terms};
+use row_fields::{at_row, first_row, refused, row_word, terms_row};
 use std::alloc::Global;
 use std::collections::BTreeMap;
-
-// A refusal of the file at a row, by its number from 1.
-fn refused(number: u32, kind: RefusalKind) -> CaseError
-    ensures { result ≡ Refused (refusal_at number kind) }
-{
-    CaseError::Refused(Refusal {
-        file: FileKind::Rates,
-        row: number,
-        kind,
-    })
-}
-
-// The answer of a row, by its number from 1.
-fn at_row<T>(number: u32, answer: Result<T, RefusalKind>) -> Result<T, CaseError>
-    ensures { Answers result (answer_at_row number answer) }
-{
-    match answer {
-        Ok(value) => Ok(value),
-        Err(kind) => Err(refused(number, kind)),
-    }
-}
 
 // A file of these terms, without ranges and offers.
 fn new_draft(alloc: Global, terms: Terms) -> Draft
@@ -107,9 +87,9 @@ fn add_range(draft: &mut Draft, rows: &Rows, row: u32) -> Result<(), CaseError>
     ensures terms { draft.new.terms ≡ draft.old.terms }
     ensures kept { OnOk result (IsDraft draft.new) }
 {
-    let range = at_row(row + 1, range_row(rows, row))?;
+    let range = at_row(FileKind::Rates, row + 1, range_row(rows, row))?;
     if overlaps(draft, &range) {
-        return Err(refused(row + 1, RefusalKind::Overlap));
+        return Err(refused(FileKind::Rates, row + 1, RefusalKind::Overlap));
     }
     push_range(&mut draft.ranges, &mut draft.by_first, &range)?;
     Ok(())
@@ -127,7 +107,7 @@ fn add_offer(draft: &mut Draft, rows: &Rows, row: u32) -> Result<(), CaseError>
 {
     match offer_row(rows, row, draft.terms) {
         Ok(offer) => push_offer(&mut draft.offers, &offer),
-        Err(kind) => Err(refused(row + 1, kind)),
+        Err(kind) => Err(refused(FileKind::Rates, row + 1, kind)),
     }
 }
 
@@ -142,10 +122,10 @@ fn add_row(draft: &mut Draft, rows: &Rows, row: u32) -> Result<(), CaseError>
     ensures kept { OnOk result (IsDraft draft.new) }
 {
     match row_kind(row_word(rows, row)) {
-        Some(RowKind::Terms) => Err(refused(row + 1, repeated_terms(rows, row))),
+        Some(RowKind::Terms) => Err(refused(FileKind::Rates, row + 1, repeated_terms(rows, row))),
         Some(RowKind::Range) => add_range(draft, rows, row),
         Some(RowKind::Offer) => add_offer(draft, rows, row),
-        None => Err(refused(row + 1, RefusalKind::UnknownRow)),
+        None => Err(refused(FileKind::Rates, row + 1, RefusalKind::UnknownRow)),
     }
 }
 
@@ -196,6 +176,6 @@ pub fn read_rates(alloc: Global, _settle: Day, rows: &Rows) -> Result<RateFile, 
             offers: Offers::new(Vec::new(alloc)),
         });
     }
-    let terms = at_row(1, first_row(rows))?;
+    let terms = at_row(FileKind::Rates, 1, first_row(rows))?;
     read_rest(alloc, rows, terms)
 }

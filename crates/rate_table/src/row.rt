@@ -1,38 +1,12 @@
 ghost use Rattle.std.specs.Prelude.{◌≡◌, ◌<◌, ◌+◌, ◌^◌, [], length, slice_index_or, IfOk};
-ghost use Rattle.escrow_units.specs.Denomination.{AreTerms};
-ghost use Rattle.rate_table.specs.RateForm.{terms_row as terms_of_row, first_row as first_of_rows, range_row as range_of_row, offer_row as offer_of_row};
+ghost use Rattle.rate_table.specs.RateForm.{range_row as range_of_row, offer_row as offer_of_row};
 ghost use Rattle.rate_table.specs.Table.{IsRange, IsOffer};
 
-use crate::fields::{
-    asked_field, day_field, hundredths_field, optional_day_field, refusal_kind, row_word,
-};
+use crate::fields::{asked_field, hundredths_field, optional_day_field};
 use crate::table::{Offer, RateRange};
 use escrow_desk::{RefusalKind, Rows};
-use escrow_units::{Terms, read_cap, read_terms};
-
-/// `terms,MINIMUM,STEP`
-pub(crate) fn terms_row(rows: &Rows, row: u32) -> Result<Terms, RefusalKind>
-    requires { row < length rows.now }
-    ensures value { result ≡ terms_of_row (slice_index_or rows.now row []) }
-    ensures terms { IfOk result AreTerms }
-{
-    if rows.width(row) != 3 {
-        return Err(RefusalKind::WrongFields);
-    }
-    read_terms(rows.field(row, 1), rows.field(row, 2)).map_err(refusal_kind)
-}
-
-/// The terms of row 1, which is the first.
-pub(crate) fn first_row(rows: &Rows) -> Result<Terms, RefusalKind>
-    requires { 0 < length rows.now }
-    ensures value { result ≡ first_of_rows (slice_index_or rows.now 0 []) }
-    ensures terms { IfOk result AreTerms }
-{
-    if row_word(rows, 0) != b"terms".as_slice() {
-        return Err(RefusalKind::Missing);
-    }
-    terms_row(rows, 0)
-}
+use escrow_units::{Terms, read_cap};
+use row_fields::{day_field, refusal_kind};
 
 /// `rate,FROM,TO,MAXIMUM`
 pub(crate) fn range_row(rows: &Rows, row: u32) -> Result<RateRange, RefusalKind>
