@@ -1,11 +1,20 @@
 -- The ends of the yield interval, by monotone present values.
-use Rattle.std.proofs.Common.{◌≡◌, ◌∙◌, ℕ, zero, suc, ◌+◌, ◌-◌, ◌*◌, ◌<◌, ◌≤◌, List, [], ◌∷◌, ◌++◌, length, get_or, take, inl, inr, refl, sym, ap, arith, ℤ}
+use Rattle.std.proofs.Common.{◌≡◌, ◌∙◌, ℕ, zero, suc, ◌+◌, ◌-◌, ◌*◌, ◌<◌, ◌≤◌, List, [], ◌∷◌, ◌++◌, length, get_or, take, inl, inr, refl, sym, ap, cond, false, arith, ℤ}
 use Rattle.std.specs.List.{All, sum_by}
 use Rattle.std.proofs.lemmas.List.{map-append, take_more}
 use Rattle.std.proofs.lemmas.List.Elements.{All-push}
 use Rattle.escrow_units.specs.Calendar.{e_of}
 use Rattle.escrow_units.specs.declared.security.Flow.{Flow}
-use Rattle.fixed_powers.specs.PresentValues.{indexed}
+use Rattle.std.proofs.lemmas.Bool.{cases_lt, le-leb, leb-true, lt-leb}
+use Rattle.std.proofs.lemmas.List.Sums.{sum_by-cons}
+use Rattle.fixed_powers.specs.DiscountPowers.{one}
+use Rattle.fixed_powers.specs.PresentValues.{indexed, total_cents, present_value}
+use Rattle.fixed_powers.specs.declared.side.Side.TheVariants.{Low, High}
+use Rattle.fixed_powers.proofs.PresentValueFacts.{value_falls, low_value-le-high, value-at_zero, value-ordered, value-lt, low_value-encloses, high_value-encloses}
+use Rattle.fixed_powers.proofs.SearchFacts.{greatest-passes, greatest-most, least-within, least-passes, least-most}
+use Rattle.escrow_units.specs.declared.amount.YieldUnits.{YieldUnits}
+use Rattle.yield_enclosure.specs.declared.answer.YieldAnswer.TheVariants.{Between, Above}
+use Rattle.yield_enclosure.specs.YieldAnswers.{answer_of_covered, total, is_worth, is_no_dearer, lower_end, upper_end, IsLowerEnd, IsUpperEnd, AreYieldEnds}
 use Rattle.escrow_units.specs.PresentValue.{IndexedFlow, last_index}
 
 -- the greatest index is at most what each index is at most
@@ -25,3 +34,118 @@ indexed-more settle flows i flow within here =
 pub index-push : (old new : ℕ) (flows : List IndexedFlow) (flow : IndexedFlow) → All (λ f. f.index ≤ old) flows → old ≤ new → flow.index ≤ new → All (λ f. f.index ≤ new) (flows ++ flow ∷ [])
 index-push old new flows flow all rises here =
     All-push (λ f. f.index ≤ new) flows flow (λ k d within. omega (arith, all k d within, rises)) here
+
+-- the sum of the flows is that of their amounts
+pub total-indexed : (settle : ℤ) (flows : List Flow) → total_cents (indexed settle flows) ≡ total flows
+total-indexed settle [] = refl
+total-indexed settle (flow ∷ flows) =
+    let first : IndexedFlow = record { index = e_of flow.day - e_of settle; cents = flow.cents.0 } in
+    omega (arith, sum_by-cons (λ f. f.cents) first (indexed settle flows), sum_by-cons (λ (f : Flow). f.cents.0) flow flows, total-indexed settle flows)
+
+-- the lower end passes its test, and nothing above it does
+pub lower_end-is : (flows : List IndexedFlow) (cost : ℕ) → cost ≤ total_cents flows → present_value Low 3_000_000_000 flows < one * cost → IsLowerEnd flows cost (lower_end flows cost)
+lower_end-is flows cost covered less =
+    let test = is_worth flows cost in
+    let zero_worth : one * cost ≤ present_value Low 0 flows = omega (arith, value-at_zero Low flows, covered) in
+    let some = le-leb (one * cost) (present_value Low 0 flows) zero_worth in
+    record {
+      worth = leb-true _ _ (greatest-passes test 3_000_000_000 0 (omega arith) some);
+      greatest = λ n enough. elim (cases_lt 3_000_000_000 n) [
+        | inl lt ↦ absurd (omega (arith, value_falls Low 3_000_000_000 n flows (omega (arith, lt)), enough, less))
+        | inr le ↦ greatest-most test 3_000_000_000 n le (le-leb _ _ enough)
+      ];
+    }
+
+pub lower_end-only : (flows : List IndexedFlow) (cost lo : ℕ) → cost ≤ total_cents flows → present_value Low 3_000_000_000 flows < one * cost → IsLowerEnd flows cost lo → lo ≡ lower_end flows cost
+lower_end-only flows cost lo covered less is =
+    let other = lower_end-is flows cost covered less in
+    omega (arith, is.greatest (lower_end flows cost) other.worth, other.greatest lo is.worth)
+
+pub lower_end-lt : (flows : List IndexedFlow) (cost lo : ℕ) → present_value Low 3_000_000_000 flows < one * cost → IsLowerEnd flows cost lo → lo < 3_000_000_000
+lower_end-lt flows cost lo less is =
+    elim (cases_lt lo 3_000_000_000) [
+      | inl lt ↦ lt
+      | inr le ↦ absurd (omega (arith, value_falls Low 3_000_000_000 lo flows le, is.worth, less))
+    ]
+
+-- what isn't worth the cost lies above the lower end
+pub worth-below : (flows : List IndexedFlow) (cost n m : ℕ) → present_value Low n flows < one * cost → one * cost ≤ present_value Low m flows → m < n
+worth-below flows cost n m less enough =
+    elim (cases_lt m n) [
+      | inl lt ↦ lt
+      | inr le ↦ absurd (omega (arith, value_falls Low n m flows le, less, enough))
+    ]
+
+-- two units above the lower end the flows are no dearer than the cost
+pub second-no_dearer : (flows : List IndexedFlow) (cost lo : ℕ) → last_index flows ≤ 14_400 → present_value Low 3_000_000_000 flows < one * cost → IsLowerEnd flows cost lo → present_value High (lo + 2) flows ≤ one * cost
+second-no_dearer flows cost lo near less is =
+    let within = lower_end-lt flows cost lo less is in
+    let next : present_value Low (lo + 1) flows < one * cost = elim (cases_lt (present_value Low (lo + 1) flows) (one * cost)) [
+      | inl lt ↦ lt
+      | inr le ↦ absurd (omega (arith, is.greatest (lo + 1) le))
+    ] in
+    let same : lo + 1 + 1 ≡ lo + 2 = omega arith in
+    let sharp = value-ordered (lo + 1) flows (omega (arith, within)) near in
+    let named = ap (λ n. present_value High n flows) same in
+    omega (arith, next, sharp, named)
+
+-- below the lower end the flows are dearer than the cost
+pub lower-le-upper : (flows : List IndexedFlow) (cost lo n : ℕ) → last_index flows ≤ 14_400 → cost ≤ total_cents flows → present_value Low 3_000_000_000 flows < one * cost → IsLowerEnd flows cost lo → present_value High n flows ≤ one * cost → lo ≤ n
+lower-le-upper flows cost lo n near covered less is enough =
+    elim (cases_lt n lo) [
+      | inl lt ↦
+          let within = lower_end-lt flows cost lo less is in
+          let strict = value-lt n 3_000_000_000 flows (omega (arith, lt, within)) near (omega (arith, less, covered)) in
+          let falls = value_falls Low (n + 1) lo flows (omega (arith, lt)) in
+          absurd (omega (arith, strict, falls, enough, is.worth, low_value-le-high n flows, low_value-le-high (n + 1) flows))
+      | inr le ↦ le
+    ]
+
+-- where the flows are dearer than the cost, a yield at which they aren't lies above
+pub dearer-lt : (flows : List IndexedFlow) (cost n m : ℕ) → one * cost < present_value High n flows → present_value High m flows ≤ one * cost → n < m
+dearer-lt flows cost n m dearer enough =
+    elim (cases_lt n m) [
+      | inl lt ↦ lt
+      | inr le ↦ absurd (omega (arith, value_falls High m n flows le, dearer, enough))
+    ]
+
+pub upper_end-is : (flows : List IndexedFlow) (cost lo : ℕ) → last_index flows ≤ 14_400 → present_value Low 3_000_000_000 flows < one * cost → IsLowerEnd flows cost lo → IsUpperEnd flows cost (upper_end flows cost)
+upper_end-is flows cost lo near less is =
+    let test = is_no_dearer flows cost in
+    let within = lower_end-lt flows cost lo less is in
+    let some = le-leb (present_value High (lo + 2) flows) (one * cost) (second-no_dearer flows cost lo near less is) in
+    record {
+      no_dearer = leb-true _ _ (least-passes test 3_000_000_001 (lo + 2) (omega (arith, within)) some);
+      least = λ n enough. elim (cases_lt 3_000_000_001 n) [
+        | inl lt ↦ omega (arith, lt, least-within test 3_000_000_001)
+        | inr le ↦ least-most test 3_000_000_001 n le (le-leb _ _ enough)
+      ];
+    }
+
+pub upper_end-only : (flows : List IndexedFlow) (cost lo hi : ℕ) → last_index flows ≤ 14_400 → present_value Low 3_000_000_000 flows < one * cost → IsLowerEnd flows cost lo → IsUpperEnd flows cost hi → hi ≡ upper_end flows cost
+upper_end-only flows cost lo hi near less lower is =
+    let other = upper_end-is flows cost lo near less lower in
+    omega (arith, is.least (upper_end flows cost) other.no_dearer, other.least hi is.no_dearer)
+
+pub ends_are : (flows : List IndexedFlow) (cost lo hi : ℕ) → last_index flows ≤ 14_400 → cost ≤ total_cents flows → present_value Low 3_000_000_000 flows < one * cost → IsLowerEnd flows cost lo → IsUpperEnd flows cost hi → AreYieldEnds flows cost lo hi
+ends_are flows cost lo hi near covered less lower upper = record {
+  lower = lower;
+  upper = upper;
+  ordered = lower-le-upper flows cost lo hi near covered less lower upper.no_dearer;
+  narrow = upper.least (lo + 2) (second-no_dearer flows cost lo near less lower);
+  below = lower_end-lt flows cost lo less lower;
+  exact = record {
+    at_least = low_value-encloses lo flows cost lower.worth;
+    at_most = high_value-encloses hi flows cost upper.no_dearer;
+  };
+}
+
+-- ends below 30 percent make the answer
+pub between-covered : (flows : List IndexedFlow) (cost : ℕ) (lo hi : YieldUnits) → last_index flows ≤ 14_400 → cost ≤ total_cents flows → present_value Low 3_000_000_000 flows < one * cost → IsLowerEnd flows cost lo.0 → IsUpperEnd flows cost hi.0 → Between lo hi ≡ answer_of_covered flows cost
+between-covered flows cost lo hi near covered less lower upper =
+    let not_above : is_worth flows cost 3_000_000_000 ≡ false = lt-leb _ _ less in
+    let same_lo = lower_end-only flows cost lo.0 covered less lower in
+    let same_hi = upper_end-only flows cost lo.0 hi.0 near less lower upper in
+    ap (λ x. Between (record { 0 = x }) hi) same_lo
+    ∙ ap (λ x. Between (record { 0 = lower_end flows cost }) (record { 0 = x })) same_hi
+    ∙ sym (ap (λ b. cond b Above (Between (record { 0 = lower_end flows cost }) (record { 0 = upper_end flows cost }))) not_above)

@@ -36,23 +36,36 @@ lower_end flows cost = greatest_passing (is_worth flows cost) 3_000_000_000
 abbrev pub upper_end : List IndexedFlow → ℕ → ℕ
 upper_end flows cost = least_passing (is_no_dearer flows cost) 3_000_000_001
 
+-- the answer where the flows sum to the cost or more
+abbrev pub answer_of_covered : List IndexedFlow → ℕ → YieldAnswer
+answer_of_covered flows cost =
+    if is_worth flows cost 3_000_000_000 then Above
+    else Between (record { 0 = lower_end flows cost }) (record { 0 = upper_end flows cost })
+
 -- the answer of flows and a cost: the first that holds
 abbrev pub yield_answer_of : List IndexedFlow → ℕ → YieldAnswer
 yield_answer_of flows cost =
     if (length flows == 0) && (cost == 0) then Empty
     else if nat_lt (total_cents flows) cost then Negative
-    else if is_worth flows cost 3_000_000_000 then Above
-    else Between (record { 0 = lower_end flows cost }) (record { 0 = upper_end flows cost })
+    else answer_of_covered flows cost
 
--- what the ends of an interval are, without a search, and that the exact yield lies between them
-pub record AreYieldEnds (flows : List IndexedFlow) (cost lo hi : ℕ) : Type 0 where
+-- lo is the greatest yield at which the low present value is at least the cost: this says what it is without a search
+pub record IsLowerEnd (flows : List IndexedFlow) (cost lo : ℕ) : Type 0 where
   pub worth : one * cost ≤ present_value Low lo flows
   pub greatest : (n : ℕ) → one * cost ≤ present_value Low n flows → n ≤ lo
+
+-- hi is the least yield at which the high present value is at most the cost
+pub record IsUpperEnd (flows : List IndexedFlow) (cost hi : ℕ) : Type 0 where
   pub no_dearer : present_value High hi flows ≤ one * cost
   pub least : (n : ℕ) → present_value High n flows ≤ one * cost → hi ≤ n
+
+-- lo and hi are the ends, at most two units apart and below 30 percent, and the exact yield lies between them
+pub record AreYieldEnds (flows : List IndexedFlow) (cost lo hi : ℕ) : Type 0 where
+  pub lower : IsLowerEnd flows cost lo
+  pub upper : IsUpperEnd flows cost hi
   pub ordered : lo ≤ hi
   pub narrow : hi ≤ lo + 2
-  pub below_most : lo < 3_000_000_000
+  pub below : lo < 3_000_000_000
   pub exact : YieldLiesIn flows cost lo hi
 
 -- what an answer says of the flows and the cost

@@ -2,11 +2,8 @@
 #![tactic(auto)]
 
 mod answer;
-
+mod enclosure;
 mod timeline;
 
 pub use answer::YieldAnswer;
-
-
-
-
+pub use enclosure::interval;
