@@ -4,14 +4,17 @@ use Rattle.std.specs.List.{sum_by}
 use Rattle.std.proofs.lemmas.Bool.{cases_lt}
 use Rattle.std.proofs.lemmas.List.Sums.{sum_by-cons}
 use Rattle.std.proofs.lemmas.Nat.{pow-add}
-use Rattle.std.proofs.Math.Nat.{mul-le-mul_left, mul-le-mul_right}
-use Rattle.escrow_units.specs.PresentValue.{IndexedFlow, last_index, AtLeastDayFactor, AtMostDayFactor}
-use Rattle.fixed_powers.specs.DiscountPowers.{one, low, high, power_of}
-use Rattle.fixed_powers.specs.PresentValues.{total_cents, present_value, LowValueEncloses, HighValueEncloses, ValueFallsWithYield, LowValueAtMostHigh, ValueIsTotalAtZero, ValueIsSharp}
+use Rattle.std.proofs.Math.Nat.{mul-le-mul_left, mul-le-mul_right, pow-suc, pow-zero}
+use Rattle.escrow_units.specs.PresentValue.{IndexedFlow, half_year, two_m, last_index, AtLeastDayFactor, AtMostDayFactor}
+use Rattle.fixed_powers.specs.DiscountPowers.{one, down, up, root_low, low, power_of}
+use Rattle.fixed_powers.specs.PresentValues.{total_cents, present_value, LowValueEncloses, HighValueEncloses, ValueFallsWithYield, LowValueAtMostHigh, ValueIsTotalAtZero, ValueIsSharp, LowValueExcludes}
 use Rattle.fixed_powers.specs.declared.side.Side.{Side}
 use Rattle.fixed_powers.specs.declared.side.Side.TheVariants.{Low, High}
 use Rattle.fixed_powers.proofs.PowerFacts.{power_of-within, low-encloses, high-encloses, low-le-high, falls_with_yield, one_at_zero, one_at_no_days}
+use Rattle.fixed_powers.proofs.ChainFacts.{down-below, up-above}
+use Rattle.fixed_powers.proofs.RootFacts.{root_low-is}
 use Rattle.fixed_powers.proofs.Sharpness.{sharp}
+use Rattle.fixed_powers.proofs.WholeNumbers.{cancel-le, cross-le}
 
 -- what one flow is worth
 abbrev worth : Side → ℕ → IndexedFlow → ℕ
@@ -161,3 +164,47 @@ value-lt n m (flow ∷ flows) yield days less =
           let head_less = discounted_flow-lt n m flow yield (omega arith) here in
           omega (arith, head_less, rest, sum_by-cons (worth High (n + 1)) flow flows, sum_by-cons (worth Low n) flow flows)
     ]
+
+-- the fraction root_low / one is at most the day's factor: q ^ k / o ^ k ≤ u / o ≤ m / t
+power_below : (o q u m t k : ℕ) → 0 < o → q ^ k * o ≤ u * o ^ k → u * t ≤ o * m → q ^ k * t ≤ o ^ k * m
+power_below o q u m t k pos exact enough =
+    omega (arith, cross-le (q ^ k) (o ^ k) u o m t pos exact (omega (arith, enough)))
+
+one-pow-pos : (k : ℕ) → 0 < one ^ k
+one-pow-pos zero = omega (arith, pow-zero one)
+one-pow-pos (suc k) = omega (arith, pow-suc one k, one-pow-pos k)
+
+up-exact : (q k : ℕ) → q ^ k * one ≤ up q k * one ^ k
+up-exact q k = omega (arith, up-above q q one k (omega arith))
+
+down-exact : (q k : ℕ) → down q k * one ^ k ≤ one * q ^ k
+down-exact q k = down-below q q one k (omega arith)
+
+root_low-factor : (n : ℕ) → AtMostDayFactor n (root_low n) one
+root_low-factor n =
+    let exact = up-exact (root_low n) half_year in
+    power_below one (root_low n) (up (root_low n) half_year) two_m (two_m + n) half_year (omega arith) exact (root_low-is n).enough
+
+-- the low worth is at most what the flow is worth by that fraction
+low_flow-root : (n D : ℕ) (flow : IndexedFlow) → flow.index ≤ D → worth Low n flow * one ^ D ≤ one * discounted_to (root_low n) one D flow
+low_flow-root n D flow within =
+    let parts = ap (λ p. worth Low n flow * p) (power_parts one flow.index D within) in
+    let exact = down-exact (root_low n) flow.index in
+    let below = mul-le-mul_left flow.cents (mul-le-mul_right (one ^ (D - flow.index)) exact) in
+    omega (arith, parts, below)
+
+low_flows-root : (n D : ℕ) (flows : List IndexedFlow) → last_index flows ≤ D → present_value Low n flows * one ^ D ≤ one * sum_by (discounted_to (root_low n) one D) flows
+low_flows-root n D [] within = omega arith
+low_flows-root n D (flow ∷ flows) within =
+    let first = low_flow-root n D flow (omega arith) in
+    let rest = low_flows-root n D flows (omega arith) in
+    let whole = ap (λ s. s * one ^ D) (sum_by-cons (worth Low n) flow flows) in
+    omega (arith, first, rest, whole, sum_by-cons (discounted_to (root_low n) one D) flow flows)
+
+pub low_value-excludes : LowValueExcludes
+low_value-excludes n flows cost dearer at_most =
+    let below = low_flows-root n (last_index flows) flows (omega arith) in
+    let exact = at_most (root_low n) one (omega arith) (root_low-factor n) in
+    let whole : present_value Low n flows * one ^ last_index flows ≤ one * cost * one ^ last_index flows = omega (arith, below, exact) in
+    let less = cancel-le (present_value Low n flows) (one * cost) (one ^ last_index flows) (one-pow-pos (last_index flows)) whole in
+    absurd (omega (arith, less, dearer))

@@ -61,3 +61,9 @@ ValueIsSharp = (n : ℕ) (flows : List IndexedFlow)
     → n ≤ 3_000_000_000
     → last_index flows ≤ 14_400
     → SeparatesValues n flows
+
+-- where the low present value is more than the cost, so is the exact one
+abbrev pub LowValueExcludes : Type 0
+LowValueExcludes = (n : ℕ) (flows : List IndexedFlow) (cost : ℕ)
+    → one * cost < present_value Low n flows
+    → ¬ PresentValueAtMost n flows cost

@@ -1,12 +1,13 @@
 //! Laws of present values by outward powers, for callers to cite. None of these calls does anything.
 
-ghost use Rattle.fixed_powers.specs.PresentValues.{LowValueEncloses, HighValueEncloses, ValueFallsWithYield, LowValueAtMostHigh, ValueIsTotalAtZero, ValueIsSharp};
+ghost use Rattle.fixed_powers.specs.PresentValues.{LowValueEncloses, HighValueEncloses, ValueFallsWithYield, LowValueAtMostHigh, LowValueExcludes, ValueIsTotalAtZero, ValueIsSharp};
 
 /// Each present value lies on its side of the exact one: where the low one covers a cost, or the high one is within it,
-/// so is the exact present value, which is defined without roots.
+/// so is the exact present value, which is defined without roots; and where the low one is more than a cost, so is it.
 pub fn present_values_enclose()
     ensures low { LowValueEncloses }
     ensures high { HighValueEncloses }
+    ensures excludes { LowValueExcludes }
 {}
 
 /// Present values are in order: in the yield and in the side; and at the yield 0 they are the sum of the flows.

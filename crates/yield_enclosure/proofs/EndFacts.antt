@@ -1,20 +1,20 @@
 -- The ends of the yield interval, by monotone present values.
-use Rattle.std.proofs.Common.{◌≡◌, ◌∙◌, ℕ, zero, suc, ◌+◌, ◌-◌, ◌*◌, ◌<◌, ◌≤◌, List, [], ◌∷◌, ◌++◌, length, get_or, take, inl, inr, refl, sym, ap, cond, false, arith, ℤ}
+use Rattle.std.proofs.Common.{◌≡◌, ◌∙◌, ℕ, zero, suc, ◌+◌, ◌-◌, ◌*◌, ◌<◌, ◌≤◌, List, [], ◌∷◌, ◌++◌, length, get_or, take, inl, inr, refl, sym, ap, cond, Bool, true, false, nat_le, Result, Ok, Err, IfOk, arith, ℤ}
 use Rattle.std.specs.List.{All, sum_by}
 use Rattle.std.proofs.lemmas.List.{map-append, take_more}
 use Rattle.std.proofs.lemmas.List.Elements.{All-push}
 use Rattle.escrow_units.specs.Calendar.{e_of}
 use Rattle.escrow_units.specs.declared.security.Flow.{Flow}
-use Rattle.std.proofs.lemmas.Bool.{cases_lt, le-leb, leb-true, lt-leb}
+use Rattle.std.proofs.lemmas.Bool.{cases_lt, le-leb, leb-true, leb-false, lt-leb}
 use Rattle.std.proofs.lemmas.List.Sums.{sum_by-cons}
 use Rattle.fixed_powers.specs.DiscountPowers.{one}
-use Rattle.fixed_powers.specs.PresentValues.{indexed, total_cents, present_value}
+use Rattle.fixed_powers.specs.PresentValues.{HasLaterAmount, indexed, total_cents, present_value}
 use Rattle.fixed_powers.specs.declared.side.Side.TheVariants.{Low, High}
-use Rattle.fixed_powers.proofs.PresentValueFacts.{value_falls, low_value-le-high, value-at_zero, value-ordered, value-lt, low_value-encloses, high_value-encloses}
+use Rattle.fixed_powers.proofs.PresentValueFacts.{value_falls, low_value-le-high, value-at_zero, value-ordered, value-lt, low_value-encloses, high_value-encloses, value_sharp, low_value-excludes}
 use Rattle.fixed_powers.proofs.SearchFacts.{greatest-passes, greatest-most, least-within, least-passes, least-most}
 use Rattle.escrow_units.specs.declared.amount.YieldUnits.{YieldUnits}
 use Rattle.yield_enclosure.specs.declared.answer.YieldAnswer.TheVariants.{Between, Above}
-use Rattle.yield_enclosure.specs.YieldAnswers.{answer_of_covered, total, is_worth, is_no_dearer, lower_end, upper_end, IsLowerEnd, IsUpperEnd, AreYieldEnds}
+use Rattle.yield_enclosure.specs.YieldAnswers.{answer_of_covered, total, is_worth, is_within, AreDearerBelow, is_no_dearer, lower_end, upper_end, IsLowerEnd, IsUpperEnd, AreYieldEnds}
 use Rattle.escrow_units.specs.PresentValue.{IndexedFlow, last_index}
 
 -- the greatest index is at most what each index is at most
@@ -149,3 +149,61 @@ between-covered flows cost lo hi near covered less lower upper =
     ap (λ x. Between (record { 0 = x }) hi) same_lo
     ∙ ap (λ x. Between (record { 0 = lower_end flows cost }) (record { 0 = x })) same_hi
     ∙ sym (ap (λ b. cond b Above (Between (record { 0 = lower_end flows cost }) (record { 0 = upper_end flows cost }))) not_above)
+
+-- the answer where the flows aren't worth the cost at 30 percent
+ends_answer : (flows : List IndexedFlow) (cost : ℕ) → present_value Low 3_000_000_000 flows < one * cost → answer_of_covered flows cost ≡ Between (record { 0 = lower_end flows cost }) (record { 0 = upper_end flows cost })
+ends_answer flows cost less =
+    ap (λ b. cond b Above (Between (record { 0 = lower_end flows cost }) (record { 0 = upper_end flows cost }))) (lt-leb (one * cost) (present_value Low 3_000_000_000 flows) less)
+
+-- the upper end is at most the limit exactly where the flows are no dearer than the cost at the limit
+upper_end-limit : (flows : List IndexedFlow) (cost limit : ℕ) → last_index flows ≤ 14_400 → cost ≤ total_cents flows → present_value Low 3_000_000_000 flows < one * cost → nat_le (upper_end flows cost) limit ≡ is_no_dearer flows cost limit
+upper_end-limit flows cost limit near covered less =
+    let upper = upper_end-is flows cost (lower_end flows cost) near less (lower_end-is flows cost covered less) in
+    elim (cases_lt (one * cost) (present_value High limit flows)) [
+      | inl dearer ↦ lt-leb _ _ (dearer-lt flows cost limit (upper_end flows cost) dearer upper.no_dearer) ∙ sym (lt-leb _ _ dearer)
+      | inr enough ↦ le-leb _ _ (upper.least limit enough) ∙ sym (le-leb _ _ enough)
+    ]
+
+pub within-at_limit : (flows : List IndexedFlow) (cost limit : ℕ) → last_index flows ≤ 14_400 → cost ≤ total_cents flows → present_value Low 3_000_000_000 flows < one * cost → is_no_dearer flows cost limit ≡ is_within limit (answer_of_covered flows cost)
+within-at_limit flows cost limit near covered less =
+    sym (ap (is_within limit) (ends_answer flows cost less) ∙ upper_end-limit flows cost limit near covered less)
+
+pub within-above_most : (flows : List IndexedFlow) (cost limit : ℕ) → last_index flows ≤ 14_400 → cost ≤ total_cents flows → present_value Low 3_000_000_000 flows < one * cost → 3_000_000_000 < limit → true ≡ is_within limit (answer_of_covered flows cost)
+within-above_most flows cost limit near covered less above =
+    let highest : upper_end flows cost ≤ limit = omega (arith, least-within (is_no_dearer flows cost) 3_000_000_001, above) in
+    sym (ap (is_within limit) (ends_answer flows cost less) ∙ le-leb _ _ highest)
+
+pub within-worth : (flows : List IndexedFlow) (cost limit : ℕ) → one * cost ≤ present_value Low 3_000_000_000 flows → false ≡ is_within limit (answer_of_covered flows cost)
+within-worth flows cost limit worth =
+    sym (ap (λ b. is_within limit (cond b Above (Between (record { 0 = lower_end flows cost }) (record { 0 = upper_end flows cost })))) (le-leb _ _ worth))
+
+dearer_below : (flows : List IndexedFlow) (cost limit : ℕ) → one * cost < present_value Low (limit - 1) flows → AreDearerBelow flows cost limit
+dearer_below flows cost limit dearer = record {
+  rounded = dearer;
+  exact = low_value-excludes (limit - 1) flows cost dearer;
+}
+
+-- a limit at which the flows are dearer than the cost
+pub refused-dearer : (flows : List IndexedFlow) (cost limit : ℕ) → last_index flows ≤ 14_400 → 1 ≤ limit → limit ≤ 3_000_000_000 → one * cost < present_value High limit flows → AreDearerBelow flows cost limit
+refused-dearer flows cost limit near some most dearer =
+    let next : limit - 1 + 1 ≡ limit = omega arith in
+    let named = ap (λ n. present_value High n flows) next in
+    let sharp = value-ordered (limit - 1) flows (omega (arith, most)) near in
+    dearer_below flows cost limit (omega (arith, named, sharp, dearer))
+
+-- a limit of at most 30 percent, where the flows are worth the cost there
+pub refused-worth : (flows : List IndexedFlow) (cost limit : ℕ) → last_index flows ≤ 14_400 → 1 ≤ limit → limit ≤ 3_000_000_000 → HasLaterAmount flows → one * cost ≤ present_value Low 3_000_000_000 flows → AreDearerBelow flows cost limit
+refused-worth flows cost limit near some most later worth =
+    let next : limit - 1 + 1 ≡ limit = omega arith in
+    let named = ap (λ n. present_value High n flows) next in
+    let sharp = (value_sharp (limit - 1) flows (omega (arith, most)) near).strict later in
+    dearer_below flows cost limit (omega (arith, named, sharp, worth, value_falls Low limit 3_000_000_000 flows most, low_value-le-high limit flows))
+
+-- a test that fails tells that the flows are dearer than the cost
+pub is_dearer : (flows : List IndexedFlow) (cost limit : ℕ) → is_no_dearer flows cost limit ≡ false → one * cost < present_value High limit flows
+is_dearer flows cost limit fails = leb-false _ _ fails
+
+-- what follows from what an Ok holds
+pub if_ok : {T E : Type 0} {P Q : T → Type 0} (r : Result T E) → ((x : T) → P x → Q x) → IfOk r P → IfOk r Q
+if_ok (Ok x) step holds = step x holds
+if_ok (Err e) step holds = tt

@@ -1,8 +1,8 @@
 -- The yield of flows for a cost, as an interval: this project's own, over the exact yield of 26 CFR 1.148-5(b).
-use Rattle.std.specs.Prelude.{◌≡◌, ℕ, ◌+◌, ◌*◌, ◌<◌, ◌≤◌, Bool, true, false, nat_lt, nat_le, ◌==◌, ◌&&◌, if◌then◌else◌, List, [], length, ℤ, ◌≤ℤ◌}
+use Rattle.std.specs.Prelude.{◌≡◌, ℕ, ◌+◌, ◌-◌, ◌*◌, ◌<◌, ◌≤◌, Bool, true, false, nat_lt, nat_le, ◌==◌, ◌&&◌, if◌then◌else◌, List, [], length, ℤ, ◌≤ℤ◌}
 use Rattle.std.specs.List.{All, sum_by}
 use Rattle.escrow_units.specs.Calendar.{years_after_of}
-use Rattle.escrow_units.specs.PresentValue.{IndexedFlow, PresentValueAtLeast, YieldLiesIn}
+use Rattle.escrow_units.specs.PresentValue.{IndexedFlow, PresentValueAtLeast, PresentValueAtMost, YieldLiesIn}
 use Rattle.escrow_units.specs.declared.security.Flow.{Flow}
 use Rattle.fixed_powers.specs.DiscountPowers.{one}
 use Rattle.fixed_powers.specs.PresentValues.{total_cents, present_value}
@@ -81,3 +81,8 @@ is_within limit Empty = true
 is_within limit Negative = true
 is_within limit (Between lo hi) = nat_le hi.0 limit
 is_within limit Above = false
+
+-- one unit below the limit the flows are worth more than the cost, even rounded down; so they are exactly
+pub record AreDearerBelow (flows : List IndexedFlow) (cost limit : ℕ) : Type 0 where
+  pub rounded : one * cost < present_value Low (limit - 1) flows
+  pub exact : ¬ PresentValueAtMost (limit - 1) flows cost

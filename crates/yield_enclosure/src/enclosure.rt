@@ -1,11 +1,11 @@
 //! The yield interval, by bisection over present values.
 
-ghost use Rattle.std.specs.Prelude.{◌≡◌, ◌+◌, ◌*◌, ◌<◌, ◌≤◌, ◌^◌, IfOk};
+ghost use Rattle.std.specs.Prelude.{◌≡◌, false, ◌+◌, ◌*◌, ◌<◌, ◌≤◌, ◌^◌, IfOk};
 ghost use Rattle.escrow_units.specs.PresentValue.{last_index};
 ghost use Rattle.fixed_powers.specs.DiscountPowers.{one};
-ghost use Rattle.fixed_powers.specs.PresentValues.{indexed, total_cents, present_value};
+ghost use Rattle.fixed_powers.specs.PresentValues.{HasLaterAmount, indexed, total_cents, present_value};
 ghost use Rattle.fixed_powers.specs.declared.side.Side.TheVariants.{Low};
-ghost use Rattle.yield_enclosure.specs.YieldAnswers.{FallWithin40Years, total, is_worth, is_no_dearer, IsLowerEnd, IsUpperEnd, IsToldBy, answer_of_covered, yield_answer_of};
+ghost use Rattle.yield_enclosure.specs.YieldAnswers.{FallWithin40Years, AreDearerBelow, total, is_within, is_worth, is_no_dearer, IsLowerEnd, IsUpperEnd, IsToldBy, answer_of_covered, yield_answer_of};
 
 use crate::answer::YieldAnswer;
 use crate::timeline::Timeline;
@@ -157,4 +157,64 @@ pub fn interval(
     }
     let timeline = Timeline::make(alloc, settle, flows)?;
     answer_of_covered(alloc, &timeline, cost)
+}
+
+// Whether the yield is within the limit where the flows sum to the cost or more: two yields are tried.
+fn is_covered_within(
+    alloc: Global,
+    flows: &Timeline,
+    cost: Cents,
+    limit: YieldUnits,
+) -> Result<bool, NoMemory>
+    requires near { last_index flows.now ≤ 14_400 }
+    requires cents { total_cents flows.now + cost.0 ≤ 10 ^ 15 }
+    requires covered { cost.0 ≤ total_cents flows.now }
+    ensures value { IfOk result (λ yes. yes ≡ is_within limit.0 (answer_of_covered flows.now cost.0)) }
+    ensures refusal { IfOk result (λ yes. yes ≡ false
+        → 1 ≤ limit.0
+        → limit.0 ≤ 3_000_000_000
+        → HasLaterAmount flows.now
+        → AreDearerBelow flows.now cost.0 limit.0) }
+{
+    if is_worth(alloc, flows, cost, MOST)? {
+        return Ok(false);
+    }
+    // The upper end is at most one unit above 30 percent.
+    if MOST.0 < limit.0 {
+        return Ok(true);
+    }
+    is_no_dearer(alloc, flows, cost, limit)
+}
+
+/// Whether the yield of flows for a cost is within a limit: there is none, or it is below 0, or the upper end of its
+/// interval is at most the limit.
+///
+/// The conditions are those of `interval`, and it takes no more memory. It tries two yields alone. Where an amount above
+/// 0 falls at an index of 1 or more, it answers false only where the flows are worth more than the cost at a yield one
+/// unit below the limit, which is from 1 to 3,000,000,000 units.
+///
+/// # Errors
+///
+/// `NoMemory` where there is no room for the flows or the table.
+pub fn within(
+    alloc: Global,
+    settle: Day,
+    flows: &[Flow],
+    cost: Cents,
+    limit: YieldUnits,
+) -> Result<bool, NoMemory>
+    requires days { FallWithin40Years settle flows.now }
+    requires cents { total flows.now + cost.0 ≤ 10 ^ 15 }
+    ensures value { IfOk result (λ yes. yes ≡ is_within limit.0 (yield_answer_of (indexed settle flows.now) cost.0)) }
+    ensures refusal { IfOk result (λ yes. yes ≡ false
+        → 1 ≤ limit.0
+        → limit.0 ≤ 3_000_000_000
+        → HasLaterAmount (indexed settle flows.now)
+        → AreDearerBelow (indexed settle flows.now) cost.0 limit.0) }
+{
+    if flows.is_empty() && cost.0 == 0 || sum_of(flows) < cost.0 {
+        return Ok(true);
+    }
+    let timeline = Timeline::make(alloc, settle, flows)?;
+    is_covered_within(alloc, &timeline, cost, limit)
 }

@@ -6,4 +6,4 @@ mod enclosure;
 mod timeline;
 
 pub use answer::YieldAnswer;
-pub use enclosure::interval;
+pub use enclosure::{interval, within};
