@@ -33,12 +33,7 @@ fn sum_of(flows: &[Flow]) -> u64
 }
 
 // Whether the flows are worth the cost at a yield, rounded down.
-fn is_worth(
-    alloc: Global,
-    flows: &Timeline,
-    cost: Cents,
-    n: YieldUnits,
-) -> Result<bool, NoMemory>
+fn is_worth(alloc: Global, flows: &Timeline, cost: Cents, n: YieldUnits) -> Result<bool, NoMemory>
     requires yield_units { n.0 ≤ 3_000_000_001 }
     requires cents { total_cents flows.now + cost.0 ≤ 10 ^ 15 }
     ensures { IfOk result (λ yes. yes ≡ is_worth flows.now cost.0 n.0) }
@@ -110,11 +105,7 @@ fn upper_end(
 }
 
 // The answer where the flows sum to the cost or more.
-fn answer_of_covered(
-    alloc: Global,
-    flows: &Timeline,
-    cost: Cents,
-) -> Result<YieldAnswer, NoMemory>
+fn answer_of_covered(alloc: Global, flows: &Timeline, cost: Cents) -> Result<YieldAnswer, NoMemory>
     requires near { last_index flows.now ≤ 14_400 }
     requires cents { total_cents flows.now + cost.0 ≤ 10 ^ 15 }
     requires covered { cost.0 ≤ total_cents flows.now }

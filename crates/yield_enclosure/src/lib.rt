@@ -7,3 +7,6 @@ mod timeline;
 
 pub use answer::YieldAnswer;
 pub use enclosure::{interval, within};
+
+#[cfg(test)]
+mod tests;
