@@ -1,12 +1,12 @@
 -- The ends of the yield interval, by monotone present values.
-use Rattle.std.proofs.Common.{◌≡◌, ◌∙◌, ℕ, zero, suc, ◌+◌, ◌-◌, ◌*◌, ◌<◌, ◌≤◌, List, [], ◌∷◌, ◌++◌, length, get_or, take, inl, inr, refl, sym, ap, cond, Bool, true, false, nat_le, Result, Ok, Err, IfOk, arith, ℤ}
+use Rattle.std.proofs.Common.{◌≡◌, ◌∙◌, ℕ, zero, suc, ◌+◌, ◌-◌, ◌*◌, ◌<◌, ◌≤◌, List, [], ◌∷◌, ◌++◌, length, get_or, take, inl, inr, refl, sym, ap, subst, ◌≤ℤ◌, cond, Bool, true, false, nat_le, Result, Ok, Err, IfOk, arith, ℤ}
 use Rattle.std.specs.List.{All, sum_by}
 use Rattle.std.proofs.lemmas.List.{map-append, take_more}
 use Rattle.std.proofs.lemmas.List.Elements.{All-push}
-use Rattle.escrow_units.specs.Calendar.{e_of}
+use Rattle.escrow_units.specs.Calendar.{e_of, years_after_of}
 use Rattle.escrow_units.specs.declared.security.Flow.{Flow}
 use Rattle.std.proofs.lemmas.Bool.{cases_lt, le-leb, leb-true, leb-false, lt-leb}
-use Rattle.std.proofs.lemmas.List.Sums.{sum_by-cons}
+use Rattle.std.proofs.lemmas.List.Sums.{sum_by-cons, sum_by_more}
 use Rattle.fixed_powers.specs.DiscountPowers.{one}
 use Rattle.fixed_powers.specs.PresentValues.{HasLaterAmount, indexed, total_cents, present_value}
 use Rattle.fixed_powers.specs.declared.side.Side.TheVariants.{Low, High}
@@ -14,7 +14,7 @@ use Rattle.fixed_powers.proofs.PresentValueFacts.{value_falls, low_value-le-high
 use Rattle.fixed_powers.proofs.SearchFacts.{greatest-passes, greatest-most, least-within, least-passes, least-most}
 use Rattle.escrow_units.specs.declared.amount.YieldUnits.{YieldUnits}
 use Rattle.yield_enclosure.specs.declared.answer.YieldAnswer.TheVariants.{Between, Above}
-use Rattle.yield_enclosure.specs.YieldAnswers.{answer_of_covered, total, is_worth, is_within, AreDearerBelow, is_no_dearer, lower_end, upper_end, IsLowerEnd, IsUpperEnd, AreYieldEnds}
+use Rattle.yield_enclosure.specs.YieldAnswers.{FallWithin40Years, answer_of_covered, total, is_worth, is_within, AreDearerBelow, is_no_dearer, lower_end, upper_end, IsLowerEnd, IsUpperEnd, AreYieldEnds}
 use Rattle.escrow_units.specs.PresentValue.{IndexedFlow, last_index}
 
 -- the greatest index is at most what each index is at most
@@ -207,3 +207,14 @@ is_dearer flows cost limit fails = leb-false _ _ fails
 pub if_ok : {T E : Type 0} {P Q : T → Type 0} (r : Result T E) → ((x : T) → P x → Q x) → IfOk r P → IfOk r Q
 if_ok (Ok x) step holds = step x holds
 if_ok (Err e) step holds = tt
+
+-- one flow more within the 40 years
+pub near-more : (settle : ℤ) (flows : List Flow) (i : ℕ) (flow : Flow) → i < length flows → get_or flows i flow ≡ flow → settle ≤ℤ flow.day → flow.day ≤ℤ years_after_of settle 40 → FallWithin40Years settle (take i flows) → FallWithin40Years settle (take (i + 1) flows)
+near-more settle flows i flow within here from to near =
+    let more : take (i + 1) flows ≡ take i flows ++ flow ∷ [] = take_more flows i flow within ∙ ap (λ f. take i flows ++ f ∷ []) here in
+    subst (FallWithin40Years settle) (sym more) (All-push (λ f. (settle ≤ℤ f.day) × (f.day ≤ℤ years_after_of settle 40)) (take i flows) flow near (from, to))
+
+-- and its cents
+pub total-more : (flows : List Flow) (i : ℕ) (flow : Flow) → i < length flows → get_or flows i flow ≡ flow → total (take (i + 1) flows) ≡ total (take i flows) + flow.cents.0
+total-more flows i flow within here =
+    sum_by_more (λ (f : Flow). f.cents.0) flows i flow within ∙ ap (λ (f : Flow). total (take i flows) + f.cents.0) here

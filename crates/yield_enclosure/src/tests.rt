@@ -25,6 +25,16 @@ fn flow(number: i32, cents: u64) -> Flow
     }
 }
 
+// Nothing, on the settlement day.
+fn none() -> Flow {
+    flow(SETTLE, 0)
+}
+
+// 10.00 after a half-year.
+fn half_year() -> Flow {
+    flow(20_284, 1_000)
+}
+
 // Whether a call may be made with these.
 fn are_allowed(settle: Day, flows: &[Flow], cost: Cents) -> bool
     requires { IsBaseDay settle }
@@ -80,38 +90,36 @@ struct Row {
 // definition. Where a row has fewer than three flows, nothing falls on settlement.
 #[test]
 fn known_yields(rt: HostRuntime) -> Result<(), Fail> {
-    let none = flow(SETTLE, 0);
-    let half_year = flow(20_284, 1_000);
     let rows = [
         // One payment after a half-year, after a year, and after 40 years.
         Row {
-            flows: [flow(20_284, 10_200_000), none, none],
+            flows: [flow(20_284, 10_200_000), none(), none()],
             cost: 10_000_000,
             answer: between(399_999_999, 400_000_001),
         },
         Row {
-            flows: [flow(20_468, 10_404_000), none, none],
+            flows: [flow(20_468, 10_404_000), none(), none()],
             cost: 10_000_000,
             answer: between(399_999_999, 400_000_001),
         },
         Row {
-            flows: [flow(34_713, 718_831_070_516_853), none, none],
+            flows: [flow(34_713, 718_831_070_516_853), none(), none()],
             cost: 10_018_428_715,
             answer: between(2_999_999_999, 3_000_000_001),
         },
         // Above 30 percent, below 0, and just 0.
         Row {
-            flows: [half_year, none, none],
+            flows: [half_year(), none(), none()],
             cost: 800,
             answer: YieldAnswer::Above,
         },
         Row {
-            flows: [half_year, none, none],
+            flows: [half_year(), none(), none()],
             cost: 1_001,
             answer: YieldAnswer::Negative,
         },
         Row {
-            flows: [half_year, none, none],
+            flows: [half_year(), none(), none()],
             cost: 1_000,
             answer: between(0, 0),
         },
@@ -138,28 +146,28 @@ fn known_yields(rt: HostRuntime) -> Result<(), Fail> {
             flows: [
                 flow(34_713, 900_000_000_000),
                 flow(27_408, 100_000_000_000),
-                none,
+                none(),
             ],
             cost: 100_000_000_000,
             answer: between(642_358_335, 642_358_336),
         },
         Row {
-            flows: [flow(34_713, 100_000_001), none, none],
+            flows: [flow(34_713, 100_000_001), none(), none()],
             cost: 100_000_000,
             answer: between(2, 3),
         },
         Row {
-            flows: [flow(20_104, 100_000_000_000_001), none, none],
+            flows: [flow(20_104, 100_000_000_000_001), none(), none()],
             cost: 100_000_000_000_000,
             answer: between(0, 1),
         },
         Row {
-            flows: [flow(20_468, 1_322_499), flow(SETTLE, 1), none],
+            flows: [flow(20_468, 1_322_499), flow(SETTLE, 1), none()],
             cost: 1_000_001,
             answer: between(2_999_991_304, 2_999_991_305),
         },
         Row {
-            flows: [flow(20_284, 115), flow(20_468, 132), none],
+            flows: [flow(20_284, 115), flow(20_468, 132), none()],
             cost: 200,
             answer: between(2_985_501_153, 2_985_501_154),
         },
