@@ -1,10 +1,10 @@
-use Rattle.std.proofs.Common.{rules, ◌≡◌, ◌<◌, ◌≤◌, ◌*◌, Bool, false, true, ℕ, arith}
+use Rattle.std.proofs.Common.{rules, ◌<◌, ◌≤◌, ◌*◌}
 use Rattle.fixed_powers.specs.DiscountPowers.{one}
 use Rattle.fixed_powers.specs.PresentValues.{present_value}
 use Rattle.fixed_powers.specs.declared.side.Side.TheVariants.{Low}
 use Rattle.fixed_powers.proofs.PresentValueFacts.{low_value-encloses}
-use Rattle.yield_enclosure.specs.YieldAnswers.{is_worth, IsLowerEnd, IsUpperEnd}
-use Rattle.yield_enclosure.proofs.EndFacts.{lower_end-lt, lower_end-only, upper_end-only, ends_are, between-covered}
+use Rattle.yield_enclosure.specs.YieldAnswers.{IsLowerEnd, IsUpperEnd}
+use Rattle.yield_enclosure.proofs.EndFacts.{lower_end-lt, ends_are, between-covered}
 use Rattle.yield_enclosure.proofs.enclosure.answer_of_covered.Goals as goal
 
 pub returns-then-branch-clause-meaning : goal.returns-then-branch-clause-meaning

@@ -1,9 +1,8 @@
-use Rattle.std.proofs.Common.{rules, ◌≡◌, ◌∙◌, ◌<◌, ◌≤◌, ◌*◌, false, sym}
+use Rattle.std.proofs.Common.{rules, ◌∙◌, ◌<◌, ◌≤◌, ◌*◌, sym}
 use Rattle.fixed_powers.specs.DiscountPowers.{one}
 use Rattle.fixed_powers.specs.PresentValues.{present_value}
 use Rattle.fixed_powers.specs.declared.side.Side.TheVariants.{Low}
-use Rattle.yield_enclosure.specs.YieldAnswers.{is_no_dearer}
-use Rattle.yield_enclosure.proofs.EndFacts.{if_ok, within-at_limit, within-above_most, within-worth, refused-dearer, refused-worth, is_dearer}
+use Rattle.yield_enclosure.proofs.EndFacts.{if_ok, within-at_limit, within-above_most, refused-dearer, refused-worth, is_dearer}
 use Rattle.yield_enclosure.proofs.enclosure.is_covered_within.Goals as goal
 
 pub returns-then-branch-clause-refusal : goal.returns-then-branch-clause-refusal

@@ -1,4 +1,4 @@
-use Rattle.std.proofs.Common.{rules, ◌≡◌, ◌≤◌, ◌<◌, length, get_or, arith, ◌≤ℤ◌}
+use Rattle.std.proofs.Common.{rules, ◌≡◌, ◌<◌, length, get_or, arith, ◌≤ℤ◌}
 use Rattle.escrow_units.specs.Calendar.{years_after_of}
 use Rattle.yield_enclosure.proofs.EndFacts.{near-more, total-more}
 use Rattle.yield_enclosure.proofs.tests.are_allowed.Goals as goal
