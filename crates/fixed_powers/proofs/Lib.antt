@@ -4,3 +4,4 @@ pub mod ChainFacts
 pub mod RootFacts
 pub mod PowerFacts
 pub mod Sharpness
+pub mod PresentValueFacts

@@ -1,3 +1,4 @@
 pub mod DiscountPowers
 pub mod PowerLaws
 pub mod Searches
+pub mod PresentValues

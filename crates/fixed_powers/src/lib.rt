@@ -4,11 +4,15 @@
 mod chain;
 mod laws;
 mod powers;
+mod present_values;
 mod root;
 mod side;
 
 pub use laws::{powers_are_ordered, powers_are_sharp, powers_enclose};
 pub use powers::Powers;
+pub use present_values::{
+    present_values_are_ordered, present_values_are_sharp, present_values_enclose,
+};
 pub use root::{root_high, root_low};
 pub use side::Side;
 

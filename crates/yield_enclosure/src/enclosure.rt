@@ -1,0 +1,211 @@
+//! The yield interval, by bisection over present values.
+
+ghost use Rattle.std.specs.Prelude.{◌≡◌, false, ◌+◌, ◌*◌, ◌<◌, ◌≤◌, ◌^◌, IfOk};
+ghost use Rattle.escrow_units.specs.PresentValue.{last_index};
+ghost use Rattle.fixed_powers.specs.DiscountPowers.{one};
+ghost use Rattle.fixed_powers.specs.PresentValues.{HasLaterAmount, indexed, total_cents, present_value};
+ghost use Rattle.fixed_powers.specs.declared.side.Side.TheVariants.{Low};
+ghost use Rattle.yield_enclosure.specs.YieldAnswers.{FallWithin40Years, AreDearerBelow, total, is_within, is_worth, is_no_dearer, IsLowerEnd, IsUpperEnd, IsToldBy, answer_of_covered, yield_answer_of};
+
+use crate::answer::YieldAnswer;
+use crate::timeline::Timeline;
+use escrow_desk::NoMemory;
+use escrow_units::{Cents, Day, Flow, YieldUnits};
+use fixed_powers::Side;
+use std::alloc::Global;
+
+// One, as a number of 62 fraction bits.
+const ONE: u128 = 1 << 62;
+
+// 30 percent: a yield that reaches it is above the interval's bounds.
+const MOST: YieldUnits = YieldUnits(3_000_000_000);
+
+// The sum of the flows, in cents.
+fn sum_of(flows: &[Flow]) -> u64
+    requires { total flows.now < 2 ^ 64 }
+    ensures { result ≡ total flows.now }
+{
+    let mut sum = 0;
+    for flow in flows {
+        sum += flow.cents.0;
+    }
+    sum
+}
+
+// Whether the flows are worth the cost at a yield, rounded down.
+fn is_worth(alloc: Global, flows: &Timeline, cost: Cents, n: YieldUnits) -> Result<bool, NoMemory>
+    requires yield_units { n.0 ≤ 3_000_000_001 }
+    requires cents { total_cents flows.now + cost.0 ≤ 10 ^ 15 }
+    ensures { IfOk result (λ yes. yes ≡ is_worth flows.now cost.0 n.0) }
+{
+    let value = flows.present_value(alloc, n, Side::Low)?;
+    Ok(ONE * cost.0 as u128 <= value)
+}
+
+// Whether the flows are worth no more than the cost at a yield, rounded up.
+fn is_no_dearer(
+    alloc: Global,
+    flows: &Timeline,
+    cost: Cents,
+    n: YieldUnits,
+) -> Result<bool, NoMemory>
+    requires yield_units { n.0 ≤ 3_000_000_001 }
+    requires cents { total_cents flows.now + cost.0 ≤ 10 ^ 15 }
+    ensures { IfOk result (λ yes. yes ≡ is_no_dearer flows.now cost.0 n.0) }
+{
+    let value = flows.present_value(alloc, n, Side::High)?;
+    Ok(value <= ONE * cost.0 as u128)
+}
+
+// The greatest yield at which the flows are worth the cost: from 0 to just below 30 percent.
+fn lower_end(alloc: Global, flows: &Timeline, cost: Cents) -> Result<YieldUnits, NoMemory>
+    requires cents { total_cents flows.now + cost.0 ≤ 10 ^ 15 }
+    requires covered { cost.0 ≤ total_cents flows.now }
+    requires less { present_value Low 3_000_000_000 flows.now < one * cost.0 }
+    ensures { IfOk result (λ lo. IsLowerEnd flows.now cost.0 lo.0) }
+{
+    // Present values fall with the yield, so the flows are worth the cost at each yield up to the greatest.
+    let mut worth = 0;
+    let mut most = MOST.0 - 1;
+    while worth < most {
+        let middle = most - (most - worth) / 2;
+        if is_worth(alloc, flows, cost, YieldUnits(middle))? {
+            worth = middle;
+        } else {
+            most = middle - 1;
+        }
+    }
+    Ok(YieldUnits(worth))
+}
+
+// The least yield at which the flows are worth no more than the cost: it is at most two units above the lower end,
+// since rounding never hides one unit of yield.
+fn upper_end(
+    alloc: Global,
+    flows: &Timeline,
+    cost: Cents,
+    lo: YieldUnits,
+) -> Result<YieldUnits, NoMemory>
+    requires near { last_index flows.now ≤ 14_400 }
+    requires cents { total_cents flows.now + cost.0 ≤ 10 ^ 15 }
+    requires covered { cost.0 ≤ total_cents flows.now }
+    requires less { present_value Low 3_000_000_000 flows.now < one * cost.0 }
+    requires lower { IsLowerEnd flows.now cost.0 lo.0 }
+    requires below { lo.0 < 3_000_000_000 }
+    ensures { IfOk result (λ hi. IsUpperEnd flows.now cost.0 hi.0) }
+{
+    if is_no_dearer(alloc, flows, cost, lo)? {
+        return Ok(lo);
+    }
+    let next = YieldUnits(lo.0 + 1);
+    if is_no_dearer(alloc, flows, cost, next)? {
+        return Ok(next);
+    }
+    Ok(YieldUnits(lo.0 + 2))
+}
+
+// The answer where the flows sum to the cost or more.
+fn answer_of_covered(alloc: Global, flows: &Timeline, cost: Cents) -> Result<YieldAnswer, NoMemory>
+    requires near { last_index flows.now ≤ 14_400 }
+    requires cents { total_cents flows.now + cost.0 ≤ 10 ^ 15 }
+    requires covered { cost.0 ≤ total_cents flows.now }
+    ensures value { IfOk result (λ answer. answer ≡ answer_of_covered flows.now cost.0) }
+    ensures meaning { IfOk result (λ answer. IsToldBy flows.now cost.0 answer) }
+{
+    if is_worth(alloc, flows, cost, MOST)? {
+        return Ok(YieldAnswer::Above);
+    }
+    let lo = lower_end(alloc, flows, cost)?;
+    let hi = upper_end(alloc, flows, cost, lo)?;
+    Ok(YieldAnswer::Between { lo, hi })
+}
+
+/// The yield of flows for a cost, as an interval of at most two units.
+///
+/// The flows fall from settlement to 40 years after it, in any order and with as many on a day as there are. They and
+/// the cost come to at most 10^15 cents together. A yield is tried by one table of powers, up to the last flow: at most
+/// 33 yields for the lower end, and two for the upper. It takes memory for the flows and one table.
+///
+/// # Errors
+///
+/// `NoMemory` where there is no room for the flows or the table.
+pub fn interval(
+    alloc: Global,
+    settle: Day,
+    flows: &[Flow],
+    cost: Cents,
+) -> Result<YieldAnswer, NoMemory>
+    requires days { FallWithin40Years settle flows.now }
+    requires cents { total flows.now + cost.0 ≤ 10 ^ 15 }
+    ensures value { IfOk result (λ answer. answer ≡ yield_answer_of (indexed settle flows.now) cost.0) }
+    ensures meaning { IfOk result (λ answer. IsToldBy (indexed settle flows.now) cost.0 answer) }
+{
+    if flows.is_empty() && cost.0 == 0 {
+        return Ok(YieldAnswer::Empty);
+    }
+    if sum_of(flows) < cost.0 {
+        return Ok(YieldAnswer::Negative);
+    }
+    let timeline = Timeline::make(alloc, settle, flows)?;
+    answer_of_covered(alloc, &timeline, cost)
+}
+
+// Whether the yield is within the limit where the flows sum to the cost or more: two yields are tried.
+fn is_covered_within(
+    alloc: Global,
+    flows: &Timeline,
+    cost: Cents,
+    limit: YieldUnits,
+) -> Result<bool, NoMemory>
+    requires near { last_index flows.now ≤ 14_400 }
+    requires cents { total_cents flows.now + cost.0 ≤ 10 ^ 15 }
+    requires covered { cost.0 ≤ total_cents flows.now }
+    ensures value { IfOk result (λ yes. yes ≡ is_within limit.0 (answer_of_covered flows.now cost.0)) }
+    ensures refusal { IfOk result (λ yes. yes ≡ false
+        → 1 ≤ limit.0
+        → limit.0 ≤ 3_000_000_000
+        → HasLaterAmount flows.now
+        → AreDearerBelow flows.now cost.0 limit.0) }
+{
+    if is_worth(alloc, flows, cost, MOST)? {
+        return Ok(false);
+    }
+    // The upper end is at most one unit above 30 percent.
+    if MOST.0 < limit.0 {
+        return Ok(true);
+    }
+    is_no_dearer(alloc, flows, cost, limit)
+}
+
+/// Whether the yield of flows for a cost is within a limit: there is none, or it is below 0, or the upper end of its
+/// interval is at most the limit.
+///
+/// The conditions are those of `interval`, and it takes no more memory. It tries two yields alone. Where an amount above
+/// 0 falls at an index of 1 or more, it answers false only where the flows are worth more than the cost at a yield one
+/// unit below the limit, which is from 1 to 3,000,000,000 units.
+///
+/// # Errors
+///
+/// `NoMemory` where there is no room for the flows or the table.
+pub fn within(
+    alloc: Global,
+    settle: Day,
+    flows: &[Flow],
+    cost: Cents,
+    limit: YieldUnits,
+) -> Result<bool, NoMemory>
+    requires days { FallWithin40Years settle flows.now }
+    requires cents { total flows.now + cost.0 ≤ 10 ^ 15 }
+    ensures value { IfOk result (λ yes. yes ≡ is_within limit.0 (yield_answer_of (indexed settle flows.now) cost.0)) }
+    ensures refusal { IfOk result (λ yes. yes ≡ false
+        → 1 ≤ limit.0
+        → limit.0 ≤ 3_000_000_000
+        → HasLaterAmount (indexed settle flows.now)
+        → AreDearerBelow (indexed settle flows.now) cost.0 limit.0) }
+{
+    if flows.is_empty() && cost.0 == 0 || sum_of(flows) < cost.0 {
+        return Ok(true);
+    }
+    let timeline = Timeline::make(alloc, settle, flows)?;
+    is_covered_within(alloc, &timeline, cost, limit)
+}

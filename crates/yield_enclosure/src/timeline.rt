@@ -1,0 +1,99 @@
+//! Flows by their index, and what they are worth at a yield.
+
+ghost use Rattle.std.specs.Prelude.{◌≡◌, ◌+◌, ◌<◌, ◌≤◌, ◌^◌, IfOk};
+ghost use Rattle.std.specs.List.{All};
+ghost use Rattle.escrow_units.specs.PresentValue.{IndexedFlow, last_index};
+ghost use Rattle.fixed_powers.specs.PresentValues.{indexed, total_cents, present_value};
+ghost use Rattle.yield_enclosure.specs.YieldAnswers.{FallWithin40Years};
+
+use escrow_desk::NoMemory;
+use escrow_units::{Cents, Day, Flow, YieldUnits, index360};
+use fixed_powers::{Powers, Side};
+use std::alloc::{AllocError, Global};
+use std::marker::Model;
+
+// An amount by its index, which counts from settlement.
+#[derive(Clone, Copy)]
+pub(crate) struct IndexedAmount {
+    index: u32,
+    cents: Cents,
+}
+
+impl Model for IndexedAmount {
+    ghost use Rattle.std.specs.Prelude.{◌≤◌};
+    ghost use Rattle.escrow_units.specs.PresentValue.{IndexedFlow};
+
+    ghost Value = { IndexedFlow };
+
+    ghost view = { λ a. record { index = a.index; cents = a.cents.0 } };
+
+    ghost inverse = { λ flow. record { index = flow.index; cents = record { 0 = flow.cents } } };
+}
+
+// Flows by their index, and the greatest index that a table of powers needs.
+#[derive(Drop)]
+pub(crate) struct Timeline {
+    amounts: Vec<IndexedAmount>,
+    longest: u32,
+}
+
+impl Model for Timeline {
+    ghost use Rattle.std.specs.Prelude.{◌≤◌, List};
+    ghost use Rattle.std.specs.List.{All};
+    ghost use Rattle.escrow_units.specs.PresentValue.{IndexedFlow};
+
+    ghost Value = { List IndexedFlow };
+
+    ghost view = { λ t. t.amounts.items };
+
+    ghost invariant = { λ t. All (λ flow. flow.index ≤ t.longest) t.amounts.items × (t.longest ≤ 14_400) };
+}
+
+// What amounts are worth by a table of powers.
+fn worth(amounts: &[IndexedAmount], powers: &Powers) -> u128
+    requires indices { All (λ flow. flow.index ≤ powers.now.longest) amounts.now }
+    requires room { present_value powers.now.side powers.now.yield_units amounts.now < 2 ^ 128 }
+    ensures { result ≡ present_value powers.now.side powers.now.yield_units amounts.now }
+{
+    let mut total = 0;
+    for amount in amounts {
+        total += amount.cents.0 as u128 * powers.power(amount.index) as u128;
+    }
+    total
+}
+
+impl Timeline {
+    // Flows by their index: it takes memory for one amount a flow.
+    pub(crate) fn make(alloc: Global, settle: Day, flows: &[Flow]) -> Result<Timeline, NoMemory>
+        requires { FallWithin40Years settle flows.now }
+        ensures value { IfOk result (λ timeline. timeline ≡ indexed settle flows.now) }
+        ensures near { IfOk result (λ timeline. last_index timeline ≤ 14_400) }
+    {
+        let mut amounts = Vec::with_capacity(alloc, flows.len())?;
+        let mut longest = 0;
+        for flow in flows {
+            let index = index360(settle, flow.day);
+            amounts.push(IndexedAmount {
+                index,
+                cents: flow.cents,
+            })?;
+            longest = longest.max(index);
+        }
+        Ok(Timeline { amounts, longest })
+    }
+
+    // The present value at a yield, rounded to a side, in units of 2^-62 of a cent.
+    pub(crate) fn present_value(
+        &self,
+        alloc: Global,
+        n: YieldUnits,
+        side: Side,
+    ) -> Result<u128, NoMemory>
+        requires yield_units { n.0 ≤ 3_000_000_001 }
+        requires cents { total_cents self.now ≤ 10 ^ 15 }
+        ensures { IfOk result (λ value. value ≡ present_value side n.0 self.now) }
+    {
+        let powers = Powers::make(alloc, n, side, self.longest)?;
+        Ok(worth(&self.amounts, &powers))
+    }
+}
