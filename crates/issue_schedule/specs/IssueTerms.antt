@@ -1,0 +1,35 @@
+-- What each issue that is read keeps. The limits are this project's own.
+use Rattle.std.specs.Prelude.{◌≡◌, ℕ, ◌^◌, ◌≤◌, ◌<ℤ◌, ◌≤ℤ◌, ℤ, List, All, Option, IfSome}
+use Rattle.escrow_units.specs.Calendar.{years_after_of}
+use Rattle.escrow_units.specs.SlgsTerms.{IsSettlement}
+use Rattle.escrow_units.specs.declared.security.Flow.{Flow}
+use Rattle.issue_schedule.specs.declared.issue.Bond.{Bond}
+use Rattle.issue_schedule.specs.declared.issue.Call.{Call}
+
+-- a day after settlement, at most 40 years later
+pub record IsLater (settle day : ℤ) : Type 0 where
+  pub after : settle <ℤ day
+  pub by : day ≤ℤ years_after_of settle 40
+
+-- a call after settlement, at a price from 10 to 300 percent of par
+pub record IsCall (settle : ℤ) (call : Call) : Type 0 where
+  pub day : IsLater settle call.day
+  pub least : 1_000_000_000 ≤ call.price.0
+  pub most : call.price.0 ≤ 30_000_000_000
+
+-- an old bond that matures after settlement
+pub record IsBond (settle : ℤ) (bond : Bond) : Type 0 where
+  pub maturity : IsLater settle bond.maturity
+  pub principal : bond.principal.0 ≤ 10 ^ 13
+  pub coupon : bond.coupon.0 ≤ 30_000
+
+-- a need that is given as such, from settlement on
+pub record IsDirect (settle : ℤ) (flow : Flow) : Type 0 where
+  pub from : settle ≤ℤ flow.day
+  pub by : flow.day ≤ℤ years_after_of settle 40
+  pub cents : flow.cents.0 ≤ 10 ^ 13
+
+-- a payment of the refunding issue, after settlement
+pub record IsPay (settle : ℤ) (flow : Flow) : Type 0 where
+  pub day : IsLater settle flow.day
+  pub cents : flow.cents.0 ≤ 10 ^ 13

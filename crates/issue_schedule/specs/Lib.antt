@@ -1,0 +1,3 @@
+pub mod IssueForm
+pub mod IssueTerms
+pub mod Rows
