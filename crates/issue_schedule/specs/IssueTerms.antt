@@ -3,6 +3,8 @@ use Rattle.std.specs.Prelude.{◌≡◌, ℕ, ◌^◌, ◌≤◌, ◌<ℤ◌, �
 use Rattle.escrow_units.specs.Calendar.{years_after_of}
 use Rattle.escrow_units.specs.SlgsTerms.{IsSettlement}
 use Rattle.escrow_units.specs.declared.security.Flow.{Flow}
+use Rattle.issue_schedule.specs.declared.draft.Draft.{Draft}
+use Rattle.issue_schedule.specs.declared.draft.IssuePrice.{IssuePrice}
 use Rattle.issue_schedule.specs.declared.issue.Bond.{Bond}
 use Rattle.issue_schedule.specs.declared.issue.Call.{Call}
 
@@ -33,3 +35,27 @@ pub record IsDirect (settle : ℤ) (flow : Flow) : Type 0 where
 pub record IsPay (settle : ℤ) (flow : Flow) : Type 0 where
   pub day : IsLater settle flow.day
   pub cents : flow.cents.0 ≤ 10 ^ 13
+
+-- at least one cent
+pub record IsIssuePrice (price : IssuePrice) : Type 0 where
+  pub least : 1 ≤ price.cents.0
+  pub most : price.cents.0 ≤ 10 ^ 13
+
+-- from 1 to 10,000 nodes
+pub record IsBudget (budget : ℕ) : Type 0 where
+  pub least : 1 ≤ budget
+  pub most : budget ≤ 10_000
+
+-- what has been read so far keeps all this
+pub record IsDraft (draft : Draft) : Type 0 where
+  pub settle : IsSettlement draft.settle
+  pub last : draft.last ≡ years_after_of draft.settle 40
+  pub call : IfSome draft.call (IsCall draft.settle)
+  pub bonds : All (IsBond draft.settle) draft.bonds
+  pub direct : All (IsDirect draft.settle) draft.direct
+  pub cash : IfSome draft.cash (λ cents. cents.0 ≤ 10 ^ 13)
+  pub restricted : IfSome draft.restricted (λ units. units.0 ≤ 2_999_000_000)
+  pub price : IfSome draft.price IsIssuePrice
+  pub pays : All (IsPay draft.settle) draft.pays
+  pub allowance : IfSome draft.allowance (λ cents. cents.0 ≤ 10 ^ 13)
+  pub budget : IfSome draft.budget IsBudget

@@ -1,11 +1,12 @@
 //! The issue file: settlement, the old bonds and their call, needs, and the refunding issue's own terms.
 #![tactic(auto)]
 
+mod add;
 mod draft;
 mod fields;
 mod issue;
 mod lists;
-//mod read;
+mod read;
 mod row;
 
 pub use issue::{Bond, Call, Issue, Restricted};

@@ -1,4 +1,4 @@
-ghost use Rattle.std.specs.Prelude.{◌≡◌, [], ◌∷◌, ◌++◌, OnOk};
+ghost use Rattle.std.specs.Prelude.{◌≡◌, [], ◌∷◌, ◌++◌, OnOk, nat_eq, length};
 
 use crate::issue::Bond;
 use escrow_desk::NoMemory;
@@ -96,6 +96,13 @@ impl Flows {
         ensures { result.items ≡ self }
     {
         self.flows
+    }
+
+    // Whether there are none.
+    pub(crate) fn is_empty(&self) -> bool
+        ensures { result ≡ nat_eq (length self.now) 0 }
+    {
+        self.flows.is_empty()
     }
 
     // No amounts.
