@@ -1,3 +1,4 @@
 pub mod IssueForm
 pub mod IssueTerms
+pub mod Needs
 pub mod Rows

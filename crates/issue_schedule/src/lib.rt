@@ -2,6 +2,7 @@
 #![tactic(auto)]
 
 mod add;
+mod bond;
 mod draft;
 mod fields;
 mod issue;
