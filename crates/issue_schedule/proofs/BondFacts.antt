@@ -1,7 +1,8 @@
 -- The dates of a bond's series, searched and counted from maturity back.
-use Rattle.std.proofs.Common.{◌≡◌, ◌∙◌, refl, sym, ap, arith, rules, ℕ, zero, suc, ◌+◌, ◌-◌, ◌*◌, ◌<◌, ◌≤◌, List, [], ◌∷◌, ◌++◌, map, Bool, true, false, ℤ, pos, ◌+ℤ◌, ◌≤ℤ◌, ◌<ℤ◌, inl, inr}
+use Rattle.std.proofs.Common.{◌≡◌, ◌∙◌, refl, sym, ap, arith, rules, ℕ, zero, suc, ◌+◌, ◌-◌, ◌*◌, ◌<◌, ◌≤◌, List, [], ◌∷◌, ◌++◌, map, Bool, true, false, ℤ, pos, ◌+ℤ◌, ◌≤ℤ◌, ◌<ℤ◌, inl, inr, append_assoc, if◌then◌else◌}
 use Rattle.std.specs.Prelude.{filter, find, int_le, int_lt, unsigned_abs, ◌&&◌, Option, Some, None}
 use Rattle.std.proofs.lemmas.Int.{ints}
+use Rattle.std.proofs.lemmas.List.{append-nil}
 use Rattle.std.proofs.lemmas.Bool.{cases_lt, cases_Bool}
 use Rattle.jiff_core.proofs.SignedLemmas.{signed_arith}
 use Rattle.jiff_core.specs.Calendar.{days_from_civil, day_count, days_of_years, days_of_months}
@@ -89,6 +90,28 @@ pub interest-later : (settle last maturity : ℤ) (step : ℕ) → step < 85 →
 interest-later settle last maturity step short after late =
     rw (series-left maturity step short, int_lt-yes settle (step_date maturity step) after, int_le-no (step_date maturity step) last late) refl
 
+-- the interest on the dates that are left
+abbrev pub interest_left : ℤ → ℤ → ℤ → ℕ → ℕ → List Flow
+interest_left settle last maturity cents step = map (λ date. on date cents) (filter (is_interest settle last) (series maturity step (85 - step)))
+
+abbrev pub if_by : ℤ → Flow → List Flow
+if_by last flow = if int_le flow.day last then flow ∷ [] else []
+
+pub interest-more : (settle last maturity : ℤ) (cents step : ℕ) (flows more : List Flow) → step < 85 → settle <ℤ step_date maturity step → more ≡ flows ++ if_by last (on (step_date maturity step) cents) → flows ++ interest_left settle last maturity cents step ≡ more ++ interest_left settle last maturity cents (step + 1)
+interest-more settle last maturity cents step flows more short after is =
+    let date = step_date maturity step in
+    let rest = interest_left settle last maturity cents (step + 1) in
+    elim (cases_Bool (int_le date last)) [
+      | inl by ↦
+          let pushed : more ≡ flows ++ on date cents ∷ [] = rw by at is in
+          let left : interest_left settle last maturity cents step ≡ on date cents ∷ rest = ap (λ (days : List ℤ). map (λ (d : ℤ). on d cents) days) (interest-here settle last maturity step short after (omega (arith, ints, by))) in
+          ap (λ (xs : List Flow). flows ++ xs) left ∙ sym (ap (λ (xs : List Flow). xs ++ rest) pushed ∙ append_assoc flows (on date cents ∷ []) rest)
+      | inr late ↦
+          let kept : more ≡ flows ++ [] = rw late at is in
+          let left : interest_left settle last maturity cents step ≡ rest = ap (λ (days : List ℤ). map (λ (d : ℤ). on d cents) days) (interest-later settle last maturity step short after (omega (arith, ints, late))) in
+          ap (λ (xs : List Flow). flows ++ xs) left ∙ sym (ap (λ (xs : List Flow). xs ++ rest) (kept ∙ append-nil flows))
+    ]
+
 -- from the first date by settlement on there are none
 interest-over : (fall : SeriesFalls) (settle last maturity : ℤ) (step count : ℕ) → IsBaseDay maturity → step + count ≤ 85 → (0 < count → step_date maturity step ≤ℤ settle) → filter (is_interest settle last) (series maturity step count) ≡ []
 unfolding series
@@ -152,3 +175,11 @@ pub start-near : (pass : YearsPass) (none : NoYearsPass) (start day : ℤ) → p
 start-near pass none start day low high order recent =
     let beyond = near-of pass none start (omega (arith, signed_arith, ints, low, recent)) (omega (arith, ints, order, high)) in
     omega (arith, ints, recent, beyond)
+
+pub interest-done : (fall : SeriesFalls) (settle last maturity : ℤ) (cents step : ℕ) (flows : List Flow) → IsBaseDay maturity → step < 85 → step_date maturity step ≤ℤ settle → flows ++ interest_left settle last maturity cents step ≡ flows
+interest-done fall settle last maturity cents step flows base short by =
+    ap (λ (days : List ℤ). flows ++ map (λ (d : ℤ). on d cents) days) (interest-none fall settle last maturity step base short by) ∙ append-nil flows
+
+pub interest-all : (settle last maturity : ℤ) (cents step : ℕ) (flows : List Flow) → 85 ≤ step → flows ++ interest_left settle last maturity cents step ≡ flows
+interest-all settle last maturity cents step flows all =
+    ap (λ (days : List ℤ). flows ++ map (λ (d : ℤ). on d cents) (filter (is_interest settle last) days)) (series-none maturity step all) ∙ append-nil flows

@@ -1,4 +1,4 @@
-ghost use Rattle.std.specs.Prelude.{◌≡◌, ◌≤◌, ◌<◌, ◌+◌, ◌^◌, ◌++◌, ◌≤ℤ◌, ◌<ℤ◌, ◌+ℤ◌, pos, Some, IfSome};
+ghost use Rattle.std.specs.Prelude.{◌≡◌, ◌≤◌, ◌<◌, ◌+◌, ◌^◌, [], ◌∷◌, ◌++◌, int_le, if◌then◌else◌, ◌≤ℤ◌, ◌<ℤ◌, ◌+ℤ◌, pos, Some, IfSome};
 ghost use Rattle.arrayvec.specs.ArrayVec.{array_vec_len};
 ghost use Rattle.escrow_units.specs.Calendar.{IsBaseDay, years_after_of};
 ghost use Rattle.escrow_units.specs.SlgsTerms.{IsSettlement};
@@ -64,6 +64,17 @@ fn period_start(maturity: Day, day: Day) -> Day
     day
 }
 
+// An amount, where it falls by a last day.
+fn push_by(flows: &mut ArrayVec<Flow, 88>, last: Day, flow: Flow)
+    requires room { array_vec_len flows.old < 88 }
+    ensures flows { flows.new.items ≡ flows.old.items ++ (if int_le flow.day last then flow ∷ [] else []) }
+    ensures room { array_vec_len flows.new ≤ array_vec_len flows.old + 1 }
+{
+    if flow.day <= last {
+        flows.push(flow);
+    }
+}
+
 // Half-coupons on the interest dates up to a last day.
 fn push_interest(flows: &mut ArrayVec<Flow, 88>, settle: Day, last: Day, bond: &Bond)
     requires room { array_vec_len flows.old ≤ 2 }
@@ -79,9 +90,7 @@ fn push_interest(flows: &mut ArrayVec<Flow, 88>, settle: Day, last: Day, bond: &
         if day <= settle {
             return;
         }
-        if day <= last {
-            flows.push(Flow { day, cents });
-        }
+        push_by(flows, last, Flow { day, cents });
     }
 }
 
