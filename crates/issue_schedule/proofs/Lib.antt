@@ -1,1 +1,2 @@
 pub mod BondFacts
+pub mod SumFacts

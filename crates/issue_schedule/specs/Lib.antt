@@ -1,3 +1,4 @@
+pub mod DaySums
 pub mod IssueForm
 pub mod IssueTerms
 pub mod Needs

@@ -9,6 +9,7 @@ mod issue;
 mod lists;
 mod read;
 mod row;
+mod sums;
 
 pub use issue::{Bond, Call, Issue, Restricted};
 pub use lists::{Bonds, Flows};
