@@ -1,5 +1,5 @@
 -- The issue file: its rows, and what they give or where they are refused. The rows are this project's own.
-use Rattle.std.specs.Prelude.{◌≡◌, ℕ, ◌+◌, ◌^◌, ◌==◌, ◌||◌, Bool, nat_lt, int_lt, int_le, if◌then◌else◌, List, [], ◌∷◌, ◌++◌, length, is_some, Option, Some, None, Result, Ok, Err, codes, ℤ, pos}
+use Rattle.std.specs.Prelude.{◌≡◌, ℕ, ◌+◌, ◌^◌, ◌==◌, ◌||◌, ◌&&◌, Bool, nat_lt, nat_le, int_lt, int_le, if◌then◌else◌, List, [], ◌∷◌, ◌++◌, length, is_some, unwrap_or, Option, Some, None, Result, Ok, Err, codes, ℤ, pos}
 use Rattle.escrow_desk.specs.declared.refusal.Refusal.{Refusal}
 use Rattle.escrow_desk.specs.declared.refusal.RefusalKind.{RefusalKind}
 use Rattle.escrow_desk.specs.declared.refusal.RefusalKind.TheVariants as kind
@@ -10,6 +10,9 @@ use Rattle.escrow_units.specs.PriceText.{price_of}
 use Rattle.escrow_units.specs.declared.amount.Cents.{Cents}
 use Rattle.escrow_units.specs.declared.amount.YieldUnits.{YieldUnits}
 use Rattle.escrow_units.specs.declared.security.Flow.{Flow}
+use Rattle.issue_schedule.specs.DaySums.{total_limit}
+use Rattle.issue_schedule.specs.IssueTerms.{needs_total, need_dates}
+use Rattle.issue_schedule.specs.Needs.{total}
 use Rattle.issue_schedule.specs.Rows.{Row, field_of, is_word, ◌>>=◌, or_refused, or_bad_date, day_by, of_width, at_row}
 use Rattle.issue_schedule.specs.declared.draft.Draft.{Draft}
 use Rattle.issue_schedule.specs.declared.draft.IssuePrice.{IssuePrice}
@@ -17,6 +20,9 @@ use Rattle.issue_schedule.specs.declared.fields.RowKind.{RowKind}
 use Rattle.issue_schedule.specs.declared.fields.RowKind.TheVariants as row_kind
 use Rattle.issue_schedule.specs.declared.issue.Bond.{Bond}
 use Rattle.issue_schedule.specs.declared.issue.Call.{Call}
+use Rattle.issue_schedule.specs.declared.issue.Issue.{Issue}
+use Rattle.issue_schedule.specs.declared.issue.Restricted.{Restricted}
+use Rattle.issue_schedule.specs.declared.issue.Restricted.TheVariants.{Given, Computed}
 
 -- a settlement day: from 2000-01-01 to 2150-01-01
 abbrev pub settlement_field : List ℕ → Result ℤ RefusalKind
@@ -195,3 +201,50 @@ draft_of [] = at_row 1 (Err kind.Missing)
 draft_of (row ∷ rows) = do
   settle ← at_row 1 (first_row row)
   with_rows (bare_draft settle) 2 rows
+
+-- the yield of an issue price and at least one payment
+abbrev pub computed_of : Option IssuePrice → List Flow → Result Restricted RefusalKind
+computed_of None pays = Err kind.Missing
+computed_of (Some price) [] = Err kind.Missing
+computed_of (Some price) (pay ∷ pays) = Ok (Computed price.row price.cents)
+
+-- the restricted yield is given, or else computed
+abbrev pub restricted_of : Option YieldUnits → Option IssuePrice → List Flow → Result Restricted RefusalKind
+restricted_of (Some units) price pays = Ok (Given units)
+restricted_of None price pays = computed_of price pays
+
+-- what the rows say; no cash and no allowance are 0, and no budget is 1,000
+abbrev pub issue_with : Draft → Restricted → Issue
+issue_with draft restricted = record {
+  settle = draft.settle;
+  call = draft.call;
+  bonds = draft.bonds;
+  direct = draft.direct;
+  cash = unwrap_or draft.cash (record { 0 = 0 });
+  restricted = restricted;
+  pays = draft.pays;
+  allowance = unwrap_or draft.allowance (record { 0 = 0 });
+  budget = unwrap_or draft.budget 1000;
+}
+
+-- the needs, and the payments, are at most 10^13 cents together
+abbrev pub is_within_limit : Issue → Bool
+is_within_limit issue = nat_le (needs_total issue) total_limit && nat_le (total issue.pays) total_limit
+
+-- and there are at most 480 need dates
+abbrev pub within_limits : Issue → Result Issue RefusalKind
+within_limits issue =
+    if is_within_limit issue then (if nat_lt 480 (need_dates issue) then Err kind.TooManyDates else Ok issue)
+    else Err kind.NeedsTooLarge
+
+-- what all the rows give, or a refusal of the whole file
+abbrev pub finished : Draft → Result Issue RefusalKind
+finished draft = do
+  restricted ← restricted_of draft.restricted draft.price draft.pays
+  within_limits (issue_with draft restricted)
+
+-- the issue of the rows of a file, or its first refusal
+unfoldable pub issue_of : List Row → Result Issue Refusal
+issue_of rows = do
+  draft ← draft_of rows
+  at_row 0 (finished draft)

@@ -9,8 +9,10 @@ mod issue;
 mod lists;
 mod read;
 mod row;
+mod schedule;
 mod sums;
 
 pub use issue::{Bond, Call, Issue, Restricted};
 pub use lists::{Bonds, Flows};
-//pub use read::read_issue;
+pub use read::read_issue;
+pub use schedule::needs;

@@ -1,15 +1,19 @@
-ghost use Rattle.std.specs.Prelude.{◌≡◌, ◌≤◌, drop, length, IfOk};
+ghost use Rattle.std.specs.Prelude.{◌≡◌, ◌≤◌, drop, length, IfOk, IfSome, All};
 ghost use Rattle.escrow_units.specs.SlgsTerms.{IsSettlement};
 ghost use Rattle.issue_schedule.specs.Rows.{Answers};
-ghost use Rattle.issue_schedule.specs.IssueForm.{bare_draft as bare_draft_of, draft_of, with_rows};
-ghost use Rattle.issue_schedule.specs.IssueTerms.{IsDraft};
+ghost use Rattle.issue_schedule.specs.IssueForm.{bare_draft as bare_draft_of, draft_of, finished as finished_of, issue_of, issue_with as issue_with_of, is_within_limit as is_within_limit_of, restricted_of, with_rows};
+ghost use Rattle.issue_schedule.specs.IssueTerms.{IsBond, IsCall, IsDraft, IsIssue, IsRestricted};
+ghost use Rattle.issue_schedule.specs.Rows.{at_row as answer_at_row};
 
 use crate::add::{add_row, at_row, refused};
 use crate::draft::Draft;
+use crate::issue::{Issue, Restricted};
 use crate::lists::{Bonds, Flows};
+use crate::schedule::needs;
 use crate::row::first_row;
+use crate::sums::{limited_bonds, limited_sum};
 use escrow_desk::{CaseError, RefusalKind, Rows};
-use escrow_units::{Day, years_after};
+use escrow_units::{Cents, Day, years_after};
 use std::alloc::Global;
 
 // Nothing has been read but the settlement day.
@@ -49,7 +53,7 @@ fn read_rest(alloc: Global, rows: &Rows, settle: Day) -> Result<Draft, CaseError
 
 // What the rows give, or the first that is refused.
 #[tactic(auto, unfolding(crate::specs::IssueForm::draft_of))]
-pub(crate) fn read_draft(alloc: Global, rows: &Rows) -> Result<Draft, CaseError>
+fn read_draft(alloc: Global, rows: &Rows) -> Result<Draft, CaseError>
     ensures draft { Answers result (draft_of rows.now) }
     ensures kept { IfOk result IsDraft }
 {
@@ -58,4 +62,92 @@ pub(crate) fn read_draft(alloc: Global, rows: &Rows) -> Result<Draft, CaseError>
     }
     let settle = at_row(1, first_row(rows))?;
     read_rest(alloc, rows, settle)
+}
+
+// The restricted yield, given or to be computed.
+fn restricted_yield(draft: &Draft) -> Result<Restricted, RefusalKind>
+    requires { IsDraft draft.now }
+    ensures value { result ≡ restricted_of draft.now.restricted draft.now.price draft.now.pays }
+    ensures kept { IfOk result IsRestricted }
+{
+    if let Some(units) = draft.restricted {
+        return Ok(Restricted::Given(units));
+    }
+    match draft.price {
+        Some(price) if !draft.pays.is_empty() => Ok(Restricted::Computed {
+            row: price.row,
+            price: price.cents,
+        }),
+        _ => Err(RefusalKind::Missing),
+    }
+}
+
+// What the rows say, before the limits are tried.
+fn issue_with(draft: Draft, restricted: Restricted) -> Issue
+    ensures { result ≡ issue_with_of draft restricted }
+{
+    Issue {
+        settle: draft.settle,
+        call: draft.call,
+        bonds: draft.bonds,
+        direct: draft.direct,
+        cash: draft.cash.unwrap_or(Cents(0)),
+        restricted,
+        pays: draft.pays,
+        allowance: draft.allowance.unwrap_or(Cents(0)),
+        budget: draft.budget.unwrap_or(1000),
+    }
+}
+
+// Whether the needs, and the payments, keep to the limit together.
+fn is_within_limit(issue: &Issue) -> bool
+    requires settle { IsSettlement issue.now.settle }
+    requires call { IfSome issue.now.call (IsCall issue.now.settle) }
+    requires bonds { All (IsBond issue.now.settle) issue.now.bonds }
+    ensures { result ≡ is_within_limit_of issue.now }
+{
+    let Some(direct) = limited_sum(0, issue.direct.as_slice()) else {
+        return false;
+    };
+    limited_bonds(direct, issue).is_some() && limited_sum(0, issue.pays.as_slice()).is_some()
+}
+
+// What all the rows give, or a refusal of the whole file.
+fn finished(alloc: Global, draft: Draft) -> Result<Issue, CaseError>
+    requires { IsDraft draft }
+    ensures issue { Answers result (answer_at_row 0 (finished_of draft)) }
+    ensures kept { IfOk result IsIssue }
+{
+    let restricted = at_row(0, restricted_yield(&draft))?;
+    let issue = issue_with(draft, restricted);
+    if !is_within_limit(&issue) {
+        return Err(refused(0, RefusalKind::NeedsTooLarge));
+    }
+    let Ok(dates) = needs(alloc, &issue) else {
+        return Err(CaseError::NoMemory);
+    };
+    if dates.len() > 480 {
+        return Err(refused(0, RefusalKind::TooManyDates));
+    }
+    Ok(issue)
+}
+
+/// Reads an issue file: row 1 is `settle`, and the other rows come in any order.
+///
+/// # Errors
+///
+/// `Refused` with the first row that is faulty, from 1, and the first of its faults: in row 1 `Missing` where it isn't
+/// `settle`; then `UnknownRow`, `WrongFields`, the fault of a field (`BadNumber`, `BadDate`, `OutOfRange`, `PriceRange`)
+/// from left to right, where a day past settlement + 40 years is `OutOfRange`; `Repeated` for a word that may stand once,
+/// and where a restricted yield stands beside a price or payments; and `DateOrder` for a day on the wrong side of
+/// settlement. After all rows `Refused` with row 0: `Missing` where there is neither a restricted yield nor a price with
+/// payments, `NeedsTooLarge` where the needs or the payments together are over 10^13 cents, and `TooManyDates` where there
+/// are more than 480 need dates. `NoMemory` where memory ran out.
+#[tactic(auto, unfolding(crate::specs::IssueForm::issue_of))]
+pub fn read_issue(alloc: Global, rows: &Rows) -> Result<Issue, CaseError>
+    ensures issue { Answers result (issue_of rows.now) }
+    ensures kept { IfOk result IsIssue }
+{
+    let draft = read_draft(alloc, rows)?;
+    finished(alloc, draft)
 }
