@@ -119,3 +119,8 @@ needs-left f bonds i d short = rw (drop_more bonds i d short) refl
 
 pub added-left : (start rest : ℕ) (first others : List Flow) (sum more : ℕ) → start + rest ≡ sum + total (first ++ others) → more ≡ sum + total first → start + rest ≡ more + total others
 added-left start rest first others sum more before is = omega (arith, before, is, total-append first others)
+
+-- direct needs and then those of bonds
+pub needs-joined : (start direct others first all : List Flow) → start ≡ [] → first ≡ with_needs start direct → all ≡ with_needs first others → all ≡ with_needs [] (direct ++ others)
+needs-joined start direct others first all empty is done =
+    done ∙ ap (λ (needs : List Flow). with_needs needs others) (is ∙ ap (λ (needs : List Flow). with_needs needs direct) empty) ∙ sym (with_needs-append [] direct others)

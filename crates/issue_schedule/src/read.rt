@@ -1,8 +1,10 @@
-ghost use Rattle.std.specs.Prelude.{◌≡◌, ◌≤◌, drop, length, IfOk, IfSome, All};
+ghost use Rattle.std.specs.Prelude.{◌≡◌, ◌≤◌, drop, length, IfOk, OnOk, IfSome, All};
 ghost use Rattle.escrow_units.specs.SlgsTerms.{IsSettlement};
 ghost use Rattle.issue_schedule.specs.Rows.{Answers};
-ghost use Rattle.issue_schedule.specs.IssueForm.{bare_draft as bare_draft_of, draft_of, finished as finished_of, issue_of, issue_with as issue_with_of, is_within_limit as is_within_limit_of, restricted_of, with_rows};
-ghost use Rattle.issue_schedule.specs.IssueTerms.{IsBond, IsCall, IsDraft, IsIssue, IsRestricted};
+ghost use Rattle.issue_schedule.specs.IssueForm.{bare_draft as bare_draft_of, draft_of, finished as finished_of, issue_of, issue_with as issue_with_of, is_within_limit as is_within_limit_of, restricted_of, with_rows, within_limits as within_limits_of};
+ghost use Rattle.issue_schedule.specs.IssueTerms.{HasNeeds, IsBond, IsCall, IsDirect, IsDraft, IsIssue, IsRestricted, need_dates};
+ghost use Rattle.issue_schedule.specs.DaySums.{total_limit};
+ghost use Rattle.issue_schedule.specs.Needs.{total};
 ghost use Rattle.issue_schedule.specs.Rows.{at_row as answer_at_row};
 
 use crate::add::{add_row, at_row, refused};
@@ -112,14 +114,18 @@ fn is_within_limit(issue: &Issue) -> bool
     limited_bonds(direct, issue).is_some() && limited_sum(0, issue.pays.as_slice()).is_some()
 }
 
-// What all the rows give, or a refusal of the whole file.
-fn finished(alloc: Global, draft: Draft) -> Result<Issue, CaseError>
-    requires { IsDraft draft }
-    ensures issue { Answers result (answer_at_row 0 (finished_of draft)) }
-    ensures kept { IfOk result IsIssue }
+// An issue that keeps to the limits of the whole file, or the refusal.
+fn within_limits(alloc: Global, issue: Issue) -> Result<Issue, CaseError>
+    requires settle { IsSettlement issue.settle }
+    requires call { IfSome issue.call (IsCall issue.settle) }
+    requires bonds { All (IsBond issue.settle) issue.bonds }
+    requires direct { All (IsDirect issue.settle) issue.direct }
+    ensures issue { Answers result (answer_at_row 0 (within_limits_of issue)) }
+    ensures same { IfOk result (λ answer. answer ≡ issue) }
+    ensures needs { OnOk result (HasNeeds issue) }
+    ensures dates { OnOk result (need_dates issue ≤ 480) }
+    ensures pays { OnOk result (total issue.pays ≤ total_limit) }
 {
-    let restricted = at_row(0, restricted_yield(&draft))?;
-    let issue = issue_with(draft, restricted);
     if !is_within_limit(&issue) {
         return Err(refused(0, RefusalKind::NeedsTooLarge));
     }
@@ -130,6 +136,16 @@ fn finished(alloc: Global, draft: Draft) -> Result<Issue, CaseError>
         return Err(refused(0, RefusalKind::TooManyDates));
     }
     Ok(issue)
+}
+
+// What all the rows give, or a refusal of the whole file.
+fn finished(alloc: Global, draft: Draft) -> Result<Issue, CaseError>
+    requires { IsDraft draft }
+    ensures issue { Answers result (answer_at_row 0 (finished_of draft)) }
+    ensures kept { IfOk result IsIssue }
+{
+    let restricted = at_row(0, restricted_yield(&draft))?;
+    within_limits(alloc, issue_with(draft, restricted))
 }
 
 /// Reads an issue file: row 1 is `settle`, and the other rows come in any order.

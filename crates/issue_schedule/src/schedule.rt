@@ -1,4 +1,5 @@
 ghost use Rattle.std.specs.Prelude.{◌≡◌, IfOk};
+ghost use Rattle.issue_schedule.specs.DaySums.{amounts};
 ghost use Rattle.issue_schedule.specs.IssueTerms.{HasNeeds};
 ghost use Rattle.issue_schedule.specs.Needs.{needs_of};
 
@@ -8,6 +9,18 @@ use escrow_desk::NoMemory;
 use escrow_units::Flow;
 use std::alloc::Global;
 use std::collections::BTreeMap;
+
+// What is needed on each day.
+#[tactic(auto, unfolding(crate::specs::Needs::needs_of))]
+fn day_sums(alloc: Global, issue: &Issue) -> Result<BTreeMap<i32, Flow>, NoMemory>
+    requires { HasNeeds issue.now }
+    ensures { IfOk result (λ sums. amounts sums ≡ needs_of issue.now.settle issue.now.call issue.now.direct issue.now.bonds) }
+{
+    let mut sums = BTreeMap::new(alloc);
+    add_needs(&mut sums, issue.direct.as_slice())?;
+    add_bonds(&mut sums, issue)?;
+    Ok(sums)
+}
 
 /// The need dates of an issue, in order, with what is needed on each: the direct needs, and what the old bonds pay.
 ///
@@ -19,13 +32,9 @@ use std::collections::BTreeMap;
 /// # Errors
 ///
 /// Where memory ran out.
-#[tactic(auto, unfolding(crate::specs::Needs::needs_of))]
 pub fn needs(alloc: Global, issue: &Issue) -> Result<Vec<Flow>, NoMemory>
     requires { HasNeeds issue.now }
     ensures value { IfOk result (λ needs. needs.items ≡ needs_of issue.now.settle issue.now.call issue.now.direct issue.now.bonds) }
 {
-    let mut sums = BTreeMap::new(alloc);
-    add_needs(&mut sums, issue.direct.as_slice())?;
-    add_bonds(&mut sums, issue)?;
-    in_order(alloc, sums)
+    in_order(alloc, day_sums(alloc, issue)?)
 }
