@@ -144,8 +144,10 @@ fn finished(alloc: Global, draft: Draft) -> Result<Issue, CaseError>
     ensures issue { Answers result (answer_at_row 0 (finished_of draft)) }
     ensures kept { IfOk result IsIssue }
 {
-    let restricted = at_row(0, restricted_yield(&draft))?;
-    within_limits(alloc, issue_with(draft, restricted))
+    match restricted_yield(&draft) {
+        Ok(restricted) => within_limits(alloc, issue_with(draft, restricted)),
+        Err(kind) => Err(refused(0, kind)),
+    }
 }
 
 /// Reads an issue file: row 1 is `settle`, and the other rows come in any order.
