@@ -1,0 +1,3 @@
+pub mod BondFacts
+pub mod FileFacts
+pub mod SumFacts

@@ -1,0 +1,11 @@
+use Rattle.std.proofs.Common.{◌≡◌, ◌+◌, ◌≤◌, drop}
+use Rattle.std.specs.List.{flat_map}
+use Rattle.issue_schedule.specs.DaySums.{total_limit}
+use Rattle.issue_schedule.specs.Needs.{total, bond_needs}
+use Rattle.issue_schedule.proofs.sums.limited_bonds.Given as goal
+
+abbrev pub invariant-loop-bond : goal.invariant-loop-bond
+invariant-loop-bond l = record {
+  limit : l.sum ≤ total_limit;
+  rest : l.fn.sum + total (flat_map (bond_needs l.issue.settle l.issue.call) l.bond-items) ≡ l.sum + total (flat_map (bond_needs l.issue.settle l.issue.call) (drop l.bond-index l.bond-items));
+}

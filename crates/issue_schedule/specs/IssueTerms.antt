@@ -1,0 +1,99 @@
+-- What each issue that is read keeps. The limits are this project's own.
+use Rattle.std.specs.Prelude.{◌≡◌, ℕ, ◌^◌, ◌≤◌, ◌<ℤ◌, ◌≤ℤ◌, ℤ, List, length, All, Option, IfSome}
+use Rattle.escrow_units.specs.Calendar.{years_after_of}
+use Rattle.escrow_units.specs.SlgsTerms.{IsSettlement}
+use Rattle.escrow_units.specs.declared.security.Flow.{Flow}
+use Rattle.escrow_units.specs.declared.amount.YieldUnits.{YieldUnits}
+use Rattle.issue_schedule.specs.DaySums.{total_limit}
+use Rattle.issue_schedule.specs.Needs.{all_needs, needs_of, total}
+use Rattle.issue_schedule.specs.declared.draft.Draft.{Draft}
+use Rattle.issue_schedule.specs.declared.draft.IssuePrice.{IssuePrice}
+use Rattle.issue_schedule.specs.declared.issue.Bond.{Bond}
+use Rattle.issue_schedule.specs.declared.issue.Call.{Call}
+use Rattle.issue_schedule.specs.declared.issue.Issue.{Issue}
+use Rattle.issue_schedule.specs.declared.issue.Restricted.{Restricted}
+use Rattle.issue_schedule.specs.declared.issue.Restricted.TheVariants.{Given, Computed}
+
+-- a day after settlement, at most 40 years later
+pub record IsLater (settle day : ℤ) : Type 0 where
+  pub after : settle <ℤ day
+  pub by : day ≤ℤ years_after_of settle 40
+
+-- a call after settlement, at a price from 10 to 300 percent of par
+pub record IsCall (settle : ℤ) (call : Call) : Type 0 where
+  pub day : IsLater settle call.day
+  pub least : 1_000_000_000 ≤ call.price.0
+  pub most : call.price.0 ≤ 30_000_000_000
+
+-- an old bond that matures after settlement
+pub record IsBond (settle : ℤ) (bond : Bond) : Type 0 where
+  pub maturity : IsLater settle bond.maturity
+  pub principal : bond.principal.0 ≤ 10 ^ 13
+  pub coupon : bond.coupon.0 ≤ 30_000
+
+-- a need that is given as such, from settlement on
+pub record IsDirect (settle : ℤ) (flow : Flow) : Type 0 where
+  pub from : settle ≤ℤ flow.day
+  pub by : flow.day ≤ℤ years_after_of settle 40
+  pub cents : flow.cents.0 ≤ 10 ^ 13
+
+-- a payment of the refunding issue, after settlement
+pub record IsPay (settle : ℤ) (flow : Flow) : Type 0 where
+  pub day : IsLater settle flow.day
+  pub cents : flow.cents.0 ≤ 10 ^ 13
+
+-- at least one cent
+pub record IsIssuePrice (price : IssuePrice) : Type 0 where
+  pub least : 1 ≤ price.cents.0
+  pub most : price.cents.0 ≤ 10 ^ 13
+
+-- from 1 to 10,000 nodes
+pub record IsBudget (budget : ℕ) : Type 0 where
+  pub least : 1 ≤ budget
+  pub most : budget ≤ 10_000
+
+-- what has been read so far keeps all this
+pub record IsDraft (draft : Draft) : Type 0 where
+  pub settle : IsSettlement draft.settle
+  pub last : draft.last ≡ years_after_of draft.settle 40
+  pub call : IfSome draft.call (IsCall draft.settle)
+  pub bonds : All (IsBond draft.settle) draft.bonds
+  pub direct : All (IsDirect draft.settle) draft.direct
+  pub cash : IfSome draft.cash (λ cents. cents.0 ≤ 10 ^ 13)
+  pub restricted : IfSome draft.restricted (λ units. units.0 ≤ 2_999_000_000)
+  pub price : IfSome draft.price IsIssuePrice
+  pub pays : All (IsPay draft.settle) draft.pays
+  pub allowance : IfSome draft.allowance (λ cents. cents.0 ≤ 10 ^ 13)
+  pub budget : IfSome draft.budget IsBudget
+
+-- all needs of an issue together, in cents
+abbrev pub needs_total : Issue → ℕ
+needs_total issue = total (all_needs issue.settle issue.call issue.direct issue.bonds)
+
+-- on how many days something is needed
+abbrev pub need_dates : Issue → ℕ
+need_dates issue = length (needs_of issue.settle issue.call issue.direct issue.bonds)
+
+-- what the needs of an issue stand on: at most 10^13 cents together
+pub record HasNeeds (issue : Issue) : Type 0 where
+  pub settle : IsSettlement issue.settle
+  pub call : IfSome issue.call (IsCall issue.settle)
+  pub bonds : All (IsBond issue.settle) issue.bonds
+  pub direct : All (IsDirect issue.settle) issue.direct
+  pub limit : needs_total issue ≤ total_limit
+
+-- at most 29.99 percent, or a price of at least one cent
+abbrev pub IsRestricted : Restricted → Type 0
+IsRestricted (Given units) = units.0 ≤ 2_999_000_000
+IsRestricted (Computed row price) = (1 ≤ price.0) × (price.0 ≤ 10 ^ 13)
+
+-- what each issue that is read keeps
+pub record IsIssue (issue : Issue) : Type 0 where
+  pub needs : HasNeeds issue
+  pub dates : need_dates issue ≤ 480
+  pub cash : issue.cash.0 ≤ 10 ^ 13
+  pub restricted : IsRestricted issue.restricted
+  pub pays : All (IsPay issue.settle) issue.pays
+  pub pays_limit : total issue.pays ≤ total_limit
+  pub allowance : issue.allowance.0 ≤ 10 ^ 13
+  pub budget : IsBudget issue.budget

@@ -1,0 +1,5 @@
+pub mod DaySums
+pub mod IssueForm
+pub mod IssueTerms
+pub mod Needs
+pub mod Rows

@@ -1,0 +1,98 @@
+-- What old bonds and direct needs come to on each day.
+use Rattle.std.specs.Prelude.{ℕ, zero, suc, ◌+◌, ◌-◌, ◌*◌, ◌^◌, ◌==◌, ◌&&◌, if◌then◌else◌, int_lt, int_le, List, [], ◌∷◌, ◌++◌, map, filter, find, sum_by, Option, Some, None, unwrap_or, ℤ}
+use Rattle.std.specs.List.{flat_map}
+use Rattle.std.specs.Ordering.{int_cmp, int_eq, match_ordering}
+use Rattle.escrow_units.specs.Calendar.{half_back_of, e_of}
+use Rattle.escrow_units.specs.Rounding.{near}
+use Rattle.escrow_units.specs.declared.amount.Cents.{Cents}
+use Rattle.escrow_units.specs.declared.security.Flow.{Flow}
+use Rattle.escrow_units.specs.declared.security.StepRule.TheVariants as rule
+use Rattle.issue_schedule.specs.declared.issue.Bond.{Bond}
+use Rattle.issue_schedule.specs.declared.issue.Call.{Call}
+
+-- so many dates of the series that ends at maturity, from a step on, back in time by half-years
+unfoldable pub series : ℤ → ℕ → ℕ → List ℤ
+series maturity step zero = []
+series maturity step (suc count) = half_back_of maturity step rule.SameDay ∷ series maturity (step + 1) count
+
+-- the dates of the last 42 years before maturity; no bond runs so long after settlement
+abbrev pub series_of : ℤ → List ℤ
+series_of maturity = series maturity 0 85
+
+-- a bond pays interest on the dates of its series after settlement, here up to a last day
+abbrev pub interest_dates : ℤ → ℤ → ℤ → List ℤ
+interest_dates settle last maturity = filter (λ date. int_lt settle date && int_le date last) (series_of maturity)
+
+-- so many cents on a day
+abbrev pub on : ℤ → ℕ → Flow
+on day cents = record { day = day; cents = record { 0 = cents } }
+
+-- the interest of a half-year, half the coupon, to the cent
+abbrev pub half_coupon : Bond → ℕ
+half_coupon bond = near (bond.principal.0 * bond.coupon.0) 200_000
+
+abbrev pub interest : ℤ → ℤ → Bond → List Flow
+interest settle last bond = map (λ date. on date (half_coupon bond)) (interest_dates settle last bond.maturity)
+
+-- the date of the series that begins the half-year of a day: the greatest that isn't after the day
+abbrev pub period_start : ℤ → ℤ → ℤ
+period_start maturity day = unwrap_or (find (λ date. int_le date day) (series_of maturity)) day
+
+-- the interest that has accrued since a day, by years of twelve months of thirty days (30/360)
+abbrev pub accrued_since : Bond → ℤ → ℤ → ℕ
+accrued_since bond start day = near (bond.principal.0 * bond.coupon.0 * (e_of day - e_of start)) 36_000_000
+
+-- accrued interest is due where the call is no date of the series
+abbrev pub accrued : Bond → ℤ → List Flow
+accrued bond day =
+    if int_eq (period_start bond.maturity day) day then []
+    else on day (accrued_since bond (period_start bond.maturity day) day) ∷ []
+
+-- the price of a bond that is called
+abbrev pub call_price : Bond → Call → ℕ
+call_price bond call = near (bond.principal.0 * call.price.0) (10 ^ 10)
+
+-- a bond that isn't called pays interest up to maturity, and its principal there
+abbrev pub held_needs : ℤ → Bond → List Flow
+held_needs settle bond = on bond.maturity bond.principal.0 ∷ interest settle bond.maturity bond
+
+-- a called bond pays the price and accrued interest at the call, and interest up to it
+abbrev pub called_needs : ℤ → Bond → Call → List Flow
+called_needs settle bond call =
+    on call.day (call_price bond call) ∷ accrued bond call.day ++ interest settle call.day bond
+
+-- what a bond needs; one that matures by the call isn't called
+abbrev pub bond_needs : ℤ → Option Call → Bond → List Flow
+bond_needs settle None bond = held_needs settle bond
+bond_needs settle (Some call) bond =
+    if int_le bond.maturity call.day then held_needs settle bond else called_needs settle bond call
+
+-- what direct needs and bonds need, one by one
+abbrev pub all_needs : ℤ → Option Call → List Flow → List Bond → List Flow
+all_needs settle call direct bonds = direct ++ flat_map (bond_needs settle call) bonds
+
+-- the sum of amounts, in cents
+abbrev pub total : List Flow → ℕ
+total flows = sum_by (λ flow. flow.cents.0) flows
+
+-- one more amount: it joins that of its day, or stands on a day of its own in the order of days
+unfoldable pub with_amount : Flow → List Flow → List Flow
+with_amount flow [] = flow ∷ []
+with_amount flow (need ∷ needs) =
+    match_ordering (int_cmp flow.day need.day)
+    (flow ∷ need ∷ needs)
+    (on need.day (need.cents.0 + flow.cents.0) ∷ needs)
+    (need ∷ with_amount flow needs)
+
+-- nothing is no need
+abbrev pub with_need : Flow → List Flow → List Flow
+with_need flow needs = if flow.cents.0 == 0 then needs else with_amount flow needs
+
+-- amounts added, one after the other
+abbrev pub with_needs : List Flow → List Flow → List Flow
+with_needs needs [] = needs
+with_needs needs (flow ∷ flows) = with_needs (with_need flow needs) flows
+
+-- the needs in order of day, each day once
+unfoldable pub needs_of : ℤ → Option Call → List Flow → List Bond → List Flow
+needs_of settle call direct bonds = with_needs [] (all_needs settle call direct bonds)

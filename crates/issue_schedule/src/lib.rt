@@ -1,0 +1,18 @@
+//! The issue file: settlement, the old bonds and their call, needs, and the refunding issue's own terms.
+#![tactic(auto)]
+
+mod add;
+mod bond;
+mod draft;
+mod fields;
+mod issue;
+mod lists;
+mod read;
+mod row;
+mod schedule;
+mod sums;
+
+pub use issue::{Bond, Call, Issue, Restricted};
+pub use lists::{Bonds, Flows};
+pub use read::read_issue;
+pub use schedule::needs;
