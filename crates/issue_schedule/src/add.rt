@@ -6,31 +6,25 @@ ghost use Rattle.issue_schedule.specs.IssueForm.{repeated_settle as repeated_set
 ghost use Rattle.issue_schedule.specs.IssueTerms.{IsDraft};
 
 use crate::draft::Draft;
-use crate::fields::{RowKind, row_kind, row_word};
+use crate::fields::{RowKind, row_kind};
 use crate::row::{
     bond_row, budget_row, call_row, cents_row, flow_row, price_row, settle_row, yield_row,
 };
-use escrow_desk::{CaseError, FileKind, Refusal, RefusalKind, Rows};
+use escrow_desk::{CaseError, FileKind, RefusalKind, Rows};
+use row_fields::row_word;
 
-// A refusal of the file at a row, by its number from 1; 0 is the whole file.
+/// A refusal of the issue file at a row, by its number from 1; 0 is the whole file.
 pub(crate) fn refused(number: u32, kind: RefusalKind) -> CaseError
     ensures { result ≡ Refused (refusal_at number kind) }
 {
-    CaseError::Refused(Refusal {
-        file: FileKind::Issue,
-        row: number,
-        kind,
-    })
+    row_fields::refused(FileKind::Issue, number, kind)
 }
 
-// The answer of a row, by its number from 1.
+/// The answer of a row, by its number from 1, as an answer of the issue file.
 pub(crate) fn at_row<T>(number: u32, answer: Result<T, RefusalKind>) -> Result<T, CaseError>
     ensures { Answers result (answer_at_row number answer) }
 {
-    match answer {
-        Ok(value) => Ok(value),
-        Err(kind) => Err(refused(number, kind)),
-    }
+    row_fields::at_row(FileKind::Issue, number, answer)
 }
 
 // A second `settle` row, which may not stand.

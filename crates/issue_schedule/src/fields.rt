@@ -2,34 +2,11 @@ ghost use Rattle.std.specs.Prelude.{◌≡◌, ◌<◌, [], length, slice_index_
 ghost use Rattle.escrow_units.specs.DateText.{IsFieldDay};
 ghost use Rattle.escrow_units.specs.SlgsTerms.{IsSettlement};
 ghost use Rattle.std.specs.Prelude.{◌≤ℤ◌};
-ghost use Rattle.issue_schedule.specs.Rows.{field_of, kind_of, day_by as day_of_field};
+ghost use Rattle.issue_schedule.specs.Rows.{day_by as day_of_field};
 ghost use Rattle.issue_schedule.specs.IssueForm.{kind_of_row, settlement_field as settlement_of_field};
 
-use escrow_desk::{RefusalKind, Rows};
-use escrow_units::{Day, NumberFault, read_day};
-
-/// The name of the refusal for a fault of a field.
-pub(crate) fn refusal_kind(fault: NumberFault) -> RefusalKind
-    ensures { result ≡ kind_of fault }
-{
-    match fault {
-        NumberFault::BadNumber => RefusalKind::BadNumber,
-        NumberFault::BadDate => RefusalKind::BadDate,
-        NumberFault::OutOfRange => RefusalKind::OutOfRange,
-        NumberFault::PriceRange => RefusalKind::PriceRange,
-    }
-}
-
-/// The first field of a row, which says what the row is; a row without fields has an empty one.
-pub(crate) fn row_word(rows: &Rows, row: u32) -> &[u8]
-    requires { row < length rows.now }
-    ensures { result.now ≡ field_of (slice_index_or rows.now row []) 0 }
-{
-    if rows.width(row) == 0 {
-        return &[];
-    }
-    rows.field(row, 0)
-}
+use escrow_desk::RefusalKind;
+use escrow_units::{Day, read_day};
 
 /// The rows that an issue file has.
 #[derive(Clone, Copy)]

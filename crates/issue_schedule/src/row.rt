@@ -3,12 +3,13 @@ ghost use Rattle.escrow_units.specs.SlgsTerms.{IsSettlement};
 ghost use Rattle.issue_schedule.specs.IssueForm.{settle_row as settle_of_row, first_row as first_of_rows, call_row as call_of_row, bond_row as bond_of_row, flow_row as flow_of_row, cents_row as cents_of_row, yield_row as yield_of_row, price_row as price_of_row, budget_row as budget_of_row};
 
 use crate::draft::IssuePrice;
-use crate::fields::{day_field, refusal_kind, row_word, settlement_field};
+use crate::fields::{day_field, settlement_field};
 use crate::issue::{Bond, Call};
 use escrow_desk::{RefusalKind, Rows};
 use escrow_units::{
     Cents, Day, Flow, YieldUnits, read_cents, read_count, read_price, read_rate, read_yield,
 };
+use row_fields::{refusal_kind, row_word};
 
 /// `settle,DATE`
 pub(crate) fn settle_row(rows: &Rows, row: u32) -> Result<Day, RefusalKind>
