@@ -100,7 +100,7 @@ abbrev pub with_call_row : Draft → Row → Result Draft RefusalKind
 with_call_row draft row = do
   call ← call_row draft.last row
   if is_some draft.call then Err kind.Repeated else
-    (if int_le call.day draft.settle then Err kind.DateOrder else Ok (record draft { call = Some call }))
+      (if int_le call.day draft.settle then Err kind.DateOrder else Ok (record draft { call = Some call }))
 
 -- one more old bond, which matures after settlement
 abbrev pub with_bond_row : Draft → Row → Result Draft RefusalKind
@@ -125,7 +125,7 @@ abbrev pub with_restricted_row : Draft → Row → Result Draft RefusalKind
 with_restricted_row draft row = do
   restricted ← yield_row row
   if is_some draft.restricted || is_some draft.price || nat_lt 0 (length draft.pays) then Err kind.Repeated
-    else Ok (record draft { restricted = Some restricted })
+      else Ok (record draft { restricted = Some restricted })
 
 -- the one issue price, where no restricted yield stands
 abbrev pub with_price_row : Draft → ℕ → Row → Result Draft RefusalKind
@@ -138,7 +138,7 @@ abbrev pub with_pay_row : Draft → Row → Result Draft RefusalKind
 with_pay_row draft row = do
   pay ← flow_row draft.last row
   if is_some draft.restricted then Err kind.Repeated else
-    (if int_le pay.day draft.settle then Err kind.DateOrder else Ok (record draft { pays = draft.pays ++ pay ∷ [] }))
+      (if int_le pay.day draft.settle then Err kind.DateOrder else Ok (record draft { pays = draft.pays ++ pay ∷ [] }))
 
 -- the one allowance
 abbrev pub with_allowance_row : Draft → Row → Result Draft RefusalKind

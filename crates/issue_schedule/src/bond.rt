@@ -7,9 +7,7 @@ ghost use Rattle.issue_schedule.specs.Needs.{accrued, accrued_since as accrued_s
 
 use crate::issue::{Bond, Call};
 use arrayvec::ArrayVec;
-use escrow_units::{
-    Cents, Day, Flow, StepRule, half_back, index360, near, series_laws, year_laws,
-};
+use escrow_units::{Cents, Day, Flow, StepRule, half_back, index360, near, series_laws, year_laws};
 
 // The interest of a half-year, half the coupon, in cents.
 fn half_coupon(bond: &Bond) -> u64

@@ -11,6 +11,8 @@ mod read;
 mod row;
 mod schedule;
 mod sums;
+#[cfg(test)]
+mod tests;
 
 pub use issue::{Bond, Call, Issue, Restricted};
 pub use lists::{Bonds, Flows};

@@ -95,10 +95,7 @@ pub(crate) fn add_needs(sums: &mut BTreeMap<i32, Flow>, flows: &[Flow]) -> Resul
 }
 
 /// The needs of bonds added, each to that of its day.
-pub(crate) fn add_bonds(
-    sums: &mut BTreeMap<i32, Flow>,
-    issue: &Issue,
-) -> Result<(), NoMemory>
+pub(crate) fn add_bonds(sums: &mut BTreeMap<i32, Flow>, issue: &Issue) -> Result<(), NoMemory>
     requires keyed { IsKeyed sums.old }
     requires settle { IsSettlement issue.now.settle }
     requires call { IfSome issue.now.call (IsCall issue.now.settle) }

@@ -18,7 +18,7 @@ loop-step-preserved c =
     let is : c.half_back-day.result ≡ step_date c.args.bond.now.maturity c.loop-step.step = c.half_back-day.ensures in
     let after : c.args.settle <ℤ c.half_back-day.result = search rules in
     let pushed : c.push_by.new.flows.items ≡ c.loop-step.flows.items ++ if_by c.args.last (on (step_date c.args.bond.now.maturity c.loop-step.step) (half_coupon c.args.bond.now)) =
-        rw (is, c.half_coupon.ensures) at c.push_by.ensures.flows in
+    rw (is, c.half_coupon.ensures) at c.push_by.ensures.flows in
     record {
       room = omega (arith, c.loop-step.invariant.room, c.push_by.ensures.room);
       rest = c.loop-step.invariant.rest ∙ interest-more c.args.settle c.args.last c.args.bond.now.maturity (half_coupon c.args.bond.now) c.loop-step.step c.loop-step.flows.items c.push_by.new.flows.items short (rw is at after) pushed;

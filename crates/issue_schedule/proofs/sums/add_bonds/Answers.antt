@@ -14,7 +14,7 @@ loop-bond-preserved c =
     let short : c.loop-bond.bond-index < length bonds = search rules in
     let first : c.as_slice.result.now ≡ f c.bond-item.result = c.as_slice.ensures.value ∙ c.bond_needs.ensures in
     let left : flat_map f (drop c.loop-bond.bond-index bonds) ≡ c.as_slice.result.now ++ others =
-        needs-left f bonds c.loop-bond.bond-index c.bond-item.result short ∙ ap (λ (flows : List Flow). flows ++ others) (search rules) in
+    needs-left f bonds c.loop-bond.bond-index c.bond-item.result short ∙ ap (λ (flows : List Flow). flows ++ others) (search rules) in
     record {
       keyed = c.in_ok-add_needs.ensures.keyed;
       total = added-left _ _ c.as_slice.result.now others _ _ (c.loop-bond.invariant.total ∙ ap (λ (flows : List Flow). total (amounts c.loop-bond.sums) + total flows) left) c.in_ok-add_needs.ensures.total;
