@@ -6,6 +6,7 @@ mod bond;
 mod draft;
 mod fields;
 mod issue;
+mod laws;
 mod lists;
 mod read;
 mod row;
@@ -15,6 +16,7 @@ mod sums;
 mod tests;
 
 pub use issue::{Bond, Call, Issue, Restricted};
+pub use laws::needs_laws;
 pub use lists::{Bonds, Flows};
 pub use read::read_issue;
 pub use schedule::needs;

@@ -1,0 +1,8 @@
+use Rattle.issue_schedule.proofs.SumLaws.{keep-total, above-zero}
+use Rattle.issue_schedule.proofs.laws.needs_laws.Goals as goal
+
+pub returns-clause-total : goal.returns-clause-total
+returns-clause-total c = keep-total
+
+pub returns-clause-above : goal.returns-clause-above
+returns-clause-above c = above-zero
