@@ -4,15 +4,19 @@ use Rattle.std.specs.Prelude.{All, sum_by, ◌==◌, if◌then◌else◌}
 use Rattle.std.specs.Ordering.{int_cmp}
 use Rattle.std.specs.declared.cmp.Ordering.{Ordering}
 use Rattle.std.specs.declared.cmp.Ordering.TheVariants.{Less, Equal, Greater}
+use Rattle.std.specs.Prelude.{AllPairs, ◌<ℤ◌, ⊤}
+use Rattle.std.proofs.lemmas.Int.{ints}
+use Rattle.std.proofs.lemmas.Cmp.{int_ranked}
+use Rattle.std.proofs.lemmas.List.Kept.{AllPairs-cons}
 use Rattle.std.proofs.lemmas.Bool.{cases_Bool}
-use Rattle.std.proofs.lemmas.List.Elements.{All-nil, All-cons, All-head, All-tail}
+use Rattle.std.proofs.lemmas.List.Elements.{All-nil, All-cons, All-head, All-tail, All-weaker}
 use Rattle.std.proofs.lemmas.List.Sums.{sum_by-cons}
 use Rattle.escrow_units.specs.declared.security.Flow.{Flow}
 use Rattle.std.specs.List.{flat_map}
 use Rattle.std.specs.Prelude.{Option}
 use Rattle.issue_schedule.specs.declared.issue.Bond.{Bond}
 use Rattle.issue_schedule.specs.declared.issue.Call.{Call}
-use Rattle.issue_schedule.specs.NeedLaws.{NeedsKeepTotal, NeedsAreAboveZero}
+use Rattle.issue_schedule.specs.NeedLaws.{NeedsKeepTotal, NeedsAreAboveZero, NeedsRise}
 use Rattle.issue_schedule.specs.Needs.{bond_needs, all_needs, needs_of, on, total, with_amount, with_need, with_needs}
 use Rattle.issue_schedule.proofs.SumFacts.{total-append}
 
@@ -90,3 +94,71 @@ keep-total settle call direct bonds =
 pub above-zero : NeedsAreAboveZero
 unfolding needs_of
 above-zero settle call direct bonds = above-with_needs [] (all_needs settle call direct bonds) (All-nil IsAbove)
+
+-- days that strictly rise
+abbrev pub IsAfter : ℤ → Flow → Type 0
+IsAfter day need = day <ℤ need.day
+
+abbrev pub Rising : List Flow → Type 0
+Rising [] = ⊤
+Rising (need ∷ needs) = All (IsAfter need.day) needs × Rising needs
+
+less-from_cmp : (a b : ℤ) → int_cmp a b ≡ Less → a <ℤ b
+less-from_cmp a b h = grind (arith, ints, int_ranked a b (int_cmp a b) refl)
+
+equal-from_cmp : (a b : ℤ) → int_cmp a b ≡ Equal → a ≡ b
+equal-from_cmp a b h = grind (arith, ints, int_ranked a b (int_cmp a b) refl)
+
+greater-from_cmp : (a b : ℤ) → int_cmp a b ≡ Greater → b <ℤ a
+greater-from_cmp a b h = grind (arith, ints, int_ranked a b (int_cmp a b) refl)
+
+after-at : (day : ℤ) (flow need : Flow) (needs : List Flow) → IsAfter day flow → IsAfter day need → All (IsAfter day) needs → All (IsAfter day) (with_amount flow needs) → (order : Ordering) → int_cmp flow.day need.day ≡ order → All (IsAfter day) (with_amount flow (need ∷ needs))
+unfolding with_amount
+after-at day flow need needs new first others rest Less is = rw is (All-cons (IsAfter day) flow (need ∷ needs) new (All-cons (IsAfter day) need needs first others))
+after-at day flow need needs new first others rest Equal is = rw is (All-cons (IsAfter day) (on need.day (need.cents.0 + flow.cents.0)) needs first others)
+after-at day flow need needs new first others rest Greater is = rw is (All-cons (IsAfter day) need (with_amount flow needs) first rest)
+
+after-with_amount : (day : ℤ) (flow : Flow) (needs : List Flow) → IsAfter day flow → All (IsAfter day) needs → All (IsAfter day) (with_amount flow needs)
+unfolding with_amount
+after-with_amount day flow [] new all = All-cons (IsAfter day) flow [] new all
+after-with_amount day flow (need ∷ needs) new all =
+    let others = All-tail (IsAfter day) need needs all in
+    after-at day flow need needs new (All-head (IsAfter day) need needs all) others (after-with_amount day flow needs new others) (int_cmp flow.day need.day) refl
+
+later-still : (a b c : ℤ) → a <ℤ b → b <ℤ c → a <ℤ c
+later-still a b c h k = omega (arith, ints)
+
+rising-at : (flow need : Flow) (needs : List Flow) → All (IsAfter need.day) needs → Rising needs → Rising (with_amount flow needs) → (order : Ordering) → int_cmp flow.day need.day ≡ order → Rising (with_amount flow (need ∷ needs))
+unfolding with_amount
+rising-at flow need needs first others rest Less is =
+    let less = less-from_cmp flow.day need.day is in
+    rw is (All-cons (IsAfter flow.day) need needs less (All-weaker (IsAfter need.day) (IsAfter flow.day) (λ n after. later-still flow.day need.day n.day less after) needs first), (first, others))
+rising-at flow need needs first others rest Equal is = rw is (first, others)
+rising-at flow need needs first others rest Greater is = rw is (after-with_amount need.day flow needs (greater-from_cmp flow.day need.day is) first, rest)
+
+rising-with_amount : (flow : Flow) (needs : List Flow) → Rising needs → Rising (with_amount flow needs)
+unfolding with_amount
+rising-with_amount flow [] rise = (All-nil (IsAfter flow.day), tt)
+rising-with_amount flow (need ∷ needs) rise = rising-at flow need needs rise.0 rise.1 (rising-with_amount flow needs rise.1) (int_cmp flow.day need.day) refl
+
+rising-with_need : (flow : Flow) (needs : List Flow) → Rising needs → Rising (with_need flow needs)
+rising-with_need flow needs rise =
+    elim (cases_Bool (flow.cents.0 == 0)) [
+      | inl none ↦ rw none rise
+      | inr some ↦ rw some (rising-with_amount flow needs rise)
+    ]
+
+rising-with_needs : (needs flows : List Flow) → Rising needs → Rising (with_needs needs flows)
+rising-with_needs needs [] rise = rise
+rising-with_needs needs (flow ∷ flows) rise = rising-with_needs (with_need flow needs) flows (rising-with_need flow needs rise)
+
+pairs-none : AllPairs (λ (a b : Flow). a.day <ℤ b.day) []
+pairs-none i j d less short = absurd (omega arith)
+
+pairs-from_rising : (needs : List Flow) → Rising needs → AllPairs (λ (a b : Flow). a.day <ℤ b.day) needs
+pairs-from_rising [] rise = pairs-none
+pairs-from_rising (need ∷ needs) rise = AllPairs-cons (λ (a b : Flow). a.day <ℤ b.day) need needs rise.0 (pairs-from_rising needs rise.1)
+
+pub needs-rise : NeedsRise
+unfolding needs_of
+needs-rise settle call direct bonds = pairs-from_rising (with_needs [] (all_needs settle call direct bonds)) (rising-with_needs [] (all_needs settle call direct bonds) tt)
