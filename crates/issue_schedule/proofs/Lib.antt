@@ -1,3 +1,4 @@
 pub mod BondFacts
 pub mod FileFacts
 pub mod SumFacts
+pub mod SumLaws

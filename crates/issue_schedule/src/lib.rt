@@ -6,13 +6,17 @@ mod bond;
 mod draft;
 mod fields;
 mod issue;
+mod laws;
 mod lists;
 mod read;
 mod row;
 mod schedule;
 mod sums;
+#[cfg(test)]
+mod tests;
 
 pub use issue::{Bond, Call, Issue, Restricted};
+pub use laws::needs_laws;
 pub use lists::{Bonds, Flows};
 pub use read::read_issue;
 pub use schedule::needs;
