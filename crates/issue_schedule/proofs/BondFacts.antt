@@ -1,13 +1,13 @@
 -- The dates of a bond's series, searched and counted from maturity back.
-use Rattle.std.proofs.Common.{◌≡◌, ◌∙◌, refl, sym, ap, arith, rules, ℕ, zero, suc, ◌+◌, ◌-◌, ◌*◌, ◌<◌, ◌≤◌, List, [], ◌∷◌, ◌++◌, map, Bool, true, false, ℤ, pos, ◌+ℤ◌, ◌≤ℤ◌, ◌<ℤ◌, inl, inr, append_assoc, if◌then◌else◌}
-use Rattle.std.specs.Prelude.{filter, find, int_le, int_lt, unsigned_abs, ◌&&◌, Option, Some, None}
+use Rattle.std.proofs.Common.{◌≡◌, ◌∙◌, refl, sym, ap, arith, ℕ, zero, suc, ◌+◌, ◌-◌, ◌<◌, ◌≤◌, List, [], ◌∷◌, ◌++◌, map, Bool, true, false, ℤ, pos, ◌+ℤ◌, ◌≤ℤ◌, ◌<ℤ◌, inl, inr, append_assoc, if◌then◌else◌}
+use Rattle.std.specs.Prelude.{filter, find, int_le, int_lt, unsigned_abs, ◌&&◌, Some, None}
 use Rattle.std.proofs.lemmas.Int.{ints}
 use Rattle.std.proofs.lemmas.List.{append-nil}
 use Rattle.std.proofs.lemmas.Bool.{cases_lt, cases_Bool}
 use Rattle.jiff_core.proofs.SignedLemmas.{signed_arith}
 use Rattle.jiff_core.specs.Calendar.{days_from_civil, day_count, days_of_years, days_of_months}
 use Rattle.escrow_units.specs.Calendar.{half_back_of, years_after_of, date_of, IsBaseDay}
-use Rattle.escrow_units.specs.CalendarLaws.{SeriesFalls, SeriesStepsByHalfYears, SeriesStartsAtMaturity, YearsPass, NoYearsPass, SettlementLeadsToBaseDays, IsYears}
+use Rattle.escrow_units.specs.CalendarLaws.{SeriesFalls, SeriesStepsByHalfYears, SeriesStartsAtMaturity, YearsPass, NoYearsPass, SettlementLeadsToBaseDays}
 use Rattle.escrow_units.specs.SlgsTerms.{IsSettlement}
 use Rattle.escrow_units.specs.declared.security.StepRule.TheVariants as rule
 use Rattle.escrow_units.proofs.DateFacts.{pos_abs}

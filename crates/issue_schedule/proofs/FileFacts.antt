@@ -1,6 +1,6 @@
 -- What all the rows give, once the restricted yield is known.
 use Rattle.std.proofs.Common.{◌≡◌, ◌∙◌, sym, ap, subst}
-use Rattle.std.specs.Prelude.{Result, Ok, Err}
+use Rattle.std.specs.Prelude.{Result, Ok}
 use Rattle.escrow_desk.specs.declared.refusal.CaseError.{CaseError}
 use Rattle.escrow_desk.specs.declared.refusal.RefusalKind.{RefusalKind}
 use Rattle.issue_schedule.specs.Rows.{Answers, at_row, ◌>>=◌}

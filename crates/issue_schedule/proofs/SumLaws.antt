@@ -1,6 +1,6 @@
 -- What the needs in order of day are.
-use Rattle.std.proofs.Common.{◌≡◌, ◌∙◌, refl, sym, ap, arith, ℕ, ◌+◌, ◌<◌, ◌≤◌, List, [], ◌∷◌, ◌++◌, ℤ, Bool, true, false, inl, inr}
-use Rattle.std.specs.Prelude.{All, sum_by, ◌==◌, if◌then◌else◌}
+use Rattle.std.proofs.Common.{◌≡◌, refl, arith, ℕ, ◌+◌, ◌≤◌, List, [], ◌∷◌, ℤ, true, false, inl, inr}
+use Rattle.std.specs.Prelude.{All, sum_by, ◌==◌}
 use Rattle.std.specs.Ordering.{int_cmp}
 use Rattle.std.specs.declared.cmp.Ordering.{Ordering}
 use Rattle.std.specs.declared.cmp.Ordering.TheVariants.{Less, Equal, Greater}
@@ -13,9 +13,7 @@ use Rattle.std.proofs.lemmas.List.Elements.{All-nil, All-cons, All-head, All-tai
 use Rattle.std.proofs.lemmas.List.Sums.{sum_by-cons}
 use Rattle.escrow_units.specs.declared.security.Flow.{Flow}
 use Rattle.std.specs.List.{flat_map}
-use Rattle.std.specs.Prelude.{Option}
 use Rattle.issue_schedule.specs.declared.issue.Bond.{Bond}
-use Rattle.issue_schedule.specs.declared.issue.Call.{Call}
 use Rattle.issue_schedule.specs.NeedLaws.{NeedsKeepTotal, NeedsAreAboveZero, NeedsRise}
 use Rattle.issue_schedule.specs.Needs.{bond_needs, all_needs, needs_of, on, total, with_amount, with_need, with_needs}
 use Rattle.issue_schedule.proofs.SumFacts.{total-append}

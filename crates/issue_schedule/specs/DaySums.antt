@@ -1,5 +1,5 @@
 -- Amounts by the numbers of their days.
-use Rattle.std.specs.Prelude.{◌≡◌, ℕ, ◌^◌, ◌≤◌, ◌==◌, nat_le, if◌then◌else◌, List, All, Option, Some, None, ℤ}
+use Rattle.std.specs.Prelude.{◌≡◌, ℕ, ◌^◌, nat_le, if◌then◌else◌, List, All, Option, Some, None, ℤ}
 use Rattle.std.specs.BTreeMap.{BTreeMap}
 use Rattle.std.specs.Map.{values_of}
 use Rattle.escrow_units.specs.declared.security.Flow.{Flow}

@@ -1,5 +1,5 @@
 -- The issue file: its rows, and what they give or where they are refused. The rows are this project's own.
-use Rattle.std.specs.Prelude.{◌≡◌, ℕ, ◌+◌, ◌^◌, ◌==◌, ◌||◌, ◌&&◌, Bool, nat_lt, nat_le, int_lt, int_le, if◌then◌else◌, List, [], ◌∷◌, ◌++◌, length, is_some, unwrap_or, Option, Some, None, Result, Ok, Err, codes, ℤ, pos}
+use Rattle.std.specs.Prelude.{ℕ, ◌+◌, ◌==◌, ◌||◌, ◌&&◌, Bool, nat_lt, nat_le, int_lt, int_le, if◌then◌else◌, List, [], ◌∷◌, ◌++◌, length, is_some, unwrap_or, Option, Some, None, Result, Ok, Err, codes, ℤ, pos}
 use Rattle.escrow_desk.specs.declared.refusal.Refusal.{Refusal}
 use Rattle.escrow_desk.specs.declared.refusal.RefusalKind.{RefusalKind}
 use Rattle.escrow_desk.specs.declared.refusal.RefusalKind.TheVariants as kind

@@ -1,9 +1,8 @@
 -- What each issue that is read keeps. The limits are this project's own.
-use Rattle.std.specs.Prelude.{◌≡◌, ℕ, ◌^◌, ◌≤◌, ◌<ℤ◌, ◌≤ℤ◌, ℤ, List, length, All, Option, IfSome}
+use Rattle.std.specs.Prelude.{◌≡◌, ℕ, ◌^◌, ◌≤◌, ◌<ℤ◌, ◌≤ℤ◌, ℤ, length, All, IfSome}
 use Rattle.escrow_units.specs.Calendar.{years_after_of}
 use Rattle.escrow_units.specs.SlgsTerms.{IsSettlement}
 use Rattle.escrow_units.specs.declared.security.Flow.{Flow}
-use Rattle.escrow_units.specs.declared.amount.YieldUnits.{YieldUnits}
 use Rattle.issue_schedule.specs.DaySums.{total_limit}
 use Rattle.issue_schedule.specs.Needs.{all_needs, needs_of, total}
 use Rattle.issue_schedule.specs.declared.draft.Draft.{Draft}

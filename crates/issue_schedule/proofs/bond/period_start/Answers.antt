@@ -1,5 +1,4 @@
-use Rattle.std.proofs.Common.{◌≡◌, ◌∙◌, sym, ap, rules, arith, ◌≤◌, ◌<◌, ◌≤ℤ◌, ◌<ℤ◌, ℤ}
-use Rattle.std.proofs.lemmas.Int.{ints}
+use Rattle.std.proofs.Common.{◌≡◌, ◌∙◌, sym, ap, rules, ◌≤◌, ◌<◌, ◌≤ℤ◌, ◌<ℤ◌, ℤ}
 use Rattle.std.specs.Prelude.{Option, unwrap_or}
 use Rattle.issue_schedule.proofs.BondFacts.{step_date, find-here, find-later, find-end, later-more, start-recent}
 use Rattle.issue_schedule.proofs.bond.period_start.Goals as goal

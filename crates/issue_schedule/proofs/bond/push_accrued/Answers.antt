@@ -1,4 +1,4 @@
-use Rattle.std.proofs.Common.{arith, ◌≤ℤ◌, pos}
+use Rattle.std.proofs.Common.{arith}
 use Rattle.std.proofs.lemmas.Int.{ints}
 use Rattle.issue_schedule.proofs.BondFacts.{start-near}
 use Rattle.issue_schedule.proofs.bond.push_accrued.Goals as goal

@@ -1,6 +1,4 @@
-use Rattle.std.proofs.Common.{◌≡◌, ◌∙◌, ◌+◌, ◌++◌, sym, ap, rules, arith, ◌≤◌, ◌<◌, ◌≤ℤ◌, ◌<ℤ◌, ℤ, ℕ, List}
-use Rattle.std.proofs.lemmas.Int.{ints}
-use Rattle.escrow_units.specs.declared.security.Flow.{Flow}
+use Rattle.std.proofs.Common.{◌≡◌, ◌∙◌, ◌++◌, sym, rules, arith, ◌≤◌, ◌<◌, ◌≤ℤ◌, ◌<ℤ◌}
 use Rattle.issue_schedule.specs.Needs.{half_coupon, on}
 use Rattle.issue_schedule.proofs.BondFacts.{step_date, if_by, interest-more, interest-done, interest-all}
 use Rattle.issue_schedule.proofs.bond.push_interest.Goals as goal

@@ -1,4 +1,4 @@
-use Rattle.std.proofs.Common.{◌≡◌, ◌-◌, ◌+◌, ◌≤◌, ◌++◌, ℕ, map}
+use Rattle.std.proofs.Common.{◌≡◌, ◌-◌, ◌+◌, ◌≤◌, ◌++◌, map}
 use Rattle.std.specs.Prelude.{filter, int_le, int_lt, ◌&&◌}
 use Rattle.arrayvec.specs.ArrayVec.{array_vec_len}
 use Rattle.issue_schedule.specs.Needs.{series, interest, on, half_coupon}

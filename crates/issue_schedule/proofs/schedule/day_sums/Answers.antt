@@ -1,4 +1,4 @@
-use Rattle.std.proofs.Common.{◌≡◌, ◌∙◌, ap, rules, List, []}
+use Rattle.std.proofs.Common.{◌∙◌, ap, List}
 use Rattle.std.specs.List.{flat_map}
 use Rattle.std.specs.Map.{values_of}
 use Rattle.escrow_units.specs.declared.security.Flow.{Flow}

@@ -1,4 +1,4 @@
-use Rattle.std.proofs.Common.{◌≡◌, ◌∙◌, ◌+◌, ◌++◌, ◌<◌, sym, ap, rules, drop, length, List, arith}
+use Rattle.std.proofs.Common.{◌≡◌, ◌∙◌, ◌+◌, ◌++◌, ◌<◌, sym, ap, rules, drop, length, List}
 use Rattle.std.specs.List.{flat_map}
 use Rattle.escrow_units.specs.declared.security.Flow.{Flow}
 use Rattle.issue_schedule.specs.DaySums.{amounts}

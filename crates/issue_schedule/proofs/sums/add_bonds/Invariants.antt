@@ -1,4 +1,4 @@
-use Rattle.std.proofs.Common.{◌≡◌, ◌+◌, ◌≤◌, drop}
+use Rattle.std.proofs.Common.{◌≡◌, ◌+◌, drop}
 use Rattle.std.specs.List.{flat_map}
 use Rattle.issue_schedule.specs.DaySums.{IsKeyed, amounts}
 use Rattle.issue_schedule.specs.Needs.{total, with_needs, bond_needs}

@@ -1,4 +1,4 @@
-use Rattle.std.proofs.Common.{◌≡◌, rules, w32, ◌+◌}
+use Rattle.std.proofs.Common.{◌≡◌, rules, w32}
 use Rattle.std.proofs.lemmas.Int.{to_z-of_z}
 use Rattle.std.specs.Ordering.{int_cmp}
 use Rattle.std.specs.BTreeMap.{insert_entry}
