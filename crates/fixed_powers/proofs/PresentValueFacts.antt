@@ -1,12 +1,12 @@
 -- Present values by outward powers, one flow after another.
-use Rattle.std.proofs.Common.{◌≡◌, ◌∙◌, ℕ, zero, suc, ◌+◌, ◌-◌, ◌*◌, ◌^◌, ◌<◌, ◌≤◌, List, [], ◌∷◌, length, get_or, inl, inr, refl, sym, ap, subst, arith}
+use Rattle.std.proofs.Common.{◌≡◌, ◌∙◌, ℕ, zero, suc, ◌+◌, ◌-◌, ◌*◌, ◌^◌, ◌<◌, ◌≤◌, List, [], ◌∷◌, length, get_or, inl, inr, sym, ap, subst, arith}
 use Rattle.std.specs.List.{sum_by}
 use Rattle.std.proofs.lemmas.Bool.{cases_lt}
 use Rattle.std.proofs.lemmas.List.Sums.{sum_by-cons}
 use Rattle.std.proofs.lemmas.Nat.{pow-add}
 use Rattle.std.proofs.Math.Nat.{mul-le-mul_left, mul-le-mul_right, pow-suc, pow-zero}
 use Rattle.escrow_units.specs.PresentValue.{IndexedFlow, half_year, two_m, last_index, AtLeastDayFactor, AtMostDayFactor}
-use Rattle.fixed_powers.specs.DiscountPowers.{one, down, up, root_low, low, power_of}
+use Rattle.fixed_powers.specs.DiscountPowers.{one, down, up, root_low, power_of}
 use Rattle.fixed_powers.specs.PresentValues.{total_cents, present_value, LowValueEncloses, HighValueEncloses, ValueFallsWithYield, LowValueAtMostHigh, ValueIsTotalAtZero, ValueIsSharp, LowValueExcludes}
 use Rattle.fixed_powers.specs.declared.side.Side.{Side}
 use Rattle.fixed_powers.specs.declared.side.Side.TheVariants.{Low, High}

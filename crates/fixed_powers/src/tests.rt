@@ -116,6 +116,9 @@ fn laws_are_called(rt: HostRuntime) -> Result<(), Fail> {
     powers_enclose();
     powers_are_ordered();
     powers_are_sharp();
+    present_values_enclose();
+    present_values_are_ordered();
+    present_values_are_sharp();
     // No day but the first: the shortest table.
     let short = Powers::make(rt.alloc(), YieldUnits(5), Side::Low, 0)
         .ok()
