@@ -58,7 +58,7 @@ half_back_of-reach maturity r (suc k) h few =
     let step = rw more at (half_back_of-steps maturity r k h (omega arith)) in
     omega (arith, signed_arith, step.least, half_back_of-reach maturity r k h (omega arith))
 
--- the dates of a series that has at least one
+-- the last so many dates of a series, in order
 unfoldable pub dates_after : ℤ → StepRule → ℕ → List ℤ
 dates_after maturity r zero = []
 dates_after maturity r (suc k) = half_back_of maturity k r ∷ dates_after maturity r k
