@@ -1,19 +1,13 @@
 -- The price file: its rows, and what they give or where they are refused. The rows are this project's own.
-use Rattle.std.specs.Prelude.{◌≡◌, ℕ, ◌+◌, Bool, ◌||◌, ◌==◌, nat_eq, int_lt, int_le, if◌then◌else◌, List, [], ◌∷◌, length, slice_index_or, Option, Some, None, Result, Ok, Err, codes, ℤ, ⊤}
-use lib.Pointwise.{pointwise}
-use Rattle.escrow_desk.specs.declared.refusal.CaseError.{CaseError}
-use Rattle.escrow_desk.specs.declared.refusal.CaseError.TheVariants as error
+use Rattle.std.specs.Prelude.{ℕ, ◌+◌, Bool, ◌||◌, ◌==◌, int_lt, int_le, if◌then◌else◌, List, [], ◌∷◌, Option, Some, None, Result, Ok, Err, codes, ℤ}
 use Rattle.escrow_desk.specs.declared.refusal.FileKind.TheVariants as file
 use Rattle.escrow_desk.specs.declared.refusal.Refusal.{Refusal}
 use Rattle.escrow_desk.specs.declared.refusal.RefusalKind.{RefusalKind}
 use Rattle.escrow_desk.specs.declared.refusal.RefusalKind.TheVariants as kind
 use Rattle.escrow_units.specs.Calendar.{years_after_of}
-use Rattle.escrow_units.specs.DateText.{day_of}
 use Rattle.escrow_units.specs.NumberText.{rate_of}
 use Rattle.escrow_units.specs.PriceText.{price_of}
-use Rattle.escrow_units.specs.Denomination.{terms_of, cap_of}
-use Rattle.escrow_units.specs.declared.fault.NumberFault.{NumberFault}
-use Rattle.escrow_units.specs.declared.fault.NumberFault.TheVariants as fault
+use Rattle.escrow_units.specs.Denomination.{cap_of}
 use Rattle.escrow_units.specs.declared.security.Terms.{Terms}
 use Rattle.market_notes.specs.declared.fields.RowKind.{RowKind}
 use Rattle.market_notes.specs.declared.fields.RowKind.TheVariants as row_kind

@@ -1,19 +1,13 @@
 -- The rate file: its rows, and what they give or where they are refused. The rows are this project's own.
-use Rattle.std.specs.Prelude.{◌≡◌, ℕ, ◌+◌, ◌%◌, Bool, ◌==◌, nat_eq, int_lt, if◌then◌else◌, List, [], ◌∷◌, ◌++◌, length, slice_index_or, Option, Some, None, Result, Ok, Err, codes, ℤ, ⊤}
+use Rattle.std.specs.Prelude.{ℕ, ◌+◌, ◌%◌, ◌==◌, int_lt, if◌then◌else◌, List, [], ◌∷◌, ◌++◌, length, Option, Some, None, Result, Ok, Err, codes, ℤ}
 use Rattle.std.specs.List.{list_any}
-use lib.Pointwise.{pointwise}
-use Rattle.escrow_desk.specs.declared.refusal.CaseError.{CaseError}
-use Rattle.escrow_desk.specs.declared.refusal.CaseError.TheVariants as error
 use Rattle.escrow_desk.specs.declared.refusal.FileKind.TheVariants as file
 use Rattle.escrow_desk.specs.declared.refusal.Refusal.{Refusal}
 use Rattle.escrow_desk.specs.declared.refusal.RefusalKind.{RefusalKind}
 use Rattle.escrow_desk.specs.declared.refusal.RefusalKind.TheVariants as kind
-use Rattle.escrow_units.specs.DateText.{day_of}
 use Rattle.escrow_units.specs.NumberText.{rate_of}
-use Rattle.escrow_units.specs.Denomination.{terms_of, cap_of}
+use Rattle.escrow_units.specs.Denomination.{cap_of}
 use Rattle.escrow_units.specs.declared.amount.Rate.{Rate}
-use Rattle.escrow_units.specs.declared.fault.NumberFault.{NumberFault}
-use Rattle.escrow_units.specs.declared.fault.NumberFault.TheVariants as fault
 use Rattle.escrow_units.specs.declared.security.AskedRate.{AskedRate}
 use Rattle.escrow_units.specs.declared.security.AskedRate.TheVariants.{Max, At}
 use Rattle.escrow_units.specs.declared.security.Terms.{Terms}

@@ -156,7 +156,7 @@ fn read_rest(alloc: Global, rows: &Rows, terms: Terms) -> Result<RateFile, CaseE
 
 /// Reads a rate file: no rows, or row 1 `terms`, and then `rate` and `offer` rows in any order.
 ///
-/// Settlement plays no part so far: no day of these rows is tried against it.
+/// Settlement plays no part: no day of these rows is tried against it.
 ///
 /// # Errors
 ///
