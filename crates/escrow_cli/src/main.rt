@@ -3,8 +3,9 @@
 
 mod real;
 
-ghost use Rattle.std.specs.Prelude.{◌≡◌, is_some, not};
+ghost use Rattle.std.specs.Prelude.{◌≡◌, is_some, not, option_map};
 ghost use Rattle.escrow_top.specs.Ending.{is_reached};
+ghost use Rattle.escrow_cli.specs.Complaint.{complaint_of};
 
 use escrow_desk::NoMemory;
 use escrow_top::{Status, run};
@@ -24,7 +25,8 @@ fn words_of(rt: &HostRuntime) -> Result<Vec<String>, NoMemory> {
 
 // What standard error says of a run that was cut off.
 fn complaint(status: Status) -> Option<&'static str>
-    ensures { is_some result ≡ not (is_reached status) }
+    ensures line { option_map (λ line. line.now) result ≡ complaint_of status }
+    ensures cut_off { is_some result ≡ not (is_reached status) }
 {
     match status {
         Status::ReadFault => Some("read fault"),

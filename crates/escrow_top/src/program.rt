@@ -1,7 +1,8 @@
-ghost use Rattle.std.specs.Prelude.{◌≡◌, ◌↔◌, map, string_bytes, IsTrue, MatchOption};
+ghost use Rattle.std.specs.Prelude.{◌≡◌, ◌↔◌, true, map, string_bytes, IfSome, IsTrue, MatchOption};
 ghost use Rattle.escrow_desk.specs.Content.{SaidAll, SaidPart};
 ghost use Rattle.escrow_desk.specs.Counts.{Rose};
 ghost use Rattle.escrow_top.specs.Ending.{Answers, AnswersPart, AreAccepted, IsAccepted, IsNoCommand, LacksFile, NamedAnswers, NamedAnswersPart, is_checked, is_reached};
+ghost use Rattle.escrow_top.specs.Answer.{check_names, is_structure};
 ghost use Rattle.escrow_top.specs.Reading.{LacksNamed, input_names};
 
 use crate::check::check;
@@ -66,6 +67,9 @@ pub fn run<D: Desk>(alloc: Global, words: &[String], desk: &mut D) -> Status
     ensures part { result ≡ Status.WriteFault → AnswersPart (D.told desk.old) (map string_bytes words.now) (D.told desk.new) }
     ensures lacks { result ≡ Status.NoFile → LacksFile (D.told desk.old) (map string_bytes words.now) }
     ensures usage { IsTrue (is_reached result) → ((result ≡ Status.Usage) ↔ IsNoCommand (map string_bytes words.now)) }
+    // Whatever the desk tells: which statuses a command comes to.
+    ensures structure { IsTrue (is_reached result) → is_structure (map string_bytes words.now) ≡ true → result ≡ Status.Unbuilt }
+    ensures checked { IsTrue (is_reached result) → IfSome (check_names (map string_bytes words.now)) (λ _. IsTrue (is_checked result)) }
 
     // Each way of being cut off has its cause: a count of the desk that rose in this call, or stands at its last value.
     ensures read_fault { result ≡ Status.ReadFault → Rose (D.read_faults desk.old) (D.read_faults desk.new) × (D.write_faults desk.new ≡ D.write_faults desk.old) × (D.absences desk.new ≡ D.absences desk.old) × (D.told desk.new ≡ D.told desk.old) }
