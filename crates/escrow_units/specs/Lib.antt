@@ -4,8 +4,10 @@ pub mod DateText
 pub mod DayNumber
 pub mod Denomination
 pub mod Digits
+pub mod Flows
 pub mod NumberText
 pub mod PresentValue
 pub mod PriceText
 pub mod Rounding
+pub mod Series
 pub mod SlgsTerms

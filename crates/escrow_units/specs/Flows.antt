@@ -1,0 +1,28 @@
+-- Lists of amounts on days: their sum, their order, and their places in the day count of the yield.
+use Rattle.std.specs.Prelude.{◌≡◌, ℕ, ◌-◌, List, [], ◌∷◌, ◌++◌, map, AllPairs, sum_by, ℤ, ◌<ℤ◌}
+use Rattle.escrow_units.specs.Calendar.{e_of}
+use Rattle.escrow_units.specs.PresentValue.{IndexedFlow}
+use Rattle.escrow_units.specs.declared.security.Flow.{Flow}
+
+-- the sum of amounts, in cents
+abbrev pub total : List Flow → ℕ
+total flows = sum_by (λ flow. flow.cents.0) flows
+
+-- each amount falls before each later one
+abbrev pub Rise : List Flow → Type 0
+Rise flows = AllPairs (λ earlier later. earlier.day <ℤ later.day) flows
+
+-- the last amount falls on a day
+pub record EndsOn (day : ℤ) (flows : List Flow) : Type 0 where
+  pub before : List Flow
+  pub last : Flow
+  pub order : flows ≡ before ++ last ∷ []
+  pub falls : last.day ≡ day
+
+-- the days from settlement to a day by years of twelve months of thirty days (30/360)
+abbrev pub index_of : ℤ → ℤ → ℕ
+index_of settle day = e_of day - e_of settle
+
+-- amounts by their index, which counts from settlement
+abbrev pub indexed : ℤ → List Flow → List IndexedFlow
+indexed settle flows = map (λ flow. record { index = index_of settle flow.day; cents = flow.cents.0 }) flows
