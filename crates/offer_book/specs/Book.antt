@@ -1,0 +1,79 @@
+-- Needs, the lines of an escrow, and what a book holds.
+use Rattle.std.specs.Prelude.{◌≡◌, ℕ, ◌*◌, ◌%◌, ◌^◌, ◌≤◌, ◌⊎◌, List, [], ◌∷◌, length, ℤ, ◌≤ℤ◌}
+use Rattle.std.specs.List.{All}
+use Rattle.escrow_units.specs.Calendar.{years_after_of}
+use Rattle.escrow_units.specs.Flows.{Rise, total}
+use Rattle.escrow_units.specs.SlgsTerms.{IsSettlement, IsSlgs}
+use Rattle.escrow_units.specs.declared.security.Flow.{Flow}
+use Rattle.offer_book.specs.declared.line.LineKind.{LineKind}
+use Rattle.offer_book.specs.declared.line.LineKind.TheVariants.{Cash, Security}
+use Rattle.offer_book.specs.declared.line.Line.{Line}
+
+-- what a book holds: the settlement day, the needs in order of day, and the lines, opening cash first
+pub record BookContents : Type 0 where
+  pub settle : ℤ
+  pub needs : List Flow
+  pub lines : List Line
+
+-- needs as this project bounds them: at most 480 days that strictly rise, from settlement to 40 years later,
+-- each of at least one cent, and at most 10^13 cents together
+pub record IsNeeds (settle : ℤ) (needs : List Flow) : Type 0 where
+  pub few : length needs ≤ 480
+  pub rising : Rise needs
+  pub within : All (λ need. (settle ≤ℤ need.day) × (need.day ≤ℤ years_after_of settle 40)) needs
+  pub positive : All (λ need. 1 ≤ need.cents.0) needs
+  pub small : total needs ≤ 10 ^ 13
+
+-- opening cash: one unit is one cent, and at most 10^13 cents
+pub record IsCashLine (line : Line) : Type 0 where
+  pub kind : line.kind ≡ Cash
+  pub step : line.step ≡ 1
+  pub least : line.least ≡ 1
+  pub most : line.most ≤ 10 ^ 13
+
+-- what is bought is a SLGS security that keeps its terms (31 CFR part 344) and is issued on the settlement day, at a
+-- rate of at most 30 percent (this project's own)
+abbrev pub IsSecurity : ℤ → LineKind → Type 0
+IsSecurity settle Cash = ⊥
+IsSecurity settle (Security slgs) = (slgs.settle ≡ settle) × IsSlgs slgs × (slgs.rate.0 ≤ 30_000)
+
+-- a line of securities: its step, its least purchase and its cap as this project bounds them. The step is from 1 to
+-- 1,000,000 whole dollars, the least purchase at most 1,000,000 dollars and the greatest at most 1,000,000,000 dollars
+pub record IsSecurityLine (settle : ℤ) (line : Line) : Type 0 where
+  pub security : IsSecurity settle line.kind
+  pub whole_dollars : line.step % 100 ≡ 0
+  pub step_at_least : 100 ≤ line.step
+  pub step_at_most : line.step ≤ 10 ^ 8
+  pub least : 1 ≤ line.least
+  pub least_purchase : line.least * line.step ≤ 10 ^ 8
+  pub ordered : line.least ≤ line.most
+  pub cap : line.most * line.step ≤ 10 ^ 11
+
+-- opening cash, or securities
+abbrev pub IsLine : ℤ → Line → Type 0
+IsLine settle line = IsCashLine line ⊎ IsSecurityLine settle line
+
+-- opening cash, and then at most 256 lines of securities
+abbrev pub AreLines : ℤ → List Line → Type 0
+AreLines settle [] = ⊥
+AreLines settle (cash ∷ securities) =
+    IsCashLine cash × All (IsSecurityLine settle) securities × (length securities ≤ 256)
+
+-- a book that keeps every limit
+pub record IsBook (book : BookContents) : Type 0 where
+  pub settlement : IsSettlement book.settle
+  pub needs : IsNeeds book.settle book.needs
+  pub lines : AreLines book.settle book.lines
+
+-- a security that bears no interest
+abbrev pub IsKindWithoutInterest : LineKind → Type 0
+IsKindWithoutInterest Cash = ⊥
+IsKindWithoutInterest (Security slgs) = slgs.rate.0 ≡ 0
+
+abbrev pub IsWithoutInterest : Line → Type 0
+IsWithoutInterest line = IsKindWithoutInterest line.kind
+
+-- no line of securities bears interest
+abbrev pub AreWithoutInterest : List Line → Type 0
+AreWithoutInterest [] = Unit {0}
+AreWithoutInterest (cash ∷ securities) = All IsWithoutInterest securities

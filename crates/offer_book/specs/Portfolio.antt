@@ -1,0 +1,78 @@
+-- Portfolios of a book: which are permitted, what they pay and cost, and whether they meet the needs.
+-- A portfolio is a list with one number of units for each line.
+use Rattle.std.specs.Prelude.{◌≡◌, ℕ, ◌*◌, ◌<◌, ◌≤◌, ◌⊎◌, Bool, ◌&&◌, ◌||◌, nat_le, nat_lt, ◌==◌, if◌then◌else◌, List, [], ◌∷◌, length, drop, ℤ, ◌<ℤ◌, int_le}
+use Rattle.std.specs.List.{All, sum_by, flat_map, filter, zip}
+use Rattle.escrow_units.specs.Flows.{total}
+use Rattle.escrow_units.specs.declared.security.Flow.{Flow}
+use Rattle.slgs_interest.specs.Payments.{payments_of}
+use Rattle.offer_book.specs.declared.line.LineKind.{LineKind}
+use Rattle.offer_book.specs.declared.line.LineKind.TheVariants.{Cash, Security}
+use Rattle.offer_book.specs.declared.line.Line.{Line}
+use Rattle.offer_book.specs.Book.{BookContents}
+
+-- 0 units, or from the least to the most of the line
+abbrev pub IsPermittedUnits : Line → ℕ → Type 0
+IsPermittedUnits line units = (units ≡ 0) ⊎ ((line.least ≤ units) × (units ≤ line.most))
+
+-- units are permitted, as a test
+abbrev pub permits : Line → ℕ → Bool
+permits line units = (units == 0) || (nat_le line.least units && nat_le units line.most)
+
+-- each line has a number of units, and each number is permitted
+pub record IsPermitted (book : BookContents) (plan : List ℕ) : Type 0 where
+  pub same_length : length plan ≡ length book.lines
+  pub units : All (λ p. IsPermittedUnits p.0 p.1) (zip book.lines plan)
+
+-- what units of a line cost, in cents: opening cash its amount, and a SLGS security its face (31 CFR part 344)
+abbrev pub line_cost : Line → ℕ → ℕ
+line_cost line units = line.step * units
+
+-- what an amount of a kind pays: opening cash is there on the settlement day, and a SLGS security pays its interest and
+-- its face
+abbrev pub kind_payments : ℤ → LineKind → ℕ → List Flow
+kind_payments settle Cash amount = record { day = settle; cents = record { 0 = amount } } ∷ []
+kind_payments settle (Security slgs) face = payments_of slgs face
+
+-- the payments of units of a line, in order of date
+abbrev pub line_payments : ℤ → Line → ℕ → List Flow
+line_payments settle line units = kind_payments settle line.kind (line_cost line units)
+
+-- the payments of a portfolio, in the order of the lines
+abbrev pub payments : BookContents → List ℕ → List Flow
+payments book plan = flat_map (λ p. line_payments book.settle p.0 p.1) (zip book.lines plan)
+
+-- the cents of a flow, if its day has come by the day t
+abbrev pub cents_by : ℤ → Flow → ℕ
+cents_by t flow = if int_le flow.day t then flow.cents.0 else 0
+
+-- the sum of the cents of the flows on days up to and on t
+abbrev pub total_by : ℤ → List Flow → ℕ
+total_by t flows = sum_by (cents_by t) flows
+
+-- on every day the payments up to and on that day are at least the needs up to and on it. So a receipt serves a need
+-- of its day, and carried cash earns nothing (this project's own)
+abbrev pub Meets : BookContents → List ℕ → Type 0
+Meets book plan = (t : ℤ) → total_by t book.needs ≤ total_by t (payments book plan)
+
+-- t is the first day on which a portfolio doesn't meet the needs
+pub record IsFirstShort (book : BookContents) (plan : List ℕ) (t : ℤ) : Type 0 where
+  pub short : total_by t (payments book plan) < total_by t book.needs
+  pub before : (s : ℤ) → s <ℤ t → total_by s book.needs ≤ total_by s (payments book plan)
+
+-- the sum of the needs
+abbrev pub total_needs : BookContents → ℕ
+total_needs book = total book.needs
+
+-- the cost of a portfolio, opening cash included
+abbrev pub cost : BookContents → List ℕ → ℕ
+cost book plan = sum_by (λ p. line_cost p.0 p.1) (zip book.lines plan)
+
+-- the cost of the securities alone, without opening cash, which is line 0
+abbrev pub security_cost : BookContents → List ℕ → ℕ
+security_cost book plan = sum_by (λ p. line_cost p.0 p.1) (drop 1 (zip book.lines plan))
+
+-- the payments of the securities that aren't 0. Those of one day stand one after another: to sum them changes no
+-- present value
+abbrev pub security_flows : BookContents → List ℕ → List Flow
+security_flows book plan =
+    filter (λ flow. nat_lt 0 flow.cents.0) (flat_map (λ p. line_payments book.settle p.0 p.1) (drop 1 (zip book.lines plan)))

@@ -1,0 +1,96 @@
+ghost use Rattle.std.specs.Prelude.{◌≡◌, ◌<◌, ◌≤◌, length, slice_index_or};
+ghost use Rattle.offer_book.specs.Book.{IsBook};
+
+use crate::line::Line;
+use escrow_units::{Day, Flow};
+use std::marker::Model;
+
+/// The settlement day, the needs and the lines of one case.
+///
+/// Line 0 is opening cash, and the lines from 1 are securities. Contracts see a book as the record of its settlement
+/// day, its needs and its lines, which keeps every limit.
+#[derive(Drop)]
+pub struct Book {
+    settle: Day,
+    needs: Vec<Flow>,
+    lines: Vec<Line>,
+}
+
+impl Model for Book {
+    ghost use Rattle.offer_book.specs.Book.{BookContents, IsBook};
+
+    ghost Value = { BookContents };
+
+    ghost view = { λ b. record { settle = b.settle; needs = b.needs.items; lines = b.lines.items } };
+
+    ghost invariant = { λ b. IsBook (record { settle = b.settle; needs = b.needs.items; lines = b.lines.items }) };
+}
+
+impl Book {
+    /// A book of these needs, in order of day, and lines, opening cash first. It takes no memory.
+    pub fn make(settle: Day, needs: Vec<Flow>, lines: Vec<Line>) -> Book
+        requires limits { IsBook (record { settle = settle; needs = needs.items; lines = lines.items }) }
+        ensures { result ≡ record { settle = settle; needs = needs.items; lines = lines.items } }
+    {
+        Book {
+            settle,
+            needs,
+            lines,
+        }
+    }
+
+    /// The settlement day.
+    pub fn settle(&self) -> Day
+        ensures { result ≡ self.now.settle }
+    {
+        self.settle
+    }
+
+    /// How many need dates there are: at most 480.
+    pub fn need_count(&self) -> u16
+        ensures value { result ≡ length self.now.needs }
+        ensures limits { IsBook self.now }
+    {
+        self.needs.len() as u16
+    }
+
+    /// The need at a place, counted from 0.
+    pub fn need(&self, place: u16) -> Flow
+        requires { place < length self.now.needs }
+        ensures { result ≡ slice_index_or self.now.needs place result }
+    {
+        self.needs[place as usize]
+    }
+
+    /// How many lines there are, line 0 included: from 1 to 257.
+    pub fn line_count(&self) -> u16
+        ensures value { result ≡ length self.now.lines }
+        ensures limits { IsBook self.now }
+    {
+        self.lines.len() as u16
+    }
+
+    /// A line, counted from 0.
+    pub fn line(&self, line: u16) -> &Line
+        requires { line < length self.now.lines }
+        ensures { result.now ≡ slice_index_or self.now.lines line result.now }
+    {
+        &self.lines[line as usize]
+    }
+
+    /// The needs, in order of day.
+    pub fn needs(&self) -> &[Flow]
+        ensures value { result.now ≡ self.now.needs }
+        ensures limits { IsBook self.now }
+    {
+        &self.needs
+    }
+
+    /// The lines, opening cash first.
+    pub fn lines(&self) -> &[Line]
+        ensures value { result.now ≡ self.now.lines }
+        ensures limits { IsBook self.now }
+    {
+        &self.lines
+    }
+}
