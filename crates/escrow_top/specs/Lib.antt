@@ -1,5 +1,7 @@
 pub mod CertificateForm
-pub mod CaseForm
+pub mod Fault
+pub mod InputFiles
+pub mod Case
 pub mod Answer
 pub mod Ending
 pub mod Accepted

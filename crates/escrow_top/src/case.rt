@@ -1,107 +1,178 @@
-ghost use Rattle.std.specs.Prelude.{◌≡◌, ◌≤◌, IfOk, IfSome, is_some, option_map, option_and_then};
+ghost use Rattle.std.specs.Prelude.{◌≡◌, ◌≤◌, ◌∷◌, ◌↔◌, IfOk, IsTrue, Ok, All, length};
+ghost use Rattle.std.specs.List.{list_any};
 ghost use Rattle.std.specs.Result.{result_map_both};
-ghost use Rattle.cash_table.specs.Book.{IsBook, AreZeroCertificates};
+ghost use Rattle.escrow_desk.specs.Rows.{rows_of};
 ghost use Rattle.escrow_units.specs.SlgsTerms.{IsSettlement};
-ghost use Rattle.escrow_top.specs.CaseForm.{IsWithin, AreWithin, case_form, case_view, file_limit, input_case, issue_of, issue_view, lines_of, no_prices_of, rows_within, text_of};
+ghost use Rattle.issue_schedule.specs.IssueForm.{issue_of};
+ghost use Rattle.issue_schedule.specs.IssueTerms.{IsIssue};
+ghost use Rattle.rate_table.specs.RateForm.{rate_file_of};
+ghost use Rattle.rate_table.specs.Table.{IsRateFile};
+ghost use Rattle.offer_book.specs.Book.{IsBook, IsSecurityLine, AreWithoutInterest};
+ghost use Rattle.offer_book.specs.Offers.{AreLinesOf, slgs_lines_of};
+ghost use Rattle.escrow_top.specs.InputFiles.{file_limit};
+ghost use Rattle.escrow_top.specs.Case.{IsKept, bears_interest as bears_interest_of_line, book_of, case_with, cash_line, given_yield as given_yield_of, or_refused, rows_case, without_prices};
+ghost use Rattle.escrow_top.specs.Reading.{AreWithin, CaseAnswers, case_view, input_texts};
 
-use crate::issue::{Issue, read_issue};
-use crate::offers::read_lines;
-use cash_table::{Book, Line};
-use escrow_desk::{FileKind, NoMemory, read_rows};
-use escrow_units::{Day, YieldUnits};
+use crate::fault::{CaseFault, NoCase};
+use crate::files::InputFiles;
+use escrow_desk::{FileKind, NoMemory, Refusal, RefusalKind, read_rows};
+use escrow_units::{Cents, Day, YieldUnits};
+use issue_schedule::{Issue, Restricted, needs, read_issue};
+use offer_book::{Book, Line, LineKind, slgs_lines};
+use rate_table::{RateFile, read_rates};
 use std::alloc::Global;
 
-/// A case: its book, and its limit on the yield, which is the restricted yield plus one thousandth of a percentage
-/// point.
+// The most lines of securities.
+const MOST_OFFERS: usize = 256;
+
+// What a portfolio may yield above the restricted yield: one thousandth of a percentage point.
+const MATERIALLY_HIGHER: u64 = 100_000;
+
+/// A case: its book, its limit on the yield, which is the restricted yield plus one thousandth of a percentage point,
+/// and the greatest gap that is allowed.
 #[derive(Drop)]
 pub(crate) struct Case {
     pub book: Book,
     pub limit: YieldUnits,
+    pub allowance: Cents,
 }
 
-/// The bytes of the three input files; None for a file with more bytes than its limit.
-#[derive(Drop)]
-pub(crate) struct InputFiles {
-    pub issue: Option<Vec<u8>>,
-    pub rates: Option<Vec<u8>>,
-    pub prices: Option<Vec<u8>>,
-}
-
-// What the issue file says; None where it is over its limit or not of the form.
-fn read_issue_text(alloc: Global, text: &Option<Vec<u8>>) -> Result<Option<Issue>, NoMemory>
-    requires { IsWithin file_limit text.now }
-    ensures value { IfOk result (λ issue. option_map issue_view issue ≡ option_and_then issue_of (rows_within (text_of text.now))) }
-    ensures settlement { IfOk result (λ issue. IfSome issue (λ form. IsSettlement form.settle)) }
-    ensures restricted { IfOk result (λ issue. IfSome issue (λ form. form.restricted.0 ≤ 2_999_000_000)) }
+// The issue of an issue file's bytes.
+fn issue_of_text(alloc: Global, text: &[u8]) -> Result<Issue, CaseFault>
+    requires { length text.now ≤ file_limit }
+    ensures issue { CaseAnswers (λ issue. issue) result (or_refused (issue_of (rows_of text.now))) }
+    ensures kept { IfOk result IsIssue }
 {
-    let Some(bytes) = text else {
-        return Ok(None);
-    };
-    let rows = read_rows(alloc, bytes.as_slice())?;
-    read_issue(alloc, &rows)
+    let rows = read_rows(alloc, text)?;
+    Ok(read_issue(alloc, &rows)?)
 }
 
-// The lines of the rate file; None where it is over its limit or not of the form.
-fn read_lines_text(
-    alloc: Global,
-    text: &Option<Vec<u8>>,
-    settle: Day,
-) -> Result<Option<Vec<Line>>, NoMemory>
-    requires within { IsWithin file_limit text.now }
-    requires settle { IsSettlement settle }
-    ensures { IfOk result (λ lines. option_map (λ v. v.items) lines ≡ option_and_then (lines_of settle) (rows_within (text_of text.now))) }
+// The rate file of its bytes.
+fn rates_of_text(alloc: Global, settle: Day, text: &[u8]) -> Result<RateFile, CaseFault>
+    requires { length text.now ≤ file_limit }
+    ensures rates { CaseAnswers (λ rates. rates) result (or_refused (rate_file_of (rows_of text.now))) }
+    ensures kept { IfOk result IsRateFile }
 {
-    let Some(bytes) = text else {
-        return Ok(None);
-    };
-    let rows = read_rows(alloc, bytes.as_slice())?;
-    read_lines(alloc, &rows, settle)
+    let rows = read_rows(alloc, text)?;
+    Ok(read_rates(alloc, settle, &rows)?)
 }
 
-// Whether the price file is within its limit and has no rows.
-fn has_no_prices(alloc: Global, text: &Option<Vec<u8>>) -> Result<bool, NoMemory>
-    requires { IsWithin file_limit text.now }
-    ensures { IfOk result (λ none. none ≡ is_some (option_and_then no_prices_of (rows_within (text_of text.now)))) }
+// That a price file's bytes have no rows.
+fn require_no_prices(alloc: Global, text: &[u8]) -> Result<(), CaseFault>
+    requires { length text.now ≤ file_limit }
+    ensures { CaseAnswers (λ none. none) result (without_prices (rows_of text.now)) }
 {
-    let Some(bytes) = text else {
-        return Ok(false);
-    };
-    let rows = read_rows(alloc, bytes.as_slice())?;
-    Ok(rows.count() == 0)
+    let rows = read_rows(alloc, text)?;
+    if rows.count() > 0 {
+        return Err(CaseFault::NoCase(NoCase::Unbuilt(FileKind::Prices)));
+    }
+    Ok(())
 }
 
-// The case of an issue and lines.
-fn case_from(issue: Issue, lines: Vec<Line>) -> Case
-    requires book { IsBook (record { settle = issue.settle; needs = issue.needs.items; lines = lines.items }) }
-    requires certificates { AreZeroCertificates lines.items }
-    requires restricted { issue.restricted.0 ≤ 2_999_000_000 }
-    ensures { case_view result ≡ case_form (issue_view issue) lines.items }
+// The lines that a rate file offers.
+fn offers_of(alloc: Global, settle: Day, rates: &RateFile) -> Result<Vec<Line>, CaseFault>
+    requires settlement { IsSettlement settle }
+    requires rates { IsRateFile rates.now }
+    ensures lines { CaseAnswers (λ lines. lines.items) result (or_refused (slgs_lines_of settle rates.now)) }
+    ensures rules { IfOk result (λ lines. AreLinesOf settle rates.now lines.items) }
+    ensures securities { IfOk result (λ lines. All (IsSecurityLine settle) lines.items) }
 {
-    Case {
-        book: Book::make(issue.settle, issue.needs, lines),
-        limit: YieldUnits(issue.restricted.0 + 100_000),
+    Ok(slgs_lines(alloc, settle, rates)?)
+}
+
+// Whether a line bears interest.
+fn bears_interest(line: &Line) -> bool
+    ensures { result ≡ bears_interest_of_line line.now }
+{
+    match line.kind {
+        LineKind::Cash => false,
+        LineKind::Security(slgs) => slgs.rate.0 > 0,
     }
 }
 
-/// The case that the three input files give, or the first of them that isn't of the form or is over its limit.
-///
-/// `NoMemory` is the one error.
-#[tactic(auto, unfolding(crate::specs::CaseForm::case_of))]
-pub(crate) fn read_case(
-    alloc: Global,
-    files: &InputFiles,
-) -> Result<Result<Case, FileKind>, NoMemory>
-    requires { AreWithin files.now }
-    ensures { IfOk result (λ case. result_map_both case_view (λ kind. kind) case ≡ input_case files.now) }
+// Whether any line bears interest.
+fn any_bears_interest(lines: &[Line]) -> bool
+    ensures { result ≡ list_any bears_interest_of_line lines.now }
 {
-    let Some(issue) = read_issue_text(alloc, &files.issue)? else {
-        return Ok(Err(FileKind::Issue));
-    };
-    let Some(lines) = read_lines_text(alloc, &files.rates, issue.settle)? else {
-        return Ok(Err(FileKind::Rates));
-    };
-    if !has_no_prices(alloc, &files.prices)? {
-        return Ok(Err(FileKind::Prices));
+    lines.iter().any(|line| bears_interest(line))
+}
+
+// The restricted yield that an issue gives.
+fn given_yield(restricted: Restricted) -> Result<YieldUnits, NoCase>
+    ensures { result_map_both (λ units. units.0) (λ why. why) result ≡ given_yield_of restricted }
+{
+    match restricted {
+        Restricted::Given(units) => Ok(units),
+        Restricted::Computed { .. } => Err(NoCase::Unbuilt(FileKind::Issue)),
     }
-    Ok(Ok(case_from(issue, lines)))
+}
+
+// The lines of a book: opening cash, of which every amount up to the most is permitted, and the lines on offer.
+fn lines_with_cash(alloc: Global, most: Cents, offers: &[Line]) -> Result<Vec<Line>, NoMemory>
+    ensures { IfOk result (λ lines. lines.items ≡ cash_line most.0 ∷ offers.now) }
+{
+    let mut lines = Vec::new(alloc);
+    lines.push(Line {
+        kind: LineKind::Cash,
+        step: 1,
+        least: 1,
+        most: most.0,
+    })?;
+    lines.extend_from_slice(offers)?;
+    Ok(lines)
+}
+
+// The book of an issue and at most 256 lines on offer.
+fn book_of_issue(alloc: Global, issue: &Issue, offers: &[Line]) -> Result<Book, NoMemory>
+    requires issue { IsIssue issue.now }
+    requires offers { All (IsSecurityLine issue.now.settle) offers.now }
+    requires few { length offers.now ≤ 256 }
+    ensures book { IfOk result (λ book. book ≡ book_of issue.now offers.now) }
+    ensures limits { IfOk result IsBook }
+{
+    let lines = lines_with_cash(alloc, issue.cash, offers)?;
+    let needs = needs(alloc, issue)?;
+    Ok(Book::make(issue.settle, needs, lines))
+}
+
+// The case of an issue and the lines on offer.
+fn case_of_issue(alloc: Global, issue: &Issue, offers: &[Line]) -> Result<Case, CaseFault>
+    requires issue { IsIssue issue.now }
+    requires offers { All (IsSecurityLine issue.now.settle) offers.now }
+    ensures case { CaseAnswers case_view result (case_with issue.now offers.now) }
+    ensures limits { IfOk result (λ case. IsBook case.book) }
+    ensures interest { IfOk result (λ case. AreWithoutInterest case.book.lines) }
+{
+    if offers.len() > MOST_OFFERS {
+        return Err(CaseFault::NoCase(NoCase::Refused(Refusal {
+            file: FileKind::Prices,
+            row: 0,
+            kind: RefusalKind::TooManyLines,
+        })));
+    }
+    let restricted = given_yield(issue.restricted)?;
+    if any_bears_interest(offers) {
+        return Err(CaseFault::NoCase(NoCase::Unbuilt(FileKind::Rates)));
+    }
+    let book = book_of_issue(alloc, issue, offers)?;
+    Ok(Case {
+        book,
+        limit: YieldUnits(restricted.0 + MATERIALLY_HIGHER),
+        allowance: issue.allowance,
+    })
+}
+
+/// The case that the three input files give, or why they give none.
+#[tactic(auto, unfolding(crate::specs::Case::rows_case))]
+pub(crate) fn read_case(alloc: Global, files: &InputFiles) -> Result<Case, CaseFault>
+    requires { AreWithin (input_texts files.now) }
+    ensures case { CaseAnswers case_view result
+        (rows_case (rows_of files.now.issue.items) (rows_of files.now.rates.items) (rows_of files.now.prices.items)) }
+    ensures kept { IfOk result (λ case. IsKept (input_texts files.now) (case_view case)) }
+{
+    let issue = issue_of_text(alloc, files.issue.as_slice())?;
+    let rates = rates_of_text(alloc, issue.settle, files.rates.as_slice())?;
+    require_no_prices(alloc, files.prices.as_slice())?;
+    let offers = offers_of(alloc, issue.settle, &rates)?;
+    case_of_issue(alloc, &issue, offers.as_slice())
 }
