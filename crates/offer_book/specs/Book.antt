@@ -15,12 +15,16 @@ pub record BookContents : Type 0 where
   pub needs : List Flow
   pub lines : List Line
 
+-- no amount falls before settlement, and none after the 40 years from it that a security may run
+abbrev pub AreWithinFortyYears : ℤ → List Flow → Type 0
+AreWithinFortyYears settle flows = All (λ flow. (settle ≤ℤ flow.day) × (flow.day ≤ℤ years_after_of settle 40)) flows
+
 -- needs as this project bounds them: at most 480 days that strictly rise, from settlement to 40 years later,
 -- each of at least one cent, and at most 10^13 cents together
 pub record IsNeeds (settle : ℤ) (needs : List Flow) : Type 0 where
   pub few : length needs ≤ 480
   pub rising : Rise needs
-  pub within : All (λ need. (settle ≤ℤ need.day) × (need.day ≤ℤ years_after_of settle 40)) needs
+  pub within : AreWithinFortyYears settle needs
   pub positive : All (λ need. 1 ≤ need.cents.0) needs
   pub small : total needs ≤ 10 ^ 13
 

@@ -1,8 +1,12 @@
-ghost use Rattle.std.specs.Prelude.{◌≡◌, ◌<◌, ◌≤◌, length, slice_index_or};
-ghost use Rattle.offer_book.specs.Book.{IsBook};
+ghost use Rattle.std.specs.Prelude.{◌≡◌, ◌*◌, ◌^◌, ◌<◌, ◌≤◌, length, slice_index_or};
+ghost use Rattle.escrow_units.specs.Flows.{total};
+ghost use Rattle.offer_book.specs.Book.{AreWithinFortyYears, IsBook};
+ghost use Rattle.offer_book.specs.Portfolio.{line_cost as line_cost_of, line_payments as line_payments_of};
+ghost use Rattle.offer_book.specs.declared.line.Line.{Line};
 
 use crate::line::Line;
-use escrow_units::{Day, Flow};
+use arrayvec::ArrayVec;
+use escrow_units::{Cents, Day, Flow};
 use std::marker::Model;
 
 /// The settlement day, the needs and the lines of one case.
@@ -92,5 +96,27 @@ impl Book {
         ensures limits { IsBook self.now }
     {
         &self.lines
+    }
+
+    /// What units of a line cost, in cents. The line is counted from 0, and the units are at most its `most`.
+    pub fn line_cost(&self, line: u16, units: u64) -> Cents
+        requires line { line < length self.now.lines }
+        requires units { (d : Line) → units ≤ (slice_index_or self.now.lines line d).most }
+        ensures { (d : Line) → result.0 ≡ line_cost_of (slice_index_or self.now.lines line d) units }
+    {
+        self.lines[line as usize].cost(units)
+    }
+
+    /// What units of a line pay, in order of date. The line is counted from 0, and the units are at most its `most`.
+    ///
+    /// 0 units pay 0 cents on each date. It takes no memory.
+    pub fn line_payments(&self, line: u16, units: u64) -> ArrayVec<Flow, 84>
+        requires line { line < length self.now.lines }
+        requires units { (d : Line) → units ≤ (slice_index_or self.now.lines line d).most }
+        ensures value { (d : Line) → result.items ≡ line_payments_of self.now.settle (slice_index_or self.now.lines line d) units }
+        ensures within { AreWithinFortyYears self.now.settle result.items }
+        ensures bound { total result.items ≤ 2 * 10 ^ 13 }
+    {
+        self.lines[line as usize].payments(self.settle, units)
     }
 }

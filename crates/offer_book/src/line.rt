@@ -1,6 +1,7 @@
-ghost use Rattle.std.specs.Prelude.{◌≡◌};
+ghost use Rattle.std.specs.Prelude.{◌≡◌, ◌*◌, ◌^◌, ◌<◌, ◌≤◌};
 
-use escrow_units::Slgs;
+use arrayvec::ArrayVec;
+use escrow_units::{Cents, Day, Flow, Slgs};
 
 /// What a line offers.
 #[derive(Clone, Copy, Debug, PartialEq, Eq)]
@@ -27,12 +28,49 @@ pub struct Line {
 }
 
 impl Line {
-    ghost use Rattle.offer_book.specs.Portfolio.{permits as permits_of};
+    ghost use Rattle.escrow_units.specs.Flows.{total};
+    ghost use Rattle.escrow_units.specs.SlgsTerms.{IsSettlement};
+    ghost use Rattle.offer_book.specs.Book.{AreWithinFortyYears, IsLine};
+    ghost use Rattle.offer_book.specs.Portfolio.{line_cost, line_payments, permits as permits_of};
 
     /// Whether a number of units of the line is permitted: 0, or from `least` to `most`.
     pub fn permits(&self, units: u64) -> bool
         ensures { result ≡ permits_of self.now units }
     {
         units == 0 || (self.least <= units && units <= self.most)
+    }
+    /// What units of the line cost, in cents: opening cash its amount, and a SLGS security its face.
+    pub fn cost(&self, units: u64) -> Cents
+        requires { line_cost self.now units < 2 ^ 64 }
+        ensures { result.0 ≡ line_cost self.now units }
+    {
+        Cents(self.step * units)
+    }
+
+    /// What units of the line pay, in order of date: opening cash its amount on the settlement day, and a SLGS security
+    /// its interest and its face.
+    ///
+    /// Settlement is from 2000-01-01 to 2150-01-01, the line is one of a book with that settlement, and the units are at
+    /// most its `most`. 0 units pay 0 cents on each date. It takes no memory.
+    pub fn payments(&self, settle: Day, units: u64) -> ArrayVec<Flow, 84>
+        requires settlement { IsSettlement settle }
+        requires line { IsLine settle self.now }
+        requires units { units ≤ self.now.most }
+        ensures value { result.items ≡ line_payments settle self.now units }
+        ensures within { AreWithinFortyYears settle result.items }
+        ensures bound { total result.items ≤ 2 * 10 ^ 13 }
+    {
+        let amount = self.cost(units);
+        match self.kind {
+            LineKind::Cash => {
+                let mut flows = ArrayVec::new();
+                flows.push(Flow {
+                    day: settle,
+                    cents: amount,
+                });
+                flows
+            }
+            LineKind::Security(slgs) => slgs_interest::payments(&slgs, amount),
+        }
     }
 }

@@ -9,6 +9,7 @@ ghost use Rattle.rate_table.specs.Table.{IsRateFile, IsRange, IsOffer, meets};
 
 use crate::draft::Draft;
 use crate::fields::{RowKind, row_kind};
+use crate::index::RateIndex;
 use crate::overlap::overlaps;
 use crate::row::{offer_row, range_row};
 use crate::table::{Offer, Offers, RateFile, RateRange, RateRanges};
@@ -16,7 +17,6 @@ use escrow_desk::{CaseError, FileKind, RefusalKind, Rows};
 use escrow_units::{Day, Terms};
 use row_fields::{at_row, first_row, refused, row_word, terms_row};
 use std::alloc::Global;
-use std::collections::BTreeMap;
 
 // A file of these terms, without ranges and offers.
 fn new_draft(alloc: Global, terms: Terms) -> Draft
@@ -27,7 +27,7 @@ fn new_draft(alloc: Global, terms: Terms) -> Draft
     Draft {
         terms,
         ranges: Vec::new(alloc),
-        by_first: BTreeMap::new(alloc),
+        index: RateIndex::new(alloc),
         offers: Vec::new(alloc),
     }
 }
@@ -35,22 +35,22 @@ fn new_draft(alloc: Global, terms: Terms) -> Draft
 // One more range, which has no day in common with an earlier one.
 fn push_range(
     ranges: &mut Vec<RateRange>,
-    by_first: &mut BTreeMap<i32, RateRange>,
+    index: &mut RateIndex,
     range: &RateRange,
 ) -> Result<(), CaseError>
-    requires index { IsIndex ranges.old.items by_first.old }
+    requires index { IsIndex ranges.old.items index.old.by_first }
     requires order { All IsRange ranges.old.items }
     requires range { IsRange range.now }
     requires apart { list_any (meets range.now) ranges.old.items ≡ false }
     ensures memory { IfErr result (λ error. error ≡ NoMemory) }
     ensures ranges { OnOk result (ranges.new.items ≡ ranges.old.items ++ range.now ∷ []) }
-    ensures index { OnOk result (IsIndex ranges.new.items by_first.new) }
+    ensures index { OnOk result (IsIndex ranges.new.items index.new.by_first) }
 {
     if ranges.push(*range).is_err() {
         return Err(CaseError::NoMemory);
     }
-    match by_first.insert(range.from.number(), *range) {
-        Ok(_) => Ok(()),
+    match index.add(range) {
+        Ok(()) => Ok(()),
         Err(_) => Err(CaseError::NoMemory),
     }
 }
@@ -91,7 +91,7 @@ fn add_range(draft: &mut Draft, rows: &Rows, row: u32) -> Result<(), CaseError>
     if overlaps(draft, &range) {
         return Err(refused(FileKind::Rates, row + 1, RefusalKind::Overlap));
     }
-    push_range(&mut draft.ranges, &mut draft.by_first, &range)?;
+    push_range(&mut draft.ranges, &mut draft.index, &range)?;
     Ok(())
 }
 

@@ -49,7 +49,7 @@ span settle h =
     }
 
 -- a later step leads to no later date
-half_back_of-order : (maturity : ℤ) (j k : ℕ) → IsBaseDay maturity → j ≤ k → k ≤ 84
+pub half_back_of-order : (maturity : ℤ) (j k : ℕ) → IsBaseDay maturity → j ≤ k → k ≤ 84
     → half_back_of maturity k rule.SameDay ≤ℤ half_back_of maturity j rule.SameDay
 half_back_of-order maturity j k h le few =
     elim (cases_lt j k) [
@@ -155,6 +155,10 @@ fault_at-place fault.TooShort = refl
 fault_at-place fault.TooLong = refl
 fault_at-place fault.FirstDate = refl
 
+-- faults at one place are one
+pub same_place : (f g : RuleFault) → place f ≡ place g → f ≡ g
+same_place f g same = sym (fault_at-place f) ∙ (ap fault_at same ∙ fault_at-place g)
+
 fault-unique : (request : Request) (f g : RuleFault) → IsFirstFault request f → IsFirstFault request g → f ≡ g
 fault-unique request f g p q =
     elim (cases_lt (place f) (place g)) [
@@ -162,8 +166,7 @@ fault-unique request f g p q =
       | inr after ↦ elim (cases_lt (place g) (place f)) [
         | inl before ↦ absurd (q.breaks (p.kept_before g before))
         | inr not_after ↦
-            let same : place f ≡ place g = omega arith in
-            sym (fault_at-place f) ∙ (ap fault_at same ∙ fault_at-place g)
+            same_place f g (omega arith)
       ]
     ]
 

@@ -1,0 +1,172 @@
+-- What units of a line cost and pay.
+use Rattle.std.proofs.Common.{◌≡◌, ◌∙◌, ℕ, ◌+◌, ◌*◌, ◌/◌, ◌^◌, ◌<◌, ◌≤◌, zero, suc, refl, sym, ap, subst, arith, inl, inr, ℤ, ◌≤ℤ◌, ◌<ℤ◌, Bool, true, false, if◌then◌else◌, List, [], ◌∷◌, map, length, get_or, pos, ◌+ℤ◌, int_lt}
+use Rattle.std.specs.List.{All, sum_by}
+use Rattle.std.specs.Ordering.{int_eq}
+use Rattle.std.proofs.Math.Nat.{mul-le-mul_left, mul-le-mul_right}
+use Rattle.std.proofs.lemmas.List.{length-map}
+use Rattle.std.proofs.lemmas.List.Elements.{All-cons, All-nil, All-map, All-weaker}
+use Rattle.std.proofs.lemmas.List.Sums.{sum_by-cons, sum_by-le}
+use Rattle.std.proofs.lemmas.Int.{ints}
+use Rattle.escrow_units.specs.Calendar.{IsBaseDay, years_after_of}
+use Rattle.escrow_units.specs.DayNumber.{IsDayNumber}
+use Rattle.escrow_units.specs.Flows.{total}
+use Rattle.escrow_units.specs.Rounding.{near}
+use Rattle.escrow_units.specs.SlgsTerms.{IsSettlement}
+use Rattle.escrow_units.specs.declared.security.Flow.{Flow}
+use Rattle.escrow_units.specs.declared.security.Slgs.{Slgs}
+use Rattle.escrow_units.specs.declared.security.SlgsKind.{SlgsKind}
+use Rattle.escrow_units.specs.declared.security.SlgsKind.TheVariants as kind
+use Rattle.escrow_units.proofs.SeriesFacts.{years_after_of-none}
+use Rattle.escrow_units.proofs.YearFacts.{years_after_of-passes}
+use Rattle.slgs_interest.specs.Payments.{payment_dates, payments_of, payment_on, interest_on, principal_on, first_interest, first_interest_of_kind, first_period_interest, half_year_interest, before_first, second_before_first, days_to}
+use Rattle.slgs_interest.specs.PaymentLaws.{AreSmall, AreWithinTerm}
+use Rattle.slgs_interest.proofs.Amounts.{near-zero}
+use Rattle.slgs_interest.proofs.PaymentFacts.{payments-face, payments-principal, payments-small, payments-within}
+use Rattle.slgs_interest.proofs.Series.{IsPaid, paid, certificate-first}
+use Rattle.offer_book.specs.declared.line.LineKind.{LineKind}
+use Rattle.offer_book.specs.declared.line.LineKind.TheVariants.{Cash, Security}
+use Rattle.offer_book.specs.declared.line.Line.{Line}
+use Rattle.offer_book.specs.Book.{AreWithinFortyYears, IsCashLine, IsSecurity, IsSecurityLine, IsLine, IsKindWithoutInterest, IsWithoutInterest}
+use Rattle.offer_book.specs.Portfolio.{line_cost, kind_payments, line_payments}
+
+-- 40 years from a settlement end after it
+pub forty-years : (settle : ℤ) → IsSettlement settle → settle ≤ℤ years_after_of settle 40
+forty-years settle h =
+    let own : IsDayNumber settle = (omega (arith, ints, h.0), omega (arith, ints, h.1)) in
+    let from : IsBaseDay settle = (h.0, omega (arith, ints, h.1)) in
+    let none = years_after_of-none settle own in
+    let forty = years_after_of-passes settle 0 40 from (omega arith) in
+    omega (arith, ints, none, forty.least)
+
+-- what units up to the most of a line cost
+pub cash-at_most : (line : Line) (units : ℕ) → IsCashLine line → units ≤ line.most → line_cost line units ≤ 10 ^ 13
+cash-at_most line units cash few =
+    let one : line_cost line units ≡ 1 * units = ap (λ n. n * units) cash.step in
+    omega (arith, one, few, cash.most)
+
+pub security-at_most : (settle : ℤ) (line : Line) (units : ℕ) → IsSecurityLine settle line → units ≤ line.most → line_cost line units ≤ 10 ^ 11
+security-at_most settle line units security few = omega (arith, mul-le-mul_left line.step few, security.cap)
+
+-- the payments of a security of a book
+within : (settle : ℤ) (slgs : Slgs) (flows : List Flow) → IsSecurity settle (Security slgs) → AreWithinTerm slgs flows → AreWithinFortyYears settle flows
+within settle slgs flows security h =
+    All-weaker (λ (flow : Flow). (slgs.settle <ℤ flow.day) × (flow.day ≤ℤ slgs.maturity)) (λ flow. (settle ≤ℤ flow.day) × (flow.day ≤ℤ years_after_of settle 40))
+    (λ flow w.
+    let late : settle <ℤ flow.day = rw security.0 at w.0 in
+    let most : slgs.maturity ≤ℤ years_after_of settle 40 = rw security.0 at security.1.most in
+    (omega (arith, ints, late), omega (arith, ints, w.1, most)))
+    flows h
+
+pub is_paid : (settle : ℤ) (slgs : Slgs) → IsSettlement settle → IsSecurity settle (Security slgs) → IsPaid slgs
+is_paid settle slgs h security = paid slgs (subst IsSettlement (sym security.0) h) security.1
+
+pub dates-few : (slgs : Slgs) → IsPaid slgs → length (payment_dates slgs) ≤ 84
+dates-few slgs p = omega (arith, p.count, p.few)
+
+pub payments_of-few : (slgs : Slgs) (face : ℕ) → IsPaid slgs → length (payments_of slgs face) ≤ 84
+unfolding payments_of
+payments_of-few slgs face p = omega (arith, length-map (payment_dates slgs) (payment_on slgs face), dates-few slgs p)
+
+pub small-total : (flows : List Flow) → length flows ≤ 84 → AreSmall flows → total flows ≤ 2 * 10 ^ 13
+small-total flows few small =
+    omega (arith, sum_by-le (λ (flow : Flow). flow.cents.0) (2 * 10 ^ 11) flows small, mul-le-mul_right (2 * 10 ^ 11) few)
+
+-- nothing earns nothing
+near-nothing : (a b : ℕ) → a ≡ 0 → near a b ≡ 0
+unfolding near
+near-nothing a zero e = rw e refl
+near-nothing a (suc b) e = near-zero a (suc b) e (omega arith)
+
+no-face : (face rate days : ℕ) → face ≡ 0 → face * rate * days ≡ 0
+no-face face rate days none = rw none (omega arith)
+
+choice-none : (t : Bool) (a b : ℕ) → a ≡ 0 → b ≡ 0 → (if t then a else b) ≡ 0
+choice-none true a b e f = e
+choice-none false a b e f = f
+
+first_interest-none : (slgs : Slgs) (face : ℕ) → face ≡ 0 → first_interest slgs face ≡ 0
+unfolding first_interest
+first_interest-none slgs face none = at slgs.kind
+  where
+    of_period : first_period_interest slgs face ≡ 0
+    of_period =
+        choice-none (int_lt slgs.settle (before_first slgs)) _ _
+        (near-nothing _ _ (no-face face slgs.rate.0 (days_to (second_before_first slgs) (before_first slgs) + days_to slgs.settle (before_first slgs)) none))
+        (near-nothing _ _ (no-face face slgs.rate.0 (days_to slgs.settle slgs.first) none))
+
+    at : (k : SlgsKind) → first_interest_of_kind k slgs face ≡ 0
+    at kind.Certificate = near-nothing _ _ (no-face face slgs.rate.0 (days_to slgs.settle slgs.maturity) none)
+    at kind.Note = of_period
+    at kind.Bond = of_period
+
+payment-none : (slgs : Slgs) (face : ℕ) → face ≡ 0 → (day : ℤ) → interest_on slgs face day + principal_on slgs face day ≡ 0
+payment-none slgs face none day =
+    let later : half_year_interest slgs face ≡ 0 = near-nothing (face * slgs.rate.0) 200_000 (rw none (omega arith)) in
+    let interest = choice-none (int_eq day slgs.first) (first_interest slgs face) (half_year_interest slgs face) (first_interest-none slgs face none) later in
+    let principal = choice-none (int_eq day slgs.maturity) face 0 none refl in
+    join _ _ interest principal
+  where
+    join : (m n : ℕ) → m ≡ 0 → n ≡ 0 → m + n ≡ 0
+    join m n a b = omega arith
+
+-- a face of nothing pays nothing
+pub payments_of-none : (slgs : Slgs) (face : ℕ) → face ≡ 0 → All (λ flow. flow.cents.0 ≡ 0) (payments_of slgs face)
+unfolding payments_of
+payments_of-none slgs face none =
+    All-map (λ (flow : Flow). flow.cents.0 ≡ 0) (payment_on slgs face) (payment_dates slgs) (λ k d lt. payment-none slgs face none (get_or (payment_dates slgs) k d))
+
+-- what a kind pays
+kind-within : (settle : ℤ) (kind : LineKind) (amount : ℕ) → IsSettlement settle → IsSecurity settle kind → AreWithinFortyYears settle (kind_payments settle kind amount)
+kind-within settle Cash amount h security = absurd security
+kind-within settle (Security slgs) amount h security =
+    within settle slgs (payments_of slgs amount) security (payments-within slgs amount (is_paid settle slgs h security))
+
+kind-total : (settle : ℤ) (kind : LineKind) (amount : ℕ) → IsSettlement settle → IsSecurity settle kind → amount ≤ 10 ^ 11 → total (kind_payments settle kind amount) ≤ 2 * 10 ^ 13
+kind-total settle Cash amount h security few = absurd security
+kind-total settle (Security slgs) amount h security few =
+    let p = is_paid settle slgs h security in
+    small-total (payments_of slgs amount) (payments_of-few slgs amount p) (payments-small slgs amount p (certificate-first slgs security.1) few security.2)
+
+kind-cost : (settle : ℤ) (kind : LineKind) (amount : ℕ) → IsSettlement settle → IsSecurity settle kind → amount ≤ total (kind_payments settle kind amount)
+kind-cost settle Cash amount h security = absurd security
+kind-cost settle (Security slgs) amount h security =
+    omega (arith, payments-principal slgs amount (is_paid settle slgs h security))
+
+kind-face : (settle : ℤ) (kind : LineKind) (amount : ℕ) → IsSettlement settle → IsSecurity settle kind → IsKindWithoutInterest kind → total (kind_payments settle kind amount) ≡ amount
+kind-face settle Cash amount h security none = absurd security
+kind-face settle (Security slgs) amount h security none = payments-face slgs amount (is_paid settle slgs h security) none
+
+kind-none : (settle : ℤ) (kind : LineKind) (amount : ℕ) → amount ≡ 0 → All (λ flow. flow.cents.0 ≡ 0) (kind_payments settle kind amount)
+kind-none settle Cash amount none = All-cons (λ (flow : Flow). flow.cents.0 ≡ 0) _ [] none (All-nil (λ (flow : Flow). flow.cents.0 ≡ 0))
+kind-none settle (Security slgs) amount none = payments_of-none slgs amount none
+
+-- opening cash is there on the settlement day
+cash-payments : (settle : ℤ) (line : Line) (units : ℕ) → IsCashLine line → line_payments settle line units ≡ record { day = settle; cents = record { 0 = line_cost line units } } ∷ []
+cash-payments settle line units cash = ap (λ kind. kind_payments settle kind (line_cost line units)) cash.kind
+
+-- what units of a line pay
+pub line_payments-within : (settle : ℤ) (line : Line) (units : ℕ) → IsSettlement settle → IsLine settle line → AreWithinFortyYears settle (line_payments settle line units)
+line_payments-within settle line units h is_line = elim is_line [
+  | inl cash ↦ subst (AreWithinFortyYears settle) (sym (cash-payments settle line units cash))
+      (All-cons (λ (flow : Flow). (settle ≤ℤ flow.day) × (flow.day ≤ℤ years_after_of settle 40)) _ [] (omega (arith, ints), forty-years settle h)
+      (All-nil (λ (flow : Flow). (settle ≤ℤ flow.day) × (flow.day ≤ℤ years_after_of settle 40))))
+  | inr security ↦ kind-within settle line.kind (line_cost line units) h security.security
+]
+
+pub line_payments-total : (settle : ℤ) (line : Line) (units : ℕ) → IsSettlement settle → IsLine settle line → units ≤ line.most → total (line_payments settle line units) ≤ 2 * 10 ^ 13
+line_payments-total settle line units h is_line few = elim is_line [
+  | inl cash ↦ omega (arith, ap total (cash-payments settle line units cash), cash-at_most line units cash few)
+  | inr security ↦ kind-total settle line.kind (line_cost line units) h security.security (security-at_most settle line units security few)
+]
+
+-- no less than they cost
+pub line_payments-cost : (settle : ℤ) (line : Line) (units : ℕ) → IsSettlement settle → IsSecurityLine settle line → line_cost line units ≤ total (line_payments settle line units)
+line_payments-cost settle line units h security = kind-cost settle line.kind (line_cost line units) h security.security
+
+-- and just that without interest
+pub line_payments-face : (settle : ℤ) (line : Line) (units : ℕ) → IsSettlement settle → IsSecurityLine settle line → IsWithoutInterest line → total (line_payments settle line units) ≡ line_cost line units
+line_payments-face settle line units h security none = kind-face settle line.kind (line_cost line units) h security.security none
+
+-- nothing where nothing is bought
+pub line_payments-none : (settle : ℤ) (line : Line) (units : ℕ) → units ≡ 0 → All (λ flow. flow.cents.0 ≡ 0) (line_payments settle line units)
+line_payments-none settle line units none = kind-none settle line.kind (line_cost line units) (rw none (omega arith))
