@@ -2,6 +2,7 @@
 use Rattle.std.proofs.Common.{◌≡◌, ℕ, ◌+◌, ◌-◌, ◌≤◌, Bool, true, false, not, ◌==◌, nat_lt, ◌∙◌, Option, Some, None, MatchOption, Result, Ok, Err, List, length, refl, subst, arith}
 use Rattle.std.specs.Prelude.{option_map, option_and_then}
 use Rattle.std.proofs.lemmas.Bool.{ltb-false}
+use Rattle.escrow_desk.specs.Rows.{rows_of}
 use Rattle.offer_book.specs.Book.{BookContents, IsBook}
 use Rattle.offer_book.specs.Portfolio.{Meets, IsFirstShort, cost, total_needs}
 use Rattle.cash_table.specs.Shortage.{first_short_of}
@@ -9,8 +10,8 @@ use Rattle.cash_table.proofs.DayFacts.{first_short_is}
 use Rattle.cash_table.proofs.PortfolioLaws.{meets_cost, zero_yield}
 use Rattle.escrow_top.specs.CertificateForm.{Claim, claim_of}
 use Rattle.escrow_top.specs.InputFiles.{InputTexts}
-use Rattle.escrow_top.specs.Case.{CaseContents, IsKept, case_of}
-use Rattle.escrow_top.specs.Answer.{first_not_offered, portfolio, given, or_else, is_leaf_weak, reason_against, reason_of, yes_text, weighed, claim_answer, certificate_answer, certificate_limit, refused, check_answer}
+use Rattle.case_file.specs.Case.{CaseContents, IsKept}
+use Rattle.escrow_top.specs.Answer.{first_not_offered, portfolio, given, or_else, is_leaf_weak, reason_against, reason_of, yes_text, weighed, claim_answer, certificate_answer, certificate_limit, refused, case_of, check_answer}
 use Rattle.escrow_top.specs.Accepted.{Accepted}
 use Rattle.escrow_top.specs.declared.status.Status.TheVariants as status
 use Rattle.escrow_top.specs.declared.verdict.Reason.{Reason}
@@ -97,7 +98,7 @@ meets_from_none book plan limits none =
 least_by_gap : (whole gap needs rival : ℕ) → whole - gap ≤ needs → needs ≤ rival → whole ≤ rival + gap
 least_by_gap whole gap needs rival borne dear = omega arith
 
-pub accepted : (texts : InputTexts) (cert : List ℕ) (case : CaseContents) → case_of texts ≡ Ok case → IsKept texts case → (certificate_answer case cert).status ≡ status.Done → Accepted texts cert
+pub accepted : (texts : InputTexts) (cert : List ℕ) (case : CaseContents) → case_of texts ≡ Ok case → IsKept (rows_of texts.rates) case → (certificate_answer case cert).status ≡ status.Done → Accepted texts cert
 accepted texts cert case is_case kept done =
     let claimed = certificate_claimed case cert (nat_lt certificate_limit (length cert)) refl done in
     let yes = claimed.0 in

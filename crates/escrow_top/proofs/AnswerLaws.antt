@@ -2,17 +2,18 @@
 use Rattle.std.proofs.Common.{◌≡◌, ◌∙◌, ℕ, List, [], ◌∷◌, Option, Some, None, Result, Ok, Err, Bool, true, false, refl, sym, ap}
 use Rattle.std.specs.Prelude.{IsSomeAnd, MatchOption, IsTrue, option_and_then, is_ok, if◌then◌else◌}
 use Rattle.escrow_desk.specs.Content.{Content, Told, file_of, SaidAll, SaidPart}
+use Rattle.escrow_desk.specs.Rows.{rows_of}
 use Rattle.escrow_desk.specs.declared.refusal.FileKind.{FileKind}
 use Rattle.escrow_desk.specs.declared.refusal.RefusalKind.TheVariants as too_long
 use Rattle.row_fields.specs.RowForm.{refusal_of}
 use Rattle.escrow_top.specs.InputFiles.{InputTexts, Names, first_too_long, inputs_of}
-use Rattle.escrow_top.specs.Case.{CaseContents, IsKept, case_of}
-use Rattle.escrow_top.specs.Answer.{Answer, answer_to, case_answer, certificate_answer, check_names, is_structure, named_answer, no_case_answer, refused, unbuilt_structure, usage, usage_text}
+use Rattle.case_file.specs.Case.{CaseContents, IsKept}
+use Rattle.escrow_top.specs.Answer.{Answer, answer_to, case_answer, case_of, certificate_answer, check_names, is_structure, named_answer, no_case_answer, refused, unbuilt_structure, usage, usage_text}
 use Rattle.escrow_top.specs.Accepted.{Accepted}
 use Rattle.escrow_top.specs.Ending.{Answers, AnswersPart, AreAccepted, IsAccepted, IsNoCommand, LacksFile, NamedAnswers, NamedAnswersPart}
 use Rattle.escrow_top.specs.Reading.{AreRead, AreWithin, CertificateAnswers, FilesAnswer, IsTooLong, LacksCertificate, LacksInput, LacksNamed}
-use Rattle.escrow_top.specs.declared.fault.NoCase.{NoCase}
-use Rattle.escrow_top.specs.declared.fault.NoCase.TheVariants.{Refused}
+use Rattle.case_file.specs.declared.fault.NoCase.{NoCase}
+use Rattle.case_file.specs.declared.fault.NoCase.TheVariants.{Refused}
 use Rattle.escrow_top.specs.declared.status.Status.{Status}
 use Rattle.escrow_top.specs.declared.status.Status.TheVariants as status
 use Rattle.escrow_top.proofs.AcceptedLaws.{accepted}
@@ -59,11 +60,11 @@ inputs_lack None names none = tt
 inputs_lack (Some content) names none = rw none refl
 
 -- what `yes` to a certificate that was read means
-found_accepted : (texts : InputTexts) (case : CaseContents) (answer : Answer) (found : Option (List ℕ)) → case_of texts ≡ Ok case → IsKept texts case → IsSomeAnd found (λ file. answer ≡ certificate_answer case file) → answer.status ≡ status.Done → IsSomeAnd found (λ cert. Accepted texts cert)
+found_accepted : (texts : InputTexts) (case : CaseContents) (answer : Answer) (found : Option (List ℕ)) → case_of texts ≡ Ok case → IsKept (rows_of texts.rates) case → IsSomeAnd found (λ file. answer ≡ certificate_answer case file) → answer.status ≡ status.Done → IsSomeAnd found (λ cert. Accepted texts cert)
 found_accepted texts case answer None is kept said done = said
 found_accepted texts case answer (Some cert) is kept said done = accepted texts cert case is kept (rw said at done)
 
-pub certificate_accepted : (told : Told) (names : Names) (texts : InputTexts) (case : CaseContents) (answer : Answer) → AreRead told names texts → case_of texts ≡ Ok case → IsKept texts case → CertificateAnswers told names.cert case answer → answer.status ≡ status.Done → MatchOption told (Unit {0}) (λ content. AreAccepted content names)
+pub certificate_accepted : (told : Told) (names : Names) (texts : InputTexts) (case : CaseContents) (answer : Answer) → AreRead told names texts → case_of texts ≡ Ok case → IsKept (rows_of texts.rates) case → CertificateAnswers told names.cert case answer → answer.status ≡ status.Done → MatchOption told (Unit {0}) (λ content. AreAccepted content names)
 certificate_accepted None names texts case answer read is kept said done = tt
 certificate_accepted (Some content) names texts case answer read is kept said done =
     let issue = read.issue in

@@ -5,9 +5,9 @@ use Rattle.escrow_desk.specs.Content.{Content, file_of}
 use Rattle.escrow_desk.specs.Rows.{rows_of}
 use Rattle.escrow_desk.specs.declared.refusal.FileKind.TheVariants as file
 use Rattle.escrow_top.specs.InputFiles.{InputTexts, Names, file_limit, first_too_long, inputs_of}
-use Rattle.escrow_top.specs.Case.{CaseContents, case_of, rows_case}
+use Rattle.case_file.specs.Case.{rows_case}
+use Rattle.escrow_top.specs.Answer.{case_of}
 use Rattle.escrow_top.specs.Reading.{AreThere, AreWithin}
-use Rattle.escrow_top.specs.declared.fault.NoCase.{NoCase}
 
 over : (n : ℕ) → file_limit < n → nat_lt file_limit n ≡ true
 over n h = grind arith

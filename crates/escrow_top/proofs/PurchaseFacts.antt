@@ -2,7 +2,7 @@
 use Rattle.std.proofs.Common.{◌≡◌, ◌∙◌, ℕ, zero, suc, ◌<◌, ◌+◌, List, [], ◌∷◌, length, take, get_or, Option, Some, None, Bool, true, false, cond, refl, ap, arith}
 use Rattle.std.specs.List.{find}
 use Rattle.escrow_top.specs.CertificateForm.{Claim}
-use Rattle.escrow_top.specs.Case.{CaseContents}
+use Rattle.case_file.specs.Case.{CaseContents}
 use Rattle.escrow_top.specs.Answer.{first_not_offered, portfolio_of, claim_answer, weighed, reason_against}
 
 cond_none : {X : Type 0} (b : Bool) (x : X) (o : Option X) → cond b (Some x) o ≡ None → (b ≡ false) × (o ≡ None)

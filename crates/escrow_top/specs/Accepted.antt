@@ -10,8 +10,8 @@ use Rattle.offer_book.specs.Offers.{AreLinesOf}
 use Rattle.offer_book.specs.Portfolio.{IsPermitted, Meets, cost, security_cost, security_flows}
 use Rattle.escrow_top.specs.CertificateForm.{Claim, claim_of}
 use Rattle.escrow_top.specs.InputFiles.{InputTexts}
-use Rattle.escrow_top.specs.Case.{CaseContents, case_of}
-use Rattle.escrow_top.specs.Answer.{check_answer, portfolio, yes_text}
+use Rattle.case_file.specs.Case.{CaseContents}
+use Rattle.escrow_top.specs.Answer.{case_of, check_answer, portfolio, yes_text}
 
 -- of the bytes of the four files: they give a case and a claim, of which this is said. The book keeps every limit, and its
 -- lines on offer, which bear no interest, are those of the rate file, each with every rule of term, rate and

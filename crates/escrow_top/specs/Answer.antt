@@ -3,6 +3,7 @@ use Rattle.std.specs.Prelude.{◌≡◌, ℕ, ◌+◌, ◌-◌, Bool, false, not
 use Rattle.std.specs.List.{find, fold}
 use lib.Pointwise.{pointwise}
 use Rattle.escrow_desk.specs.Content.{Content, file_of}
+use Rattle.escrow_desk.specs.Rows.{rows_of}
 use Rattle.escrow_desk.specs.declared.refusal.FileKind.{FileKind}
 use Rattle.escrow_desk.specs.declared.refusal.FileKind.TheVariants as file
 use Rattle.escrow_desk.specs.declared.refusal.Refusal.{Refusal}
@@ -16,10 +17,10 @@ use Rattle.offer_book.specs.Book.{BookContents}
 use Rattle.offer_book.specs.Portfolio.{permits, total_needs, cost, security_cost}
 use Rattle.cash_table.specs.Shortage.{first_short_of}
 use Rattle.escrow_top.specs.CertificateForm.{Claim, claim_of, ◌>>=◌}
-use Rattle.escrow_top.specs.InputFiles.{InputTexts, Names, inputs_of}
-use Rattle.escrow_top.specs.Case.{CaseContents, cash_line, case_of}
-use Rattle.escrow_top.specs.declared.fault.NoCase.{NoCase}
-use Rattle.escrow_top.specs.declared.fault.NoCase.TheVariants.{Refused, Unbuilt}
+use Rattle.escrow_top.specs.InputFiles.{InputTexts, Names, first_too_long, inputs_of}
+use Rattle.case_file.specs.Case.{CaseContents, cash_line, rows_case}
+use Rattle.case_file.specs.declared.fault.NoCase.{NoCase}
+use Rattle.case_file.specs.declared.fault.NoCase.TheVariants.{Refused, Unbuilt}
 use Rattle.escrow_top.specs.declared.certificate.Purchase.{Purchase}
 use Rattle.escrow_top.specs.declared.status.Status.{Status}
 use Rattle.escrow_top.specs.declared.status.Status.TheVariants as status
@@ -168,6 +169,14 @@ certificate_answer case cert =
 abbrev pub no_case_answer : NoCase → Answer
 no_case_answer (Refused refusal) = refused refusal
 no_case_answer (Unbuilt kind) = unbuilt kind
+
+-- the case of the bytes of the input files, or what is first to refuse it: their lengths are tried before their rows
+abbrev pub case_of_texts : Option FileKind → InputTexts → Result CaseContents NoCase
+case_of_texts (Some too_long) texts = Err (Refused (refusal_of too_long 0 kind.TooLong))
+case_of_texts None texts = rows_case (rows_of texts.issue) (rows_of texts.rates) (rows_of texts.prices)
+
+abbrev pub case_of : InputTexts → Result CaseContents NoCase
+case_of texts = case_of_texts (first_too_long texts) texts
 
 abbrev pub case_answer : Result CaseContents NoCase → List ℕ → Answer
 case_answer (Err why) cert = no_case_answer why

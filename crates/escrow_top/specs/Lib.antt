@@ -1,7 +1,5 @@
 pub mod CertificateForm
-pub mod Fault
 pub mod InputFiles
-pub mod Case
 pub mod Answer
 pub mod Ending
 pub mod Accepted

@@ -1,17 +1,13 @@
 -- What was read of the files that a desk tells.
-use Rattle.std.specs.Prelude.{◌≡◌, ℕ, ◌≤◌, ◌<◌, List, length, Option, Some, None, Result, Ok, Err, Vec, MatchOption, MatchResult, IsSomeAnd, ⊤}
+use Rattle.std.specs.Prelude.{◌≡◌, ℕ, ◌≤◌, ◌<◌, List, length, Option, Some, None, Vec, MatchOption, IsSomeAnd}
 use Rattle.std.specs.declared.alloc.Global.{Global}
 use Rattle.escrow_desk.specs.Content.{Content, Told, file_of}
 use Rattle.escrow_desk.specs.declared.refusal.FileKind.{FileKind}
 use Rattle.escrow_desk.specs.declared.refusal.FileKind.TheVariants as file
-use Rattle.escrow_top.specs.declared.case.Case.{Case}
-use Rattle.escrow_top.specs.declared.fault.CaseFault.{CaseFault}
-use Rattle.escrow_top.specs.declared.fault.CaseFault.TheVariants as fault
-use Rattle.escrow_top.specs.declared.fault.NoCase.{NoCase}
 use Rattle.escrow_top.specs.declared.files.FileNames.{FileNames}
 use Rattle.escrow_top.specs.declared.files.InputFiles.{InputFiles}
 use Rattle.escrow_top.specs.InputFiles.{InputTexts, Names, file_limit, first_too_long, inputs_of}
-use Rattle.escrow_top.specs.Case.{CaseContents}
+use Rattle.case_file.specs.Case.{CaseContents}
 use Rattle.escrow_top.specs.Answer.{Answer, certificate_answer, certificate_limit, named_answer}
 
 -- the names as bytes
@@ -21,16 +17,6 @@ input_names names = record { issue = names.issue.now; rates = names.rates.now; p
 -- the files as bytes
 abbrev pub input_texts : InputFiles → InputTexts
 input_texts files = record { issue = files.issue.items; rates = files.rates.items; prices = files.prices.items }
-
--- a case as contracts see it
-abbrev pub case_view : Case → CaseContents
-case_view case = record { book = case.book; limit = case.limit.0; allowance = case.allowance.0 }
-
--- a call answers what is defined, in a view of it, or want of memory
-abbrev pub CaseAnswers : {T U : Type 0} → (T → U) → Result T CaseFault → Result U NoCase → Type 0
-CaseAnswers view (Ok value) answer = answer ≡ Ok (view value)
-CaseAnswers view (Err (fault.NoCase why)) answer = answer ≡ Err why
-CaseAnswers view (Err fault.NoMemory) answer = ⊤
 
 -- the bytes of a file that has at most so many, or that it has more
 abbrev pub IsBounded : ℕ → List ℕ → Option (Vec ℕ Global) → Type 0

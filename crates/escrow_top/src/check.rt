@@ -2,14 +2,14 @@ ghost use Rattle.std.specs.Prelude.{◌≡◌, ◌≤◌, IfOk, IsErrOf, IsTrue,
 ghost use Rattle.escrow_desk.specs.Counts.{Rose};
 ghost use Rattle.escrow_top.specs.Answer.{certificate_answer, certificate_limit, claim_answer, refused as refused_answer};
 ghost use Rattle.row_fields.specs.RowForm.{refusal_of};
+ghost use Rattle.case_file.specs.Case.{case_view};
 ghost use Rattle.escrow_top.specs.CertificateForm.{claim_of};
-ghost use Rattle.escrow_top.specs.Reading.{AreRead, AreWithin, CertificateAnswers, FilesAnswer, LacksCertificate, LacksNamed, case_view, input_names, input_texts};
+ghost use Rattle.escrow_top.specs.Reading.{AreRead, AreWithin, CertificateAnswers, FilesAnswer, LacksCertificate, LacksNamed, input_names, input_texts};
 ghost use Rattle.escrow_top.specs.Ending.{AreAccepted, is_checked};
 ghost use Rattle.escrow_top.specs.Reply.{answer};
 
-use crate::case::{Case, read_case};
+use case_file::{Case, CaseFault, read_case};
 use crate::certificate::read_certificate;
-use crate::fault::CaseFault;
 use crate::files::{FileNames, InputFiles, read_file, read_inputs};
 use crate::reply::{Reply, refused, unbuilt, without_case};
 use crate::status::Status;
@@ -91,7 +91,12 @@ fn reply_to_files<D: Desk>(
     ensures no_file { IsErrOf result Stop.NoFile → Rose (D.absences desk.old) (D.absences desk.new) × (D.read_faults desk.new ≡ D.read_faults desk.old) }
     ensures writes { D.write_faults desk.new ≡ D.write_faults desk.old }
 {
-    match read_case(alloc, files) {
+    match read_case(
+        alloc,
+        files.issue.as_slice(),
+        files.rates.as_slice(),
+        files.prices.as_slice(),
+    ) {
         Ok(case) => reply_to_certificate(alloc, desk, names.cert, &case),
         Err(CaseFault::NoCase(why)) => Ok(without_case(alloc, why)?),
         Err(CaseFault::NoMemory) => Err(Stop::NoMemory),

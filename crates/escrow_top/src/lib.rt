@@ -1,11 +1,9 @@
 //! The program's one call, from its words to its status.
 #![tactic(auto)]
 
-mod case;
 mod certificate;
 mod check;
 mod command;
-mod fault;
 mod files;
 mod needs;
 mod program;

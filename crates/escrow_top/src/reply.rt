@@ -1,12 +1,12 @@
 ghost use Rattle.std.specs.Prelude.{◌≡◌, ◌++◌, IfOk, IsTrue, OnOk};
 ghost use Rattle.escrow_top.specs.Answer.{text_line, reason_text, yes_text as yes_text_of, yield_words as yield_words_of, file_word as file_word_of, kind_word as kind_word_of, unbuilt as unbuilt_answer, refused as refused_answer, no_case_answer, refused_text, accepted, not_accepted};
-ghost use Rattle.escrow_top.specs.Reading.{case_view};
+ghost use Rattle.case_file.specs.Case.{case_view};
 ghost use Rattle.escrow_top.specs.Ending.{is_checked, is_stopped};
 ghost use Rattle.escrow_top.specs.Reply.{answer};
 ghost use Rattle.offer_book.specs.Portfolio.{IsPermitted};
 
-use crate::case::Case;
-use crate::fault::NoCase;
+use case_file::Case;
+use case_file::NoCase;
 use crate::status::Status;
 use crate::verdict::Reason;
 use cash_table::{Plan, cost, security_cost};

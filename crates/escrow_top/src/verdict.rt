@@ -2,11 +2,11 @@ ghost use Rattle.std.specs.Prelude.{◌≡◌, ◌≤◌, ◌^◌, length, IfOk,
 ghost use Rattle.offer_book.specs.Portfolio.{IsPermitted};
 ghost use Rattle.escrow_top.specs.Answer.{is_offered as is_offered_of, first_not_offered, portfolio_of, reason_against as reason_against_of, weighed, claim_answer};
 ghost use Rattle.escrow_top.specs.CertificateForm.{claim};
-ghost use Rattle.escrow_top.specs.Reading.{case_view};
+ghost use Rattle.case_file.specs.Case.{case_view};
 ghost use Rattle.escrow_top.specs.Ending.{is_checked};
 ghost use Rattle.escrow_top.specs.Reply.{answer};
 
-use crate::case::Case;
+use case_file::Case;
 use crate::certificate::{Certificate, Purchase};
 use crate::needs::needs_total;
 use crate::reply::{Reply, refusal, yes};

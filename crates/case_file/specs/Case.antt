@@ -1,8 +1,6 @@
 -- The case that the input files give, or why they give none. The limits are this project's own.
 use Rattle.std.specs.Prelude.{◌≡◌, ℕ, ◌+◌, ◌≤◌, Bool, false, nat_lt, if◌then◌else◌, List, [], ◌∷◌, length, drop, Option, Some, None, Result, Ok, Err, ⊤}
 use Rattle.std.specs.List.{list_any}
-use Rattle.escrow_desk.specs.Rows.{rows_of}
-use Rattle.escrow_desk.specs.declared.refusal.FileKind.{FileKind}
 use Rattle.escrow_desk.specs.declared.refusal.FileKind.TheVariants as file
 use Rattle.escrow_desk.specs.declared.refusal.Refusal.{Refusal}
 use Rattle.escrow_desk.specs.declared.refusal.RefusalKind.TheVariants as kind
@@ -19,16 +17,20 @@ use Rattle.offer_book.specs.Offers.{AreLinesOf, slgs_lines_of}
 use Rattle.offer_book.specs.declared.line.Line.{Line}
 use Rattle.offer_book.specs.declared.line.LineKind.{LineKind}
 use Rattle.offer_book.specs.declared.line.LineKind.TheVariants.{Cash, Security}
-use Rattle.escrow_top.specs.InputFiles.{InputTexts, first_too_long}
-use Rattle.escrow_top.specs.declared.fault.NoCase.{NoCase}
-use Rattle.escrow_top.specs.declared.fault.NoCase.TheVariants.{Refused, Unbuilt}
+use Rattle.case_file.specs.declared.case.Case.{Case}
+use Rattle.case_file.specs.declared.fault.CaseFault.{CaseFault}
+use Rattle.case_file.specs.declared.fault.CaseFault.TheVariants as fault
+use Rattle.case_file.specs.declared.fault.NoCase.{NoCase}
+use Rattle.case_file.specs.declared.fault.NoCase.TheVariants.{Refused, Unbuilt}
 
 -- a case: its book; its limit on the yield, which is the restricted yield plus one thousandth of a percentage point
--- (26 CFR 1.148-2(d)(2)), in units of 10^-10; and the greatest gap that is allowed, in cents
+-- (26 CFR 1.148-2(d)(2)), in units of 10^-10; the greatest gap that is allowed, in cents; and the greatest number of nodes
+-- of a search
 pub record CaseContents : Type 0 where
   pub book : BookContents
   pub limit : ℕ
   pub allowance : ℕ
+  pub budget : ℕ
 
 -- opening cash, of which every amount up to the most is permitted
 abbrev pub cash_line : ℕ → Line
@@ -80,7 +82,7 @@ case_with issue offers = do
   _ ← few_lines offers
   restricted ← given_yield issue.restricted
   _ ← without_interest offers
-  Ok (record { book = book_of issue offers; limit = restricted + 100_000; allowance = issue.allowance.0 })
+  Ok (record { book = book_of issue offers; limit = restricted + 100_000; allowance = issue.allowance.0; budget = issue.budget })
 
 -- the case of the rows of the input files, or what is first to refuse it
 unfoldable pub rows_case : List Row → List Row → List Row → Result CaseContents NoCase
@@ -91,20 +93,23 @@ rows_case issue_rows rate_rows price_rows = do
   offers ← or_refused (slgs_lines_of issue.settle rates)
   case_with issue offers
 
--- the case of the bytes of the input files: their lengths are tried before their rows
-abbrev pub case_of_texts : Option FileKind → InputTexts → Result CaseContents NoCase
-case_of_texts (Some too_long) texts = Err (Refused (refusal_of too_long 0 kind.TooLong))
-case_of_texts None texts = rows_case (rows_of texts.issue) (rows_of texts.rates) (rows_of texts.prices)
-
-abbrev pub case_of : InputTexts → Result CaseContents NoCase
-case_of texts = case_of_texts (first_too_long texts) texts
-
--- what each case keeps of the bytes that it was read from: its book keeps every limit; its lines on offer are those of the
--- rate file, each with every rule of term, rate and denomination; and none of them bears interest
-pub record IsKept (texts : InputTexts) (case : CaseContents) : Type 0 where
+-- what each case keeps of the rate file that it was read from: its book keeps every limit; its lines on offer are those of
+-- the file, each with every rule of term, rate and denomination; and none of them bears interest
+pub record IsKept (rate_rows : List Row) (case : CaseContents) : Type 0 where
   pub book : IsBook case.book
   pub rates : RateFile
-  pub is_rates : rate_file_of (rows_of texts.rates) ≡ Ok rates
+  pub is_rates : rate_file_of rate_rows ≡ Ok rates
   pub rules : AreLinesOf case.book.settle rates (drop 1 case.book.lines)
   pub interest : AreWithoutInterest case.book.lines
-  pub limit : 100_000 ≤ case.limit
+  pub least_limit : 100_000 ≤ case.limit
+  pub most_limit : case.limit ≤ 3_000_000_000
+
+-- a case as contracts see it
+abbrev pub case_view : Case → CaseContents
+case_view case = record { book = case.book; limit = case.limit.0; allowance = case.allowance.0; budget = case.budget }
+
+-- a call answers what is defined, in a view of it, or want of memory
+abbrev pub Answers : {T U : Type 0} → (T → U) → Result T CaseFault → Result U NoCase → Type 0
+Answers view (Ok value) answer = answer ≡ Ok (view value)
+Answers view (Err (fault.NoCase why)) answer = answer ≡ Err why
+Answers view (Err fault.NoMemory) answer = ⊤

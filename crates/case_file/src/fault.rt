@@ -1,6 +1,6 @@
 ghost use Rattle.std.specs.Prelude.{◌≡◌};
-ghost use Rattle.escrow_top.specs.declared.fault.CaseFault.TheVariants.{NoMemory as OutOfMemory};
-ghost use Rattle.escrow_top.specs.Fault.{fault_of};
+ghost use Rattle.case_file.specs.declared.fault.CaseFault.TheVariants.{NoMemory as OutOfMemory};
+ghost use Rattle.case_file.specs.Fault.{fault_of};
 
 use escrow_desk::{CaseError, FileKind, NoMemory, Refusal};
 

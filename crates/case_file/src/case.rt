@@ -9,12 +9,9 @@ ghost use Rattle.rate_table.specs.RateForm.{rate_file_of};
 ghost use Rattle.rate_table.specs.Table.{IsRateFile};
 ghost use Rattle.offer_book.specs.Book.{IsBook, IsSecurityLine, AreWithoutInterest};
 ghost use Rattle.offer_book.specs.Offers.{AreLinesOf, slgs_lines_of};
-ghost use Rattle.escrow_top.specs.InputFiles.{file_limit};
-ghost use Rattle.escrow_top.specs.Case.{IsKept, bears_interest as bears_interest_of_line, book_of, case_with, cash_line, given_yield as given_yield_of, or_refused, rows_case, without_prices};
-ghost use Rattle.escrow_top.specs.Reading.{AreWithin, CaseAnswers, case_view, input_texts};
+ghost use Rattle.case_file.specs.Case.{Answers, IsKept, bears_interest as bears_interest_of_line, book_of, case_view, case_with, cash_line, given_yield as given_yield_of, or_refused, rows_case, without_prices};
 
 use crate::fault::{CaseFault, NoCase};
-use crate::files::InputFiles;
 use escrow_desk::{FileKind, NoMemory, Refusal, RefusalKind, read_rows};
 use escrow_units::{Cents, Day, YieldUnits};
 use issue_schedule::{Issue, Restricted, needs, read_issue};
@@ -28,19 +25,24 @@ const MOST_OFFERS: usize = 256;
 // What a portfolio may yield above the restricted yield: one thousandth of a percentage point.
 const MATERIALLY_HIGHER: u64 = 100_000;
 
-/// A case: its book, its limit on the yield, which is the restricted yield plus one thousandth of a percentage point,
-/// and the greatest gap that is allowed.
+/// What the input files say together.
 #[derive(Drop)]
-pub(crate) struct Case {
+pub struct Case {
+    /// The settlement day, the needs and the lines.
     pub book: Book,
+    /// The limit on the yield of an escrow: the restricted yield plus one thousandth of a percentage point
+    /// (26 CFR 1.148-2(d)(2)), in units of 10^-10.
     pub limit: YieldUnits,
+    /// The greatest gap that is allowed, in cents.
     pub allowance: Cents,
+    /// The greatest number of nodes of a search, from 1 to 10,000.
+    pub budget: u32,
 }
 
 // The issue of an issue file's bytes.
 fn issue_of_text(alloc: Global, text: &[u8]) -> Result<Issue, CaseFault>
-    requires { length text.now ≤ file_limit }
-    ensures issue { CaseAnswers (λ issue. issue) result (or_refused (issue_of (rows_of text.now))) }
+    requires { length text.now ≤ 1_048_576 }
+    ensures issue { Answers (λ issue. issue) result (or_refused (issue_of (rows_of text.now))) }
     ensures kept { IfOk result IsIssue }
 {
     let rows = read_rows(alloc, text)?;
@@ -49,8 +51,8 @@ fn issue_of_text(alloc: Global, text: &[u8]) -> Result<Issue, CaseFault>
 
 // The rate file of its bytes.
 fn rates_of_text(alloc: Global, settle: Day, text: &[u8]) -> Result<RateFile, CaseFault>
-    requires { length text.now ≤ file_limit }
-    ensures rates { CaseAnswers (λ rates. rates) result (or_refused (rate_file_of (rows_of text.now))) }
+    requires { length text.now ≤ 1_048_576 }
+    ensures rates { Answers (λ rates. rates) result (or_refused (rate_file_of (rows_of text.now))) }
     ensures kept { IfOk result IsRateFile }
 {
     let rows = read_rows(alloc, text)?;
@@ -59,8 +61,8 @@ fn rates_of_text(alloc: Global, settle: Day, text: &[u8]) -> Result<RateFile, Ca
 
 // That a price file's bytes have no rows.
 fn require_no_prices(alloc: Global, text: &[u8]) -> Result<(), CaseFault>
-    requires { length text.now ≤ file_limit }
-    ensures { CaseAnswers (λ none. none) result (without_prices (rows_of text.now)) }
+    requires { length text.now ≤ 1_048_576 }
+    ensures { Answers (λ none. none) result (without_prices (rows_of text.now)) }
 {
     let rows = read_rows(alloc, text)?;
     if rows.count() > 0 {
@@ -73,7 +75,7 @@ fn require_no_prices(alloc: Global, text: &[u8]) -> Result<(), CaseFault>
 fn offers_of(alloc: Global, settle: Day, rates: &RateFile) -> Result<Vec<Line>, CaseFault>
     requires settlement { IsSettlement settle }
     requires rates { IsRateFile rates.now }
-    ensures lines { CaseAnswers (λ lines. lines.items) result (or_refused (slgs_lines_of settle rates.now)) }
+    ensures lines { Answers (λ lines. lines.items) result (or_refused (slgs_lines_of settle rates.now)) }
     ensures rules { IfOk result (λ lines. AreLinesOf settle rates.now lines.items) }
     ensures securities { IfOk result (λ lines. All (IsSecurityLine settle) lines.items) }
 {
@@ -139,7 +141,7 @@ fn book_of_issue(alloc: Global, issue: &Issue, offers: &[Line]) -> Result<Book, 
 fn case_of_issue(alloc: Global, issue: &Issue, offers: &[Line]) -> Result<Case, CaseFault>
     requires issue { IsIssue issue.now }
     requires offers { All (IsSecurityLine issue.now.settle) offers.now }
-    ensures case { CaseAnswers case_view result (case_with issue.now offers.now) }
+    ensures case { Answers case_view result (case_with issue.now offers.now) }
     ensures limits { IfOk result (λ case. IsBook case.book) }
     ensures interest { IfOk result (λ case. AreWithoutInterest case.book.lines) }
 {
@@ -159,20 +161,34 @@ fn case_of_issue(alloc: Global, issue: &Issue, offers: &[Line]) -> Result<Case, 
         book,
         limit: YieldUnits(restricted.0 + MATERIALLY_HIGHER),
         allowance: issue.allowance,
+        budget: issue.budget,
     })
 }
 
-/// The case that the three input files give, or why they give none.
+/// The case that the bytes of an issue file, a rate file and a price file give. Each has at most 1,048,576 bytes.
+///
+/// # Errors
+///
+/// `NoCase` with the first that stands, in this order: a refusal of the issue file; of the rate file; a price file with
+/// rows, which isn't built yet; an offer that breaks a rule of SLGS securities, refused at its row; more than 256 offers,
+/// refused as `TooManyLines` of the price file at row 0; a restricted yield that is to be computed, and an offer that bears
+/// interest, which aren't built yet. `NoMemory` where memory ran out.
 #[tactic(auto, unfolding(crate::specs::Case::rows_case))]
-pub(crate) fn read_case(alloc: Global, files: &InputFiles) -> Result<Case, CaseFault>
-    requires { AreWithin (input_texts files.now) }
-    ensures case { CaseAnswers case_view result
-        (rows_case (rows_of files.now.issue.items) (rows_of files.now.rates.items) (rows_of files.now.prices.items)) }
-    ensures kept { IfOk result (λ case. IsKept (input_texts files.now) (case_view case)) }
+pub fn read_case(
+    alloc: Global,
+    issue: &[u8],
+    rates: &[u8],
+    prices: &[u8],
+) -> Result<Case, CaseFault>
+    requires issue { length issue.now ≤ 1_048_576 }
+    requires rates { length rates.now ≤ 1_048_576 }
+    requires prices { length prices.now ≤ 1_048_576 }
+    ensures case { Answers case_view result (rows_case (rows_of issue.now) (rows_of rates.now) (rows_of prices.now)) }
+    ensures kept { IfOk result (λ case. IsKept (rows_of rates.now) (case_view case)) }
 {
-    let issue = issue_of_text(alloc, files.issue.as_slice())?;
-    let rates = rates_of_text(alloc, issue.settle, files.rates.as_slice())?;
-    require_no_prices(alloc, files.prices.as_slice())?;
+    let issue = issue_of_text(alloc, issue)?;
+    let rates = rates_of_text(alloc, issue.settle, rates)?;
+    require_no_prices(alloc, prices)?;
     let offers = offers_of(alloc, issue.settle, &rates)?;
     case_of_issue(alloc, &issue, offers.as_slice())
 }

@@ -1,9 +1,9 @@
 -- Faults of reading a case.
 use Rattle.escrow_desk.specs.declared.refusal.CaseError.{CaseError}
 use Rattle.escrow_desk.specs.declared.refusal.CaseError.TheVariants as error
-use Rattle.escrow_top.specs.declared.fault.CaseFault.{CaseFault}
-use Rattle.escrow_top.specs.declared.fault.CaseFault.TheVariants as fault
-use Rattle.escrow_top.specs.declared.fault.NoCase.TheVariants.{Refused}
+use Rattle.case_file.specs.declared.fault.CaseFault.{CaseFault}
+use Rattle.case_file.specs.declared.fault.CaseFault.TheVariants as fault
+use Rattle.case_file.specs.declared.fault.NoCase.TheVariants.{Refused}
 
 -- a file that is refused, or want of memory
 abbrev pub fault_of : CaseError → CaseFault
