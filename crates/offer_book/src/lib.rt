@@ -3,6 +3,8 @@
 
 mod book;
 mod line;
+mod offers;
 
 pub use book::Book;
 pub use line::{Line, LineKind};
+pub use offers::{offer_laws, slgs_lines};
