@@ -6,3 +6,6 @@ mod line;
 
 pub use book::Book;
 pub use line::{Line, LineKind};
+
+#[cfg(test)]
+mod book_tests;
