@@ -1,0 +1,3 @@
+pub mod SumFacts
+pub mod Uniqueness
+pub mod ByDayFacts

@@ -1,0 +1,3 @@
+pub mod ByDay
+pub mod Summed
+pub mod SummedLaws
