@@ -1,6 +1,7 @@
 -- Needs, the lines of an escrow, and what a book holds.
-use Rattle.std.specs.Prelude.{◌≡◌, ℕ, ◌*◌, ◌%◌, ◌^◌, ◌≤◌, ◌⊎◌, List, [], ◌∷◌, length, ℤ, ◌≤ℤ◌}
+use Rattle.std.specs.Prelude.{◌≡◌, ◌*◌, ◌%◌, ◌^◌, ◌≤◌, ◌⊎◌, List, [], ◌∷◌, length, ℤ}
 use Rattle.std.specs.List.{All}
+use Rattle.day_sums.specs.SummedLaws.{AreAboveZero, FallWithin}
 use Rattle.escrow_units.specs.Calendar.{years_after_of}
 use Rattle.escrow_units.specs.Flows.{Rise, total}
 use Rattle.escrow_units.specs.SlgsTerms.{IsSettlement, IsSlgs}
@@ -17,7 +18,7 @@ pub record BookContents : Type 0 where
 
 -- no amount falls before settlement, and none after the 40 years from it that a security may run
 abbrev pub AreWithinFortyYears : ℤ → List Flow → Type 0
-AreWithinFortyYears settle flows = All (λ flow. (settle ≤ℤ flow.day) × (flow.day ≤ℤ years_after_of settle 40)) flows
+AreWithinFortyYears settle flows = FallWithin settle (years_after_of settle 40) flows
 
 -- needs as this project bounds them: at most 480 days that strictly rise, from settlement to 40 years later,
 -- each of at least one cent, and at most 10^13 cents together
@@ -25,7 +26,7 @@ pub record IsNeeds (settle : ℤ) (needs : List Flow) : Type 0 where
   pub few : length needs ≤ 480
   pub rising : Rise needs
   pub within : AreWithinFortyYears settle needs
-  pub positive : All (λ need. 1 ≤ need.cents.0) needs
+  pub positive : AreAboveZero needs
   pub small : total needs ≤ 10 ^ 13
 
 -- opening cash: one unit is one cent, and at most 10^13 cents

@@ -1,9 +1,10 @@
 -- Portfolios of a book: which are permitted, what they pay and cost, and whether they meet the needs.
 -- A portfolio is a list with one number of units for each line.
-use Rattle.std.specs.Prelude.{◌≡◌, ℕ, ◌*◌, ◌<◌, ◌≤◌, ◌⊎◌, Bool, ◌&&◌, ◌||◌, nat_le, nat_lt, ◌==◌, if◌then◌else◌, List, [], ◌∷◌, length, drop, ℤ, ◌<ℤ◌, int_le}
-use Rattle.std.specs.List.{All, sum_by, flat_map, filter, zip}
+use Rattle.std.specs.Prelude.{◌≡◌, ℕ, ◌*◌, ◌<◌, ◌≤◌, ◌⊎◌, Bool, ◌&&◌, ◌||◌, nat_le, ◌==◌, List, [], ◌∷◌, length, drop, ℤ, ◌<ℤ◌}
+use Rattle.std.specs.List.{All, sum_by, flat_map, zip}
 use Rattle.escrow_units.specs.Flows.{total}
 use Rattle.escrow_units.specs.declared.security.Flow.{Flow}
+use Rattle.day_sums.specs.Summed.{summed, total_by}
 use Rattle.slgs_interest.specs.Payments.{payments_of}
 use Rattle.offer_book.specs.declared.line.LineKind.{LineKind}
 use Rattle.offer_book.specs.declared.line.LineKind.TheVariants.{Cash, Security}
@@ -41,14 +42,6 @@ line_payments settle line units = kind_payments settle line.kind (line_cost line
 abbrev pub payments : BookContents → List ℕ → List Flow
 payments book plan = flat_map (λ p. line_payments book.settle p.0 p.1) (zip book.lines plan)
 
--- the cents of a flow, if its day has come by the day t
-abbrev pub cents_by : ℤ → Flow → ℕ
-cents_by t flow = if int_le flow.day t then flow.cents.0 else 0
-
--- the sum of the cents of the flows on days up to and on t
-abbrev pub total_by : ℤ → List Flow → ℕ
-total_by t flows = sum_by (cents_by t) flows
-
 -- on every day the payments up to and on that day are at least the needs up to and on it. So a receipt serves a need
 -- of its day, and carried cash earns nothing (this project's own)
 abbrev pub Meets : BookContents → List ℕ → Type 0
@@ -71,8 +64,6 @@ cost book plan = sum_by (λ p. line_cost p.0 p.1) (zip book.lines plan)
 abbrev pub security_cost : BookContents → List ℕ → ℕ
 security_cost book plan = sum_by (λ p. line_cost p.0 p.1) (drop 1 (zip book.lines plan))
 
--- the payments of the securities that aren't 0. Those of one day stand one after another: to sum them changes no
--- present value
+-- what the securities pay, summed by day: in order of day, each day once, none of 0 cents
 abbrev pub security_flows : BookContents → List ℕ → List Flow
-security_flows book plan =
-    filter (λ flow. nat_lt 0 flow.cents.0) (flat_map (λ p. line_payments book.settle p.0 p.1) (drop 1 (zip book.lines plan)))
+security_flows book plan = summed (flat_map (λ p. line_payments book.settle p.0 p.1) (drop 1 (zip book.lines plan)))
