@@ -4,7 +4,7 @@ ghost use Rattle.std.specs.Result.{result_map_both};
 ghost use Rattle.escrow_desk.specs.Rows.{rows_of};
 ghost use Rattle.escrow_units.specs.SlgsTerms.{IsSettlement};
 ghost use Rattle.issue_schedule.specs.IssueForm.{issue_of};
-ghost use Rattle.issue_schedule.specs.IssueTerms.{IsIssue};
+ghost use Rattle.issue_schedule.specs.IssueTerms.{IsIssue, IsRestricted};
 ghost use Rattle.rate_table.specs.RateForm.{rate_file_of};
 ghost use Rattle.rate_table.specs.Table.{IsRateFile};
 ghost use Rattle.offer_book.specs.Book.{IsBook, IsSecurityLine, AreWithoutInterest};
@@ -101,7 +101,9 @@ fn any_bears_interest(lines: &[Line]) -> bool
 
 // The restricted yield that an issue gives.
 fn given_yield(restricted: Restricted) -> Result<YieldUnits, NoCase>
-    ensures { result_map_both (λ units. units.0) (λ why. why) result ≡ given_yield_of restricted }
+    requires { IsRestricted restricted }
+    ensures value { result_map_both (λ units. units.0) (λ why. why) result ≡ given_yield_of restricted }
+    ensures bound { IfOk result (λ units. units.0 ≤ 2_999_000_000) }
 {
     match restricted {
         Restricted::Given(units) => Ok(units),
@@ -142,7 +144,9 @@ fn case_of_issue(alloc: Global, issue: &Issue, offers: &[Line]) -> Result<Case, 
     requires issue { IsIssue issue.now }
     requires offers { All (IsSecurityLine issue.now.settle) offers.now }
     ensures case { Answers case_view result (case_with issue.now offers.now) }
+    ensures book { IfOk result (λ case. case.book ≡ book_of issue.now offers.now) }
     ensures limits { IfOk result (λ case. IsBook case.book) }
+    ensures limit { IfOk result (λ case. (100_000 ≤ case.limit.0) × (case.limit.0 ≤ 3_000_000_000)) }
     ensures interest { IfOk result (λ case. AreWithoutInterest case.book.lines) }
 {
     if offers.len() > MOST_OFFERS {

@@ -1,5 +1,5 @@
 ghost use Rattle.std.specs.Prelude.{◌≡◌};
-ghost use Rattle.case_file.specs.declared.fault.CaseFault.TheVariants.{NoMemory as OutOfMemory};
+ghost use Rattle.case_file.specs.declared.fault.CaseFault.TheVariants.{NoCase as Without, NoMemory as OutOfMemory};
 ghost use Rattle.case_file.specs.Fault.{fault_of};
 
 use escrow_desk::{CaseError, FileKind, NoMemory, Refusal};
@@ -31,7 +31,7 @@ impl From<NoMemory> for CaseFault {
 }
 
 impl From<NoCase> for CaseFault {
-    ghost from_gives = { λ why fault. fault ≡ NoCase why };
+    ghost from_gives = { λ why fault. fault ≡ Without why };
 
     fn from(why: NoCase) -> CaseFault {
         CaseFault::NoCase(why)
