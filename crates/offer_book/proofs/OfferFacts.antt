@@ -179,7 +179,7 @@ lines-sound settle file terms (offer ∷ offers) lines h stated good ranges are 
     let one = bound-ok (offered_line settle file.ranges terms offer) (λ line. offered_lines settle file.ranges terms offers >>= (λ lines. Ok (line ∷ lines))) lines e in
     let more = bound-ok (offered_lines settle file.ranges terms offers) (λ lines. Ok (one.first ∷ lines)) lines one.rest in
     let sound = sold-sound settle file terms offer one.first h stated good ranges (All-head (IsOffer terms) offer offers are)
-        (offered-ok settle file.ranges terms offer one.first h one.is) in
+    (offered-ok settle file.ranges terms offer one.first h one.is) in
     let rest = lines-sound settle file terms offers more.first h stated good ranges (All-tail (IsOffer terms) offer offers are) more.is in
     let all : lines ≡ one.first ∷ more.first = cc (more.rest) in
     rw all (record {
@@ -202,13 +202,13 @@ lines-refused settle ranges terms [] refusal h e = absurd (cc)
 lines-refused settle ranges terms (offer ∷ offers) refusal h e =
     elim (bound-err (offered_line settle ranges terms offer) (λ line. offered_lines settle ranges terms offers >>= (λ lines. Ok (line ∷ lines))) refusal e) [
       | inl here ↦ record {
-          before = [];
-          offer = offer;
-          after = offers;
-          place = refl;
-          sold = All-nil (λ earlier. (slgs : Slgs) × IsSubscription (request_of settle ranges earlier) slgs);
-          is = offered-err settle ranges terms offer refusal h here;
-        }
+        before = [];
+        offer = offer;
+        after = offers;
+        place = refl;
+        sold = All-nil (λ earlier. (slgs : Slgs) × IsSubscription (request_of settle ranges earlier) slgs);
+        is = offered-err settle ranges terms offer refusal h here;
+      }
       | inr next ↦ elim (bound-err (offered_lines settle ranges terms offers) (λ lines. Ok (next.first ∷ lines)) refusal next.rest) [
         | inl later ↦
             let at = lines-refused settle ranges terms offers refusal h later in
@@ -312,3 +312,13 @@ pub refused-answers : (settle : ℤ) (file : RateFile) (terms : Terms) (at : ℕ
 refused-answers settle file terms at lines offer (Refused refusal) stated short is sold e =
     file-lines settle file terms (Err refusal) stated (refused-at settle file.ranges terms file.offers at lines offer refusal short is sold e)
 refused-answers settle file terms at lines offer NoMemory stated short is sold e = tt
+
+zipped-length : {A B : Type 0} (R : A → B → Type 0) (xs : List A) (ys : List B) → AllZip R xs ys → length ys ≡ length xs
+zipped-length R [] [] h = refl
+zipped-length R [] (y ∷ ys) h = absurd h
+zipped-length R (x ∷ xs) [] h = absurd h
+zipped-length R (x ∷ xs) (y ∷ ys) h = ap suc (zipped-length R xs ys h.1)
+
+-- each offer has one line
+pub lines-count : (settle : ℤ) (file : RateFile) (lines : List Line) → AreLinesOf settle file lines → length lines ≡ length file.offers
+lines-count settle file lines h = zipped-length (IsLineOf settle file) file.offers lines h

@@ -8,3 +8,6 @@ mod offers;
 pub use book::Book;
 pub use line::{Line, LineKind};
 pub use offers::{offer_laws, slgs_lines};
+
+#[cfg(test)]
+mod offer_tests;

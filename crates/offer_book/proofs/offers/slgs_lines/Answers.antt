@@ -1,6 +1,6 @@
 use Rattle.std.proofs.Common.{arith, ap, get_or, ◌≡◌, ◌<◌, ◌≤◌, length, Ok}
 use Rattle.std.proofs.lemmas.Result.{err_from_is_err_and}
-use Rattle.offer_book.proofs.OfferFacts.{all-sold, file-lines, lines-keep_rules, no-lines, refused-answers}
+use Rattle.offer_book.proofs.OfferFacts.{all-sold, file-lines, lines-count, lines-keep_rules, no-lines, refused-answers}
 use Rattle.offer_book.proofs.offers.slgs_lines.Goals as goal
 
 pub returns-in_default-clause-lines : goal.returns-in_default-clause-lines
@@ -9,6 +9,9 @@ returns-in_default-clause-lines c = rw c.new-lines.ensures.items (no-lines c.arg
 pub returns-in_default-clause-rules : goal.returns-in_default-clause-rules
 returns-in_default-clause-rules c =
     (lines-keep_rules c.args.settle c.args.rates.now c.new-lines.result.items c.requires.settlement c.requires.file (returns-in_default-clause-lines c)).0
+
+pub returns-in_default-clause-count : goal.returns-in_default-clause-count
+returns-in_default-clause-count c = lines-count c.args.settle c.args.rates.now c.new-lines.result.items (returns-in_default-clause-rules c)
 
 pub returns-in_err-line-clause-lines : goal.returns-in_err-line-clause-lines
 returns-in_err-line-clause-lines c =
@@ -32,3 +35,6 @@ returns-clause-rules c =
 pub returns-clause-securities : goal.returns-clause-securities
 returns-clause-securities c =
     (lines-keep_rules c.args.settle c.args.rates.now c.loop-offer.lines.items c.requires.settlement c.requires.file (returns-clause-lines c)).1
+
+pub returns-clause-count : goal.returns-clause-count
+returns-clause-count c = lines-count c.args.settle c.args.rates.now c.loop-offer.lines.items (returns-clause-rules c)
