@@ -1,11 +1,13 @@
 -- What the lines of a rate file's offers are, and what a refusal of them says.
-use Rattle.std.proofs.Common.{◌≡◌, ◌∙◌, ℕ, zero, suc, ◌+◌, ◌-◌, ◌*◌, ◌/◌, ◌%◌, ◌<◌, ◌≤◌, refl, sym, ap, arith, length, drop, List, [], ◌∷◌, ◌++◌, append_assoc, append-nil, drop-cons, get_or, ℤ, inl, inr, ◌⊎◌, Option, None, Some, Result, Ok, Err}
+use Rattle.std.proofs.Common.{◌≡◌, ◌∙◌, ℕ, zero, suc, ◌+◌, ◌-◌, ◌*◌, ◌/◌, ◌%◌, ◌<◌, ◌≤◌, refl, sym, ap, arith, length, drop, List, [], ◌∷◌, ◌++◌, append-nil, drop-cons, get_or, ℤ, inl, inr, ◌⊎◌, Option, None, Some, Result, Ok, Err}
 use Rattle.std.specs.Prelude.{All, IsSomeAnd}
 use Rattle.std.specs.List.{AllZip}
 use Rattle.std.proofs.Math.ListN.{drop_of_length-le}
 use Rattle.std.proofs.Math.Nat.{mul-le-mul_right}
 use Rattle.std.proofs.lemmas.Bool.{cases_lt}
 use Rattle.std.proofs.lemmas.List.Elements.{All-nil, All-cons, All-head, All-tail, All-contains, All-weaker}
+use Rattle.escrow_desk.specs.declared.refusal.CaseError.{CaseError}
+use Rattle.escrow_desk.specs.declared.refusal.CaseError.TheVariants.{Refused, NoMemory}
 use Rattle.escrow_desk.specs.declared.refusal.FileKind.TheVariants.{Rates}
 use Rattle.escrow_desk.specs.declared.refusal.Refusal.{Refusal}
 use Rattle.escrow_units.specs.Denomination.{AreTerms}
@@ -15,7 +17,7 @@ use Rattle.escrow_units.specs.declared.security.AskedRate.{AskedRate}
 use Rattle.escrow_units.specs.declared.security.AskedRate.TheVariants as asked
 use Rattle.escrow_units.specs.declared.security.Slgs.{Slgs}
 use Rattle.escrow_units.specs.declared.security.Terms.{Terms}
-use Rattle.row_fields.specs.RowForm.{◌>>=◌, answer_of_row, refusal_of}
+use Rattle.row_fields.specs.RowForm.{◌>>=◌, Answers, answer_of_row, refusal_of}
 use Rattle.slgs_rules.specs.Classification.{classified}
 use Rattle.slgs_rules.specs.TermRules.{HasRate, IsAnswer, IsFirstFault, IsSubscription, rate_of}
 use Rattle.slgs_rules.specs.declared.fault.RuleFault.{RuleFault}
@@ -177,7 +179,7 @@ lines-sound settle file terms (offer ∷ offers) lines h stated good ranges are 
     let one = bound-ok (offered_line settle file.ranges terms offer) (λ line. offered_lines settle file.ranges terms offers >>= (λ lines. Ok (line ∷ lines))) lines e in
     let more = bound-ok (offered_lines settle file.ranges terms offers) (λ lines. Ok (one.first ∷ lines)) lines one.rest in
     let sound = sold-sound settle file terms offer one.first h stated good ranges (All-head (IsOffer terms) offer offers are)
-        (offered-ok settle file.ranges terms offer one.first h one.is) in
+    (offered-ok settle file.ranges terms offer one.first h one.is) in
     let rest = lines-sound settle file terms offers more.first h stated good ranges (All-tail (IsOffer terms) offer offers are) more.is in
     let all : lines ≡ one.first ∷ more.first = cc (more.rest) in
     rw all (record {
@@ -200,13 +202,13 @@ lines-refused settle ranges terms [] refusal h e = absurd (cc)
 lines-refused settle ranges terms (offer ∷ offers) refusal h e =
     elim (bound-err (offered_line settle ranges terms offer) (λ line. offered_lines settle ranges terms offers >>= (λ lines. Ok (line ∷ lines))) refusal e) [
       | inl here ↦ record {
-          before = [];
-          offer = offer;
-          after = offers;
-          place = refl;
-          sold = All-nil (λ earlier. (slgs : Slgs) × IsSubscription (request_of settle ranges earlier) slgs);
-          is = offered-err settle ranges terms offer refusal h here;
-        }
+        before = [];
+        offer = offer;
+        after = offers;
+        place = refl;
+        sold = All-nil (λ earlier. (slgs : Slgs) × IsSubscription (request_of settle ranges earlier) slgs);
+        is = offered-err settle ranges terms offer refusal h here;
+      }
       | inr next ↦ elim (bound-err (offered_lines settle ranges terms offers) (λ lines. Ok (next.first ∷ lines)) refusal next.rest) [
         | inl later ↦
             let at = lines-refused settle ranges terms offers refusal h later in
@@ -281,26 +283,7 @@ rest-at settle ranges terms offers at offer short is =
     let next : suc at ≡ at + 1 = omega arith in
     rw (e, next, ← is) refl
 
-moved : (lines more : List Line) (line : Line) → lines ++ line ∷ more ≡ (lines ++ line ∷ []) ++ more
-moved lines more line = sym (append_assoc lines (line ∷ []) more)
-
--- what more lines make of the lines that follow
-abbrev with_lines : (List Line → List Line) → Result (List Line) Refusal → Result (List Line) Refusal
-with_lines make answer = answer >>= (λ more. Ok (make more))
-
-bind-more : (answer : Result (List Line) Refusal) (lines : List Line) (line : Line)
-    → with_lines (λ more. lines ++ more) (with_lines (λ more. line ∷ more) answer) ≡ with_lines (λ more. (lines ++ line ∷ []) ++ more) answer
-bind-more (Ok more) lines line = ap (λ x. Ok x) (moved lines more line)
-bind-more (Err refusal) lines line = refl
-
-pub one-more : (settle : ℤ) (ranges : List RateRange) (terms : Terms) (offers : List Offer) (at : ℕ) (lines : List Line) (offer : Offer) (line : Line)
-    → at < length offers → offer ≡ get_or offers at offer → IsSoldUpTo settle ranges terms offers at lines → offered_line settle ranges terms offer ≡ Ok line
-    → IsSoldUpTo settle ranges terms offers (at + 1) (lines ++ line ∷ [])
-one-more settle ranges terms offers at lines offer line short is sold e =
-    let rest = rw (rest-at settle ranges terms offers at offer short is, e) at sold in
-    rest ∙ bind-more (offered_lines settle ranges terms (drop (at + 1) offers)) lines line
-
-pub refused-at : (settle : ℤ) (ranges : List RateRange) (terms : Terms) (offers : List Offer) (at : ℕ) (lines : List Line) (offer : Offer) (refusal : Refusal)
+refused-at : (settle : ℤ) (ranges : List RateRange) (terms : Terms) (offers : List Offer) (at : ℕ) (lines : List Line) (offer : Offer) (refusal : Refusal)
     → at < length offers → offer ≡ get_or offers at offer → IsSoldUpTo settle ranges terms offers at lines → offered_line settle ranges terms offer ≡ Err refusal
     → offered_lines settle ranges terms offers ≡ Err refusal
 refused-at settle ranges terms offers at lines offer refusal short is sold e =
@@ -310,3 +293,32 @@ pub all-sold : (settle : ℤ) (ranges : List RateRange) (terms : Terms) (offers 
     → IsSoldUpTo settle ranges terms offers at lines → offered_lines settle ranges terms offers ≡ Ok lines
 all-sold settle ranges terms offers at lines long sold =
     rw (drop_of_length-le offers long, append-nil lines) at sold
+
+-- the lines of a file with terms are those of its offers
+pub file-lines : (settle : ℤ) (file : RateFile) (terms : Terms) (answer : Result (List Line) Refusal) → file.terms ≡ Some terms
+    → offered_lines settle file.ranges terms file.offers ≡ answer → slgs_lines_of settle file ≡ answer
+unfolding slgs_lines_of
+file-lines settle file terms answer stated e = rw stated e
+
+-- and a file without terms has none
+pub no-lines : (settle : ℤ) (file : RateFile) → file.terms ≡ None → slgs_lines_of settle file ≡ Ok []
+unfolding slgs_lines_of
+no-lines settle file stated = rw stated refl
+
+-- where an offer is refused, or memory ran out at it, so it is for the file
+pub refused-answers : (settle : ℤ) (file : RateFile) (terms : Terms) (at : ℕ) (lines : List Line) (offer : Offer) (error : CaseError) → file.terms ≡ Some terms
+    → at < length file.offers → offer ≡ get_or file.offers at offer → IsSoldUpTo settle file.ranges terms file.offers at lines
+    → Answers {T = Line} (Err error) (offered_line settle file.ranges terms offer) → Answers {T = List Line} (Err error) (slgs_lines_of settle file)
+refused-answers settle file terms at lines offer (Refused refusal) stated short is sold e =
+    file-lines settle file terms (Err refusal) stated (refused-at settle file.ranges terms file.offers at lines offer refusal short is sold e)
+refused-answers settle file terms at lines offer NoMemory stated short is sold e = tt
+
+zipped-length : {A B : Type 0} (R : A → B → Type 0) (xs : List A) (ys : List B) → AllZip R xs ys → length ys ≡ length xs
+zipped-length R [] [] h = refl
+zipped-length R [] (y ∷ ys) h = absurd h
+zipped-length R (x ∷ xs) [] h = absurd h
+zipped-length R (x ∷ xs) (y ∷ ys) h = ap suc (zipped-length R xs ys h.1)
+
+-- each offer has one line
+pub lines-count : (settle : ℤ) (file : RateFile) (lines : List Line) → AreLinesOf settle file lines → length lines ≡ length file.offers
+lines-count settle file lines h = zipped-length (IsLineOf settle file) file.offers lines h

@@ -1,5 +1,5 @@
 -- The lines of the offers of a rate file, or the refusal of its first faulty offer.
-use Rattle.std.specs.Prelude.{◌≡◌, ℕ, ◌+◌, ◌*◌, ◌/◌, ◌<◌, ◌≤◌, List, [], ◌∷◌, ◌++◌, All, Option, Some, None, Result, Ok, Err, ℤ}
+use Rattle.std.specs.Prelude.{◌≡◌, ℕ, ◌+◌, ◌*◌, ◌/◌, ◌<◌, ◌≤◌, List, [], ◌∷◌, ◌++◌, length, All, Option, Some, None, Result, Ok, Err, ℤ}
 use Rattle.std.specs.List.{AllZip}
 use Rattle.escrow_desk.specs.declared.refusal.FileKind.TheVariants.{Rates}
 use Rattle.escrow_desk.specs.declared.refusal.Refusal.{Refusal}
@@ -113,6 +113,9 @@ abbrev pub LinesKeepRules : Type 0
 LinesKeepRules =
     (settle : ℤ) (file : RateFile) (lines : List Line) → IsSettlement settle → IsRateFile file
     → slgs_lines_of settle file ≡ Ok lines → AreLinesOf settle file lines × All (IsSecurityLine settle) lines
+
+abbrev pub EachOfferHasOneLine : Type 0
+EachOfferHasOneLine = (settle : ℤ) (file : RateFile) (lines : List Line) → AreLinesOf settle file lines → length lines ≡ length file.offers
 
 -- a file is refused for its first faulty offer
 abbrev pub RefusalsNameFirstFault : Type 0

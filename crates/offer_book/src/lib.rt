@@ -11,3 +11,5 @@ pub use offers::{offer_laws, slgs_lines};
 
 #[cfg(test)]
 mod book_tests;
+#[cfg(test)]
+mod tests;

@@ -1,6 +1,5 @@
-ghost use Rattle.std.specs.Prelude.{◌≡◌, ◌++◌, [], ◌∷◌, ◌≤◌, All, List, IfErr, IfOk, OnOk, vec_items};
+ghost use Rattle.std.specs.Prelude.{◌≡◌, All, List, IfOk, length, vec_items};
 ghost use Rattle.std.specs.Result.{result_map_both};
-ghost use Rattle.escrow_desk.specs.declared.refusal.CaseError.TheVariants.{NoMemory};
 ghost use Rattle.escrow_units.specs.Denomination.{AreTerms};
 ghost use Rattle.escrow_units.specs.SlgsTerms.{IsSettlement};
 ghost use Rattle.row_fields.specs.RowForm.{Answers};
@@ -8,7 +7,7 @@ ghost use Rattle.rate_table.specs.RangeIndex.{IsRateIndex};
 ghost use Rattle.rate_table.specs.Table.{IsRateFile};
 ghost use Rattle.rate_table.specs.declared.table.RateRange.{RateRange};
 ghost use Rattle.offer_book.specs.Book.{IsSecurityLine};
-ghost use Rattle.offer_book.specs.Offers.{AreLinesOf, LinesKeepRules, RefusalsNameFirstFault, line_of as line_of_terms, offered_line as line_of_offer, rule_kind as kind_of_rule, slgs_lines_of};
+ghost use Rattle.offer_book.specs.Offers.{AreLinesOf, EachOfferHasOneLine, LinesKeepRules, RefusalsNameFirstFault, line_of as line_of_terms, offered_line as line_of_offer, rule_kind as kind_of_rule, slgs_lines_of};
 
 use crate::line::{Line, LineKind};
 use escrow_desk::{CaseError, FileKind, RefusalKind};
@@ -61,17 +60,6 @@ fn offered_line(
     Ok(line_of(terms, slgs, offer.cap))
 }
 
-// One more line. Its fields are copied one by one, since the proof of the push reads their types.
-fn push_line(lines: &mut Vec<Line>, line: &Line) -> Result<(), CaseError>
-    ensures memory { IfErr result (λ error. error ≡ NoMemory) }
-    ensures lines { OnOk result (lines.new.items ≡ lines.old.items ++ line.now ∷ []) }
-{
-    if lines.push(Line { ..*line }).is_err() {
-        return Err(CaseError::NoMemory);
-    }
-    Ok(())
-}
-
 /// The lines of the SLGS securities that a rate file offers, in the order of their rows.
 ///
 /// Settlement is from 2000-01-01 to 2150-01-01, and the file is one that was read. A line's step is the file's, in cents;
@@ -88,6 +76,7 @@ pub fn slgs_lines(alloc: Global, settle: Day, rates: &RateFile) -> Result<Vec<Li
     requires file { IsRateFile rates.now }
     ensures lines { Answers (result_map_both vec_items (λ error. error) result) (slgs_lines_of settle rates.now) }
     ensures rules { IfOk result (λ lines. AreLinesOf settle rates.now lines.items) }
+    ensures count { IfOk result (λ lines. length lines.items ≡ length rates.now.offers) }
     ensures securities { IfOk result (λ lines. All (IsSecurityLine settle) lines.items) }
 {
     let mut lines = Vec::new(alloc);
@@ -99,14 +88,18 @@ pub fn slgs_lines(alloc: Global, settle: Day, rates: &RateFile) -> Result<Vec<Li
     };
     for offer in rates.offers.as_slice() {
         let line = offered_line(settle, &index, terms, offer)?;
-        push_line(&mut lines, &Line { ..line })?;
+        // Its fields are copied one by one, since the proof of the push reads their types.
+        if lines.push(Line { ..line }).is_err() {
+            return Err(CaseError::NoMemory);
+        }
     }
     Ok(lines)
 }
 
 /// What the lines of a file's offers are: each obeys every rule of term and rate of the file and keeps the limits of a
-/// book's lines, and where there are none the first faulty offer is named.
+/// book's lines, and each offer has one; and that a refusal names the first offer that breaks a rule.
 pub fn offer_laws()
     ensures lines { LinesKeepRules }
+    ensures count { EachOfferHasOneLine }
     ensures refusals { RefusalsNameFirstFault }
 {}
