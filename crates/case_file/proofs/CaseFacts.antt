@@ -1,16 +1,18 @@
 -- What a case that was read keeps.
-use Rattle.std.proofs.Common.{◌≡◌, ℕ, ◌≤◌, List, [], ◌∷◌, drop, refl}
+use Rattle.std.proofs.Common.{◌≡◌, ℕ, ◌≤◌, List, [], ◌∷◌, drop, length, refl}
 use Rattle.std.specs.Prelude.{All, Result, Ok, Err, IfOk, Bool, true, false}
 use Rattle.std.specs.List.{list_any}
+use Rattle.escrow_units.specs.declared.security.Flow.{Flow}
 use Rattle.row_fields.specs.RowForm.{Row}
 use Rattle.issue_schedule.specs.declared.issue.Issue.{Issue}
 use Rattle.rate_table.specs.RateForm.{rate_file_of}
 use Rattle.rate_table.specs.declared.table.RateFile.{RateFile}
-use Rattle.offer_book.specs.Book.{IsBook, AreWithoutInterest}
+use Rattle.issue_schedule.specs.IssueTerms.{IsIssue}
+use Rattle.offer_book.specs.Book.{IsBook, IsNeeds, IsSecurityLine, AreWithoutInterest}
 use Rattle.offer_book.specs.Offers.{AreLinesOf}
 use Rattle.offer_book.specs.declared.line.Line.{Line}
 use Rattle.escrow_desk.specs.declared.refusal.Refusal.{Refusal}
-use Rattle.case_file.specs.Case.{IsKept, book_of, case_view, or_refused}
+use Rattle.case_file.specs.Case.{IsKept, book_of, case_view, cash_line, or_refused}
 use Rattle.case_file.specs.declared.case.Case.{Case}
 use Rattle.case_file.specs.declared.fault.CaseFault.{CaseFault}
 
@@ -34,4 +36,12 @@ kept rows issue rates offers (Ok case) is_rates rules book limits limit interest
   interest = interest;
   least_limit = limit.0;
   most_limit = limit.1;
+}
+
+-- the book of an issue within its limits and of lines on offer is within the limits of books
+pub book_kept : (issue : Issue) (offers lines : List Line) (needs : List Flow) → IsIssue issue → All (IsSecurityLine issue.settle) offers → length offers ≤ 256 → lines ≡ cash_line issue.cash.0 ∷ offers → IsNeeds issue.settle needs → IsBook (record { settle = issue.settle; needs = needs; lines = lines })
+book_kept issue offers lines needs is good few all is_needs = record {
+  settlement = is.needs.settle;
+  needs = is_needs;
+  lines = rw all (record { kind = refl; step = refl; least = refl; most = is.cash }, good, few);
 }

@@ -6,3 +6,6 @@ mod fault;
 
 pub use case::{Case, read_case};
 pub use fault::{CaseFault, NoCase};
+
+#[cfg(test)]
+mod tests;

@@ -12,4 +12,4 @@ pub use offers::{offer_laws, slgs_lines};
 #[cfg(test)]
 mod book_tests;
 #[cfg(test)]
-mod tests;
+mod offer_tests;
