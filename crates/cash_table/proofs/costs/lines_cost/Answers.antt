@@ -1,7 +1,7 @@
 use Rattle.std.proofs.Common.{length, ap, arith}
 use Rattle.std.specs.List.{sum_by, zip}
 use Rattle.std.proofs.lemmas.List.{take_all, length_push}
-use Rattle.cash_table.specs.Portfolio.{line_cost}
+use Rattle.offer_book.specs.Portfolio.{line_cost}
 use Rattle.cash_table.proofs.ZipFacts.{this_pair, all_pairs, sum_by-zip_more, sum_by-zip_room}
 use Rattle.cash_table.proofs.costs.lines_cost.Goals as goal
 
