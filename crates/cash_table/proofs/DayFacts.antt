@@ -21,7 +21,7 @@ sum_by-same f g [] same = refl
 sum_by-same f g (x ∷ xs) same =
     omega (arith, sum_by-cons f x xs, sum_by-cons g x xs, All-head (λ y. f y ≡ g y) x xs same, sum_by-same f g xs (All-tail (λ y. f y ≡ g y) x xs same))
 
-sum_by-zero : {X : Type 0} (f : X → ℕ) (xs : List X) → All (λ x. f x ≡ 0) xs → sum_by f xs ≡ 0
+pub sum_by-zero : {X : Type 0} (f : X → ℕ) (xs : List X) → All (λ x. f x ≡ 0) xs → sum_by f xs ≡ 0
 sum_by-zero f [] none = refl
 sum_by-zero f (x ∷ xs) none =
     omega (arith, sum_by-cons f x xs, All-head (λ y. f y ≡ 0) x xs none, sum_by-zero f xs (All-tail (λ y. f y ≡ 0) x xs none))

@@ -5,3 +5,4 @@ pub mod PaymentFacts
 pub mod ReceiptFacts
 pub mod DayFacts
 pub mod YieldFacts
+pub mod PortfolioLaws

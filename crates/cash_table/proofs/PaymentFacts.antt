@@ -1,5 +1,5 @@
 -- What the lines of a portfolio pay, one line after another.
-use Rattle.std.proofs.Common.{◌≡◌, ℕ, ◌+◌, ◌*◌, ◌^◌, ◌≤◌, List, [], ◌∷◌, ◌++◌, length, take, refl, ap, ◌∙◌, inl, inr, arith, ℤ}
+use Rattle.std.proofs.Common.{◌≡◌, ℕ, ◌+◌, ◌*◌, ◌^◌, ◌≤◌, List, [], ◌∷◌, ◌++◌, length, take, refl, ap, subst, ◌∙◌, inl, inr, arith, ℤ}
 use Rattle.std.specs.List.{All, sum_by, flat_map, zip}
 use Rattle.std.proofs.Math.Nat.{mul-le-mul_right}
 use Rattle.std.proofs.lemmas.List.{append-nil, take_more}
@@ -32,10 +32,7 @@ payments_more settle lines plan i line units at =
     let more = take_more (zip lines plan) i (line, units) (in_zip lines plan i line units at) in
     let joined : take (i + 1) (zip lines plan) ≡ pairs ++ (line, units) ∷ [] = more ∙ ap (λ p. pairs ++ p ∷ []) (pair_at lines plan i line units at) in
     ap (flat_map (pair_payments settle)) joined ∙ flat_map-append (pair_payments settle) pairs ((line, units) ∷ [])
-    ∙ ap (λ fs. flat_map (pair_payments settle) pairs ++ fs) append-nil
-  where
-    append-nil : pair_payments settle (line, units) ++ [] ≡ pair_payments settle (line, units)
-    append-nil = simp append-nil
+    ∙ ap (λ fs. flat_map (pair_payments settle) pairs ++ fs) (append-nil (pair_payments settle (line, units)))
 
 -- the sum of all payments, line by line
 pub total-payments : (settle : ℤ) (pairs : List (Line × ℕ)) → total (flat_map (pair_payments settle) pairs) ≡ sum_by (pair_total settle) pairs
@@ -54,8 +51,8 @@ line_at settle lines plan i line units all at = rw (at.first line) (All-get_or (
 
 pub units_at : (lines : List Line) (plan : List ℕ) (i : ℕ) (line : Line) (units : ℕ) → All PairIsPermitted (zip lines plan) → StandAt lines plan i line units → units ≤ line.most
 units_at lines plan i line units all at =
-    permitted_few line units
-    (rw pair_at lines plan i line units at at (All-get_or PairIsPermitted (zip lines plan) i (line, units) (in_zip lines plan i line units at) all))
+    let here = All-get_or PairIsPermitted (zip lines plan) i (line, units) (in_zip lines plan i line units at) all in
+    permitted_few line units (subst PairIsPermitted (pair_at lines plan i line units at) here)
 
 pub all_lines : (settle : ℤ) (lines : List Line) → AreLines settle lines → All (IsLine settle) lines
 all_lines settle [] lines = absurd lines

@@ -1,15 +1,18 @@
 -- Receipts by need date, one payment after another.
-use Rattle.std.proofs.Common.{◌≡◌, ℕ, zero, suc, ◌+◌, ◌<◌, Bool, true, false, T, cond, List, [], ◌∷◌, ◌++◌, length, get_or, take, set, refl, sym, ap, ◌∙◌, inl, inr, arith, ℤ, ◌<ℤ◌, ◌≤ℤ◌, int_lt, int_le}
-use Rattle.std.specs.List.{AllWithin, sum, sum_by, flat_map, zip}
+use Rattle.std.proofs.Common.{◌≡◌, ℕ, zero, suc, ◌+◌, ◌<◌, ◌≤◌, Bool, true, false, T, cond, List, [], ◌∷◌, ◌++◌, length, get_or, take, set, refl, sym, ap, ◌∙◌, inl, inr, arith, ℤ, ◌<ℤ◌, ◌≤ℤ◌, int_lt, int_le}
+use Rattle.std.specs.List.{All, AllWithin, sum, sum_by, flat_map, zip}
 use Rattle.std.proofs.lemmas.Bool.{cases_lt}
 use Rattle.std.proofs.lemmas.Int.{ints}
 use Rattle.std.proofs.lemmas.List.{get_or_default, take-set-le}
+use Rattle.std.proofs.lemmas.List.Elements.{All-head, All-tail}
 use Rattle.std.proofs.lemmas.List.Sums.{sum_by-cons, sum_by-append}
 use Rattle.std.specs.List.Sorted.{IsPartitionedBy}
 use Rattle.escrow_units.specs.declared.security.Flow.{Flow}
 use Rattle.offer_book.specs.declared.line.Line.{Line}
-use Rattle.escrow_units.specs.Flows.{Rise}
+use Rattle.escrow_units.specs.Flows.{Rise, total}
 use Rattle.day_sums.specs.Summed.{total_by}
+use Rattle.day_sums.proofs.SumFacts.{counted-zero}
+use Rattle.offer_book.proofs.LineFacts.{line_payments-none}
 use Rattle.cash_table.specs.Receipts.{cents_by, AreReceipts}
 use Rattle.cash_table.proofs.PaymentFacts.{pair_payments, payments_more}
 use Rattle.cash_table.proofs.ZipFacts.{StandAt, sum_by-at_more}
@@ -82,6 +85,23 @@ pub receipts_next : (t : ℤ) (flows : List Flow) (i : ℕ) (flow : Flow) (had o
     → old ≡ had + total_by t (take i flows) → new ≡ old + cents_by t flow → new ≡ had + total_by t (take (i + 1) flows)
 receipts_next t flows i flow had old new within at before added =
     omega (arith, sum_by-at_more (cents_by t) flows i flow within (λ d. at ∙ get_or_default flows i flow d within), before, added)
+
+pub total_next : (flows : List Flow) (i : ℕ) (flow : Flow) (had old new : ℕ) → i < length flows → flow ≡ get_or flows i flow
+    → old ≤ had + total (take i flows) → new ≤ old + flow.cents.0 → new ≤ had + total (take (i + 1) flows)
+total_next flows i flow had old new within at before added =
+    omega (arith, sum_by-at_more (λ (f : Flow). f.cents.0) flows i flow within (λ d. at ∙ get_or_default flows i flow d within), before, added)
+
+-- a line without units pays nothing by any day
+cents_by-none : (t : ℤ) (flow : Flow) → flow.cents.0 ≡ 0 → cents_by t flow ≡ 0
+cents_by-none t flow none = counted-zero (int_le flow.day t) flow.cents.0 none
+
+total_by-none : (t : ℤ) (flows : List Flow) → All (λ flow. flow.cents.0 ≡ 0) flows → total_by t flows ≡ 0
+total_by-none t [] none = refl
+total_by-none t (flow ∷ flows) none =
+    omega (arith, sum_by-cons (cents_by t) flow flows, cents_by-none t flow (All-head (λ (f : Flow). f.cents.0 ≡ 0) flow flows none), total_by-none t flows (All-tail (λ (f : Flow). f.cents.0 ≡ 0) flow flows none))
+
+pub nothing_by : (t settle : ℤ) (line : Line) (units : ℕ) → units ≡ 0 → total_by t (pair_payments settle (line, units)) ≡ 0
+nothing_by t settle line units none = total_by-none t (pair_payments settle (line, units)) (line_payments-none settle line units none)
 
 -- the payments of one line more
 pub receipts_more : (needs : List Flow) (settle : ℤ) (lines : List Line) (plan : List ℕ) (i : ℕ) (line : Line) (units : ℕ) (old new : List ℕ) → StandAt lines plan i line units
