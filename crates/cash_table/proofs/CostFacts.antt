@@ -4,10 +4,11 @@ use Rattle.std.specs.List.{All, sum_by, zip}
 use Rattle.std.proofs.lemmas.List.Elements.{All-head, All-tail, All-cons, All-nil}
 use Rattle.std.proofs.lemmas.List.Sums.{sum_by-cons, sum_by-le}
 use Rattle.std.proofs.lemmas.Slice.Zip.{length-zip}
-use Rattle.std.proofs.Math.Nat.{mul-le-mul_left, mul-le-mul_right}
-use Rattle.cash_table.specs.declared.line.Line.{Line}
-use Rattle.cash_table.specs.Book.{BookContents, IsCashLine, IsSecurityLine, AreLines, IsBook}
-use Rattle.cash_table.specs.Portfolio.{IsPermittedUnits, IsPermitted, line_cost, cost, security_cost}
+use Rattle.std.proofs.Math.Nat.{mul-le-mul_right}
+use Rattle.offer_book.specs.declared.line.Line.{Line}
+use Rattle.offer_book.specs.Book.{BookContents, IsSecurityLine, AreLines, IsBook}
+use Rattle.offer_book.specs.Portfolio.{IsPermittedUnits, IsPermitted, line_cost, cost, security_cost}
+use Rattle.offer_book.proofs.LineFacts.{cash-at_most, security-at_most}
 
 -- the cost of one line, as a function of its pair
 abbrev pub pair_cost : Line × ℕ → ℕ
@@ -16,26 +17,16 @@ pair_cost p = line_cost p.0 p.1
 abbrev pub PairIsPermitted : Line × ℕ → Type 0
 PairIsPermitted p = IsPermittedUnits p.0 p.1
 
-cash_at_most : (line : Line) (units : ℕ) → IsCashLine line → IsPermittedUnits line units → line_cost line units ≤ 10 ^ 13
-cash_at_most line units cash permitted =
-    let one : line_cost line units ≡ 1 * units = ap (λ n. n * units) cash.step in
-    let bound = cash.most in
-    elim permitted [ inl none ↦ omega (arith, one, none, bound) | inr some ↦ omega (arith, one, some.1, bound) ]
-
-security_at_most : (settle : ℤ) (line : Line) (units : ℕ) → IsSecurityLine settle line → IsPermittedUnits line units → line_cost line units ≤ 10 ^ 11
-security_at_most settle line units security permitted =
-    let cap = security.cap in
-    elim permitted [
-      | inl none ↦ (let zero : line_cost line units ≡ line.step * 0 = ap (λ n. line.step * n) none in omega (arith, zero))
-      | inr some ↦ (let more = mul-le-mul_left line.step some.1 in omega (arith, more, cap))
-    ]
+-- permitted units are at most the most of the line
+pub permitted_few : (line : Line) (units : ℕ) → IsPermittedUnits line units → units ≤ line.most
+permitted_few line units permitted = elim permitted [ inl none ↦ omega (arith, none) | inr some ↦ some.1 ]
 
 securities_at_most : (settle : ℤ) (lines : List Line) (plan : List ℕ) → All (IsSecurityLine settle) lines → All PairIsPermitted (zip lines plan) → All (λ p. pair_cost p ≤ 10 ^ 11) (zip lines plan)
 securities_at_most settle [] plan securities permitted = All-nil (λ p. pair_cost p ≤ 10 ^ 11)
 securities_at_most settle (line ∷ lines) [] securities permitted = All-nil (λ p. pair_cost p ≤ 10 ^ 11)
 securities_at_most settle (line ∷ lines) (units ∷ plan) securities permitted =
     All-cons (λ p. pair_cost p ≤ 10 ^ 11) (line, units) (zip lines plan)
-    (security_at_most settle line units (All-head (IsSecurityLine settle) line lines securities) (All-head PairIsPermitted (line, units) (zip lines plan) permitted))
+    (security-at_most settle line units (All-head (IsSecurityLine settle) line lines securities) (permitted_few line units (All-head PairIsPermitted (line, units) (zip lines plan) permitted)))
     (securities_at_most settle lines plan (All-tail (IsSecurityLine settle) line lines securities) (All-tail PairIsPermitted (line, units) (zip lines plan) permitted))
 
 -- all that a permitted portfolio costs is within a 64-bit number by far
@@ -43,7 +34,7 @@ pub lines_cost_at_most : (settle : ℤ) (lines : List Line) (plan : List ℕ) �
 lines_cost_at_most settle [] plan lines permitted = absurd lines
 lines_cost_at_most settle (cash ∷ securities) [] lines permitted = omega arith
 lines_cost_at_most settle (cash ∷ securities) (units ∷ plan) lines permitted =
-    let first = cash_at_most cash units lines.0 (All-head PairIsPermitted (cash, units) (zip securities plan) permitted) in
+    let first = cash-at_most cash units lines.0 (permitted_few cash units (All-head PairIsPermitted (cash, units) (zip securities plan) permitted)) in
     let rest = sum_by-le pair_cost (10 ^ 11) (zip securities plan) (securities_at_most settle securities plan lines.1 (All-tail PairIsPermitted (cash, units) (zip securities plan) permitted)) in
     let sum = sum_by-cons pair_cost (cash, units) (zip securities plan) in
     let count : length (zip securities plan) ≤ 256 = omega (arith, length-zip securities plan, lines.2) in

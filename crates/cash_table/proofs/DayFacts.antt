@@ -8,9 +8,12 @@ use Rattle.std.proofs.lemmas.List.{get_or-take, get_or-drop, get_or-map, get_or_
 use Rattle.std.proofs.lemmas.List.Elements.{All-head, All-tail, All-cons, All-nil}
 use Rattle.std.proofs.lemmas.List.Sums.{sum_by-cons, sum_by-take-drop, sum_by-le-sum_by}
 use Rattle.escrow_units.specs.declared.security.Flow.{Flow}
-use Rattle.cash_table.specs.Book.{BookContents, total}
-use Rattle.cash_table.specs.Portfolio.{cents_by, total_by, payments, Meets, IsFirstShort, is_short, first_short_of}
-use Rattle.cash_table.specs.Receipts.{IsRising, AreReceipts, IsCovered, IsFirstUncovered}
+use Rattle.escrow_units.specs.Flows.{Rise, total}
+use Rattle.day_sums.specs.Summed.{total_by}
+use Rattle.offer_book.specs.Book.{BookContents}
+use Rattle.offer_book.specs.Portfolio.{payments, Meets, IsFirstShort}
+use Rattle.cash_table.specs.First.{is_short, first_short_of}
+use Rattle.cash_table.specs.Receipts.{cents_by, AreReceipts, IsCovered, IsFirstUncovered}
 use Rattle.cash_table.proofs.ReceiptFacts.{cents_by-due, cents_by-later}
 
 pub sum_by-same : {X : Type 0} (f g : X → ℕ) (xs : List X) → All (λ x. f x ≡ g x) xs → sum_by f xs ≡ sum_by g xs
@@ -18,7 +21,7 @@ sum_by-same f g [] same = refl
 sum_by-same f g (x ∷ xs) same =
     omega (arith, sum_by-cons f x xs, sum_by-cons g x xs, All-head (λ y. f y ≡ g y) x xs same, sum_by-same f g xs (All-tail (λ y. f y ≡ g y) x xs same))
 
-sum_by-zero : {X : Type 0} (f : X → ℕ) (xs : List X) → All (λ x. f x ≡ 0) xs → sum_by f xs ≡ 0
+pub sum_by-zero : {X : Type 0} (f : X → ℕ) (xs : List X) → All (λ x. f x ≡ 0) xs → sum_by f xs ≡ 0
 sum_by-zero f [] none = refl
 sum_by-zero f (x ∷ xs) none =
     omega (arith, sum_by-cons f x xs, All-head (λ y. f y ≡ 0) x xs none, sum_by-zero f xs (All-tail (λ y. f y ≡ 0) x xs none))
@@ -179,13 +182,13 @@ find_tells : {X : Type 0} (p : X → Bool) (xs : List X) → FindTells p xs (fin
 find_tells p [] = λ k d h. absurd (omega (arith, h))
 find_tells p (x ∷ xs) = tells_by_test p x xs (p x) refl (find_tells p xs)
 
-rising_lt : (needs : List Flow) → IsRising needs → (i k : ℕ) (e d : Flow) → i < k → k < length needs → (get_or needs i e).day <ℤ (get_or needs k d).day
+rising_lt : (needs : List Flow) → Rise needs → (i k : ℕ) (e d : Flow) → i < k → k < length needs → (get_or needs i e).day <ℤ (get_or needs k d).day
 rising_lt needs rising i k e d order within =
     let later = rising i k e order within in
     let same = ap (λ flow. flow.day) (get_or_default needs k e d within) in
     omega (arith, ints)
 
-rising_le : (needs : List Flow) → IsRising needs → (i k : ℕ) (e d : Flow) → i ≤ k → k < length needs → (get_or needs i e).day ≤ℤ (get_or needs k d).day
+rising_le : (needs : List Flow) → Rise needs → (i k : ℕ) (e d : Flow) → i ≤ k → k < length needs → (get_or needs i e).day ≤ℤ (get_or needs k d).day
 rising_le needs rising i k e d order within = elim (cases_lt i k) [
   | inl less ↦ (let later = rising_lt needs rising i k e d less within in omega (arith, ints))
   | inr more ↦ (let at : i ≡ k = omega arith in
@@ -194,7 +197,7 @@ rising_le needs rising i k e d order within = elim (cases_lt i k) [
 ]
 
 -- the needs up to a need date are those at its place and before
-pub total_by_need : (needs : List Flow) (k : ℕ) (d : Flow) → IsRising needs → k < length needs → total_by (get_or needs k d).day needs ≡ total (take (k + 1) needs)
+pub total_by_need : (needs : List Flow) (k : ℕ) (d : Flow) → Rise needs → k < length needs → total_by (get_or needs k d).day needs ≡ total (take (k + 1) needs)
 total_by_need needs k d rising within =
     let t = (get_or needs k d).day in
     let parts = sum_by-take-drop (cents_by t) needs (k + 1) in
@@ -213,7 +216,7 @@ total_by_need needs k d rising within =
     omega (arith, parts, due, later)
 
 -- the code's comparison at a need date is the test of the definition
-is_short_at : (book : BookContents) (plan receipts : List ℕ) → IsRising book.needs → AreReceipts book.needs (payments book plan) receipts → (k : ℕ) (d : Flow) → k < length book.needs → is_short book plan (get_or book.needs k d).day ≡ nat_lt (sum (take (k + 1) receipts)) (total (take (k + 1) book.needs))
+is_short_at : (book : BookContents) (plan receipts : List ℕ) → Rise book.needs → AreReceipts book.needs (payments book plan) receipts → (k : ℕ) (d : Flow) → k < length book.needs → is_short book plan (get_or book.needs k d).day ≡ nat_lt (sum (take (k + 1) receipts)) (total (take (k + 1) book.needs))
 is_short_at book plan receipts rising received k d within =
     ap (λ n. nat_lt n (total_by (get_or book.needs k d).day book.needs)) (sym (received k d within)) ∙ ap (nat_lt (sum (take (k + 1) receipts))) (total_by_need book.needs k d rising within)
 
@@ -224,7 +227,7 @@ abbrev days : List Flow → List ℤ
 days needs = map (λ need. need.day) needs
 
 -- the first need date that the code finds is the one of the definition
-pub first_short_value : (book : BookContents) (plan receipts : List ℕ) (found : Option ℤ) → IsRising book.needs → AreReceipts book.needs (payments book plan) receipts → IfNone found ((k : ℕ) → k < length book.needs → IsCovered book.needs receipts k) → IfSome found (λ day. (k : ℕ) × IsFirstUncovered book.needs receipts k × ((d : Flow) → day ≡ (get_or book.needs k d).day)) → found ≡ first_short_of book plan
+pub first_short_value : (book : BookContents) (plan receipts : List ℕ) (found : Option ℤ) → Rise book.needs → AreReceipts book.needs (payments book plan) receipts → IfNone found ((k : ℕ) → k < length book.needs → IsCovered book.needs receipts k) → IfSome found (λ day. (k : ℕ) × IsFirstUncovered book.needs receipts k × ((d : Flow) → day ≡ (get_or book.needs k d).day)) → found ≡ first_short_of book plan
 first_short_value book plan receipts None rising received none some =
     sym (find_none (is_short book plan) (days book.needs)
     (λ k t h.
@@ -250,7 +253,7 @@ not_short book plan t test = ltb_fails (total_by t (payments book plan)) (total_
     ltb_fails a b h = grind (arith, nat_tests)
 
 -- what `find` tells of the need dates, said of every day
-tells_of_days : (book : BookContents) (plan : List ℕ) (found : Option ℤ) → IsRising book.needs → FindTells (is_short book plan) (days book.needs) found → MatchOption found (Meets book plan) (IsFirstShort book plan)
+tells_of_days : (book : BookContents) (plan : List ℕ) (found : Option ℤ) → Rise book.needs → FindTells (is_short book plan) (days book.needs) found → MatchOption found (Meets book plan) (IsFirstShort book plan)
 tells_of_days book plan None rising fails = λ t.
     met_on_every_day book.needs (payments book plan) t
     (λ k d within _.
@@ -273,5 +276,5 @@ tells_of_days book plan (Some day) rising first = record {
 
 -- where a portfolio is short on no need date it meets the needs on every day, and else the first short need date is
 -- the first short day
-pub first_short_is : (book : BookContents) (plan : List ℕ) → IsRising book.needs → MatchOption (first_short_of book plan) (Meets book plan) (IsFirstShort book plan)
+pub first_short_is : (book : BookContents) (plan : List ℕ) → Rise book.needs → MatchOption (first_short_of book plan) (Meets book plan) (IsFirstShort book plan)
 first_short_is book plan rising = tells_of_days book plan (first_short_of book plan) rising (find_tells (is_short book plan) (days book.needs))

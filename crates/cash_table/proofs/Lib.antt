@@ -1,8 +1,8 @@
 pub mod ZipFacts
 pub mod CostFacts
 pub mod PermitFacts
+pub mod PaymentFacts
 pub mod ReceiptFacts
 pub mod DayFacts
 pub mod YieldFacts
 pub mod PortfolioLaws
-pub mod SampleBook

@@ -6,9 +6,10 @@ use Rattle.std.proofs.lemmas.Bool.Decides.{nat_tests}
 use Rattle.std.proofs.lemmas.List.{get_or_default, get_or_read}
 use Rattle.std.proofs.lemmas.List.Sums.{position_or_len_is, fails_before_first}
 use Rattle.std.proofs.lemmas.Slice.Zip.{length-zip, get_or-zip}
-use Rattle.cash_table.specs.declared.line.Line.{Line}
-use Rattle.cash_table.specs.Book.{BookContents}
-use Rattle.cash_table.specs.Portfolio.{IsPermittedUnits, IsPermitted, permits, first_unpermitted_of}
+use Rattle.offer_book.specs.declared.line.Line.{Line}
+use Rattle.offer_book.specs.Book.{BookContents}
+use Rattle.offer_book.specs.Portfolio.{IsPermittedUnits, IsPermitted, permits}
+use Rattle.cash_table.specs.First.{first_unpermitted_of}
 
 pub permitted_from_test : (line : Line) (units : ℕ) → permits line units ≡ true → IsPermittedUnits line units
 permitted_from_test line units passes = grind (arith, nat_tests)

@@ -1,64 +1,102 @@
--- What permitted portfolios of zero-interest certificates cost, pay and yield.
-use Rattle.std.proofs.Common.{◌≡◌, ◌↔◌, ℕ, ◌+◌, ◌*◌, ◌<◌, ◌≤◌, Bool, true, false, cond, nat_lt, List, [], ◌∷◌, length, drop, slice_index, refl, sym, ap, ◌∙◌, subst, arith, ℤ, ◌≤ℤ◌}
-use Rattle.std.specs.List.{All, sum_by, flat_map, filter, zip}
+-- What permitted portfolios cost, pay and yield.
+use Rattle.std.proofs.Common.{◌≡◌, ◌↔◌, ℕ, zero, suc, ◌+◌, ◌*◌, ◌<◌, ◌≤◌, List, [], ◌∷◌, length, drop, slice_index, refl, sym, ap, ◌∙◌, subst, arith, ℤ, ◌≤ℤ◌}
+use Rattle.std.specs.List.{All, sum_by, flat_map, zip}
 use Rattle.std.proofs.lemmas.List.Elements.{All-head, All-tail, All-cons, All-nil, All-weaker}
 use Rattle.std.proofs.lemmas.List.Sums.{sum_by-cons}
-use Rattle.std.proofs.lemmas.Bool.Decides.{nat_tests}
 use Rattle.std.proofs.Math.Nat.{mul-le-mul_right}
 use Rattle.escrow_units.specs.Calendar.{years_after_of}
+use Rattle.escrow_units.specs.Flows.{indexed, total}
 use Rattle.escrow_units.specs.PresentValue.{YieldLiesIn}
+use Rattle.escrow_units.specs.SlgsTerms.{IsSettlement}
 use Rattle.escrow_units.specs.declared.security.Flow.{Flow}
-use Rattle.cash_table.specs.declared.line.Line.{Line}
-use Rattle.cash_table.specs.Book.{BookContents, IsSecurityLine, AreLines, IsBook, AreZeroCertificates, total}
-use Rattle.cash_table.specs.Portfolio.{IsPermitted, Meets, line_payments, payment_day, payments, cost, security_cost, security_flows, indexed, total_needs}
+use Rattle.day_sums.specs.SummedLaws.{AreAboveZero}
+use Rattle.day_sums.proofs.SumFacts.{above-summed}
+use Rattle.day_sums.proofs.Uniqueness.{keep-total}
+use Rattle.fixed_powers.specs.PresentValues.{total_cents}
+use Rattle.offer_book.specs.declared.line.Line.{Line}
+use Rattle.offer_book.specs.Book.{BookContents, IsSecurityLine, AreLines, IsBook, IsWithoutInterest, AreWithoutInterest}
+use Rattle.offer_book.specs.Portfolio.{IsPermitted, Meets, payments, cost, security_cost, security_flows, total_needs}
+use Rattle.offer_book.proofs.LineFacts.{cash-payments, line_payments-cost, line_payments-face, line_payments-none}
 use Rattle.cash_table.proofs.CostFacts.{pair_cost, cost_is}
-use Rattle.cash_table.proofs.DayFacts.{total_by-due, total_by-at_most}
-use Rattle.cash_table.proofs.YieldFacts.{total_cents, yields_nothing, total_cents-indexed}
+use Rattle.cash_table.proofs.PaymentFacts.{pair_payments, pair_total, total-payments}
+use Rattle.cash_table.proofs.DayFacts.{sum_by-zero, total_by-due, total_by-at_most}
+use Rattle.cash_table.proofs.YieldFacts.{yields_nothing, total_cents-indexed}
 
-abbrev pair_payments : ℤ → Line × ℕ → List Flow
-pair_payments settle p = line_payments settle p.0 p.1
+-- securities pay no less than they cost
+costs_paid : (settle : ℤ) (lines : List Line) (plan : List ℕ) → IsSettlement settle → All (IsSecurityLine settle) lines → sum_by pair_cost (zip lines plan) ≤ sum_by (pair_total settle) (zip lines plan)
+costs_paid settle [] plan h securities = omega arith
+costs_paid settle (line ∷ lines) [] h securities = omega arith
+costs_paid settle (line ∷ lines) (units ∷ plan) h securities =
+    omega (
+      arith,
+      sum_by-cons pair_cost (line, units) (zip lines plan),
+      sum_by-cons (pair_total settle) (line, units) (zip lines plan),
+      line_payments-cost settle line units h (All-head (IsSecurityLine settle) line lines securities),
+      costs_paid settle lines plan h (All-tail (IsSecurityLine settle) line lines securities),
+    )
 
-abbrev is_paid : Flow → Bool
-is_paid flow = nat_lt 0 flow.cents.0
+-- and just that without interest
+faces_paid : (settle : ℤ) (lines : List Line) (plan : List ℕ) → IsSettlement settle → All (IsSecurityLine settle) lines → All IsWithoutInterest lines → sum_by (pair_total settle) (zip lines plan) ≡ sum_by pair_cost (zip lines plan)
+faces_paid settle [] plan h securities none = refl
+faces_paid settle (line ∷ lines) [] h securities none = refl
+faces_paid settle (line ∷ lines) (units ∷ plan) h securities none =
+    omega (
+      arith,
+      sum_by-cons pair_cost (line, units) (zip lines plan),
+      sum_by-cons (pair_total settle) (line, units) (zip lines plan),
+      line_payments-face settle line units h (All-head (IsSecurityLine settle) line lines securities) (All-head IsWithoutInterest line lines none),
+      faces_paid settle lines plan h (All-tail (IsSecurityLine settle) line lines securities) (All-tail IsWithoutInterest line lines none),
+    )
 
--- all that lines pay is what they cost
-total-payments : (settle : ℤ) (pairs : List (Line × ℕ)) → total (flat_map (pair_payments settle) pairs) ≡ sum_by pair_cost pairs
-total-payments settle [] = refl
-total-payments settle (pair ∷ pairs) =
-    let first : Flow = record { day = payment_day settle pair.0.kind; cents = record { 0 = pair_cost pair } } in
-    sum_by-cons (λ f. f.cents.0) first (flat_map (pair_payments settle) pairs) ∙ ap (λ n. pair_cost pair + n) (total-payments settle pairs) ∙ sym (sum_by-cons pair_cost pair pairs)
+securities_paid : (settle : ℤ) (lines : List Line) (plan : List ℕ) → IsSettlement settle → AreLines settle lines → AreWithoutInterest lines
+    → sum_by (pair_total settle) (drop 1 (zip lines plan)) ≡ sum_by pair_cost (drop 1 (zip lines plan))
+securities_paid settle [] plan h lines none = absurd lines
+securities_paid settle (cash ∷ securities) [] h lines none = refl
+securities_paid settle (cash ∷ securities) (units ∷ plan) h lines none = faces_paid settle securities plan h lines.1 none
 
--- flows of 0 cents add nothing
-total-paid : (flows : List Flow) → total (filter is_paid flows) ≡ total flows
-total-paid [] = refl
-total-paid (flow ∷ flows) = by_test (is_paid flow) flow flows refl (total-paid flows)
-  where
-    by_test : (b : Bool) (flow : Flow) (flows : List Flow) → is_paid flow ≡ b → total (filter is_paid flows) ≡ total flows → total (cond b (flow ∷ filter is_paid flows) (filter is_paid flows)) ≡ total (flow ∷ flows)
-    by_test true flow flows test rest =
-        omega (arith, sum_by-cons (λ f. f.cents.0) flow (filter is_paid flows), sum_by-cons (λ f. f.cents.0) flow flows, rest)
-    by_test false flow flows test rest =
-        let none : flow.cents.0 ≡ 0 = grind (arith, nat_tests) in
-        omega (arith, none, sum_by-cons (λ f. f.cents.0) flow flows, rest)
+lines_paid : (settle : ℤ) (lines : List Line) (plan : List ℕ) → IsSettlement settle → AreLines settle lines → AreWithoutInterest lines
+    → sum_by (pair_total settle) (zip lines plan) ≡ sum_by pair_cost (zip lines plan)
+lines_paid settle [] plan h lines none = absurd lines
+lines_paid settle (cash ∷ securities) [] h lines none = refl
+lines_paid settle (cash ∷ securities) (units ∷ plan) h lines none =
+    omega (
+      arith,
+      sum_by-cons pair_cost (cash, units) (zip securities plan),
+      sum_by-cons (pair_total settle) (cash, units) (zip securities plan),
+      ap total (cash-payments settle cash units lines.0),
+      faces_paid settle securities plan h lines.1 none,
+    )
 
--- the security flows sum to the security cost
-pub total-security_flows : (book : BookContents) (plan : List ℕ) → total (security_flows book plan) ≡ security_cost book plan
+-- the security flows are all that the securities pay
+total-security_flows : (book : BookContents) (plan : List ℕ) → total (security_flows book plan) ≡ sum_by (pair_total book.settle) (drop 1 (zip book.lines plan))
 total-security_flows book plan =
-    total-paid (flat_map (pair_payments book.settle) (drop 1 (zip book.lines plan))) ∙ total-payments book.settle (drop 1 (zip book.lines plan))
+    keep-total (flat_map (pair_payments book.settle) (drop 1 (zip book.lines plan))) ∙ total-payments book.settle (drop 1 (zip book.lines plan))
+
+pub zero_interest_total : (book : BookContents) (plan : List ℕ) → IsBook book → AreWithoutInterest book.lines → IsPermitted book plan → total (security_flows book plan) ≡ security_cost book plan
+zero_interest_total book plan limits none permitted =
+    total-security_flows book plan ∙ securities_paid book.settle book.lines plan limits.settlement limits.lines none
 
 -- every permitted portfolio that meets the needs costs at least the sum of the needs: on the last need date its
 -- payments, which are no more than its cost, are at least all the needs
-pub meets_cost : (book : BookContents) (plan : List ℕ) → IsBook book → AreZeroCertificates book.lines → IsPermitted book plan → Meets book plan → total_needs book ≤ cost book plan
-meets_cost book plan limits certificates permitted meets = at (years_after_of book.settle 40) (λ k d h. (limits.needs.within k d h).1)
+pub meets_cost : (book : BookContents) (plan : List ℕ) → IsBook book → AreWithoutInterest book.lines → IsPermitted book plan → Meets book plan → total_needs book ≤ cost book plan
+meets_cost book plan limits none permitted meets = at (years_after_of book.settle 40) (λ k d h. (limits.needs.within k d h).1)
   where
     at : (t : ℤ) → All (λ need. need.day ≤ℤ t) book.needs → total_needs book ≤ cost book plan
     at t due =
-        omega (arith, total_by-due t book.needs due, meets t, total_by-at_most t (payments book plan), total-payments book.settle (zip book.lines plan))
+        omega (
+          arith,
+          total_by-due t book.needs due,
+          meets t,
+          total_by-at_most t (payments book plan),
+          total-payments book.settle (zip book.lines plan),
+          lines_paid book.settle book.lines plan limits.settlement limits.lines none,
+        )
 
 -- the exact yield of the security flows for the security cost is 0
-pub zero_yield : (book : BookContents) (plan : List ℕ) → IsBook book → AreZeroCertificates book.lines → IsPermitted book plan → YieldLiesIn (indexed book.settle (security_flows book plan)) (security_cost book plan) 0 0
-zero_yield book plan limits certificates permitted =
+pub zero_yield : (book : BookContents) (plan : List ℕ) → IsBook book → AreWithoutInterest book.lines → IsPermitted book plan → YieldLiesIn (indexed book.settle (security_flows book plan)) (security_cost book plan) 0 0
+zero_yield book plan limits none permitted =
     let flows = indexed book.settle (security_flows book plan) in
-    let same : total_cents flows ≡ security_cost book plan = total_cents-indexed book.settle (security_flows book plan) ∙ total-security_flows book plan in
+    let same : total_cents flows ≡ security_cost book plan = total_cents-indexed book.settle (security_flows book plan) ∙ zero_interest_total book plan limits none permitted in
     let P : ℕ → Type 0 = λ n. YieldLiesIn flows n 0 0 in
     subst P same (yields_nothing flows)
 
@@ -72,63 +110,67 @@ IsNone units = units ≡ 0
 abbrev HasStep : Line → Type 0
 HasStep line = 1 ≤ line.step
 
-no_units : (step units : ℕ) → 1 ≤ step → nat_lt 0 (step * units) ≡ false → units ≡ 0
-no_units step units has_step test =
-    let none : step * units ≤ 0 = grind (arith, nat_tests) in
-    omega (arith, none, mul-le-mul_right units has_step)
+no_units : (step units rest : ℕ) → 1 ≤ step → step * units + rest ≡ 0 → units ≡ 0
+no_units step units rest has_step none = omega (arith, none, mul-le-mul_right units has_step)
 
--- lines that pay nothing have no units
-none_bought : (settle : ℤ) (lines : List Line) (plan : List ℕ) → All HasStep lines → length plan ≡ length lines → filter is_paid (flat_map (pair_payments settle) (zip lines plan)) ≡ [] → All IsNone plan
-none_bought settle [] [] steps same empty = All-nil IsNone
-none_bought settle [] (units ∷ plan) steps same empty = absurd (omega (arith, same))
-none_bought settle (line ∷ lines) [] steps same empty = All-nil IsNone
-none_bought settle (line ∷ lines) (units ∷ plan) steps same empty =
-    by_test (nat_lt 0 (line.step * units)) refl empty (none_bought settle lines plan (All-tail HasStep line lines steps) (omega (arith, same)))
-  where
-    rest : List Flow
-    rest = filter is_paid (flat_map (pair_payments settle) (zip lines plan))
-
-    by_test : (b : Bool) → nat_lt 0 (line.step * units) ≡ b → cond b (record { day = payment_day settle line.kind; cents = record { 0 = line.step * units } } ∷ filter is_paid (flat_map (pair_payments settle) (zip lines plan))) (filter is_paid (flat_map (pair_payments settle) (zip lines plan))) ≡ [] → (filter is_paid (flat_map (pair_payments settle) (zip lines plan)) ≡ [] → All IsNone plan) → All IsNone (units ∷ plan)
-    by_test true test paid rest = cc
-    by_test false test paid rest = All-cons IsNone units plan (no_units line.step units (All-head HasStep line lines steps) test) (rest paid)
+-- lines that cost nothing have no units
+none_bought : (lines : List Line) (plan : List ℕ) → All HasStep lines → length plan ≡ length lines → sum_by pair_cost (zip lines plan) ≡ 0 → All IsNone plan
+none_bought [] [] steps same none = All-nil IsNone
+none_bought [] (units ∷ plan) steps same none = absurd (omega (arith, same))
+none_bought (line ∷ lines) [] steps same none = All-nil IsNone
+none_bought (line ∷ lines) (units ∷ plan) steps same none =
+    let sum = sum_by-cons pair_cost (line, units) (zip lines plan) in
+    All-cons IsNone units plan (no_units line.step units (sum_by pair_cost (zip lines plan)) (All-head HasStep line lines steps) (omega (arith, sum, none)))
+    (none_bought lines plan (All-tail HasStep line lines steps) (omega (arith, same)) (omega (arith, sum, none)))
 
 -- and lines without units pay nothing
-nothing_paid : (settle : ℤ) (lines : List Line) (plan : List ℕ) → All IsNone plan → filter is_paid (flat_map (pair_payments settle) (zip lines plan)) ≡ []
+nothing_paid : (settle : ℤ) (lines : List Line) (plan : List ℕ) → All IsNone plan → sum_by (pair_total settle) (zip lines plan) ≡ 0
 nothing_paid settle [] plan none = refl
 nothing_paid settle (line ∷ lines) [] none = refl
 nothing_paid settle (line ∷ lines) (units ∷ plan) none =
-    let zero : units ≡ 0 = All-head IsNone units plan none in
-    let product : line.step * units ≡ 0 = omega (arith, ap (λ n. line.step * n) zero) in
-    let rest = nothing_paid settle lines plan (All-tail IsNone units plan none) in
-    let test = ap (λ n. nat_lt 0 n) product in
-    ap (λ b. cond b (record { day = payment_day settle line.kind; cents = record { 0 = line.step * units } } ∷ filter is_paid (flat_map (pair_payments settle) (zip lines plan))) (filter is_paid (flat_map (pair_payments settle) (zip lines plan)))) test ∙ rest
+    let pays = sum_by-zero (λ (flow : Flow). flow.cents.0) (pair_payments settle (line, units)) (line_payments-none settle line units (All-head IsNone units plan none)) in
+    omega (arith, sum_by-cons (pair_total settle) (line, units) (zip lines plan), pays, nothing_paid settle lines plan (All-tail IsNone units plan none))
 
-empty_flows_of : (settle : ℤ) (lines : List Line) (plan : List ℕ) → AreLines settle lines → length plan ≡ length lines → (filter is_paid (flat_map (pair_payments settle) (drop 1 (zip lines plan))) ≡ []) ↔ All IsNone (drop 1 plan)
-empty_flows_of settle [] plan lines same = absurd lines
-empty_flows_of settle (cash ∷ securities) [] lines same = absurd (omega (arith, same))
-empty_flows_of settle (cash ∷ securities) (units ∷ plan) lines same = (
-  (λ empty. none_bought settle securities plan (All-weaker (IsSecurityLine settle) HasStep (λ line security. omega (arith, security.step_at_least)) securities lines.1) (omega (arith, same)) empty),
-  (λ none. nothing_paid settle securities plan none),
-)
+-- amounts above 0 that come to nothing are none
+none_from_total : (flows : List Flow) → AreAboveZero flows → total flows ≡ 0 → flows ≡ []
+none_from_total [] above none = refl
+none_from_total (flow ∷ flows) above none =
+    absurd (omega (arith, All-head (λ (f : Flow). 1 ≤ f.cents.0) flow flows above, none, sum_by-cons (λ (f : Flow). f.cents.0) flow flows))
+
+paid_for : (settle : ℤ) (lines : List Line) (plan : List ℕ) → IsSettlement settle → AreLines settle lines → sum_by pair_cost (drop 1 (zip lines plan)) ≤ sum_by (pair_total settle) (drop 1 (zip lines plan))
+paid_for settle [] plan h lines = absurd lines
+paid_for settle (cash ∷ securities) [] h lines = omega arith
+paid_for settle (cash ∷ securities) (units ∷ plan) h lines = costs_paid settle securities plan h lines.1
+
+none_at_no_cost : (settle : ℤ) (lines : List Line) (plan : List ℕ) → AreLines settle lines → length plan ≡ length lines → sum_by pair_cost (drop 1 (zip lines plan)) ≡ 0 → All IsNone (drop 1 plan)
+none_at_no_cost settle [] plan lines same none = absurd lines
+none_at_no_cost settle (cash ∷ securities) [] lines same none = absurd (omega (arith, same))
+none_at_no_cost settle (cash ∷ securities) (units ∷ plan) lines same none =
+    none_bought securities plan (All-weaker (IsSecurityLine settle) HasStep (λ line security. omega (arith, security.step_at_least)) securities lines.1) (omega (arith, same)) none
+
+nothing_at_none : (settle : ℤ) (lines : List Line) (plan : List ℕ) → All IsNone (drop 1 plan) → sum_by (pair_total settle) (drop 1 (zip lines plan)) ≡ 0
+nothing_at_none settle [] plan none = refl
+nothing_at_none settle (cash ∷ securities) [] none = refl
+nothing_at_none settle (cash ∷ securities) (units ∷ plan) none = nothing_paid settle securities plan none
+
+empty_from_nothing : (book : BookContents) (plan : List ℕ) → sum_by (pair_total book.settle) (drop 1 (zip book.lines plan)) ≡ 0 → security_flows book plan ≡ []
+empty_from_nothing book plan none =
+    none_from_total (security_flows book plan) (above-summed (flat_map (pair_payments book.settle) (drop 1 (zip book.lines plan)))) (total-security_flows book plan ∙ none)
+
+no_cost_from_empty : (book : BookContents) (plan : List ℕ) → IsBook book → security_flows book plan ≡ [] → security_cost book plan ≡ 0
+no_cost_from_empty book plan limits empty =
+    omega (arith, paid_for book.settle book.lines plan limits.settlement limits.lines, total-security_flows book plan, ap total empty)
 
 -- the security flows are empty exactly where every line from 1 has 0 units
 pub empty_flows : (book : BookContents) (plan : List ℕ) → IsBook book → IsPermitted book plan → (security_flows book plan ≡ []) ↔ All (λ units. units ≡ 0) (drop 1 plan)
-empty_flows book plan limits permitted = empty_flows_of book.settle book.lines plan limits.lines permitted.same_length
-
--- paid flows of 0 cents together are none
-none_from_total : (flows : List Flow) → total (filter is_paid flows) ≡ 0 → filter is_paid flows ≡ []
-none_from_total [] none = refl
-none_from_total (flow ∷ flows) none = by_test (is_paid flow) flow flows refl none (none_from_total flows)
-  where
-    by_test : (b : Bool) (flow : Flow) (flows : List Flow) → is_paid flow ≡ b → total (cond b (flow ∷ filter is_paid flows) (filter is_paid flows)) ≡ 0 → (total (filter is_paid flows) ≡ 0 → filter is_paid flows ≡ []) → cond b (flow ∷ filter is_paid flows) (filter is_paid flows) ≡ []
-    by_test true flow flows test none rest =
-        let some : 0 < flow.cents.0 = grind (arith, nat_tests) in
-        absurd (omega (arith, some, none, sum_by-cons (λ f. f.cents.0) flow (filter is_paid flows)))
-    by_test false flow flows test none rest = rest none
+empty_flows book plan limits permitted = (
+  (λ empty. none_at_no_cost book.settle book.lines plan limits.lines permitted.same_length (no_cost_from_empty book plan limits empty)),
+  (λ none. empty_from_nothing book plan (nothing_at_none book.settle book.lines plan none)),
+)
 
 -- and exactly where the security cost is 0
-pub empty_at_no_cost : (book : BookContents) (plan : List ℕ) → (security_flows book plan ≡ []) ↔ (security_cost book plan ≡ 0)
-empty_at_no_cost book plan = (
-  (λ empty. sym (total-security_flows book plan) ∙ ap total empty),
-  (λ none. none_from_total (flat_map (pair_payments book.settle) (drop 1 (zip book.lines plan))) (total-security_flows book plan ∙ none)),
+pub empty_at_no_cost : (book : BookContents) (plan : List ℕ) → IsBook book → IsPermitted book plan → (security_flows book plan ≡ []) ↔ (security_cost book plan ≡ 0)
+empty_at_no_cost book plan limits permitted = (
+  no_cost_from_empty book plan limits,
+  (λ none. (empty_flows book plan limits permitted).1 (none_at_no_cost book.settle book.lines plan limits.lines permitted.same_length none)),
 )

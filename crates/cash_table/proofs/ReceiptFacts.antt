@@ -1,17 +1,21 @@
 -- Receipts by need date, one payment after another.
-use Rattle.std.proofs.Common.{◌≡◌, ℕ, zero, suc, ◌+◌, ◌<◌, Bool, true, false, T, cond, List, [], ◌∷◌, ◌++◌, length, get_or, take, set, refl, sym, ap, ◌∙◌, inl, inr, arith, ℤ, ◌<ℤ◌, ◌≤ℤ◌, int_lt, int_le}
-use Rattle.std.specs.List.{AllWithin, sum, sum_by, flat_map, zip}
+use Rattle.std.proofs.Common.{◌≡◌, ℕ, zero, suc, ◌+◌, ◌<◌, ◌≤◌, Bool, true, false, T, cond, List, [], ◌∷◌, ◌++◌, length, get_or, take, set, refl, sym, ap, ◌∙◌, inl, inr, arith, ℤ, ◌<ℤ◌, ◌≤ℤ◌, int_lt, int_le}
+use Rattle.std.specs.List.{All, AllWithin, sum, sum_by, flat_map, zip}
 use Rattle.std.proofs.lemmas.Bool.{cases_lt}
 use Rattle.std.proofs.lemmas.Int.{ints}
-use Rattle.std.proofs.lemmas.List.{take-set-le, take_more}
-use Rattle.std.proofs.lemmas.List.Concat.{flat_map-append}
+use Rattle.std.proofs.lemmas.List.{get_or_default, take-set-le}
+use Rattle.std.proofs.lemmas.List.Elements.{All-head, All-tail}
 use Rattle.std.proofs.lemmas.List.Sums.{sum_by-cons, sum_by-append}
 use Rattle.std.specs.List.Sorted.{IsPartitionedBy}
 use Rattle.escrow_units.specs.declared.security.Flow.{Flow}
-use Rattle.cash_table.specs.declared.line.Line.{Line}
-use Rattle.cash_table.specs.Portfolio.{cents_by, total_by, line_cost, line_payments}
-use Rattle.cash_table.specs.Receipts.{IsRising, AreReceipts}
-use Rattle.cash_table.proofs.ZipFacts.{StandAt, in_zip, pair_at}
+use Rattle.offer_book.specs.declared.line.Line.{Line}
+use Rattle.escrow_units.specs.Flows.{Rise, total}
+use Rattle.day_sums.specs.Summed.{total_by}
+use Rattle.day_sums.proofs.SumFacts.{counted-zero}
+use Rattle.offer_book.proofs.LineFacts.{line_payments-none}
+use Rattle.cash_table.specs.Receipts.{cents_by, AreReceipts}
+use Rattle.cash_table.proofs.PaymentFacts.{pair_payments, payments_more}
+use Rattle.cash_table.proofs.ZipFacts.{StandAt, sum_by-at_more}
 
 passed : (b : Bool) → T b → b ≡ true
 passed true h = refl
@@ -40,7 +44,7 @@ pub lt_trans : (a b c : ℤ) → a <ℤ b → b <ℤ c → a <ℤ c
 lt_trans a b c h k = omega (arith, ints)
 
 -- the days before a day come first
-pub days_are_partitioned : (needs : List Flow) (day : ℤ) → IsRising needs → IsPartitionedBy (λ need. int_lt need.day day) needs
+pub days_are_partitioned : (needs : List Flow) (day : ℤ) → Rise needs → IsPartitionedBy (λ need. int_lt need.day day) needs
 days_are_partitioned needs day rising = λ i j d order within later.
     elim (cases_lt i j) [
       | inl less ↦ lt_test (get_or needs i d).day day (lt_trans (get_or needs i d).day (get_or needs j d).day day (rising i j d less within) (lt_from_test (get_or needs j d).day day later))
@@ -76,20 +80,36 @@ receipt_added needs receipts flow place k d within before from here =
           omega (arith, sum_more, due))
     ]
 
--- the payments of one line more
-pub receipts_more : (needs : List Flow) (settle : ℤ) (lines : List Line) (plan : List ℕ) (i : ℕ) (line : Line) (units : ℕ) (flow : Flow) (old new : List ℕ) → StandAt lines plan i line units → line_payments settle line units ≡ flow ∷ [] → AreReceipts needs (flat_map (λ p. line_payments settle p.0 p.1) (take i (zip lines plan))) old → ((k : ℕ) (d : Flow) → k < length needs → sum (take (k + 1) new) ≡ sum (take (k + 1) old) + cents_by (get_or needs k d).day flow) → AreReceipts needs (flat_map (λ p. line_payments settle p.0 p.1) (take (i + 1) (zip lines plan))) new
-receipts_more needs settle lines plan i line units flow old new at pays had added = λ k d within.
-    let t = (get_or needs k d).day in
-    let pay = λ (p : Line × ℕ). line_payments settle p.0 p.1 in
-    let pairs = take i (zip lines plan) in
-    let more = take_more (zip lines plan) i (line, units) (in_zip lines plan i line units at) in
-    let pair = pair_at lines plan i line units at in
-    let joined : take (i + 1) (zip lines plan) ≡ pairs ++ (line, units) ∷ [] = more ∙ ap (λ p. pairs ++ p ∷ []) pair in
-    let flows : flat_map pay (take (i + 1) (zip lines plan)) ≡ flat_map pay pairs ++ flow ∷ [] =
-    ap (flat_map pay) joined ∙ flat_map-append pay pairs ((line, units) ∷ []) ∙ ap (λ fs. flat_map pay pairs ++ (fs ++ [])) pays in
-    let parts = ap (total_by t) flows ∙ sum_by-append (cents_by t) (flat_map pay pairs) (flow ∷ []) in
-    omega (arith, parts, had k d within, added k d within)
+-- one payment more, and all payments of a line
+pub receipts_next : (t : ℤ) (flows : List Flow) (i : ℕ) (flow : Flow) (had old new : ℕ) → i < length flows → flow ≡ get_or flows i flow
+    → old ≡ had + total_by t (take i flows) → new ≡ old + cents_by t flow → new ≡ had + total_by t (take (i + 1) flows)
+receipts_next t flows i flow had old new within at before added =
+    omega (arith, sum_by-at_more (cents_by t) flows i flow within (λ d. at ∙ get_or_default flows i flow d within), before, added)
 
--- a payment of a line is what the line costs
-pub cents_from_payments : (settle : ℤ) (line : Line) (units : ℕ) (flow : Flow) → line_payments settle line units ≡ flow ∷ [] → flow.cents.0 ≡ line_cost line units
-cents_from_payments settle line units flow pays = omega (arith, ap (λ flows. sum_by (λ (f : Flow). f.cents.0) flows) (sym pays))
+pub total_next : (flows : List Flow) (i : ℕ) (flow : Flow) (had old new : ℕ) → i < length flows → flow ≡ get_or flows i flow
+    → old ≤ had + total (take i flows) → new ≤ old + flow.cents.0 → new ≤ had + total (take (i + 1) flows)
+total_next flows i flow had old new within at before added =
+    omega (arith, sum_by-at_more (λ (f : Flow). f.cents.0) flows i flow within (λ d. at ∙ get_or_default flows i flow d within), before, added)
+
+-- a line without units pays nothing by any day
+cents_by-none : (t : ℤ) (flow : Flow) → flow.cents.0 ≡ 0 → cents_by t flow ≡ 0
+cents_by-none t flow none = counted-zero (int_le flow.day t) flow.cents.0 none
+
+total_by-none : (t : ℤ) (flows : List Flow) → All (λ flow. flow.cents.0 ≡ 0) flows → total_by t flows ≡ 0
+total_by-none t [] none = refl
+total_by-none t (flow ∷ flows) none =
+    omega (arith, sum_by-cons (cents_by t) flow flows, cents_by-none t flow (All-head (λ (f : Flow). f.cents.0 ≡ 0) flow flows none), total_by-none t flows (All-tail (λ (f : Flow). f.cents.0 ≡ 0) flow flows none))
+
+pub nothing_by : (t settle : ℤ) (line : Line) (units : ℕ) → units ≡ 0 → total_by t (pair_payments settle (line, units)) ≡ 0
+nothing_by t settle line units none = total_by-none t (pair_payments settle (line, units)) (line_payments-none settle line units none)
+
+-- the payments of one line more
+pub receipts_more : (needs : List Flow) (settle : ℤ) (lines : List Line) (plan : List ℕ) (i : ℕ) (line : Line) (units : ℕ) (old new : List ℕ) → StandAt lines plan i line units
+    → AreReceipts needs (flat_map (pair_payments settle) (take i (zip lines plan))) old
+    → ((k : ℕ) (d : Flow) → k < length needs → sum (take (k + 1) new) ≡ sum (take (k + 1) old) + total_by (get_or needs k d).day (pair_payments settle (line, units)))
+    → AreReceipts needs (flat_map (pair_payments settle) (take (i + 1) (zip lines plan))) new
+receipts_more needs settle lines plan i line units old new at had added = λ k d within.
+    let t = (get_or needs k d).day in
+    let parts = ap (total_by t) (payments_more settle lines plan i line units at)
+        ∙ sum_by-append (cents_by t) (flat_map (pair_payments settle) (take i (zip lines plan))) (pair_payments settle (line, units)) in
+    omega (arith, parts, had k d within, added k d within)

@@ -1,3 +1,2 @@
-pub mod Book
-pub mod Portfolio
+pub mod First
 pub mod Receipts

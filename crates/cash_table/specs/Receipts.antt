@@ -1,13 +1,13 @@
 -- Receipts kept by need date: the place of a date has what comes after the date before it and up to that date.
-use Rattle.std.specs.Prelude.{◌≡◌, ℕ, ◌+◌, ◌<◌, ◌≤◌, List, length, take, slice_index_or, ◌<ℤ◌}
-use Rattle.std.specs.List.{AllPairs, sum}
+use Rattle.std.specs.Prelude.{◌≡◌, ℕ, ◌+◌, ◌<◌, ◌≤◌, if◌then◌else◌, List, length, take, slice_index_or, ℤ, int_le}
+use Rattle.std.specs.List.{sum}
+use Rattle.escrow_units.specs.Flows.{total}
 use Rattle.escrow_units.specs.declared.security.Flow.{Flow}
-use Rattle.cash_table.specs.Book.{total}
-use Rattle.cash_table.specs.Portfolio.{total_by}
+use Rattle.day_sums.specs.Summed.{total_by}
 
--- the days of needs strictly rise
-abbrev pub IsRising : List Flow → Type 0
-IsRising needs = AllPairs (λ need later. need.day <ℤ later.day) needs
+-- the cents of a flow, if its day has come by the day t
+abbrev pub cents_by : ℤ → Flow → ℕ
+cents_by t flow = if int_le flow.day t then flow.cents.0 else 0
 
 -- the receipts up to each need date are the flows up to and on it
 abbrev pub AreReceipts : List Flow → List Flow → List ℕ → Type 0

@@ -1,14 +1,17 @@
-ghost use Rattle.std.specs.Prelude.{◌≡◌, ℕ, ◌+◌, ◌^◌, ◌<◌, ◌≤◌, [], ◌∷◌, length, take, slice_index_or, ◌≤ℤ◌, ◌<ℤ◌, MatchOption, IfNone, IfSome};
-ghost use Rattle.std.specs.List.{AllWithin, flat_map, sum, sum_by, zip};
+ghost use Rattle.std.specs.Prelude.{◌≡◌, ℕ, ◌+◌, ◌^◌, ◌<◌, ◌≤◌, length, take, slice_index_or, ◌≤ℤ◌, ◌<ℤ◌, MatchOption, IfNone, IfSome};
+ghost use Rattle.std.specs.List.{All, AllWithin, flat_map, sum, zip};
+ghost use Rattle.escrow_units.specs.Flows.{Rise, total};
+ghost use Rattle.escrow_units.specs.SlgsTerms.{IsSettlement};
 ghost use Rattle.escrow_units.specs.declared.security.Flow.{Flow};
-ghost use Rattle.cash_table.specs.Book.{total};
-ghost use Rattle.cash_table.specs.Portfolio.{IsPermitted, Meets, IsFirstShort, first_short_of, cents_by, line_cost, line_payments};
-ghost use Rattle.cash_table.specs.Receipts.{IsRising, AreReceipts, IsCovered, IsFirstUncovered};
+ghost use Rattle.day_sums.specs.Summed.{total_by};
+ghost use Rattle.offer_book.specs.Book.{IsLine};
+ghost use Rattle.offer_book.specs.Portfolio.{IsPermitted, IsPermittedUnits, IsFirstShort, Meets, line_payments};
+ghost use Rattle.cash_table.specs.First.{first_short_of};
+ghost use Rattle.cash_table.specs.Receipts.{AreReceipts, IsCovered, IsFirstUncovered, cents_by};
 
-use crate::book::Book;
-use crate::line::{Line, LineKind};
 use crate::plan::Plan;
-use escrow_units::{Cents, Day, Flow};
+use escrow_units::{Day, Flow};
+use offer_book::{Book, Line};
 
 // The most need dates of a book.
 const MOST_NEEDS: usize = 480;
@@ -24,7 +27,7 @@ pub fn first_short(book: &Book, plan: &Plan) -> Option<Day>
         (λ day. IsFirstShort book.now plan.now day) }
 {
     let mut receipts = [0; MOST_NEEDS];
-    add_payments(
+    add_bought(
         &mut receipts,
         book.needs(),
         book.settle(),
@@ -34,39 +37,45 @@ pub fn first_short(book: &Book, plan: &Plan) -> Option<Day>
     first_uncovered(book.needs(), &receipts)
 }
 
-// Adds what the lines pay, each payment at the first need date on or after its day.
-fn add_payments(receipts: &mut [u64], needs: &[Flow], settle: Day, lines: &[Line], plan: &[u64])
+// Adds what the bought lines pay, each payment at the first need date on or after its day. A line without units pays
+// nothing, so its dates aren't looked for.
+fn add_bought(receipts: &mut [u64], needs: &[Flow], settle: Day, lines: &[Line], plan: &[u64])
     requires places { length needs.now ≤ length receipts.old }
-    requires rising { IsRising needs.now }
+    requires rising { Rise needs.now }
     requires zero { sum receipts.old ≡ 0 }
-    requires room { sum_by (λ p. line_cost p.0 p.1) (zip lines.now plan.now) < 2 ^ 64 }
+    requires settlement { IsSettlement settle }
+    requires lines { All (λ line. IsLine settle line) lines.now }
+    requires permitted { All (λ p. IsPermittedUnits p.0 p.1) (zip lines.now plan.now) }
+    requires room { total (flat_map (λ p. line_payments settle p.0 p.1) (zip lines.now plan.now)) < 2 ^ 64 }
     ensures receipts { AreReceipts needs.now (flat_map (λ p. line_payments settle p.0 p.1) (zip lines.now plan.now)) receipts.new }
     ensures bound { sum receipts.new < 2 ^ 64 }
 {
     for (line, units) in lines.iter().zip(plan) {
-        add_receipt(receipts, needs, &payment(settle, line, *units));
+        if *units > 0 {
+            add_receipts(receipts, needs, line.payments(settle, *units).as_slice());
+        }
     }
 }
 
-// What units of a line pay.
-fn payment(settle: Day, line: &Line, units: u64) -> Flow
-    requires { line_cost line.now units < 2 ^ 64 }
-    ensures { line_payments settle line.now units ≡ result ∷ [] }
+// Adds payments, each at the first need date on or after its day, if there is one.
+fn add_receipts(receipts: &mut [u64], needs: &[Flow], payments: &[Flow])
+    requires places { length needs.now ≤ length receipts.old }
+    requires rising { Rise needs.now }
+    requires room { sum receipts.old + total payments.now < 2 ^ 64 }
+    ensures by_day { (k : ℕ) (d : Flow) → k < length needs.now
+        → sum (take (k + 1) receipts.new)
+        ≡ sum (take (k + 1) receipts.old) + total_by (slice_index_or needs.now k d).day payments.now }
+    ensures whole { sum receipts.new ≤ sum receipts.old + total payments.now }
 {
-    let day = match line.kind {
-        LineKind::Cash => settle,
-        LineKind::Security(slgs) => slgs.maturity,
-    };
-    Flow {
-        day,
-        cents: Cents(line.step * units),
+    for payment in payments {
+        add_receipt(receipts, needs, payment);
     }
 }
 
 // Adds a payment at the first need date on or after its day, if there is one.
 fn add_receipt(receipts: &mut [u64], needs: &[Flow], payment: &Flow)
     requires places { length needs.now ≤ length receipts.old }
-    requires rising { IsRising needs.now }
+    requires rising { Rise needs.now }
     requires room { sum receipts.old + payment.now.cents.0 < 2 ^ 64 }
     ensures by_day { (k : ℕ) (d : Flow) → k < length needs.now
         → sum (take (k + 1) receipts.new)
@@ -81,7 +90,7 @@ fn add_receipt(receipts: &mut [u64], needs: &[Flow], payment: &Flow)
 
 // The place of the first need date on or after a day, or their number where there is none, by binary search.
 fn place_of(needs: &[Flow], day: Day) -> usize
-    requires { IsRising needs.now }
+    requires { Rise needs.now }
     ensures bound { result ≤ length needs.now }
     ensures before { AllWithin (λ need. need.day <ℤ day) needs.now 0 result }
     ensures from { AllWithin (λ need. day ≤ℤ need.day) needs.now result (length needs.now) }

@@ -1,11 +1,10 @@
 ghost use Rattle.std.specs.Prelude.{◌≡◌, ◌^◌, ◌<◌, ◌≤◌, length};
 ghost use Rattle.std.specs.List.{sum_by, zip};
-ghost use Rattle.cash_table.specs.Portfolio.{IsPermitted, line_cost, cost as cost_of, security_cost as security_cost_of};
+ghost use Rattle.offer_book.specs.Portfolio.{IsPermitted, line_cost, cost as cost_of, security_cost as security_cost_of};
 
-use crate::book::Book;
-use crate::line::Line;
 use crate::plan::Plan;
 use escrow_units::Cents;
+use offer_book::{Book, Line};
 
 /// What a permitted portfolio costs, opening cash included, in cents.
 pub fn cost(book: &Book, plan: &Plan) -> Cents
@@ -30,7 +29,7 @@ fn lines_cost(lines: &[Line], plan: &[u64]) -> u64
 {
     let mut total = 0;
     for (line, units) in lines.iter().zip(plan) {
-        total += line.step * *units;
+        total += line.cost(*units).0;
     }
     total
 }

@@ -1,25 +1,26 @@
 ghost use Rattle.std.specs.Prelude.{◌≡◌, ℕ, ◌+◌, ◌≤◌, ◌↔◌, List, [], drop, slice_index};
 ghost use Rattle.std.specs.List.{All};
 ghost use Rattle.escrow_units.specs.PresentValue.{YieldLiesIn};
-ghost use Rattle.cash_table.specs.Book.{BookContents, IsBook, AreZeroCertificates};
-ghost use Rattle.cash_table.specs.Portfolio.{IsPermitted, Meets, cost, security_cost, security_flows, indexed, total_needs};
+ghost use Rattle.escrow_units.specs.Flows.{indexed};
+ghost use Rattle.offer_book.specs.Book.{AreWithoutInterest, BookContents, IsBook};
+ghost use Rattle.offer_book.specs.Portfolio.{IsPermitted, Meets, cost, security_cost, security_flows, total_needs};
 
-/// A law: every permitted portfolio that meets the needs costs at least the sum of the needs. So no portfolio is
+/// A law: every permitted portfolio of securities without interest that meets the needs costs at least the sum of the needs. So no portfolio is
 /// cheaper than one that costs just that.
 pub fn meets_cost()
     ensures { (book : BookContents) (plan : List ℕ)
         → IsBook book
-        → AreZeroCertificates book.lines
+        → AreWithoutInterest book.lines
         → IsPermitted book plan
         → Meets book plan
         → total_needs book ≤ cost book plan }
 {}
 
-/// A law: the exact yield of every permitted portfolio of certificates at rate 0 is 0.
+/// A law: the exact yield of every permitted portfolio of securities without interest is 0.
 pub fn zero_yield()
     ensures { (book : BookContents) (plan : List ℕ)
         → IsBook book
-        → AreZeroCertificates book.lines
+        → AreWithoutInterest book.lines
         → IsPermitted book plan
         → YieldLiesIn (indexed book.settle (security_flows book plan)) (security_cost book plan) 0 0 }
 {}

@@ -1,8 +1,9 @@
 ghost use Rattle.std.specs.Prelude.{◌≡◌, ◌<◌, ◌↔◌, length, replicate, slice_index, slice_set, IfOk, IsNone};
-ghost use Rattle.cash_table.specs.Portfolio.{IsPermitted, first_unpermitted_of};
+ghost use Rattle.offer_book.specs.Portfolio.{IsPermitted};
+ghost use Rattle.cash_table.specs.First.{first_unpermitted_of};
 
-use crate::book::Book;
 use escrow_desk::NoMemory;
+use offer_book::Book;
 use std::alloc::Global;
 use std::marker::Model;
 

@@ -5,7 +5,7 @@ use Rattle.std.proofs.lemmas.Bool.{ltb-false}
 use Rattle.escrow_desk.specs.Rows.{rows_of}
 use Rattle.offer_book.specs.Book.{BookContents, IsBook}
 use Rattle.offer_book.specs.Portfolio.{Meets, IsFirstShort, cost, total_needs}
-use Rattle.cash_table.specs.Shortage.{first_short_of}
+use Rattle.cash_table.specs.First.{first_short_of}
 use Rattle.cash_table.proofs.DayFacts.{first_short_is}
 use Rattle.cash_table.proofs.PortfolioLaws.{meets_cost, zero_yield}
 use Rattle.escrow_top.specs.CertificateForm.{Claim, claim_of}

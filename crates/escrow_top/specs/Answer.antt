@@ -15,7 +15,7 @@ use Rattle.row_fields.specs.RowForm.{refusal_of}
 use Rattle.offer_book.specs.declared.line.Line.{Line}
 use Rattle.offer_book.specs.Book.{BookContents}
 use Rattle.offer_book.specs.Portfolio.{permits, total_needs, cost, security_cost}
-use Rattle.cash_table.specs.Shortage.{first_short_of}
+use Rattle.cash_table.specs.First.{first_short_of}
 use Rattle.escrow_top.specs.CertificateForm.{Claim, claim_of, ◌>>=◌}
 use Rattle.escrow_top.specs.InputFiles.{InputTexts, Names, first_too_long, inputs_of}
 use Rattle.case_file.specs.Case.{CaseContents, cash_line, rows_case}

@@ -142,7 +142,7 @@ kind-none settle Cash amount none = All-cons (λ (flow : Flow). flow.cents.0 ≡
 kind-none settle (Security slgs) amount none = payments_of-none slgs amount none
 
 -- opening cash is there on the settlement day
-cash-payments : (settle : ℤ) (line : Line) (units : ℕ) → IsCashLine line → line_payments settle line units ≡ record { day = settle; cents = record { 0 = line_cost line units } } ∷ []
+pub cash-payments : (settle : ℤ) (line : Line) (units : ℕ) → IsCashLine line → line_payments settle line units ≡ record { day = settle; cents = record { 0 = line_cost line units } } ∷ []
 cash-payments settle line units cash = ap (λ kind. kind_payments settle kind (line_cost line units)) cash.kind
 
 -- what units of a line pay

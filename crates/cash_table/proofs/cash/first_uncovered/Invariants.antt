@@ -1,6 +1,6 @@
 use Rattle.std.proofs.Common.{◌≡◌, ℕ, ◌<◌, length, take}
 use Rattle.std.specs.List.{sum}
-use Rattle.cash_table.specs.Book.{total}
+use Rattle.escrow_units.specs.Flows.{total}
 use Rattle.cash_table.specs.Receipts.{IsCovered}
 use Rattle.cash_table.proofs.cash.first_uncovered.Given as goal
 

@@ -1,6 +1,6 @@
 use Rattle.std.proofs.Common.{◌≡◌, length, take}
 use Rattle.std.specs.List.{sum_by, zip}
-use Rattle.cash_table.specs.Portfolio.{line_cost}
+use Rattle.offer_book.specs.Portfolio.{line_cost}
 use Rattle.cash_table.proofs.costs.lines_cost.Given as goal
 
 abbrev pub invariant-loop-line : goal.invariant-loop-line

@@ -5,4 +5,4 @@ pub returns-clause-units : goal.returns-clause-units
 returns-clause-units c = empty_flows
 
 pub returns-clause-cost : goal.returns-clause-cost
-returns-clause-cost c = λ book plan _ _. empty_at_no_cost book plan
+returns-clause-cost c = empty_at_no_cost

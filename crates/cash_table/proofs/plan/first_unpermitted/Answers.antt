@@ -1,5 +1,5 @@
 use Rattle.std.proofs.Common.{◌≡◌, length, true, false, sym, arith}
-use Rattle.cash_table.specs.Portfolio.{permits}
+use Rattle.offer_book.specs.Portfolio.{permits}
 use Rattle.cash_table.proofs.PermitFacts.{first_fails, none_fails, found_none, pass_more}
 use Rattle.cash_table.proofs.plan.first_unpermitted.Goals as goal
 

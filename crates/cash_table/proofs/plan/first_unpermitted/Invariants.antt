@@ -1,6 +1,6 @@
 use Rattle.std.proofs.Common.{◌≡◌, ℕ, ◌<◌, true, slice_index, slice_index_or}
-use Rattle.cash_table.specs.declared.line.Line.{Line}
-use Rattle.cash_table.specs.Portfolio.{permits}
+use Rattle.offer_book.specs.declared.line.Line.{Line}
+use Rattle.offer_book.specs.Portfolio.{permits}
 use Rattle.cash_table.proofs.plan.first_unpermitted.Given as goal
 
 abbrev pub invariant-loop-line : goal.invariant-loop-line
