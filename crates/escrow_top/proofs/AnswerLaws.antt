@@ -1,13 +1,13 @@
 -- What an answer over the named files means.
 use Rattle.std.proofs.Common.{◌≡◌, ◌∙◌, ℕ, List, [], ◌∷◌, Option, Some, None, Result, Ok, Err, Bool, true, false, refl, sym, ap}
-use Rattle.std.specs.Prelude.{IsSomeAnd, MatchOption, IsTrue, option_and_then, is_ok, if◌then◌else◌}
+use Rattle.std.specs.Prelude.{IfOk, IsSomeAnd, MatchOption, IsTrue, option_and_then, is_ok, if◌then◌else◌}
 use Rattle.escrow_desk.specs.Content.{Content, Told, file_of, SaidAll, SaidPart}
 use Rattle.escrow_desk.specs.Rows.{rows_of}
 use Rattle.escrow_desk.specs.declared.refusal.FileKind.{FileKind}
 use Rattle.escrow_desk.specs.declared.refusal.RefusalKind.TheVariants as too_long
 use Rattle.row_fields.specs.RowForm.{refusal_of}
 use Rattle.escrow_top.specs.InputFiles.{InputTexts, Names, first_too_long, inputs_of}
-use Rattle.case_file.specs.Case.{CaseContents, IsKept}
+use Rattle.case_file.specs.Case.{CaseContents, IsKept, rows_case}
 use Rattle.escrow_top.specs.Answer.{Answer, answer_to, case_answer, case_of, certificate_answer, check_names, is_structure, named_answer, no_case_answer, refused, unbuilt_structure, usage, usage_text}
 use Rattle.escrow_top.specs.Accepted.{Accepted}
 use Rattle.escrow_top.specs.Ending.{Answers, AnswersPart, AreAccepted, IsAccepted, IsNoCommand, LacksFile, NamedAnswers, NamedAnswersPart}
@@ -17,7 +17,10 @@ use Rattle.case_file.specs.declared.fault.NoCase.TheVariants.{Refused}
 use Rattle.escrow_top.specs.declared.status.Status.{Status}
 use Rattle.escrow_top.specs.declared.status.Status.TheVariants as status
 use Rattle.escrow_top.proofs.AcceptedLaws.{accepted}
-use Rattle.escrow_top.proofs.InputFacts.{read-all}
+use Rattle.escrow_top.specs.Reply.{answer}
+use Rattle.escrow_top.specs.declared.reply.Reply.{Reply}
+use Rattle.escrow_top.specs.declared.stop.Stop.{Stop}
+use Rattle.escrow_top.proofs.InputFacts.{read-all, rows_alone}
 
 answered : (found : Option (List ℕ)) (case : CaseContents) (answer : Answer) → IsSomeAnd found (λ file. answer ≡ certificate_answer case file) → option_and_then (λ cert. Some (certificate_answer case cert)) found ≡ Some answer
 answered None case answer said = absurd said
@@ -71,6 +74,12 @@ certificate_accepted (Some content) names texts case answer read is kept said do
     let rates = read.rates in
     let prices = read.prices in
     rw (issue, rates, prices) (found_accepted texts case answer (file_of content names.cert) is kept said done)
+
+-- the same of a reply
+pub reply_accepted : (told : Told) (names : Names) (texts : InputTexts) (case : CaseContents) (result : Result Reply Stop) → AreRead told names texts → AreWithin texts → rows_case (rows_of texts.issue) (rows_of texts.rates) (rows_of texts.prices) ≡ Ok case → IsKept (rows_of texts.rates) case → IfOk result (λ reply. CertificateAnswers told names.cert case (answer reply)) → IfOk result (λ reply. reply.status ≡ status.Done → MatchOption told (Unit {0}) (λ content. AreAccepted content names))
+reply_accepted told names texts case (Err stop) read within is kept said = said
+reply_accepted told names texts case (Ok reply) read within is kept said = λ done.
+    certificate_accepted told names texts case (answer reply) read (rows_alone texts within ∙ is) kept said done
 
 no_command : (words : List (List ℕ)) (content : Content) → IsNoCommand words → answer_to words content ≡ Some usage
 no_command words content none =

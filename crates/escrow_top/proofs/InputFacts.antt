@@ -47,7 +47,9 @@ read-all content names texts there within =
     rw (issue, within-issue texts.issue within.issue, rates, within-rates texts.issue texts.rates within.issue within.rates, prices) refl
 
 pub read-long_issue : (content : Content) (names : Names) (issue : List ℕ) → file_of content names.issue ≡ Some issue → file_limit < length issue → inputs_of content names ≡ Some (texts_of issue [] [])
-read-long_issue content names issue is long = rw (is, over-issue issue [] [] long) refl
+read-long_issue content names issue is long =
+    let over = over-issue issue [] [] long in
+    rw (is, over, over) refl
 
 pub read-long_rates : (content : Content) (names : Names) (issue rates : List ℕ) → file_of content names.issue ≡ Some issue → file_of content names.rates ≡ Some rates → length issue ≤ file_limit → file_limit < length rates → inputs_of content names ≡ Some (texts_of issue rates [])
 read-long_rates content names issue rates is is_rates within long =
