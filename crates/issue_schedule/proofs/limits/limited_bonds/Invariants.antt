@@ -1,8 +1,9 @@
 use Rattle.std.proofs.Common.{◌≡◌, ◌+◌, ◌≤◌, drop}
 use Rattle.std.specs.List.{flat_map}
-use Rattle.issue_schedule.specs.DaySums.{total_limit}
-use Rattle.issue_schedule.specs.Needs.{total, bond_needs}
-use Rattle.issue_schedule.proofs.sums.limited_bonds.Given as goal
+use Rattle.issue_schedule.specs.Limits.{total_limit}
+use Rattle.escrow_units.specs.Flows.{total}
+use Rattle.issue_schedule.specs.Needs.{bond_needs}
+use Rattle.issue_schedule.proofs.limits.limited_bonds.Given as goal
 
 abbrev pub invariant-loop-bond : goal.invariant-loop-bond
 invariant-loop-bond l = record {

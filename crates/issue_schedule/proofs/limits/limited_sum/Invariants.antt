@@ -1,7 +1,7 @@
 use Rattle.std.proofs.Common.{◌≡◌, ◌+◌, ◌≤◌, drop}
-use Rattle.issue_schedule.specs.DaySums.{total_limit}
-use Rattle.issue_schedule.specs.Needs.{total}
-use Rattle.issue_schedule.proofs.sums.limited_sum.Given as goal
+use Rattle.issue_schedule.specs.Limits.{total_limit}
+use Rattle.escrow_units.specs.Flows.{total}
+use Rattle.issue_schedule.proofs.limits.limited_sum.Given as goal
 
 abbrev pub invariant-loop-flow : goal.invariant-loop-flow
 invariant-loop-flow l = record {
