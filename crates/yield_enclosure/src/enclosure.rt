@@ -3,9 +3,10 @@
 ghost use Rattle.std.specs.Prelude.{◌≡◌, false, ◌+◌, ◌*◌, ◌<◌, ◌≤◌, ◌^◌, IfOk};
 ghost use Rattle.escrow_units.specs.PresentValue.{last_index};
 ghost use Rattle.fixed_powers.specs.DiscountPowers.{one};
-ghost use Rattle.fixed_powers.specs.PresentValues.{HasLaterAmount, indexed, total_cents, present_value};
+ghost use Rattle.escrow_units.specs.Flows.{indexed, total};
+ghost use Rattle.fixed_powers.specs.PresentValues.{HasLaterAmount, total_cents, present_value};
 ghost use Rattle.fixed_powers.specs.declared.side.Side.TheVariants.{Low};
-ghost use Rattle.yield_enclosure.specs.YieldAnswers.{FallWithin40Years, AreDearerBelow, total, is_within, is_worth, is_no_dearer, IsLowerEnd, IsUpperEnd, IsToldBy, answer_of_covered, yield_answer_of};
+ghost use Rattle.yield_enclosure.specs.YieldAnswers.{FallWithin40Years, AreDearerBelow, is_within, is_worth, is_no_dearer, IsLowerEnd, IsUpperEnd, IsToldBy, answer_of_covered, yield_answer_of};
 
 use crate::answer::YieldAnswer;
 use crate::timeline::Timeline;
