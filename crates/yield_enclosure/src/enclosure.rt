@@ -12,11 +12,8 @@ use crate::answer::YieldAnswer;
 use crate::timeline::Timeline;
 use escrow_desk::NoMemory;
 use escrow_units::{Cents, Day, Flow, YieldUnits};
-use fixed_powers::Side;
+use fixed_powers::{ONE, Side};
 use std::alloc::Global;
-
-// One, as a number of 62 fraction bits.
-const ONE: u128 = 1 << 62;
 
 // 30 percent: a yield that reaches it is above the interval's bounds.
 const MOST: YieldUnits = YieldUnits(3_000_000_000);
@@ -40,7 +37,7 @@ fn is_worth(alloc: Global, flows: &Timeline, cost: Cents, n: YieldUnits) -> Resu
     ensures { IfOk result (λ yes. yes ≡ is_worth flows.now cost.0 n.0) }
 {
     let value = flows.present_value(alloc, n, Side::Low)?;
-    Ok(ONE * cost.0 as u128 <= value)
+    Ok(ONE as u128 * cost.0 as u128 <= value)
 }
 
 // Whether the flows are worth no more than the cost at a yield, rounded up.
@@ -55,7 +52,7 @@ fn is_no_dearer(
     ensures { IfOk result (λ yes. yes ≡ is_no_dearer flows.now cost.0 n.0) }
 {
     let value = flows.present_value(alloc, n, Side::High)?;
-    Ok(value <= ONE * cost.0 as u128)
+    Ok(value <= ONE as u128 * cost.0 as u128)
 }
 
 // The greatest yield at which the flows are worth the cost: from 0 to just below 30 percent.
