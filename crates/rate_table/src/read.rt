@@ -3,7 +3,7 @@ ghost use Rattle.std.specs.List.{list_any};
 ghost use Rattle.std.specs.Result.{result_and};
 ghost use Rattle.escrow_desk.specs.declared.refusal.CaseError.TheVariants.{Refused, NoMemory};
 ghost use Rattle.escrow_units.specs.Denomination.{AreTerms};
-ghost use Rattle.rate_table.specs.RateForm.{Answers, at_row as answer_at_row, bare_file, rate_file_of, refusal_at, repeated_terms as repeated_terms_of, with_offer_row, with_range_row, with_row, with_rows};
+ghost use Rattle.rate_table.specs.RateForm.{Answers, at_row as answer_at_row, bare_file, rate_file_of, refusal_at, with_offer_row, with_range_row, with_row, with_rows};
 ghost use Rattle.rate_table.specs.RangeIndex.{IsDraft, IsIndex, draft_file};
 ghost use Rattle.rate_table.specs.Table.{IsRateFile, IsRange, IsOffer, meets};
 
@@ -15,7 +15,7 @@ use crate::row::{offer_row, range_row};
 use crate::table::{Offer, Offers, RateFile, RateRange, RateRanges};
 use escrow_desk::{CaseError, FileKind, RefusalKind, Rows};
 use escrow_units::{Day, Terms};
-use row_fields::{at_row, first_row, refused, row_word, terms_row};
+use row_fields::{at_row, first_row, refused, repeated_terms, row_word};
 use std::alloc::Global;
 
 // A file of these terms, without ranges and offers.
@@ -64,17 +64,6 @@ fn push_offer(offers: &mut Vec<Offer>, offer: &Offer) -> Result<(), CaseError>
         return Err(CaseError::NoMemory);
     }
     Ok(())
-}
-
-// A second `terms` row, which may not stand.
-fn repeated_terms(rows: &Rows, row: u32) -> RefusalKind
-    requires { row < length rows.now }
-    ensures { repeated_terms_of (slice_index_or rows.now row []) ≡ Err result }
-{
-    match terms_row(rows, row) {
-        Ok(_) => RefusalKind::Repeated,
-        Err(kind) => kind,
-    }
 }
 
 // `rate,FROM,TO,MAXIMUM`: one more range, where it has no day in common with an earlier one.
