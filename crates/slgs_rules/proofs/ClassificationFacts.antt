@@ -8,7 +8,6 @@ use Rattle.std.specs.List.{list_any}
 use Rattle.std.specs.Ordering.{int_eq}
 use Rattle.jiff_core.proofs.SignedLemmas.{signed_arith}
 use Rattle.escrow_units.specs.Calendar.{half_back_of, years_after_of, IsBaseDay, IsSeriesDate}
-use Rattle.escrow_units.specs.DayNumber.{IsDayNumber}
 use Rattle.escrow_units.specs.Series.{series_dates}
 use Rattle.escrow_units.specs.SlgsTerms.{IsSettlement, IsOfKind, IsFirstInterest, shortest_term}
 use Rattle.escrow_units.specs.declared.amount.Rate.{Rate}
@@ -18,12 +17,12 @@ use Rattle.escrow_units.specs.declared.security.Slgs.{Slgs}
 use Rattle.escrow_units.specs.declared.security.SlgsKind.{SlgsKind}
 use Rattle.escrow_units.specs.declared.security.SlgsKind.TheVariants as kind
 use Rattle.escrow_units.specs.declared.security.StepRule.TheVariants as rule
-use Rattle.escrow_units.proofs.SeriesFacts.{half_back_of-start}
+use Rattle.escrow_units.proofs.SeriesDates.{half_back_of-order, half_back_of-zero}
 use Rattle.slgs_rules.specs.Classification.{classified, earliest_from, faults, first_fault, first_of_kind, has_rate, is_first_interest, is_series_date, is_within_table, keeps, kind_of, may_name, security_of, sold_unless}
 use Rattle.slgs_rules.specs.TermRules.{Request, HasRate, IsAnswer, IsEarliestFrom, IsFirstOfKind, IsNameable, IsNamedOrEarliest, IsWithinTable, Keeps, place, rate_of}
 use Rattle.slgs_rules.specs.declared.fault.RuleFault.{RuleFault}
 use Rattle.slgs_rules.specs.declared.fault.RuleFault.TheVariants as fault
-use Rattle.slgs_rules.proofs.RuleFacts.{half_back_of-order, maturity-base, same_place, span, answer-unique}
+use Rattle.slgs_rules.proofs.RuleFacts.{maturity-base, same_place, span, answer-unique}
 
 int_le-tells : (a b : ℤ) → Decides (int_le a b) (a ≤ℤ b)
 int_le-tells a b = (λ t. grind (arith, ints), λ h. grind (arith, ints))
@@ -84,8 +83,7 @@ found : (maturity from : ℤ) (k : ℕ) → IsBaseDay maturity → k ≤ 84 → 
     → IsEarliestAmong maturity from k (unwrap_or (find (int_le from) (series_dates maturity rule.SameDay k)) maturity)
 unfolding series_dates
 found maturity from zero base few late =
-    let own : IsDayNumber maturity = (omega (arith, signed_arith, base.0), omega (arith, signed_arith, base.1)) in
-    let start = half_back_of-start maturity rule.SameDay own in
+    let start = half_back_of-zero maturity rule.SameDay base in
     rw (start, (int_le-tells from maturity).1 late) (record {
       among = record { steps = 0; few = omega arith; back = sym start };
       late = late;
@@ -96,7 +94,7 @@ found maturity from (suc k) base few late =
       | inl here ↦ rw here (record {
         among = record { steps = k + 1; few = omega arith; back = refl };
         late = (int_le-tells from (half_back_of maturity (k + 1) rule.SameDay)).0 here;
-        earliest = λ steps fewer from_date. half_back_of-order maturity steps (k + 1) base (omega arith) (omega arith);
+        earliest = λ steps fewer from_date. half_back_of-order maturity rule.SameDay steps (k + 1) base (omega arith) (omega arith);
       })
       | inr before ↦
           let later = found maturity from k base (omega arith) late in
