@@ -39,12 +39,7 @@ pub fn flows(alloc: Global, book: &Book, plan: &Plan) -> Result<Vec<Flow>, NoMem
 }
 
 // Adds what the bought lines pay. A line without units pays nothing, so its dates aren't looked for.
-fn add_bought(
-    sums: &mut DaySums,
-    settle: Day,
-    lines: &[Line],
-    plan: &[u64],
-) -> Result<(), NoMemory>
+fn add_bought(sums: &mut DaySums, settle: Day, lines: &[Line], plan: &[u64]) -> Result<(), NoMemory>
     requires none { sums.old ≡ [] }
     requires settlement { IsSettlement settle }
     requires lines { All (λ line. IsSecurityLine settle line) lines.now }

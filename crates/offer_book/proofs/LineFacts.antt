@@ -29,8 +29,8 @@ use Rattle.offer_book.specs.declared.line.Line.{Line}
 use Rattle.offer_book.specs.Book.{AreWithinFortyYears, IsCashLine, IsSecurity, IsSecurityLine, IsLine, IsKindWithoutInterest, IsWithoutInterest}
 use Rattle.offer_book.specs.Portfolio.{line_cost, kind_payments, line_payments}
 
--- 40 years from a settlement end after it
-pub forty-years : (settle : ℤ) → IsSettlement settle → settle ≤ℤ years_after_of settle 40
+-- 40 years from a settlement have at least 365 days each
+pub forty-years : (settle : ℤ) → IsSettlement settle → (settle +ℤ pos 14_600) ≤ℤ years_after_of settle 40
 forty-years settle h =
     let own : IsDayNumber settle = (omega (arith, ints, h.0), omega (arith, ints, h.1)) in
     let from : IsBaseDay settle = (h.0, omega (arith, ints, h.1)) in
@@ -148,7 +148,7 @@ cash-payments settle line units cash = ap (λ kind. kind_payments settle kind (l
 pub line_payments-within : (settle : ℤ) (line : Line) (units : ℕ) → IsSettlement settle → IsLine settle line → AreWithinFortyYears settle (line_payments settle line units)
 line_payments-within settle line units h is_line = elim is_line [
   | inl cash ↦ subst (AreWithinFortyYears settle) (sym (cash-payments settle line units cash))
-      (All-cons (λ (flow : Flow). (settle ≤ℤ flow.day) × (flow.day ≤ℤ years_after_of settle 40)) _ [] (omega (arith, ints), forty-years settle h)
+      (All-cons (λ (flow : Flow). (settle ≤ℤ flow.day) × (flow.day ≤ℤ years_after_of settle 40)) _ [] (omega (arith, ints), omega (arith, ints, forty-years settle h))
       (All-nil (λ (flow : Flow). (settle ≤ℤ flow.day) × (flow.day ≤ℤ years_after_of settle 40))))
   | inr security ↦ kind-within settle line.kind (line_cost line units) h security.security
 ]
