@@ -3,6 +3,7 @@ pub mod CostFacts
 pub mod PermitFacts
 pub mod PaymentFacts
 pub mod ReceiptFacts
+pub mod FlowFacts
 pub mod DayFacts
 pub mod YieldFacts
 pub mod PortfolioLaws

@@ -111,5 +111,5 @@ pub receipts_more : (needs : List Flow) (settle : ℤ) (lines : List Line) (plan
 receipts_more needs settle lines plan i line units old new at had added = λ k d within.
     let t = (get_or needs k d).day in
     let parts = ap (total_by t) (payments_more settle lines plan i line units at)
-        ∙ sum_by-append (cents_by t) (flat_map (pair_payments settle) (take i (zip lines plan))) (pair_payments settle (line, units)) in
+    ∙ sum_by-append (cents_by t) (flat_map (pair_payments settle) (take i (zip lines plan))) (pair_payments settle (line, units)) in
     omega (arith, parts, had k d within, added k d within)

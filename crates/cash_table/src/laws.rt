@@ -1,12 +1,12 @@
-ghost use Rattle.std.specs.Prelude.{◌≡◌, ℕ, ◌+◌, ◌≤◌, ◌↔◌, List, [], drop, slice_index};
+ghost use Rattle.std.specs.Prelude.{◌≡◌, ℕ, ◌+◌, ◌*◌, ◌^◌, ◌≤◌, ◌↔◌, List, [], drop, slice_index};
 ghost use Rattle.std.specs.List.{All};
+ghost use Rattle.escrow_units.specs.Flows.{index_of, indexed, total};
 ghost use Rattle.escrow_units.specs.PresentValue.{YieldLiesIn};
-ghost use Rattle.escrow_units.specs.Flows.{indexed};
-ghost use Rattle.offer_book.specs.Book.{AreWithoutInterest, BookContents, IsBook};
+ghost use Rattle.offer_book.specs.Book.{AreWithinFortyYears, AreWithoutInterest, BookContents, IsBook};
 ghost use Rattle.offer_book.specs.Portfolio.{IsPermitted, Meets, cost, security_cost, security_flows, total_needs};
 
-/// A law: every permitted portfolio of securities without interest that meets the needs costs at least the sum of the needs. So no portfolio is
-/// cheaper than one that costs just that.
+/// A law: every permitted portfolio of securities without interest that meets the needs costs at least the sum of the
+/// needs. So no portfolio is cheaper than one that costs just that.
 pub fn meets_cost()
     ensures { (book : BookContents) (plan : List ℕ)
         → IsBook book
@@ -23,6 +23,38 @@ pub fn zero_yield()
         → AreWithoutInterest book.lines
         → IsPermitted book plan
         → YieldLiesIn (indexed book.settle (security_flows book plan)) (security_cost book plan) 0 0 }
+{}
+
+/// A law: without interest the security flows of a permitted portfolio come to its security cost.
+pub fn zero_interest_total()
+    ensures { (book : BookContents) (plan : List ℕ)
+        → IsBook book
+        → AreWithoutInterest book.lines
+        → IsPermitted book plan
+        → total (security_flows book plan) ≡ security_cost book plan }
+{}
+
+/// A law: security flows fall from settlement to 40 years after it, and have an index of at least 1, since no security
+/// pays in the first 15 days.
+pub fn flow_days()
+    ensures within { (book : BookContents) (plan : List ℕ)
+        → IsBook book
+        → AreWithinFortyYears book.settle (security_flows book plan) }
+    ensures later { (book : BookContents) (plan : List ℕ)
+        → IsBook book
+        → All (λ flow. 1 ≤ index_of book.settle flow.day) (security_flows book plan) }
+{}
+
+/// A law: a permitted portfolio costs at most 360 billion dollars, and its securities pay at most 100 trillion.
+pub fn bounds()
+    ensures cost { (book : BookContents) (plan : List ℕ)
+        → IsBook book
+        → IsPermitted book plan
+        → cost book plan ≤ 36 * 10 ^ 12 }
+    ensures flows { (book : BookContents) (plan : List ℕ)
+        → IsBook book
+        → IsPermitted book plan
+        → total (security_flows book plan) ≤ 10 ^ 16 }
 {}
 
 /// A law: the cost of a permitted portfolio is its opening cash, which is the units of line 0, and its security cost.

@@ -5,11 +5,15 @@ mod cash;
 mod costs;
 mod laws;
 mod plan;
+mod security_flows;
 
 pub use cash::first_short;
 pub use costs::{cost, security_cost};
-pub use laws::{cost_parts, empty_flows, meets_cost, zero_yield};
+pub use laws::{
+    bounds, cost_parts, empty_flows, flow_days, meets_cost, zero_interest_total, zero_yield,
+};
 pub use plan::{Plan, first_unpermitted};
+pub use security_flows::flows;
 
-
-
+#[cfg(test)]
+mod tests;

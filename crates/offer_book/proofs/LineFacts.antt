@@ -1,10 +1,10 @@
 -- What units of a line cost and pay.
-use Rattle.std.proofs.Common.{◌≡◌, ℕ, ◌+◌, ◌*◌, ◌^◌, ◌≤◌, zero, suc, refl, sym, ap, subst, arith, inl, inr, ℤ, ◌≤ℤ◌, ◌<ℤ◌, Bool, true, false, if◌then◌else◌, List, [], ◌∷◌, length, get_or, int_lt}
+use Rattle.std.proofs.Common.{◌≡◌, ℕ, ◌+◌, ◌*◌, ◌^◌, ◌≤◌, zero, suc, refl, sym, ap, subst, arith, inl, inr, ℤ, ◌≤ℤ◌, ◌<ℤ◌, Bool, true, false, if◌then◌else◌, List, [], ◌∷◌, length, get_or, pos, ◌+ℤ◌, int_le, int_lt}
 use Rattle.std.specs.List.{All}
 use Rattle.std.specs.Ordering.{int_eq}
 use Rattle.std.proofs.Math.Nat.{mul-le-mul_left, mul-le-mul_right}
 use Rattle.std.proofs.lemmas.List.{length-map}
-use Rattle.std.proofs.lemmas.List.Elements.{All-cons, All-nil, All-map, All-weaker}
+use Rattle.std.proofs.lemmas.List.Elements.{All-cons, All-nil, All-map, All-weaker, filter_passes}
 use Rattle.std.proofs.lemmas.List.Sums.{sum_by-le}
 use Rattle.std.proofs.lemmas.Int.{ints}
 use Rattle.escrow_units.specs.Calendar.{IsBaseDay, years_after_of}
@@ -30,8 +30,8 @@ use Rattle.offer_book.specs.declared.line.Line.{Line}
 use Rattle.offer_book.specs.Book.{AreWithinFortyYears, IsCashLine, IsSecurity, IsSecurityLine, IsLine, IsKindWithoutInterest, IsWithoutInterest}
 use Rattle.offer_book.specs.Portfolio.{line_cost, kind_payments, line_payments}
 
--- 40 years from a settlement end after it
-pub forty-years : (settle : ℤ) → IsSettlement settle → settle ≤ℤ years_after_of settle 40
+-- 40 years from a settlement have at least 365 days each
+pub forty-years : (settle : ℤ) → IsSettlement settle → (settle +ℤ pos 14_600) ≤ℤ years_after_of settle 40
 forty-years settle h =
     let own : IsDayNumber settle = (omega (arith, ints, h.0), omega (arith, ints, h.1)) in
     let from : IsBaseDay settle = (h.0, omega (arith, ints, h.1)) in
@@ -149,7 +149,7 @@ cash-payments settle line units cash = ap (λ kind. kind_payments settle kind (l
 pub line_payments-within : (settle : ℤ) (line : Line) (units : ℕ) → IsSettlement settle → IsLine settle line → AreWithinFortyYears settle (line_payments settle line units)
 line_payments-within settle line units h is_line = elim is_line [
   | inl cash ↦ subst (AreWithinFortyYears settle) (sym (cash-payments settle line units cash))
-      (All-cons (λ (flow : Flow). (settle ≤ℤ flow.day) × (flow.day ≤ℤ years_after_of settle 40)) _ [] (omega (arith, ints), forty-years settle h)
+      (All-cons (λ (flow : Flow). (settle ≤ℤ flow.day) × (flow.day ≤ℤ years_after_of settle 40)) _ [] (omega (arith, ints), omega (arith, ints, forty-years settle h))
       (All-nil (λ (flow : Flow). (settle ≤ℤ flow.day) × (flow.day ≤ℤ years_after_of settle 40))))
   | inr security ↦ kind-within settle line.kind (line_cost line units) h security.security
 ]
@@ -171,3 +171,26 @@ line_payments-face settle line units h security none = kind-face settle line.kin
 -- nothing where nothing is bought
 pub line_payments-none : (settle : ℤ) (line : Line) (units : ℕ) → units ≡ 0 → All (λ flow. flow.cents.0 ≡ 0) (line_payments settle line units)
 line_payments-none settle line units none = kind-none settle line.kind (line_cost line units) (rw none (omega arith))
+
+-- a security first pays at least 15 days after settlement
+le_from_test : (a b : ℤ) → int_le a b ≡ true → a ≤ℤ b
+le_from_test a b h = grind (arith, ints)
+
+dates-kept : (slgs : Slgs) → All (λ date. int_le slgs.first date ≡ true) (payment_dates slgs)
+unfolding payment_dates
+dates-kept slgs = filter_passes (λ date. int_le slgs.first date) _
+
+payments_of-late : (slgs : Slgs) (face : ℕ) → IsPaid slgs → All (λ flow. (slgs.settle +ℤ pos 15) ≤ℤ flow.day) (payments_of slgs face)
+unfolding payments_of
+payments_of-late slgs face p =
+    All-map (λ (flow : Flow). (slgs.settle +ℤ pos 15) ≤ℤ flow.day) (payment_on slgs face) (payment_dates slgs)
+    (All-weaker (λ date. int_le slgs.first date ≡ true) (λ date. (slgs.settle +ℤ pos 15) ≤ℤ date)
+    (λ date passes. let late = le_from_test slgs.first date passes in omega (arith, ints, late, p.late)) (payment_dates slgs) (dates-kept slgs))
+
+kind-late : (settle : ℤ) (kind : LineKind) (amount : ℕ) → IsSettlement settle → IsSecurity settle kind → All (λ flow. (settle +ℤ pos 15) ≤ℤ flow.day) (kind_payments settle kind amount)
+kind-late settle Cash amount h security = absurd security
+kind-late settle (Security slgs) amount h security =
+    rw (← security.0) (payments_of-late slgs amount (is_paid settle slgs h security))
+
+pub line_payments-late : (settle : ℤ) (line : Line) (units : ℕ) → IsSettlement settle → IsSecurityLine settle line → All (λ flow. (settle +ℤ pos 15) ≤ℤ flow.day) (line_payments settle line units)
+line_payments-late settle line units h security = kind-late settle line.kind (line_cost line units) h security.security

@@ -16,7 +16,7 @@ needs_keep : (settle : ℤ) → IsSettlement settle → IsNeeds settle (need set
 needs_keep settle h = record {
   few = omega arith;
   rising = λ i j d order within. absurd (omega arith);
-  within = All-cons (λ (flow : Flow). (settle ≤ℤ flow.day) × (flow.day ≤ℤ years_after_of settle 40)) (need settle) [] (omega (arith, ints), forty-years settle h)
+  within = All-cons (λ (flow : Flow). (settle ≤ℤ flow.day) × (flow.day ≤ℤ years_after_of settle 40)) (need settle) [] (omega (arith, ints), omega (arith, ints, forty-years settle h))
       (All-nil (λ (flow : Flow). (settle ≤ℤ flow.day) × (flow.day ≤ℤ years_after_of settle 40)));
   positive = All-cons (λ (flow : Flow). 1 ≤ flow.cents.0) (need settle) [] (omega arith) (All-nil (λ (flow : Flow). 1 ≤ flow.cents.0));
   small = omega arith;

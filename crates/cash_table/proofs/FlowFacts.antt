@@ -1,0 +1,121 @@
+-- What securities pay, summed by day.
+use Rattle.std.proofs.Common.{◌≡◌, ◌∙◌, ℕ, ◌+◌, ◌-◌, ◌*◌, ◌^◌, ◌<◌, ◌≤◌, List, [], ◌∷◌, ◌++◌, length, take, drop, refl, sym, ap, subst, arith, inl, inr, ℤ, ◌≤ℤ◌, int_le}
+use Rattle.std.specs.Prelude.{pos, ◌+ℤ◌}
+use Rattle.std.specs.List.{All, sum_by, flat_map, zip}
+use Rattle.std.specs.Ordering.{int_eq}
+use Rattle.std.proofs.lemmas.List.Elements.{All-head, All-tail, All-nil, All-append, All-weaker}
+use Rattle.std.proofs.lemmas.Int.{ints}
+use Rattle.std.proofs.lemmas.List.Sums.{sum_by-cons, sum_by-append}
+use Rattle.escrow_units.specs.Calendar.{years_after_of}
+use Rattle.escrow_units.specs.DayNumber.{IsDayNumber}
+use Rattle.escrow_units.specs.Flows.{index_of, total}
+use Rattle.escrow_units.specs.SlgsTerms.{IsSettlement}
+use Rattle.escrow_units.specs.declared.security.Flow.{Flow}
+use Rattle.escrow_units.proofs.IndexFacts.{e_of-apart}
+use Rattle.escrow_units.proofs.YearFacts.{settlement-base}
+use Rattle.day_sums.specs.Summed.{summed}
+use Rattle.day_sums.proofs.SumFacts.{count, counted, counted-zero, count-append, days-summed}
+use Rattle.day_sums.proofs.Uniqueness.{keep-total, same-sums, in-steps}
+use Rattle.offer_book.specs.declared.line.Line.{Line}
+use Rattle.offer_book.specs.Book.{AreLines, AreWithinFortyYears, BookContents, IsBook, IsSecurityLine}
+use Rattle.offer_book.specs.Portfolio.{IsPermitted, security_flows}
+use Rattle.offer_book.proofs.LineFacts.{line_payments-none, line_payments-within, line_payments-late}
+use Rattle.cash_table.proofs.CostFacts.{PairIsPermitted}
+use Rattle.cash_table.proofs.PaymentFacts.{pair_payments, pair_total, payments_at_most, payments_more, total-payments}
+use Rattle.cash_table.proofs.ZipFacts.{StandAt}
+
+pub total-sums : (sums : List Flow) (settle : ℤ) (lines : List Line) (plan : List ℕ) (i : ℕ) → sums ≡ summed (flat_map (pair_payments settle) (take i (zip lines plan)))
+    → total sums ≡ sum_by (pair_total settle) (take i (zip lines plan))
+total-sums sums settle lines plan i e =
+    ap total e ∙ keep-total (flat_map (pair_payments settle) (take i (zip lines plan))) ∙ total-payments settle (take i (zip lines plan))
+
+-- one line more
+pub sums_more : (sums more pays : List Flow) (settle : ℤ) (lines : List Line) (plan : List ℕ) (i : ℕ) (line : Line) (units : ℕ) → StandAt lines plan i line units
+    → sums ≡ summed (flat_map (pair_payments settle) (take i (zip lines plan))) → pays ≡ pair_payments settle (line, units) → more ≡ summed (sums ++ pays)
+    → more ≡ summed (flat_map (pair_payments settle) (take (i + 1) (zip lines plan)))
+sums_more sums more pays settle lines plan i line units at e f g =
+    let so_far = flat_map (pair_payments settle) (take i (zip lines plan)) in
+    g ∙ ap (λ (fs : List Flow). summed (fs ++ pays)) e ∙ in-steps so_far pays ∙ ap (λ (fs : List Flow). summed (so_far ++ fs)) f
+    ∙ ap summed (sym (payments_more settle lines plan i line units at))
+
+count-none : (day : ℤ) (flows : List Flow) → All (λ flow. flow.cents.0 ≡ 0) flows → count (λ d. int_eq d day) flows ≡ 0
+count-none day [] none = refl
+count-none day (flow ∷ flows) none =
+    let zero = counted-zero (int_eq flow.day day) flow.cents.0 (All-head (λ (f : Flow). f.cents.0 ≡ 0) flow flows none) in
+    omega (arith, sum_by-cons (counted (λ d. int_eq d day)) flow flows, zero, count-none day flows (All-tail (λ (f : Flow). f.cents.0 ≡ 0) flow flows none))
+
+-- a line without units changes nothing
+pub sums_same : (sums : List Flow) (settle : ℤ) (lines : List Line) (plan : List ℕ) (i : ℕ) (line : Line) (units : ℕ) → StandAt lines plan i line units → units ≡ 0
+    → sums ≡ summed (flat_map (pair_payments settle) (take i (zip lines plan)))
+    → sums ≡ summed (flat_map (pair_payments settle) (take (i + 1) (zip lines plan)))
+sums_same sums settle lines plan i line units at none e =
+    let so_far = flat_map (pair_payments settle) (take i (zip lines plan)) in
+    let pays = pair_payments settle (line, units) in
+    e ∙ same-sums so_far (so_far ++ pays)
+    (λ day. omega (arith, count-append (λ d. int_eq d day) so_far pays, count-none day pays (line_payments-none settle line units none)))
+    ∙ ap summed (sym (payments_more settle lines plan i line units at))
+
+-- the days on which securities pay
+abbrev FallsLate : ℤ → ℤ → Type 0
+FallsLate settle day = ((settle +ℤ pos 15) ≤ℤ day) × (day ≤ℤ years_after_of settle 40)
+
+abbrev AreLate : ℤ → List Flow → Type 0
+AreLate settle flows = All (λ flow. FallsLate settle flow.day) flows
+
+line_late : (settle : ℤ) (line : Line) (units : ℕ) → IsSettlement settle → IsSecurityLine settle line → AreLate settle (pair_payments settle (line, units))
+line_late settle line units h security = λ k d lt. (line_payments-late settle line units h security k d lt, (line_payments-within settle line units h (inr security) k d lt).1)
+
+lines_late : (settle : ℤ) (lines : List Line) (plan : List ℕ) → IsSettlement settle → All (IsSecurityLine settle) lines → AreLate settle (flat_map (pair_payments settle) (zip lines plan))
+lines_late settle [] plan h securities = All-nil (λ (flow : Flow). FallsLate settle flow.day)
+lines_late settle (line ∷ lines) [] h securities = All-nil (λ (flow : Flow). FallsLate settle flow.day)
+lines_late settle (line ∷ lines) (units ∷ plan) h securities =
+    All-append (λ (flow : Flow). FallsLate settle flow.day) (pair_payments settle (line, units)) (flat_map (pair_payments settle) (zip lines plan))
+    (line_late settle line units h (All-head (IsSecurityLine settle) line lines securities))
+    (lines_late settle lines plan h (All-tail (IsSecurityLine settle) line lines securities))
+
+flows_late : (book : BookContents) (plan : List ℕ) → IsBook book → AreLate book.settle (security_flows book plan)
+flows_late book plan limits =
+    days-summed (FallsLate book.settle) (flat_map (pair_payments book.settle) (drop 1 (zip book.lines plan)))
+    (of_lines book.settle book.lines plan limits.settlement limits.lines)
+  where
+    of_lines : (settle : ℤ) (lines : List Line) (plan : List ℕ) → IsSettlement settle → AreLines settle lines → AreLate settle (flat_map (pair_payments settle) (drop 1 (zip lines plan)))
+    of_lines settle [] plan h lines = absurd lines
+    of_lines settle (cash ∷ securities) [] h lines = All-nil (λ (flow : Flow). FallsLate settle flow.day)
+    of_lines settle (cash ∷ securities) (units ∷ plan) h lines = lines_late settle securities plan h lines.1
+
+-- they are within 40 years
+pub flows_within : (book : BookContents) (plan : List ℕ) → IsBook book → AreWithinFortyYears book.settle (security_flows book plan)
+flows_within book plan limits =
+    All-weaker (λ (flow : Flow). FallsLate book.settle flow.day) (λ flow. (book.settle ≤ℤ flow.day) × (flow.day ≤ℤ years_after_of book.settle 40))
+    (λ flow late. (omega (arith, ints, late.0), late.1)) (security_flows book plan) (flows_late book plan limits)
+
+-- and discounted by at least a day
+pub flows_later : (book : BookContents) (plan : List ℕ) → IsBook book → All (λ flow. 1 ≤ index_of book.settle flow.day) (security_flows book plan)
+flows_later book plan limits =
+    All-weaker (λ (flow : Flow). FallsLate book.settle flow.day) (λ flow. 1 ≤ index_of book.settle flow.day)
+    (λ flow late. later book.settle flow.day limits.settlement late) (security_flows book plan) (flows_late book plan limits)
+  where
+    later : (settle day : ℤ) → IsSettlement settle → FallsLate settle day → 1 ≤ index_of settle day
+    later settle day h late =
+        let own : IsDayNumber settle = (omega (arith, ints, h.0), omega (arith, ints, h.1)) in
+        let base = settlement-base settle day h (omega (arith, ints, late.0)) late.1 in
+        let is_day : IsDayNumber day = (omega (arith, ints, base.0), omega (arith, ints, base.1)) in
+        omega (arith, e_of-apart settle day own is_day (omega (arith, ints, late.0)))
+
+-- parts of a permitted portfolio: its securities
+pub securities_permitted : (lines : List Line) (plan : List ℕ) → All PairIsPermitted (zip lines plan) → All PairIsPermitted (drop 1 (zip lines plan))
+securities_permitted [] plan permitted = All-nil PairIsPermitted
+securities_permitted (line ∷ lines) [] permitted = All-nil PairIsPermitted
+securities_permitted (line ∷ lines) (units ∷ plan) permitted = All-tail PairIsPermitted (line, units) (zip lines plan) permitted
+
+pub securities_at_most : (book : BookContents) (plan : List ℕ) → IsBook book → IsPermitted book plan → total (flat_map (pair_payments book.settle) (drop 1 (zip book.lines plan))) ≤ 10 ^ 16
+securities_at_most book plan limits permitted =
+    omega (arith, payments_at_most book plan limits permitted, part (zip book.lines plan))
+  where
+    part : (pairs : List (Line × ℕ)) → total (flat_map (pair_payments book.settle) (drop 1 pairs)) ≤ total (flat_map (pair_payments book.settle) pairs)
+    part [] = omega arith
+    part (pair ∷ pairs) = omega (arith, sum_by-append (λ (f : Flow). f.cents.0) (pair_payments book.settle pair) (flat_map (pair_payments book.settle) pairs))
+
+pub flows_at_most : (book : BookContents) (plan : List ℕ) → IsBook book → IsPermitted book plan → total (security_flows book plan) ≤ 10 ^ 16
+flows_at_most book plan limits permitted =
+    omega (arith, keep-total (flat_map (pair_payments book.settle) (drop 1 (zip book.lines plan))), securities_at_most book plan limits permitted)
