@@ -124,7 +124,7 @@ fn known_yields(rt: HostRuntime) -> Result<(), Fail> {
             cost: 1_000,
             answer: between(0, 0),
         },
-        // Ten more: in order of day and out of it, near 0, near 30 percent, and on settlement.
+        // Eleven more: in order of day and out of it, at ends of months, near 0, near 30 percent, and on settlement.
         Row {
             flows: [
                 flow(20_284, 200_000),
@@ -199,7 +199,17 @@ fn known_yields(rt: HostRuntime) -> Result<(), Fail> {
             cost: 500_000,
             answer: between(487_047_656, 487_047_657),
         },
+        Row {
+            flows: [
+                flow(34_713, 100_000_000),
+                flow(27_452, 35_000_000),
+                flow(30_923, 27_500_050),
+            ],
+            cost: 50_000_000,
+            answer: between(364_050_950, 364_050_951),
+        },
     ];
+    zero_yield_law();
     for row in &rows {
         assert_eq!(rt;
             answer(rt.alloc(), &row.flows, row.cost),
