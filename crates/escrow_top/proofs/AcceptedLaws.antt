@@ -4,19 +4,21 @@ use Rattle.std.specs.Prelude.{option_map, option_and_then}
 use Rattle.std.proofs.lemmas.Bool.{ltb-false}
 use Rattle.escrow_desk.specs.Rows.{rows_of}
 use Rattle.offer_book.specs.Book.{BookContents, IsBook}
-use Rattle.offer_book.specs.Portfolio.{Meets, IsFirstShort, cost, total_needs}
+use Rattle.offer_book.specs.Portfolio.{Meets, IsFirstShort, cost, security_cost, security_flows, total_needs}
+use Rattle.escrow_units.specs.Flows.{indexed}
 use Rattle.cash_table.specs.First.{first_short_of}
 use Rattle.cash_table.proofs.DayFacts.{first_short_is}
 use Rattle.cash_table.proofs.PortfolioLaws.{meets_cost, zero_yield}
 use Rattle.escrow_top.specs.CertificateForm.{Claim, claim_of}
 use Rattle.escrow_top.specs.InputFiles.{InputTexts}
 use Rattle.case_file.specs.Case.{CaseContents, IsKept}
-use Rattle.escrow_top.specs.Answer.{first_not_offered, portfolio, given, or_else, is_leaf_weak, reason_against, reason_of, yes_text, weighed, claim_answer, certificate_answer, certificate_limit, refused, case_of, check_answer}
+use Rattle.escrow_top.specs.Answer.{first_not_offered, portfolio, portfolio_yield, given, or_else, is_leaf_weak, reason_against, reason_of, yes_text, weighed, claim_answer, certificate_answer, certificate_limit, refused, case_of, check_answer}
 use Rattle.escrow_top.specs.Accepted.{Accepted}
 use Rattle.escrow_top.specs.declared.status.Status.TheVariants as status
 use Rattle.escrow_top.specs.declared.verdict.Reason.{Reason}
 use Rattle.escrow_top.specs.declared.verdict.Reason.TheVariants as reason
 use Rattle.escrow_top.proofs.ClaimLaws.{portfolio_permitted}
+use Rattle.escrow_top.proofs.YieldFacts.{ends_are_exact, printed_yield}
 
 -- a claim is accepted: no reason stands against it, and this is said
 record IsClaimed (case : CaseContents) (found : Option Claim) : Type 0 where
@@ -107,6 +109,7 @@ accepted texts cert case is_case kept done =
     let unopposed = is_unopposed case yes.claim yes.none in
     let tests = unopposed.tests in
     let permitted = portfolio_permitted book yes.claim.purchases unopposed.offered in
+    let printed = printed_yield book plan kept.book kept.interest permitted in
     record {
       case = case;
       claim = yes.claim;
@@ -120,7 +123,8 @@ accepted texts cert case is_case kept done =
       interest = kept.interest;
       permitted = permitted;
       meets = meets_from_none book plan kept.book tests.covered;
-      yield = zero_yield book plan kept.book kept.interest permitted;
+      yield = ends_are_exact (indexed book.settle (security_flows book plan)) (security_cost book plan) case.limit (portfolio_yield book plan) printed (zero_yield book plan kept.book kept.interest permitted);
+      printed = printed;
       least = λ rival is_permitted is_met.
           least_by_gap (cost book plan) yes.claim.gap (total_needs book) (cost book rival)
           (ltb-false (total_needs book) (cost book plan - yes.claim.gap) tests.borne)

@@ -1,7 +1,9 @@
 -- What `yes` means.
-use Rattle.std.specs.Prelude.{◌≡◌, ℕ, ◌+◌, ◌≤◌, List, length, drop, Some, Ok}
+use Rattle.std.specs.Prelude.{◌≡◌, ℕ, ◌+◌, ◌≤◌, ◌==◌, if◌then◌else◌, List, length, drop, Some, Ok}
 use Rattle.escrow_units.specs.Flows.{indexed}
-use Rattle.escrow_units.specs.PresentValue.{YieldLiesIn}
+use Rattle.escrow_units.specs.PresentValue.{IndexedFlow, YieldLiesIn}
+use Rattle.yield_enclosure.specs.declared.answer.YieldAnswer.{YieldAnswer}
+use Rattle.yield_enclosure.specs.declared.answer.YieldAnswer.TheVariants.{Empty, Negative, Between, Above}
 use Rattle.escrow_desk.specs.Rows.{rows_of}
 use Rattle.rate_table.specs.RateForm.{rate_file_of}
 use Rattle.rate_table.specs.declared.table.RateFile.{RateFile}
@@ -11,13 +13,24 @@ use Rattle.offer_book.specs.Portfolio.{IsPermitted, Meets, cost, security_cost, 
 use Rattle.escrow_top.specs.CertificateForm.{Claim, claim_of}
 use Rattle.escrow_top.specs.InputFiles.{InputTexts}
 use Rattle.case_file.specs.Case.{CaseContents}
-use Rattle.escrow_top.specs.Answer.{case_of, check_answer, portfolio, yes_text}
+use Rattle.escrow_top.specs.Answer.{case_of, check_answer, portfolio, portfolio_yield, yes_text}
+
+-- where a yield has two ends, the exact yield of the flows for the cost lies between them, and they are within the limit
+abbrev pub LiesInEnds : YieldAnswer → List IndexedFlow → ℕ → ℕ → Type 0
+LiesInEnds (Between lo hi) flows cost limit = YieldLiesIn flows cost lo.0 hi.0 × (hi.0 ≤ limit)
+LiesInEnds Empty flows cost limit = Unit {0}
+LiesInEnds Negative flows cost limit = Unit {0}
+LiesInEnds Above flows cost limit = ⊥
+
+-- securities without interest have no yield where none is bought, and else the yield 0
+abbrev pub yield_without_interest : ℕ → YieldAnswer
+yield_without_interest cost = if cost == 0 then Empty else Between (record { 0 = 0 }) (record { 0 = 0 })
 
 -- of the bytes of the four files: they give a case and a claim, of which this is said. The book keeps every limit, and its
 -- lines on offer, which bear no interest, are those of the rate file, each with every rule of term, rate and
--- denomination. The portfolio is permitted, and its payments cover the needs on every day. The exact yield of its
--- securities lies in the printed interval from 0 to 0, which is within the limit. No permitted portfolio that meets the
--- needs costs less by more than the gap, and the gap is allowed
+-- denomination. The portfolio is permitted, and its payments cover the needs on every day. Where two ends of its yield are
+-- printed, the exact yield of its securities lies between them, and they are within the limit; without interest they are 0
+-- and 0. No permitted portfolio that meets the needs costs less by more than the gap, and the gap is allowed
 pub record Accepted (texts : InputTexts) (cert : List ℕ) : Type 0 where
   pub case : CaseContents
   pub claim : Claim
@@ -31,6 +44,7 @@ pub record Accepted (texts : InputTexts) (cert : List ℕ) : Type 0 where
   pub interest : AreWithoutInterest case.book.lines
   pub permitted : IsPermitted case.book (portfolio case.book claim)
   pub meets : Meets case.book (portfolio case.book claim)
-  pub yield : YieldLiesIn (indexed case.book.settle (security_flows case.book (portfolio case.book claim))) (security_cost case.book (portfolio case.book claim)) 0 0
+  pub yield : LiesInEnds (portfolio_yield case.book (portfolio case.book claim)) (indexed case.book.settle (security_flows case.book (portfolio case.book claim))) (security_cost case.book (portfolio case.book claim)) case.limit
+  pub printed : portfolio_yield case.book (portfolio case.book claim) ≡ yield_without_interest (security_cost case.book (portfolio case.book claim))
   pub least : (rival : List ℕ) → IsPermitted case.book rival → Meets case.book rival → cost case.book (portfolio case.book claim) ≤ cost case.book rival + claim.gap
   pub allowed : claim.gap ≤ case.allowance

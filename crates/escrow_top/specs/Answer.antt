@@ -11,11 +11,15 @@ use Rattle.escrow_desk.specs.declared.refusal.RefusalKind.{RefusalKind}
 use Rattle.escrow_desk.specs.declared.refusal.RefusalKind.TheVariants as kind
 use Rattle.escrow_units.specs.DateText.{day_text}
 use Rattle.escrow_units.specs.Digits.{fixed}
+use Rattle.escrow_units.specs.Flows.{indexed}
 use Rattle.row_fields.specs.RowForm.{refusal_of}
 use Rattle.offer_book.specs.declared.line.Line.{Line}
 use Rattle.offer_book.specs.Book.{BookContents}
-use Rattle.offer_book.specs.Portfolio.{permits, total_needs, cost, security_cost}
+use Rattle.offer_book.specs.Portfolio.{permits, total_needs, cost, security_cost, security_flows}
 use Rattle.cash_table.specs.First.{first_short_of}
+use Rattle.yield_enclosure.specs.YieldAnswers.{yield_answer_of}
+use Rattle.yield_enclosure.specs.declared.answer.YieldAnswer.{YieldAnswer}
+use Rattle.yield_enclosure.specs.declared.answer.YieldAnswer.TheVariants as yields
 use Rattle.escrow_top.specs.CertificateForm.{Claim, claim_of, ◌>>=◌}
 use Rattle.escrow_top.specs.InputFiles.{InputTexts, Names, first_too_long, inputs_of}
 use Rattle.case_file.specs.Case.{CaseContents, cash_line, rows_case}
@@ -86,15 +90,22 @@ reason_text (reason.ShortOn day) = text_line (codes "no ShortOn ") (day_text day
 reason_text (reason.WeakLeaf node) = text_line (codes "no WeakLeaf ") (decimal node)
 reason_text reason.GapAbove = text_line (codes "no GapAbove") []
 
--- `empty` where no security is bought; else both ends of the yield's interval, in percent
-abbrev pub yield_words : ℕ → List ℕ
-yield_words security_cost = if security_cost == 0 then codes "empty" else codes "0.00000000 0.00000000"
+-- the yield of a portfolio's securities, as an interval
+abbrev pub portfolio_yield : BookContents → List ℕ → YieldAnswer
+portfolio_yield book plan = yield_answer_of (indexed book.settle (security_flows book plan)) (security_cost book plan)
+
+-- both ends of a yield's interval, in percent, or a word for a yield without ends; no accepted portfolio yields above
+abbrev pub yield_words : YieldAnswer → List ℕ
+yield_words yields.Empty = codes "empty"
+yield_words yields.Negative = codes "negative"
+yield_words (yields.Between lo hi) = fixed 8 lo.0 ++ 32 ∷ fixed 8 hi.0
+yield_words yields.Above = codes "above"
 
 -- `yes` and the summary of a portfolio
 abbrev pub yes_text : CaseContents → List ℕ → ℕ → List ℕ
 yes_text case plan gap =
     text_line (codes "yes") [] ++ text_line (codes "cost ") (fixed 2 (cost case.book plan))
-    ++ text_line (codes "yield ") (yield_words (security_cost case.book plan))
+    ++ text_line (codes "yield ") (yield_words (portfolio_yield case.book plan))
     ++ text_line (codes "limit ") (fixed 8 case.limit) ++ text_line (codes "gap ") (fixed 2 gap)
 
 -- a portfolio is accepted with a gap

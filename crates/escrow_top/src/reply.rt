@@ -1,18 +1,21 @@
 ghost use Rattle.std.specs.Prelude.{◌≡◌, ◌++◌, IfOk, IsTrue, OnOk};
-ghost use Rattle.escrow_top.specs.Answer.{text_line, reason_text, yes_text as yes_text_of, yield_words as yield_words_of, file_word as file_word_of, kind_word as kind_word_of, unbuilt as unbuilt_answer, refused as refused_answer, no_case_answer, refused_text, accepted, not_accepted};
+ghost use Rattle.escrow_top.specs.Answer.{text_line, reason_text, portfolio_yield as portfolio_yield_of, yes_text as yes_text_of, yield_words as yield_words_of, file_word as file_word_of, kind_word as kind_word_of, unbuilt as unbuilt_answer, refused as refused_answer, no_case_answer, refused_text, accepted, not_accepted};
 ghost use Rattle.case_file.specs.Case.{case_view};
 ghost use Rattle.escrow_top.specs.Ending.{is_checked, is_stopped};
 ghost use Rattle.escrow_top.specs.Reply.{answer};
+ghost use Rattle.offer_book.specs.Book.{IsBookWithoutInterest};
 ghost use Rattle.offer_book.specs.Portfolio.{IsPermitted};
 
 use case_file::Case;
 use case_file::NoCase;
 use crate::status::Status;
 use crate::verdict::Reason;
-use cash_table::{Plan, cost, security_cost};
+use cash_table::{Plan, cost, flows, security_cost};
 use escrow_desk::{FileKind, NoMemory, Refusal, RefusalKind};
 use escrow_units::{Cents, print_cents, print_day, print_yield};
+use offer_book::Book;
 use std::alloc::Global;
+use yield_enclosure::{YieldAnswer, interval};
 
 /// A status, and the text that is said with it.
 #[derive(Debug, Drop)]
@@ -146,20 +149,43 @@ pub(crate) fn without_case(alloc: Global, why: NoCase) -> Result<Reply, NoMemory
     }
 }
 
-// The interval of the yield in words.
-fn yield_words(security_cost: Cents) -> &'static [u8]
-    ensures { result.now ≡ yield_words_of security_cost.0 }
+// The yield of a portfolio's securities, as an interval.
+fn portfolio_yield(alloc: Global, book: &Book, plan: &Plan) -> Result<YieldAnswer, NoMemory>
+    requires permitted { IsPermitted book.now plan.now }
+    requires interest { IsBookWithoutInterest book.now }
+    ensures { IfOk result (λ answer. answer ≡ portfolio_yield_of book.now plan.now) }
 {
-    if security_cost.0 == 0 {
-        b"empty"
-    } else {
-        b"0.00000000 0.00000000"
+    let flows = flows(alloc, book, plan)?;
+    interval(
+        alloc,
+        book.settle(),
+        flows.as_slice(),
+        security_cost(book, plan),
+    )
+}
+
+// A yield in words: both ends of its interval, in percent, or a word where it has none.
+fn yield_words(alloc: Global, answer: YieldAnswer) -> Result<Vec<u8>, NoMemory>
+    ensures { IfOk result (λ words. words.items ≡ yield_words_of answer) }
+{
+    let mut words = Vec::new(alloc);
+    match answer {
+        YieldAnswer::Empty => words.extend_from_slice(b"empty")?,
+        YieldAnswer::Negative => words.extend_from_slice(b"negative")?,
+        YieldAnswer::Above => words.extend_from_slice(b"above")?,
+        YieldAnswer::Between { lo, hi } => {
+            words.extend_from_slice(print_yield(lo).as_bytes())?;
+            words.push(b' ')?;
+            words.extend_from_slice(print_yield(hi).as_bytes())?;
+        }
     }
+    Ok(words)
 }
 
 // `yes` and the summary of a portfolio.
 fn yes_text(alloc: Global, case: &Case, plan: &Plan, gap: u64) -> Result<Vec<u8>, NoMemory>
-    requires { IsPermitted case.now.book plan.now }
+    requires permitted { IsPermitted case.now.book plan.now }
+    requires interest { IsBookWithoutInterest case.now.book }
     ensures { IfOk result (λ text. text.items ≡ yes_text_of (case_view case.now) plan.now gap) }
 {
     let mut text = one_line(alloc, b"yes", b"")?;
@@ -168,11 +194,8 @@ fn yes_text(alloc: Global, case: &Case, plan: &Plan, gap: u64) -> Result<Vec<u8>
         b"cost ",
         print_cents(cost(&case.book, plan)).as_bytes(),
     )?;
-    push_line(
-        &mut text,
-        b"yield ",
-        yield_words(security_cost(&case.book, plan)),
-    )?;
+    let words = yield_words(alloc, portfolio_yield(alloc, &case.book, plan)?)?;
+    push_line(&mut text, b"yield ", words.as_slice())?;
     push_line(&mut text, b"limit ", print_yield(case.limit).as_bytes())?;
     push_line(&mut text, b"gap ", print_cents(Cents(gap)).as_bytes())?;
     Ok(text)
@@ -180,7 +203,8 @@ fn yes_text(alloc: Global, case: &Case, plan: &Plan, gap: u64) -> Result<Vec<u8>
 
 /// The reply that accepts a portfolio with a gap.
 pub(crate) fn yes(alloc: Global, case: &Case, plan: &Plan, gap: u64) -> Result<Reply, NoMemory>
-    requires { IsPermitted case.now.book plan.now }
+    requires permitted { IsPermitted case.now.book plan.now }
+    requires interest { IsBookWithoutInterest case.now.book }
     ensures answer { IfOk result (λ reply. answer reply ≡ accepted (case_view case.now) plan.now gap) }
     ensures status { IfOk result (λ reply. IsTrue (is_checked reply.status)) }
 {

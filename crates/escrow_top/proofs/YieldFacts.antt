@@ -1,0 +1,77 @@
+-- The yield that is printed of securities without interest, proved.
+use Rattle.std.proofs.Common.{◌≡◌, ◌∙◌, ℕ, ◌-◌, ◌≤◌, ◌<◌, ◌==◌, List, [], ◌∷◌, map, drop, length, ℤ, ◌≤ℤ◌, Bool, true, false, refl, sym, ap, arith, inl, inr, subst}
+use Rattle.std.specs.Prelude.{All, if◌then◌else◌}
+use Rattle.std.specs.List.{Any, flat_map, zip}
+use Rattle.std.proofs.lemmas.Bool.{cases_Bool}
+use Rattle.std.proofs.lemmas.Int.{ints}
+use Rattle.std.proofs.lemmas.List.Elements.{All-map}
+use Rattle.escrow_units.specs.Calendar.{IsBaseDay, years_after_of}
+use Rattle.escrow_units.specs.DayNumber.{IsDayNumber}
+use Rattle.escrow_units.specs.Flows.{index_of, indexed, total}
+use Rattle.escrow_units.specs.PresentValue.{IndexedFlow, YieldLiesIn}
+use Rattle.escrow_units.specs.SlgsTerms.{IsSettlement}
+use Rattle.escrow_units.specs.declared.security.Flow.{Flow}
+use Rattle.escrow_units.proofs.DayFacts.{e_of-years}
+use Rattle.escrow_units.proofs.YearFacts.{settlement-base}
+use Rattle.day_sums.specs.SummedLaws.{AreAboveZero}
+use Rattle.day_sums.proofs.SumFacts.{above-summed}
+use Rattle.fixed_powers.specs.PresentValues.{HasLaterAmount, total_cents}
+use Rattle.offer_book.specs.Book.{AreWithinFortyYears, AreWithoutInterest, BookContents, IsBook}
+use Rattle.offer_book.specs.Portfolio.{IsPermitted, line_payments, security_cost, security_flows}
+use Rattle.cash_table.proofs.FlowFacts.{flows_later, flows_within}
+use Rattle.cash_table.proofs.PortfolioLaws.{empty_at_no_cost, zero_interest_total}
+use Rattle.cash_table.proofs.YieldFacts.{total_cents-indexed}
+use Rattle.yield_enclosure.specs.YieldAnswers.{yield_answer_of}
+use Rattle.yield_enclosure.specs.declared.answer.YieldAnswer.{YieldAnswer}
+use Rattle.yield_enclosure.specs.declared.answer.YieldAnswer.TheVariants.{Empty, Between}
+use Rattle.yield_enclosure.proofs.ZeroYield.{zero_yield}
+use Rattle.escrow_top.specs.Accepted.{LiesInEnds, yield_without_interest}
+use Rattle.escrow_top.specs.Answer.{portfolio_yield}
+
+index-near : (settle day : ℤ) → IsSettlement settle → settle ≤ℤ day → day ≤ℤ years_after_of settle 40 → index_of settle day ≤ 14_400
+index-near settle day is from by =
+    let own : IsDayNumber settle = (omega (arith, ints, is.0), omega (arith, ints, is.1)) in
+    let base : IsBaseDay day = settlement-base settle day is from by in
+    let due : IsDayNumber day = (omega (arith, ints, base.0), omega (arith, ints, base.1)) in
+    omega (arith, e_of-years settle day own due by)
+
+indexes-near : (settle : ℤ) (flows : List Flow) → IsSettlement settle → AreWithinFortyYears settle flows → All (λ (flow : IndexedFlow). flow.index ≤ 14_400) (indexed settle flows)
+indexes-near settle flows is within =
+    All-map (λ (flow : IndexedFlow). flow.index ≤ 14_400) (λ (flow : Flow). record { index = index_of settle flow.day; cents = flow.cents.0 }) flows
+    (λ k d short. let falls = within k d short in index-near settle _ is falls.0 falls.1)
+
+later-amount : (settle : ℤ) (flows : List Flow) → AreAboveZero flows → All (λ (flow : Flow). 1 ≤ index_of settle flow.day) flows → (flows ≡ [] → ⊥) → HasLaterAmount (indexed settle flows)
+later-amount settle [] above later some = absurd (some refl)
+later-amount settle (flow ∷ flows) above later some =
+    (0, record { index = index_of settle flow.day; cents = flow.cents.0 }, omega arith, refl, above 0 flow (omega arith), later 0 flow (omega arith))
+
+yields-none : (book : BookContents) (plan : List ℕ) → security_flows book plan ≡ [] → security_cost book plan ≡ 0 → portfolio_yield book plan ≡ Empty
+yields-none book plan none free = rw (none, free) refl
+
+yields-zero : (book : BookContents) (plan : List ℕ) → IsBook book → AreWithoutInterest book.lines → IsPermitted book plan → (security_flows book plan ≡ [] → ⊥) → portfolio_yield book plan ≡ Between (record { 0 = 0 }) (record { 0 = 0 })
+yields-zero book plan limits interest permitted some =
+    let flows = security_flows book plan in
+    zero_yield (indexed book.settle flows) (security_cost book plan)
+    (indexes-near book.settle flows limits.settlement (flows_within book plan limits))
+    (later-amount book.settle flows (above-summed (flat_map (λ p. line_payments book.settle p.0 p.1) (drop 1 (zip book.lines plan)))) (flows_later book plan limits) some)
+    (total_cents-indexed book.settle flows ∙ zero_interest_total book plan limits interest permitted)
+
+-- the yield of securities without interest
+pub printed_yield : (book : BookContents) (plan : List ℕ) → IsBook book → AreWithoutInterest book.lines → IsPermitted book plan → portfolio_yield book plan ≡ yield_without_interest (security_cost book plan)
+printed_yield book plan limits interest permitted = elim (cases_Bool (security_cost book plan == 0)) [
+  | inl free ↦
+    let none : security_cost book plan ≡ 0 = grind arith in
+    rw free (yields-none book plan ((empty_at_no_cost book plan limits permitted).1 none) none)
+  | inr bought ↦
+    rw bought (yields-zero book plan limits interest permitted (λ empty.
+        let none = (empty_at_no_cost book plan limits permitted).0 empty in absurd (grind arith)))
+]
+
+-- the exact yield lies between the ends that are printed
+ends_hold : (flows : List IndexedFlow) (cost limit : ℕ) (free : Bool) → (cost == 0) ≡ free → YieldLiesIn flows cost 0 0 → LiesInEnds (yield_without_interest cost) flows cost limit
+ends_hold flows cost limit true is zero = rw is tt
+ends_hold flows cost limit false is zero = rw is (zero, omega arith)
+
+pub ends_are_exact : (flows : List IndexedFlow) (cost limit : ℕ) (answer : YieldAnswer) → answer ≡ yield_without_interest cost → YieldLiesIn flows cost 0 0 → LiesInEnds answer flows cost limit
+ends_are_exact flows cost limit answer is zero =
+    subst (λ found. LiesInEnds found flows cost limit) (sym is) (ends_hold flows cost limit (cost == 0) refl zero)
