@@ -1,8 +1,7 @@
 -- The yield that is printed of securities without interest, proved.
-use Rattle.std.proofs.Common.{◌≡◌, ◌∙◌, ℕ, ◌-◌, ◌≤◌, ◌<◌, ◌==◌, List, [], ◌∷◌, map, drop, length, ℤ, ◌≤ℤ◌, Bool, true, false, refl, sym, ap, arith, inl, inr, subst}
+use Rattle.std.proofs.Common.{◌≡◌, ◌∙◌, ℕ, ◌-◌, ◌≤◌, ◌<◌, ◌==◌, List, [], ◌∷◌, map, drop, length, ℤ, ◌≤ℤ◌, Bool, true, false, refl, sym, ap, arith, subst}
 use Rattle.std.specs.Prelude.{All, if◌then◌else◌}
 use Rattle.std.specs.List.{Any, flat_map, zip}
-use Rattle.std.proofs.lemmas.Bool.{cases_Bool}
 use Rattle.std.proofs.lemmas.Int.{ints}
 use Rattle.std.proofs.lemmas.List.Elements.{All-map}
 use Rattle.escrow_units.specs.Calendar.{IsBaseDay, years_after_of}
@@ -43,7 +42,7 @@ indexes-near settle flows is within =
 later-amount : (settle : ℤ) (flows : List Flow) → AreAboveZero flows → All (λ (flow : Flow). 1 ≤ index_of settle flow.day) flows → (flows ≡ [] → ⊥) → HasLaterAmount (indexed settle flows)
 later-amount settle [] above later some = absurd (some refl)
 later-amount settle (flow ∷ flows) above later some =
-    (0, record { index = index_of settle flow.day; cents = flow.cents.0 }, omega arith, refl, above 0 flow (omega arith), later 0 flow (omega arith))
+    (0, record { index = index_of settle flow.day; cents = flow.cents.0 }, omega arith, refl, (above 0 flow (omega arith), later 0 flow (omega arith)))
 
 yields-none : (book : BookContents) (plan : List ℕ) → security_flows book plan ≡ [] → security_cost book plan ≡ 0 → portfolio_yield book plan ≡ Empty
 yields-none book plan none free = rw (none, free) refl
@@ -56,16 +55,21 @@ yields-zero book plan limits interest permitted some =
     (later-amount book.settle flows (above-summed (flat_map (λ p. line_payments book.settle p.0 p.1) (drop 1 (zip book.lines plan)))) (flows_later book plan limits) some)
     (total_cents-indexed book.settle flows ∙ zero_interest_total book plan limits interest permitted)
 
+-- a test on the cost gives the yield
+abbrev by_test : Bool → YieldAnswer
+by_test free = if free then Empty else Between (record { 0 = 0 }) (record { 0 = 0 })
+
+printed-at : (book : BookContents) (plan : List ℕ) (free : Bool) → (security_cost book plan == 0) ≡ free → IsBook book → AreWithoutInterest book.lines → IsPermitted book plan → portfolio_yield book plan ≡ by_test free
+printed-at book plan true is limits interest permitted =
+    let none : security_cost book plan ≡ 0 = grind arith in
+    yields-none book plan ((empty_at_no_cost book plan limits permitted).1 none) none
+printed-at book plan false is limits interest permitted =
+    yields-zero book plan limits interest permitted
+    (λ empty. let none : security_cost book plan ≡ 0 = (empty_at_no_cost book plan limits permitted).0 empty in absurd (grind arith))
+
 -- the yield of securities without interest
 pub printed_yield : (book : BookContents) (plan : List ℕ) → IsBook book → AreWithoutInterest book.lines → IsPermitted book plan → portfolio_yield book plan ≡ yield_without_interest (security_cost book plan)
-printed_yield book plan limits interest permitted = elim (cases_Bool (security_cost book plan == 0)) [
-  | inl free ↦
-    let none : security_cost book plan ≡ 0 = grind arith in
-    rw free (yields-none book plan ((empty_at_no_cost book plan limits permitted).1 none) none)
-  | inr bought ↦
-    rw bought (yields-zero book plan limits interest permitted (λ empty.
-        let none = (empty_at_no_cost book plan limits permitted).0 empty in absurd (grind arith)))
-]
+printed_yield book plan limits interest permitted = printed-at book plan (security_cost book plan == 0) refl limits interest permitted
 
 -- the exact yield lies between the ends that are printed
 ends_hold : (flows : List IndexedFlow) (cost limit : ℕ) (free : Bool) → (cost == 0) ≡ free → YieldLiesIn flows cost 0 0 → LiesInEnds (yield_without_interest cost) flows cost limit
