@@ -4,16 +4,16 @@ use Rattle.escrow_desk.specs.declared.refusal.Refusal.{Refusal}
 use Rattle.escrow_desk.specs.declared.refusal.RefusalKind.{RefusalKind}
 use Rattle.escrow_desk.specs.declared.refusal.RefusalKind.TheVariants as kind
 use Rattle.escrow_units.specs.Calendar.{years_after_of}
-use Rattle.escrow_units.specs.DateText.{day_of}
 use Rattle.escrow_units.specs.NumberText.{cents_of, rate_of, yield_of, count_of}
 use Rattle.escrow_units.specs.PriceText.{price_of}
+use Rattle.escrow_units.specs.SlgsTerms.{is_settlement}
 use Rattle.escrow_units.specs.declared.amount.Cents.{Cents}
 use Rattle.escrow_units.specs.declared.amount.YieldUnits.{YieldUnits}
 use Rattle.escrow_units.specs.declared.security.Flow.{Flow}
 use Rattle.issue_schedule.specs.Limits.{total_limit}
 use Rattle.issue_schedule.specs.IssueTerms.{needs_total, need_dates}
 use Rattle.escrow_units.specs.Flows.{total}
-use Rattle.issue_schedule.specs.Rows.{Row, field_of, is_word, ◌>>=◌, or_refused, or_bad_date, day_by, of_width, at_row}
+use Rattle.issue_schedule.specs.Rows.{Row, field_of, is_word, ◌>>=◌, or_refused, day_field, day_by, of_width, at_row}
 use Rattle.issue_schedule.specs.declared.draft.Draft.{Draft}
 use Rattle.issue_schedule.specs.declared.draft.IssuePrice.{IssuePrice}
 use Rattle.issue_schedule.specs.declared.fields.RowKind.{RowKind}
@@ -27,8 +27,8 @@ use Rattle.issue_schedule.specs.declared.issue.Restricted.TheVariants.{Given, Co
 -- a settlement day: from 2000-01-01 to 2150-01-01
 abbrev pub settlement_field : List ℕ → Result ℤ RefusalKind
 settlement_field bytes = do
-  day ← or_bad_date (day_of bytes)
-  if int_lt day (pos 10_957) || int_lt (pos 65_744) day then Err kind.OutOfRange else Ok day
+  day ← day_field bytes
+  if is_settlement day then Ok day else Err kind.OutOfRange
 
 -- `settle,DATE`
 abbrev pub settle_row : Row → Result ℤ RefusalKind

@@ -1,16 +1,9 @@
 -- Rows of the issue file.
-use Rattle.std.specs.Prelude.{ℕ, int_lt, if◌then◌else◌, List, Result, Ok, Err, ℤ}
+use Rattle.std.specs.Prelude.{ℕ, Result}
 use Rattle.escrow_desk.specs.declared.refusal.FileKind.TheVariants as file
 use Rattle.escrow_desk.specs.declared.refusal.Refusal.{Refusal}
 use Rattle.escrow_desk.specs.declared.refusal.RefusalKind.{RefusalKind}
-use Rattle.escrow_desk.specs.declared.refusal.RefusalKind.TheVariants as kind
-pub use Rattle.row_fields.specs.RowForm.{Row, field_of, is_word, ◌>>=◌, kind_of, or_refused, or_bad_date, day_field, of_width, refusal_of, answer_of_row, Answers}
-
--- a date up to the last day
-abbrev pub day_by : ℤ → List ℕ → Result ℤ RefusalKind
-day_by last bytes = do
-  day ← day_field bytes
-  if int_lt last day then Err kind.OutOfRange else Ok day
+pub use Rattle.row_fields.specs.RowForm.{Row, field_of, is_word, ◌>>=◌, kind_of, or_refused, day_field, day_by, of_width, refusal_of, answer_of_row, Answers}
 
 -- a refusal of the issue file at the row with this number; 0 is the whole file
 abbrev pub refusal_at : ℕ → RefusalKind → Refusal

@@ -1,12 +1,10 @@
-ghost use Rattle.std.specs.Prelude.{◌≡◌, ◌<◌, [], length, slice_index_or, IfOk};
-ghost use Rattle.escrow_units.specs.DateText.{IsFieldDay};
+ghost use Rattle.std.specs.Prelude.{◌≡◌, IfOk};
 ghost use Rattle.escrow_units.specs.SlgsTerms.{IsSettlement};
-ghost use Rattle.std.specs.Prelude.{◌≤ℤ◌};
-ghost use Rattle.issue_schedule.specs.Rows.{day_by as day_of_field};
 ghost use Rattle.issue_schedule.specs.IssueForm.{kind_of_row, settlement_field as settlement_of_field};
 
 use escrow_desk::RefusalKind;
-use escrow_units::{Day, read_day};
+use escrow_units::{Day, is_settlement};
+use row_fields::day_field;
 
 /// The rows that an issue file has.
 #[derive(Clone, Copy)]
@@ -62,34 +60,13 @@ pub(crate) fn row_kind(word: &[u8]) -> Option<RowKind>
     }
 }
 
-/// A date up to the last day.
-pub(crate) fn day_field(bytes: &[u8], last: Day) -> Result<Day, RefusalKind>
-    ensures value { result ≡ day_of_field last bytes.now }
-    ensures by { IfOk result (λ day. day ≤ℤ last) }
-{
-    let Ok(day) = read_day(bytes) else {
-        return Err(RefusalKind::BadDate);
-    };
-    if day.number() > last.number() {
-        return Err(RefusalKind::OutOfRange);
-    }
-    Ok(day)
-}
-
-// The first settlement day, 2000-01-01, and the last, 2150-01-01, by their numbers.
-const FIRST_SETTLEMENT: i32 = 10_957;
-
-const LAST_SETTLEMENT: i32 = 65_744;
-
 /// A settlement day: from 2000-01-01 to 2150-01-01.
 pub(crate) fn settlement_field(bytes: &[u8]) -> Result<Day, RefusalKind>
     ensures value { result ≡ settlement_of_field bytes.now }
     ensures range { IfOk result IsSettlement }
 {
-    let Ok(day) = read_day(bytes) else {
-        return Err(RefusalKind::BadDate);
-    };
-    if day.number() < FIRST_SETTLEMENT || day.number() > LAST_SETTLEMENT {
+    let day = day_field(bytes)?;
+    if !is_settlement(day) {
         return Err(RefusalKind::OutOfRange);
     }
     Ok(day)

@@ -3,13 +3,13 @@ ghost use Rattle.escrow_units.specs.SlgsTerms.{IsSettlement};
 ghost use Rattle.issue_schedule.specs.IssueForm.{settle_row as settle_of_row, first_row as first_of_rows, call_row as call_of_row, bond_row as bond_of_row, flow_row as flow_of_row, cents_row as cents_of_row, yield_row as yield_of_row, price_row as price_of_row, budget_row as budget_of_row};
 
 use crate::draft::IssuePrice;
-use crate::fields::{day_field, settlement_field};
+use crate::fields::settlement_field;
 use crate::issue::{Bond, Call};
 use escrow_desk::{RefusalKind, Rows};
 use escrow_units::{
     Cents, Day, Flow, YieldUnits, read_cents, read_count, read_price, read_rate, read_yield,
 };
-use row_fields::{refusal_kind, row_word};
+use row_fields::{day_by, refusal_kind, row_word};
 
 /// `settle,DATE`
 pub(crate) fn settle_row(rows: &Rows, row: u32) -> Result<Day, RefusalKind>
@@ -46,7 +46,7 @@ pub(crate) fn call_row(rows: &Rows, row: u32, last: Day) -> Result<Call, Refusal
     if rows.width(row) != 3 {
         return Err(RefusalKind::WrongFields);
     }
-    let day = day_field(rows.field(row, 1), last)?;
+    let day = day_by(rows.field(row, 1), last)?;
     let price = read_price(rows.field(row, 2)).map_err(refusal_kind)?;
     Ok(Call { day, price })
 }
@@ -62,7 +62,7 @@ pub(crate) fn bond_row(rows: &Rows, row: u32, last: Day) -> Result<Bond, Refusal
     if rows.width(row) != 4 {
         return Err(RefusalKind::WrongFields);
     }
-    let maturity = day_field(rows.field(row, 1), last)?;
+    let maturity = day_by(rows.field(row, 1), last)?;
     let principal = read_cents(rows.field(row, 2)).map_err(refusal_kind)?;
     let coupon = read_rate(rows.field(row, 3)).map_err(refusal_kind)?;
     Ok(Bond {
@@ -82,7 +82,7 @@ pub(crate) fn flow_row(rows: &Rows, row: u32, last: Day) -> Result<Flow, Refusal
     if rows.width(row) != 3 {
         return Err(RefusalKind::WrongFields);
     }
-    let day = day_field(rows.field(row, 1), last)?;
+    let day = day_by(rows.field(row, 1), last)?;
     let cents = read_cents(rows.field(row, 2)).map_err(refusal_kind)?;
     Ok(Flow { day, cents })
 }

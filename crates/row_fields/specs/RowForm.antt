@@ -42,10 +42,6 @@ abbrev pub or_refused : {T : Type 0} → Result T NumberFault → Result T Refus
 or_refused (Ok value) = Ok value
 or_refused (Err fault) = Err (kind_of fault)
 
-abbrev pub or_bad_date : Option ℤ → Result ℤ RefusalKind
-or_bad_date None = Err kind.BadDate
-or_bad_date (Some day) = Ok day
-
 -- a date
 abbrev pub day_field : List ℕ → Result ℤ RefusalKind
 day_field bytes = ok_or (day_of bytes) kind.BadDate
