@@ -2,7 +2,7 @@ ghost use Rattle.std.specs.Prelude.{IfOk};
 ghost use Rattle.escrow_units.specs.DayNumber.{IsDayNumber};
 ghost use Rattle.issue_schedule.specs.IssueTerms.{IsIssue};
 
-use crate::{Call, Issue, Restricted, bond_laws, needs, needs_laws, read_issue};
+use crate::{Bonds, Call, Flows, Issue, Restricted, bond_laws, needs, needs_laws, read_issue};
 use escrow_desk::{CaseError, FileKind, Refusal, RefusalKind, read_rows};
 use escrow_units::{Cents, Day, Flow, Price8, YieldUnits};
 use std::alloc::Global;
@@ -408,9 +408,9 @@ fn all_rows_are_read(rt: HostRuntime) -> Result<(), Fail> {
     assert_eq!(rt; issue.cash, Cents(2_000));
     assert_eq!(rt; issue.allowance, Cents(50_000));
     assert_eq!(rt; issue.budget, 10_000);
-    assert_eq!(rt; issue.bonds.into_vec().len(), 0);
+    assert_eq!(rt; Bonds::new(issue.bonds.into_vec()).as_slice().len(), 0);
     assert_eq!(rt; issue.direct.as_slice(), [on(20_103, 1_000)].as_slice());
-    assert_eq!(rt; issue.pays.into_vec().len(), 1);
+    assert_eq!(rt; Flows::new(issue.pays.into_vec()).as_slice().len(), 1);
     let bare = issue_of(rt.alloc(), b"settle,2025-01-15\nrestricted,29.99\n")??;
     assert_eq!(rt;
         bare.restricted,
