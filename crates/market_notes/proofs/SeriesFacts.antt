@@ -1,17 +1,14 @@
 -- The dates on which a note pays.
-use Rattle.std.proofs.Common.{◌≡◌, ◌∙◌, ℕ, ◌+◌, ◌-◌, ◌*◌, ◌<◌, ◌≤◌, zero, suc, refl, sym, ap, arith, ℤ, pos, ◌+ℤ◌, ◌≤ℤ◌, ◌<ℤ◌, int_lt, inl, inr, Bool, true, false, cond, List, [], ◌∷◌, ◌++◌, length, take, drop, reverse, All, AllPairs, filter}
+use Rattle.std.proofs.Common.{◌≡◌, ◌∙◌, ℕ, ◌+◌, ◌-◌, ◌<◌, ◌≤◌, zero, suc, refl, sym, ap, arith, ℤ, pos, ◌+ℤ◌, ◌≤ℤ◌, ◌<ℤ◌, int_lt, inl, inr, List, [], ◌∷◌, ◌++◌, length, reverse, All, filter}
 use Rattle.std.proofs.lemmas.Bool.{cases_lt}
-use Rattle.std.proofs.lemmas.Int.{ints}
-use Rattle.std.proofs.lemmas.List.{reverse-append, length-append, length-reverse, take-append-le, take_all}
-use Rattle.std.proofs.lemmas.List.Elements.{All-cons, All-nil, All-weaker}
-use Rattle.std.proofs.lemmas.List.Kept.{AllPairs-cons}
+use Rattle.std.proofs.lemmas.List.{reverse-append, length-append}
 use Rattle.jiff_core.proofs.SignedLemmas.{signed_arith}
 use Rattle.escrow_units.specs.Calendar.{half_back_of, IsBaseDay, IsSeriesDate}
 use Rattle.escrow_units.specs.CalendarLaws.{IsHalfYear}
 use Rattle.escrow_units.specs.DayNumber.{IsDayNumber}
 use Rattle.escrow_units.specs.Series.{series_dates}
 use Rattle.escrow_units.specs.declared.security.StepRule.TheVariants as rule
-use Rattle.escrow_units.proofs.SeriesFacts.{half_back_of-start, half_back_of-falls, half_back_of-steps, years_after_of-none}
+use Rattle.escrow_units.proofs.SeriesFacts.{half_back_of-falls, years_after_of-none}
 use Rattle.escrow_units.proofs.FlowFacts.{int_lt-not, int_lt-test}
 use Rattle.escrow_units.proofs.SeriesDates.{dates_after, dates_after-all, dates_after-more, filter-dates, half_back_of-order, half_back_of-reach, half_back_of-zero, half_year-along, half_year-before, length-dates_after, series_dates-after}
 use Rattle.escrow_units.proofs.YearFacts.{years_after_of-passes, settlement-base}

@@ -60,11 +60,12 @@ of_width width row answer = if length row == width then answer else Err kind.Wro
 abbrev pub terms_row : Row → Result Terms RefusalKind
 terms_row row = of_width 3 row (or_refused (terms_of (field_of row 1) (field_of row 2)))
 
--- a second `terms` row is refused by the fault of its fields, or else because it is repeated
+-- the fault of an answer, or else another
 abbrev pub fault_or : {T : Type 0} → RefusalKind → Result T RefusalKind → RefusalKind
-fault_or refused (Ok value) = refused
-fault_or refused (Err fault) = fault
+fault_or other (Ok value) = other
+fault_or other (Err fault) = fault
 
+-- a second `terms` row is refused by the fault of its fields, or else because it is repeated
 abbrev pub repeated_terms : Row → RefusalKind
 repeated_terms row = fault_or kind.Repeated (terms_row row)
 
