@@ -1,6 +1,6 @@
 -- Sums by the numbers of their days.
 use Rattle.std.proofs.Common.{◌≡◌, ◌∙◌, refl, sym, ap, arith, ℕ, ◌+◌, ◌<◌, ◌≤◌, List, [], ◌∷◌, ◌++◌, length, take, drop, ℤ, get_or, append_assoc}
-use Rattle.std.specs.Prelude.{All, Option, Some, None, ◌==◌, ◌<ℤ◌}
+use Rattle.std.specs.Prelude.{All, None, ◌<ℤ◌}
 use Rattle.std.specs.Ordering.{int_cmp}
 use Rattle.std.specs.declared.cmp.Ordering.{Ordering}
 use Rattle.std.specs.declared.cmp.Ordering.TheVariants.{Less, Equal, Greater}
@@ -9,7 +9,6 @@ use Rattle.std.specs.Cmp.{int_cmp_total}
 use Rattle.std.specs.List.{AllByRecursion}
 use Rattle.std.specs.List.Sorted.{IsStrictlySortedBy}
 use Rattle.std.specs.Map.{keys_of, values_of, lookup}
-use Rattle.std.proofs.lemmas.Int.{ints}
 use Rattle.std.proofs.lemmas.List.{append-nil, take_more}
 use Rattle.std.proofs.lemmas.List.Elements.{All-nil, All-cons, All-head, All-tail}
 use Rattle.std.proofs.lemmas.Map.{lookup-none}
@@ -20,7 +19,7 @@ use Rattle.escrow_units.specs.declared.security.Flow.{Flow}
 use Rattle.day_sums.specs.ByDay.{cents_or_none}
 use Rattle.day_sums.specs.Summed.{on, summed, with_amount}
 use Rattle.day_sums.specs.SummedLaws.{AreAboveZero}
-use Rattle.day_sums.proofs.SumFacts.{DaysAre, IsAbove, Rising, above-with_amount, pairs-from_rising, same-from_cmp, less-from_cmp}
+use Rattle.day_sums.proofs.SumFacts.{DaysAre, Rising, above-with_amount, pairs-from_rising, same-from_cmp, less-from_cmp}
 use Rattle.day_sums.proofs.Uniqueness.{in-steps, keep-total, nothing-more, one-more, sums-again}
 
 abbrev pub Entries : Type 0

@@ -1,7 +1,7 @@
 -- One more amount, and all of them: what the sums keep.
 use Rattle.std.proofs.Common.{◌≡◌, refl, arith, ℕ, suc, ◌+◌, ◌≤◌, List, [], ◌∷◌, ◌++◌, Bool, true, false, ℤ, inl, inr, if◌then◌else◌}
-use Rattle.std.specs.Prelude.{All, AllPairs, sum_by, ◌==◌, ◌<ℤ◌, ⊤, length}
-use Rattle.std.specs.Ordering.{int_cmp, int_eq}
+use Rattle.std.specs.Prelude.{All, AllPairs, sum_by, ◌==◌, ◌<ℤ◌, ⊤}
+use Rattle.std.specs.Ordering.{int_cmp}
 use Rattle.std.specs.declared.cmp.Ordering.{Ordering}
 use Rattle.std.specs.declared.cmp.Ordering.TheVariants.{Less, Equal, Greater}
 use Rattle.std.proofs.lemmas.Int.{ints}

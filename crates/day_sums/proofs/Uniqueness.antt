@@ -1,17 +1,17 @@
 -- Amounts have only one list of sums, and what follows.
-use Rattle.std.proofs.Common.{◌≡◌, ◌∙◌, refl, sym, ap, arith, ℕ, ◌+◌, ◌≤◌, List, [], ◌∷◌, ◌++◌, Bool, true, false, ℤ, inl, inr, if◌then◌else◌, append_assoc}
-use Rattle.std.specs.Prelude.{All, ◌<ℤ◌, ◌≤ℤ◌, int_le}
+use Rattle.std.proofs.Common.{◌≡◌, ◌∙◌, refl, sym, ap, arith, ℕ, ◌+◌, List, [], ◌∷◌, ◌++◌, true, false, ℤ, if◌then◌else◌}
+use Rattle.std.specs.Prelude.{◌<ℤ◌, ◌≤ℤ◌, int_le}
 use Rattle.std.specs.Ordering.{int_cmp, int_eq}
 use Rattle.std.specs.declared.cmp.Ordering.{Ordering}
 use Rattle.std.specs.declared.cmp.Ordering.TheVariants.{Less, Equal, Greater}
 use Rattle.std.proofs.lemmas.Int.{ints}
-use Rattle.std.proofs.lemmas.List.Elements.{All-nil, All-cons, All-head, All-tail}
+use Rattle.std.proofs.lemmas.List.Elements.{All-cons, All-head, All-tail}
 use Rattle.std.proofs.lemmas.List.Sums.{sum_by-cons}
 use Rattle.escrow_units.specs.Flows.{total}
 use Rattle.escrow_units.specs.declared.security.Flow.{Flow}
 use Rattle.day_sums.specs.Summed.{cents_on, on, summed, with_amount}
-use Rattle.day_sums.specs.SummedLaws.{AreSums, AreAboveZero, SummedAreSums, SumsAreUnique, SummedKeepTotal, SummedKeepTotalBy, SummedFallWithin, NothingSumsToNothing, SummedInSteps}
-use Rattle.day_sums.proofs.SumFacts.{IsAbove, DaysAre, Rising, count, counted-zero, count-append, count-summed, count-with_amount, days-summed, above-summed, above-with_amount, rising-summed, rising-with_amount, pairs-from_rising, rising-from_pairs, after-earlier, less-from_cmp, same-from_cmp, greater-from_cmp}
+use Rattle.day_sums.specs.SummedLaws.{AreAboveZero, SummedAreSums, SumsAreUnique, SummedKeepTotal, SummedKeepTotalBy, SummedFallWithin, NothingSumsToNothing, SummedInSteps}
+use Rattle.day_sums.proofs.SumFacts.{IsAbove, DaysAre, Rising, counted-zero, count-append, count-summed, count-with_amount, days-summed, above-summed, above-with_amount, rising-summed, rising-with_amount, pairs-from_rising, rising-from_pairs, after-earlier, less-from_cmp, same-from_cmp, greater-from_cmp}
 
 -- the cents of one amount on a day
 abbrev pub here : ℤ → Flow → ℕ

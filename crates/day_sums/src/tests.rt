@@ -1,4 +1,6 @@
+ghost use Rattle.std.specs.Prelude.{◌≡◌};
 ghost use Rattle.escrow_units.specs.DayNumber.{IsDayNumber};
+ghost use Rattle.day_sums.specs.Summed.{on as on_day};
 
 use crate::{sum_by_day, summed_laws};
 use escrow_units::{Cents, Day, Flow};
@@ -7,6 +9,7 @@ use std::test::Fail;
 // So many cents on a day, by its number.
 fn on(day: i32, cents: u64) -> Flow
     requires { IsDayNumber day }
+    ensures { result ≡ on_day day cents }
 {
     Flow {
         day: Day::new(day),

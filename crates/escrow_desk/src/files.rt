@@ -55,15 +55,9 @@ fn push_file(
     ensures ok { OnOk result (files_of files.new.items ≡ fin.insert (files_of files.old.items) name.now bytes.now) }
     ensures err { OnErr result (files.new.items ≡ files.old.items) }
 {
-    let Ok(name) = String::from_str(alloc, name) else {
-        return Err(NoMemory);
-    };
-    let Ok(bytes) = Vec::from_slice(alloc, bytes) else {
-        return Err(NoMemory);
-    };
-    if files.push(NamedBytes { name, bytes }).is_err() {
-        return Err(NoMemory);
-    }
+    let name = String::from_str(alloc, name)?;
+    let bytes = Vec::from_slice(alloc, bytes)?;
+    files.push(NamedBytes { name, bytes })?;
     Ok(())
 }
 
@@ -96,9 +90,7 @@ pub fn extend_file(
     match place_of(files.as_slice(), name) {
         Some(place) => {
             let file = &mut files[place];
-            if file.bytes.extend_from_slice(bytes).is_err() {
-                return Err(NoMemory);
-            }
+            file.bytes.extend_from_slice(bytes)?;
             Ok(())
         }
         None => push_file(alloc, files, name, bytes),

@@ -42,7 +42,7 @@ pub enum RefusalKind {
     DateOrder,
     /// Two ranges of days have a day in common.
     Overlap,
-    /// A bond matured by settlement.
+    /// A note matures by settlement, or on a day of the same index (30/360) as settlement.
     Matured,
     /// The needs together are over their limit.
     NeedsTooLarge,

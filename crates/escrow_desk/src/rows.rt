@@ -72,9 +72,7 @@ pub fn read_rows(alloc: Global, bytes: &[u8]) -> Result<Rows, NoMemory>
         let Ok(record) = record else {
             return Err(NoMemory);
         };
-        if records.push(record).is_err() {
-            return Err(NoMemory);
-        }
+        records.push(record)?;
     }
     Ok(Rows { records })
 }

@@ -6,6 +6,9 @@ use crate::desk::{Desk, DeskError, Failed};
 use crate::refusal::ReadRefusal;
 use std::alloc::Global;
 
+// The most bytes that one read takes: a page of memory.
+const PIECE: usize = 4096;
+
 /// Reads a whole file of at most `limit` bytes.
 ///
 /// # Errors
@@ -33,11 +36,15 @@ pub fn read_all<D: Desk>(
     ensures writes { D.write_faults desk.new ≡ D.write_faults desk.old }
 {
     let mut bytes = Vec::new(alloc);
-    let mut piece = [0u8; 4096];
+    let mut piece = [0u8; PIECE];
     while bytes.len() as u64 <= limit {
         // At most one byte past the limit is read.
         let more = limit - bytes.len() as u64;
-        let room = if more < 4095 { more as usize + 1 } else { 4096 };
+        let room = if more < PIECE as u64 - 1 {
+            more as usize + 1
+        } else {
+            PIECE
+        };
         match desk.read(name, bytes.len() as u64, &mut piece[..room]) {
             Ok(0) => return Ok(bytes),
             Ok(count) => {

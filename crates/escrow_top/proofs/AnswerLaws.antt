@@ -1,62 +1,85 @@
 -- What an answer over the named files means.
 use Rattle.std.proofs.Common.{◌≡◌, ◌∙◌, ℕ, List, [], ◌∷◌, Option, Some, None, Result, Ok, Err, Bool, true, false, refl, sym, ap}
-use Rattle.std.specs.Prelude.{IsSomeAnd, MatchOption, IsTrue, option_and_then, is_ok, if◌then◌else◌}
+use Rattle.std.specs.Prelude.{IfOk, IsSomeAnd, MatchOption, IsTrue, option_and_then, is_ok, if◌then◌else◌}
 use Rattle.escrow_desk.specs.Content.{Content, Told, file_of, SaidAll, SaidPart}
+use Rattle.escrow_desk.specs.Rows.{rows_of}
 use Rattle.escrow_desk.specs.declared.refusal.FileKind.{FileKind}
-use Rattle.escrow_top.specs.CaseForm.{CaseForm}
-use Rattle.escrow_top.specs.Answer.{Answer, Names, answer_to, case_answer, check_answer, check_names, files_case, is_structure, named_answer, unbuilt_structure, usage, usage_text}
+use Rattle.escrow_desk.specs.declared.refusal.RefusalKind.TheVariants as too_long
+use Rattle.row_fields.specs.RowForm.{refusal_of}
+use Rattle.escrow_top.specs.InputFiles.{InputTexts, Names, first_too_long, inputs_of}
+use Rattle.case_file.specs.Case.{CaseContents, IsKept, rows_case}
+use Rattle.escrow_top.specs.Answer.{Answer, answer_to, case_answer, case_of, certificate_answer, check_names, is_structure, named_answer, no_case_answer, refused, unbuilt_structure, usage, usage_text}
 use Rattle.escrow_top.specs.Accepted.{Accepted}
 use Rattle.escrow_top.specs.Ending.{Answers, AnswersPart, AreAccepted, IsAccepted, IsNoCommand, LacksFile, NamedAnswers, NamedAnswersPart}
-use Rattle.escrow_top.specs.Reading.{FilesAnswer, LacksNamed}
+use Rattle.escrow_top.specs.Reading.{AreRead, AreWithin, CertificateAnswers, FilesAnswer, IsTooLong, LacksCertificate, LacksInput, LacksNamed}
+use Rattle.case_file.specs.declared.fault.NoCase.{NoCase}
+use Rattle.case_file.specs.declared.fault.NoCase.TheVariants.{Refused}
 use Rattle.escrow_top.specs.declared.status.Status.{Status}
 use Rattle.escrow_top.specs.declared.status.Status.TheVariants as status
 use Rattle.escrow_top.proofs.AcceptedLaws.{accepted}
+use Rattle.escrow_top.specs.Reply.{answer}
+use Rattle.escrow_top.specs.declared.reply.Reply.{Reply}
+use Rattle.escrow_top.specs.declared.stop.Stop.{Stop}
+use Rattle.escrow_top.proofs.InputFacts.{read-all, rows_alone}
 
-some_map : {A : Type 0} (o : Option A) (P Q : A → Type 0) → IsSomeAnd o P → ((a : A) → P a → Q a) → IsSomeAnd o Q
-some_map None P Q h f = h
-some_map (Some a) P Q h f = f a h
+answered : (found : Option (List ℕ)) (case : CaseContents) (answer : Answer) → IsSomeAnd found (λ file. answer ≡ certificate_answer case file) → option_and_then (λ cert. Some (certificate_answer case cert)) found ≡ Some answer
+answered None case answer said = absurd said
+answered (Some cert) case answer said = ap Some (sym said)
 
-some_then : {A B : Type 0} (o : Option A) (next : A → Option B) (P : B → Type 0) → IsSomeAnd (option_and_then next o) P → IsSomeAnd o (λ a. IsSomeAnd (next a) P)
-some_then None next P h = h
-some_then (Some a) next P h = h
+-- where the input files were read, what is answered to them is what their names are answered
+named_by : (content : Content) (names : Names) (texts : InputTexts) (case : Result CaseContents NoCase) → inputs_of content names ≡ Some texts → case_of texts ≡ case → named_answer content names ≡ option_and_then (λ cert. Some (case_answer case cert)) (if is_ok case then file_of content names.cert else Some [])
+named_by content names texts case inputs is = rw (inputs, is) refl
 
--- this answer is `yes`, and something more
-abbrev IsYes : (Answer → Type 0) → Answer → Type 0
-IsYes P answer = (status.Done ≡ answer.status) × P answer
+-- the certificate was read
+pub certificate_said : (told : Told) (names : Names) (texts : InputTexts) (case : CaseContents) (answer : Answer) → AreRead told names texts → AreWithin texts → case_of texts ≡ Ok case → CertificateAnswers told names.cert case answer → FilesAnswer told names answer
+certificate_said None names texts case answer read within is said = tt
+certificate_said (Some content) names texts case answer read within is said =
+    named_by content names texts (Ok case) (read-all content names texts read within) is ∙ answered (file_of content names.cert) case answer said
 
-not_ok : (case : Result CaseForm FileKind) (text : Option (List ℕ)) → is_ok case ≡ false → (case_answer case text).status ≡ status.Unbuilt
-not_ok (Ok case) text h = cc
-not_ok (Err kind) text h = refl
+pub certificate_lacks : (told : Told) (names : Names) (texts : InputTexts) (case : CaseContents) → AreRead told names texts → AreWithin texts → case_of texts ≡ Ok case → LacksCertificate told names.cert → LacksNamed told names
+certificate_lacks None names texts case read within is none = tt
+certificate_lacks (Some content) names texts case read within is none =
+    named_by content names texts (Ok case) (read-all content names texts read within) is ∙ (rw none refl)
 
-accepted_by : (issue rates prices : List ℕ) (found : Option (List ℕ)) (P : Answer → Type 0) (b : Bool) → is_ok (files_case issue rates prices) ≡ b → IsSomeAnd (option_and_then (λ cert. Some (check_answer issue rates prices cert)) (if b then found else Some [])) (IsYes P) → IsSomeAnd found (λ cert. Accepted issue rates prices cert)
-accepted_by issue rates prices found P true is h =
-    some_map found (λ cert. IsYes P (check_answer issue rates prices cert)) (λ cert. Accepted issue rates prices cert)
-    (some_then found (λ cert. Some (check_answer issue rates prices cert)) (IsYes P) h)
-    (λ cert yes. accepted issue rates prices cert (sym yes.0))
-accepted_by issue rates prices found P false is h =
-    let unbuilt = not_ok (files_case issue rates prices) (Some []) is in
-    let yes : status.Done ≡ status.Unbuilt = h.0 ∙ unbuilt in
-    cc
+-- the input files give no case
+pub no_case_said : (told : Told) (names : Names) (texts : InputTexts) (why : NoCase) (answer : Answer) → AreRead told names texts → AreWithin texts → case_of texts ≡ Err why → answer ≡ no_case_answer why → FilesAnswer told names answer
+no_case_said None names texts why answer read within is said = tt
+no_case_said (Some content) names texts why answer read within is said =
+    named_by content names texts (Err why) (read-all content names texts read within) is ∙ ap Some (sym said)
 
-abbrev cert_of : Content → Names → List ℕ → List ℕ → List ℕ → Option (List ℕ)
-cert_of content names issue rates prices =
-    if is_ok (files_case issue rates prices) then file_of content names.cert else Some []
+-- an input file has more bytes than its limit
+long_named : (content : Content) (names : Names) (kind : FileKind) (found : Option InputTexts) → inputs_of content names ≡ found → IsSomeAnd found (λ texts. first_too_long texts ≡ Some kind) → named_answer content names ≡ Some (refused (refusal_of kind 0 too_long.TooLong))
+long_named content names kind None is long = absurd long
+long_named content names kind (Some texts) is long =
+    named_by content names texts (Err (Refused (refusal_of kind 0 too_long.TooLong))) is (rw long refl)
 
-pub named_accepted : (content : Content) (names : Names) (P : Answer → Type 0) → IsSomeAnd (named_answer content names) (IsYes P) → AreAccepted content names
-named_accepted content names P said =
-    some_map (file_of content names.issue) _ _
-    (some_then (file_of content names.issue) (λ issue. option_and_then (λ rates. option_and_then (λ prices. option_and_then (λ cert. Some (check_answer issue rates prices cert)) (cert_of content names issue rates prices)) (file_of content names.prices)) (file_of content names.rates)) (IsYes P) said)
-    (λ issue with_issue. some_map (file_of content names.rates) _ _
-    (some_then (file_of content names.rates) (λ rates. option_and_then (λ prices. option_and_then (λ cert. Some (check_answer issue rates prices cert)) (cert_of content names issue rates prices)) (file_of content names.prices)) (IsYes P) with_issue)
-    (λ rates with_rates. some_map (file_of content names.prices) _ _
-    (some_then (file_of content names.prices) (λ prices. option_and_then (λ cert. Some (check_answer issue rates prices cert)) (cert_of content names issue rates prices)) (IsYes P) with_rates)
-    (λ prices with_prices. accepted_by issue rates prices (file_of content names.cert) P (is_ok (files_case issue rates prices)) refl with_prices)))
+pub too_long_said : (told : Told) (names : Names) (kind : FileKind) (answer : Answer) → IsTooLong told names kind → answer ≡ refused (refusal_of kind 0 too_long.TooLong) → FilesAnswer told names answer
+too_long_said None names kind answer long said = tt
+too_long_said (Some content) names kind answer long said =
+    long_named content names kind (inputs_of content names) refl long ∙ ap Some (sym said)
 
--- the answer to the named files is `yes`: they are there, and accepted
-pub files_accepted : (told : Told) (names : Names) (answer : Answer) → FilesAnswer told names answer → status.Done ≡ answer.status → MatchOption told (Unit {0}) (λ content. AreAccepted content names)
-files_accepted None names answer files done = tt
-files_accepted (Some content) names answer files done =
-    named_accepted content names (λ answer. Unit {0}) (rw files (done, tt))
+pub inputs_lack : (told : Told) (names : Names) → LacksInput told names → LacksNamed told names
+inputs_lack None names none = tt
+inputs_lack (Some content) names none = rw none refl
+
+-- what `yes` to a certificate that was read means
+found_accepted : (texts : InputTexts) (case : CaseContents) (answer : Answer) (found : Option (List ℕ)) → case_of texts ≡ Ok case → IsKept (rows_of texts.rates) case → IsSomeAnd found (λ file. answer ≡ certificate_answer case file) → answer.status ≡ status.Done → IsSomeAnd found (λ cert. Accepted texts cert)
+found_accepted texts case answer None is kept said done = said
+found_accepted texts case answer (Some cert) is kept said done = accepted texts cert case is kept (rw said at done)
+
+pub certificate_accepted : (told : Told) (names : Names) (texts : InputTexts) (case : CaseContents) (answer : Answer) → AreRead told names texts → case_of texts ≡ Ok case → IsKept (rows_of texts.rates) case → CertificateAnswers told names.cert case answer → answer.status ≡ status.Done → MatchOption told (Unit {0}) (λ content. AreAccepted content names)
+certificate_accepted None names texts case answer read is kept said done = tt
+certificate_accepted (Some content) names texts case answer read is kept said done =
+    let issue = read.issue in
+    let rates = read.rates in
+    let prices = read.prices in
+    rw (issue, rates, prices) (found_accepted texts case answer (file_of content names.cert) is kept said done)
+
+-- the same of a reply
+pub reply_accepted : (told : Told) (names : Names) (texts : InputTexts) (case : CaseContents) (result : Result Reply Stop) → AreRead told names texts → AreWithin texts → rows_case (rows_of texts.issue) (rows_of texts.rates) (rows_of texts.prices) ≡ Ok case → IsKept (rows_of texts.rates) case → IfOk result (λ reply. CertificateAnswers told names.cert case (answer reply)) → IfOk result (λ reply. reply.status ≡ status.Done → MatchOption told (Unit {0}) (λ content. AreAccepted content names))
+reply_accepted told names texts case (Err stop) read within is kept said = said
+reply_accepted told names texts case (Ok reply) read within is kept said = λ done.
+    certificate_accepted told names texts case (answer reply) read (rows_alone texts within ∙ is) kept said done
 
 no_command : (words : List (List ℕ)) (content : Content) → IsNoCommand words → answer_to words content ≡ Some usage
 no_command words content none =

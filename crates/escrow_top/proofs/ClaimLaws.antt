@@ -4,11 +4,11 @@ use Rattle.std.specs.List.{fold}
 use Rattle.std.proofs.lemmas.Bool.{and_parts, cases_lt}
 use Rattle.std.proofs.lemmas.Bool.Decides.{nat_tests}
 use Rattle.std.proofs.lemmas.List.{get_or_default, get_or-set_same, get_or-set_other, get_or-replicate, length-set, length-replicate}
-use Rattle.cash_table.specs.declared.line.Line.{Line}
-use Rattle.cash_table.specs.Book.{BookContents}
-use Rattle.cash_table.specs.Portfolio.{IsPermitted, permits}
+use Rattle.offer_book.specs.declared.line.Line.{Line}
+use Rattle.offer_book.specs.Book.{BookContents}
+use Rattle.offer_book.specs.Portfolio.{IsPermitted, permits}
 use Rattle.cash_table.proofs.PermitFacts.{PassBelow, permitted_from_tests, passes_from_permitted}
-use Rattle.escrow_top.specs.CaseForm.{no_cash}
+use Rattle.case_file.specs.Case.{cash_line}
 use Rattle.escrow_top.specs.Answer.{is_offered, first_not_offered, portfolio_of}
 use Rattle.escrow_top.specs.declared.certificate.Purchase.{Purchase}
 
@@ -18,7 +18,7 @@ zero_permitted book =
     permitted_from_tests book (replicate (length book.lines) 0) (length-replicate (length book.lines) 0)
     (λ k d h. ap (permits (get_or book.lines k d)) (get_or-replicate (length book.lines) k 0 0 h) ∙ refl)
 
-put_passes : (book : BookContents) (plan : List ℕ) (line units : ℕ) → IsPermitted book plan → line < length book.lines → permits (get_or book.lines line no_cash) units ≡ true → PassBelow book.lines (slice_set plan line units) (length book.lines)
+put_passes : (book : BookContents) (plan : List ℕ) (line units : ℕ) → IsPermitted book plan → line < length book.lines → permits (get_or book.lines line (cash_line 0)) units ≡ true → PassBelow book.lines (slice_set plan line units) (length book.lines)
 put_passes book plan line units permitted within passes = λ k d h.
     elim (cases_lt k line) [
       | inl less ↦ other k d h (λ e. absurd (omega (arith, e, less)))
@@ -38,12 +38,12 @@ put_passes book plan line units permitted within passes = λ k d h.
         let same = permitted.same_length in
         ap (λ (n : ℕ). permits (get_or book.lines n d) (get_or (slice_set plan line units) n 0)) e
         ∙ ap (permits (get_or book.lines line d)) (get_or-set_same plan line units 0 (omega arith))
-        ∙ ap (λ (l : Line). permits l units) (get_or_default book.lines line d no_cash within) ∙ passes
+        ∙ ap (λ (l : Line). permits l units) (get_or_default book.lines line d (cash_line 0) within) ∙ passes
 
 -- a purchase that is offered, put in place
 pub put_permitted : (book : BookContents) (plan : List ℕ) (purchase : Purchase) → IsPermitted book plan → is_offered book.lines purchase ≡ true → IsPermitted book (slice_set plan purchase.line purchase.units)
 put_permitted book plan purchase permitted offered =
-    let parts = and_parts (nat_lt purchase.line (length book.lines)) (permits (get_or book.lines purchase.line no_cash) purchase.units) offered in
+    let parts = and_parts (nat_lt purchase.line (length book.lines)) (permits (get_or book.lines purchase.line (cash_line 0)) purchase.units) offered in
     let test = parts.0 in
     permitted_from_tests book (slice_set plan purchase.line purchase.units) (length-set plan purchase.line purchase.units ∙ permitted.same_length)
     (put_passes book plan purchase.line purchase.units permitted (grind (arith, nat_tests)) parts.1)

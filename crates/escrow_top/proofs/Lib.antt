@@ -1,7 +1,6 @@
 pub mod CertificateFacts
-pub mod EachFacts
 pub mod PurchaseFacts
-pub mod CaseLaws
 pub mod ClaimLaws
+pub mod InputFacts
 pub mod AcceptedLaws
 pub mod AnswerLaws

@@ -2,7 +2,7 @@
 use Rattle.std.proofs.Common.{◌≡◌, ◌∙◌, ℕ, zero, suc, ◌<◌, ◌+◌, List, [], ◌∷◌, length, take, get_or, Option, Some, None, Bool, true, false, cond, refl, ap, arith}
 use Rattle.std.specs.List.{find}
 use Rattle.escrow_top.specs.CertificateForm.{Claim}
-use Rattle.escrow_top.specs.CaseForm.{CaseForm}
+use Rattle.case_file.specs.Case.{CaseContents}
 use Rattle.escrow_top.specs.Answer.{first_not_offered, portfolio_of, claim_answer, weighed, reason_against}
 
 cond_none : {X : Type 0} (b : Bool) (x : X) (o : Option X) → cond b (Some x) o ≡ None → (b ≡ false) × (o ≡ None)
@@ -27,5 +27,5 @@ find-here test (x ∷ xs) (suc i) d short none passes =
     rw parts.0 (find-here test xs i d (omega arith) parts.1 passes)
 
 -- a claim whose purchases are all offered is weighed by its portfolio
-pub claim_answer-offered : (case : CaseForm) (claim : Claim) (plan : List ℕ) → first_not_offered case.book.lines claim.purchases ≡ None → plan ≡ portfolio_of (length case.book.lines) claim.purchases → claim_answer case (Some claim) ≡ weighed case plan claim.gap (reason_against case.book plan claim.gap)
+pub claim_answer-offered : (case : CaseContents) (claim : Claim) (plan : List ℕ) → first_not_offered case.book.lines claim.purchases ≡ None → plan ≡ portfolio_of (length case.book.lines) claim.purchases → claim_answer case (Some claim) ≡ weighed case plan claim.gap (reason_against case plan claim.gap)
 claim_answer-offered case claim plan offered is = rw (is, offered) refl

@@ -3,15 +3,24 @@ use Rattle.std.specs.Prelude.{◌≡◌, ℕ, ◌+◌, ◌-◌, Bool, false, not
 use Rattle.std.specs.List.{find, fold}
 use lib.Pointwise.{pointwise}
 use Rattle.escrow_desk.specs.Content.{Content, file_of}
+use Rattle.escrow_desk.specs.Rows.{rows_of}
 use Rattle.escrow_desk.specs.declared.refusal.FileKind.{FileKind}
 use Rattle.escrow_desk.specs.declared.refusal.FileKind.TheVariants as file
+use Rattle.escrow_desk.specs.declared.refusal.Refusal.{Refusal}
+use Rattle.escrow_desk.specs.declared.refusal.RefusalKind.{RefusalKind}
+use Rattle.escrow_desk.specs.declared.refusal.RefusalKind.TheVariants as kind
 use Rattle.escrow_units.specs.DateText.{day_text}
 use Rattle.escrow_units.specs.Digits.{fixed}
-use Rattle.cash_table.specs.declared.line.Line.{Line}
-use Rattle.cash_table.specs.Book.{BookContents}
-use Rattle.cash_table.specs.Portfolio.{permits, first_short_of, total_needs, cost, security_cost}
+use Rattle.row_fields.specs.RowForm.{refusal_of}
+use Rattle.offer_book.specs.declared.line.Line.{Line}
+use Rattle.offer_book.specs.Book.{BookContents}
+use Rattle.offer_book.specs.Portfolio.{permits, total_needs, cost, security_cost}
+use Rattle.cash_table.specs.First.{first_short_of}
 use Rattle.escrow_top.specs.CertificateForm.{Claim, claim_of, ◌>>=◌}
-use Rattle.escrow_top.specs.CaseForm.{CaseForm, case_of, bounded, file_limit, no_cash}
+use Rattle.escrow_top.specs.InputFiles.{InputTexts, Names, first_too_long, inputs_of}
+use Rattle.case_file.specs.Case.{CaseContents, cash_line, rows_case}
+use Rattle.case_file.specs.declared.fault.NoCase.{NoCase}
+use Rattle.case_file.specs.declared.fault.NoCase.TheVariants.{Refused, Unbuilt}
 use Rattle.escrow_top.specs.declared.certificate.Purchase.{Purchase}
 use Rattle.escrow_top.specs.declared.status.Status.{Status}
 use Rattle.escrow_top.specs.declared.status.Status.TheVariants as status
@@ -30,7 +39,7 @@ text_line words value = words ++ value ++ 10 ∷ []
 -- a purchase names a line of the book, and its units are permitted
 abbrev pub is_offered : List Line → Purchase → Bool
 is_offered lines purchase =
-    nat_lt purchase.line (length lines) && permits (slice_index_or lines purchase.line no_cash) purchase.units
+    nat_lt purchase.line (length lines) && permits (slice_index_or lines purchase.line (cash_line 0)) purchase.units
 
 -- the first purchase that isn't offered
 abbrev pub first_not_offered : List Line → List Purchase → Option Purchase
@@ -58,18 +67,18 @@ or_else (Some first) second = Some first
 abbrev pub is_leaf_weak : BookContents → List ℕ → ℕ → Bool
 is_leaf_weak book plan gap = nat_lt (total_needs book) (cost book plan - gap)
 
--- why a permitted portfolio isn't accepted with a gap: the first reason that stands. No gap is allowed so far
-abbrev pub reason_against : BookContents → List ℕ → ℕ → Option Reason
-reason_against book plan gap =
-    or_else (option_map reason.ShortOn (first_short_of book plan))
-    (or_else (given (is_leaf_weak book plan gap) (reason.WeakLeaf 1))
-    (given (not (gap == 0)) reason.GapAbove))
+-- why a permitted portfolio isn't accepted with a gap: the first reason that stands
+abbrev pub reason_against : CaseContents → List ℕ → ℕ → Option Reason
+reason_against case plan gap =
+    or_else (option_map reason.ShortOn (first_short_of case.book plan))
+    (or_else (given (is_leaf_weak case.book plan gap) (reason.WeakLeaf 1))
+    (given (nat_lt case.allowance gap) reason.GapAbove))
 
 -- why a claim isn't accepted: the first reason that stands
-abbrev pub reason_of : BookContents → Claim → Option Reason
-reason_of book claim =
-    or_else (option_map (λ purchase. reason.NotPermitted purchase.line) (first_not_offered book.lines claim.purchases))
-    (reason_against book (portfolio book claim) claim.gap)
+abbrev pub reason_of : CaseContents → Claim → Option Reason
+reason_of case claim =
+    or_else (option_map (λ purchase. reason.NotPermitted purchase.line) (first_not_offered case.book.lines claim.purchases))
+    (reason_against case (portfolio case.book claim) claim.gap)
 
 abbrev pub reason_text : Reason → List ℕ
 reason_text (reason.NotPermitted line) = text_line (codes "no NotPermitted ") (decimal line)
@@ -82,14 +91,14 @@ abbrev pub yield_words : ℕ → List ℕ
 yield_words security_cost = if security_cost == 0 then codes "empty" else codes "0.00000000 0.00000000"
 
 -- `yes` and the summary of a portfolio
-abbrev pub yes_text : CaseForm → List ℕ → ℕ → List ℕ
+abbrev pub yes_text : CaseContents → List ℕ → ℕ → List ℕ
 yes_text case plan gap =
     text_line (codes "yes") [] ++ text_line (codes "cost ") (fixed 2 (cost case.book plan))
     ++ text_line (codes "yield ") (yield_words (security_cost case.book plan))
     ++ text_line (codes "limit ") (fixed 8 case.limit) ++ text_line (codes "gap ") (fixed 2 gap)
 
 -- a portfolio is accepted with a gap
-abbrev pub accepted : CaseForm → List ℕ → ℕ → Answer
+abbrev pub accepted : CaseContents → List ℕ → ℕ → Answer
 accepted case plan gap = record { status = status.Done; text = yes_text case plan gap }
 
 -- a certificate isn't accepted, for a reason
@@ -97,7 +106,7 @@ abbrev pub not_accepted : Reason → Answer
 not_accepted reason = record { status = status.No; text = reason_text reason }
 
 -- a portfolio with a gap is accepted where no reason stands against it
-abbrev pub weighed : CaseForm → List ℕ → ℕ → Option Reason → Answer
+abbrev pub weighed : CaseContents → List ℕ → ℕ → Option Reason → Answer
 weighed case plan gap None = accepted case plan gap
 weighed case plan gap (Some reason) = not_accepted reason
 
@@ -107,52 +116,82 @@ file_word file.Rates = codes "rates"
 file_word file.Prices = codes "prices"
 file_word file.Cert = codes "cert"
 
+abbrev pub kind_word : RefusalKind → List ℕ
+kind_word kind.TooLong = codes "TooLong"
+kind_word kind.Missing = codes "Missing"
+kind_word kind.UnknownRow = codes "UnknownRow"
+kind_word kind.WrongFields = codes "WrongFields"
+kind_word kind.BadNumber = codes "BadNumber"
+kind_word kind.BadDate = codes "BadDate"
+kind_word kind.OutOfRange = codes "OutOfRange"
+kind_word kind.PriceRange = codes "PriceRange"
+kind_word kind.Repeated = codes "Repeated"
+kind_word kind.DateOrder = codes "DateOrder"
+kind_word kind.Overlap = codes "Overlap"
+kind_word kind.Matured = codes "Matured"
+kind_word kind.NeedsTooLarge = codes "NeedsTooLarge"
+kind_word kind.TooManyDates = codes "TooManyDates"
+kind_word kind.NoRate = codes "NoRate"
+kind_word kind.RateAboveTable = codes "RateAboveTable"
+kind_word kind.TooShort = codes "TooShort"
+kind_word kind.TooLongTerm = codes "TooLongTerm"
+kind_word kind.FirstDate = codes "FirstDate"
+kind_word kind.TooManyLines = codes "TooManyLines"
+
+-- a file is refused: which one, at which row, from 1 or 0 for the whole file, and why
+abbrev pub refused_text : Refusal → List ℕ
+refused_text refusal =
+    text_line (codes "refused ") (file_word refusal.file ++ codes " row " ++ decimal refusal.row ++ 32 ∷ kind_word refusal.kind)
+
+abbrev pub refused : Refusal → Answer
+refused refusal = record { status = status.Refused; text = refused_text refusal }
+
 -- the form of a file isn't built yet
 abbrev pub unbuilt : FileKind → Answer
 unbuilt kind = record { status = status.Unbuilt; text = text_line (codes "unbuilt ") (file_word kind) }
 
--- the answer to a certificate that may be read
-abbrev pub claim_answer : CaseForm → Option Claim → Answer
+-- the answer to a certificate that may be read; other forms aren't built yet
+abbrev pub claim_answer : CaseContents → Option Claim → Answer
 claim_answer case None = unbuilt file.Cert
-claim_answer case (Some claim) = weighed case (portfolio case.book claim) claim.gap (reason_of case.book claim)
-
--- the answer to the text of a certificate, where it is within its limit
-abbrev pub certificate_answer : CaseForm → Option (List ℕ) → Answer
-certificate_answer case text =
-    claim_answer case (option_and_then (claim_of (length case.book.needs)) text)
-
-abbrev pub case_answer : Result CaseForm FileKind → Option (List ℕ) → Answer
-case_answer (Err kind) text = unbuilt kind
-case_answer (Ok case) text = certificate_answer case text
+claim_answer case (Some claim) = weighed case (portfolio case.book claim) claim.gap (reason_of case claim)
 
 -- the most bytes of a certificate
 abbrev pub certificate_limit : ℕ
 certificate_limit = 67_108_864
 
--- the case of the bytes of three files
-abbrev pub files_case : List ℕ → List ℕ → List ℕ → Result CaseForm FileKind
-files_case issue rates prices =
-    case_of (bounded file_limit issue) (bounded file_limit rates) (bounded file_limit prices)
+-- the answer to the bytes of a certificate
+abbrev pub certificate_answer : CaseContents → List ℕ → Answer
+certificate_answer case cert =
+    if nat_lt certificate_limit (length cert) then refused (refusal_of file.Cert 0 kind.TooLong)
+    else claim_answer case (claim_of (length case.book.needs) cert)
+
+-- the answer where the input files give no case
+abbrev pub no_case_answer : NoCase → Answer
+no_case_answer (Refused refusal) = refused refusal
+no_case_answer (Unbuilt kind) = unbuilt kind
+
+-- the case of the bytes of the input files, or what is first to refuse it: their lengths are tried before their rows
+abbrev pub case_of_texts : Option FileKind → InputTexts → Result CaseContents NoCase
+case_of_texts (Some too_long) texts = Err (Refused (refusal_of too_long 0 kind.TooLong))
+case_of_texts None texts = rows_case (rows_of texts.issue) (rows_of texts.rates) (rows_of texts.prices)
+
+abbrev pub case_of : InputTexts → Result CaseContents NoCase
+case_of texts = case_of_texts (first_too_long texts) texts
+
+abbrev pub case_answer : Result CaseContents NoCase → List ℕ → Answer
+case_answer (Err why) cert = no_case_answer why
+case_answer (Ok case) cert = certificate_answer case cert
 
 -- what `check` answers to the bytes of the four files
-abbrev pub check_answer : List ℕ → List ℕ → List ℕ → List ℕ → Answer
-check_answer issue rates prices cert = case_answer (files_case issue rates prices) (bounded certificate_limit cert)
-
--- the names of the four files
-pub record Names : Type 0 where
-  pub issue : List ℕ
-  pub rates : List ℕ
-  pub prices : List ℕ
-  pub cert : List ℕ
+abbrev pub check_answer : InputTexts → List ℕ → Answer
+check_answer texts cert = case_answer (case_of texts) cert
 
 -- what `check` answers where the files are there: the certificate is read last, and only where the others give a case
 abbrev pub named_answer : Content → Names → Option Answer
 named_answer content names = do
-  issue ← file_of content names.issue
-  rates ← file_of content names.rates
-  prices ← file_of content names.prices
-  cert ← if is_ok (files_case issue rates prices) then file_of content names.cert else Some []
-  Some (check_answer issue rates prices cert)
+  texts ← inputs_of content names
+  cert ← if is_ok (case_of texts) then file_of content names.cert else Some []
+  Some (check_answer texts cert)
 
 abbrev pub usage_text : List ℕ
 usage_text = text_line (codes "usage: structure ISSUE RATES PRICES CERT | check ISSUE RATES PRICES CERT") []

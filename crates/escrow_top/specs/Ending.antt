@@ -2,7 +2,8 @@
 use Rattle.std.specs.Prelude.{◌≡◌, ℕ, Bool, true, false, List, Option, Some, None, IsSomeAnd, MatchOption}
 use Rattle.escrow_desk.specs.Content.{Content, Told, file_of, with_said, SaidPart}
 use Rattle.escrow_top.specs.Accepted.{Accepted}
-use Rattle.escrow_top.specs.Answer.{Answer, Names, answer_to, check_names, is_structure, named_answer}
+use Rattle.escrow_top.specs.InputFiles.{Names}
+use Rattle.escrow_top.specs.Answer.{Answer, answer_to, check_names, is_structure, named_answer}
 use Rattle.escrow_top.specs.declared.status.Status.{Status}
 use Rattle.escrow_top.specs.declared.status.Status.TheVariants as status
 
@@ -33,8 +34,15 @@ is_reached status = true
 abbrev pub is_checked : Status → Bool
 is_checked status.Done = true
 is_checked status.No = true
+is_checked status.Refused = true
 is_checked status.Unbuilt = true
 is_checked status = false
+
+-- the input files gave no case
+abbrev pub is_stopped : Status → Bool
+is_stopped status.Refused = true
+is_stopped status.Unbuilt = true
+is_stopped status = false
 
 -- of an answer, where there is one: this is the status, and its text was said; no file changed
 abbrev pub IsSaid : Content → Option Answer → Status → Told → Type 0
@@ -79,7 +87,7 @@ abbrev pub AreAccepted : Content → Names → Type 0
 AreAccepted content names =
     IsSomeAnd (file_of content names.issue) (λ issue. IsSomeAnd (file_of content names.rates) (λ rates.
     IsSomeAnd (file_of content names.prices) (λ prices. IsSomeAnd (file_of content names.cert) (λ cert.
-    Accepted issue rates prices cert))))
+    Accepted (record { issue = issue; rates = rates; prices = prices }) cert))))
 
 -- the words are those of `check`, and where the desk tells, the four files that they name are there and accepted
 abbrev pub IsAccepted : Told → List (List ℕ) → Type 0

@@ -1,5 +1,5 @@
 pub mod CertificateForm
-pub mod CaseForm
+pub mod InputFiles
 pub mod Answer
 pub mod Ending
 pub mod Accepted

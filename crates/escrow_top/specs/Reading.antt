@@ -1,39 +1,61 @@
 -- What was read of the files that a desk tells.
-use Rattle.std.specs.Prelude.{◌≡◌, ℕ, List, Option, Some, None, Vec, MatchOption, IsSomeAnd, ◌⊎◌}
+use Rattle.std.specs.Prelude.{◌≡◌, ℕ, ◌≤◌, ◌<◌, List, length, Option, Some, None, Vec, MatchOption, IsSomeAnd}
 use Rattle.std.specs.declared.alloc.Global.{Global}
 use Rattle.escrow_desk.specs.Content.{Content, Told, file_of}
-use Rattle.escrow_top.specs.declared.case.InputFiles.{InputFiles}
+use Rattle.escrow_desk.specs.declared.refusal.FileKind.{FileKind}
+use Rattle.escrow_desk.specs.declared.refusal.FileKind.TheVariants as file
 use Rattle.escrow_top.specs.declared.files.FileNames.{FileNames}
-use Rattle.escrow_top.specs.CaseForm.{CaseForm, bounded, file_limit, text_of}
-use Rattle.escrow_top.specs.Answer.{Answer, Names, certificate_answer, certificate_limit, named_answer}
+use Rattle.escrow_top.specs.declared.files.InputFiles.{InputFiles}
+use Rattle.escrow_top.specs.InputFiles.{InputTexts, Names, file_limit, first_too_long, inputs_of}
+use Rattle.case_file.specs.Case.{CaseContents}
+use Rattle.escrow_top.specs.Answer.{Answer, certificate_answer, certificate_limit, named_answer}
 
 -- the names as bytes
 abbrev pub input_names : FileNames → Names
 input_names names = record { issue = names.issue.now; rates = names.rates.now; prices = names.prices.now; cert = names.cert.now }
 
--- the file is there, and this is its text, where it is within the limit
-abbrev pub IsTextOf : Content → List ℕ → ℕ → Option (Vec ℕ Global) → Type 0
-IsTextOf content name limit text = IsSomeAnd (file_of content name) (λ file. text_of text ≡ bounded limit file)
+-- the files as bytes
+abbrev pub input_texts : InputFiles → InputTexts
+input_texts files = record { issue = files.issue.items; rates = files.rates.items; prices = files.prices.items }
 
--- the same of a desk that tells
+-- the bytes of a file that has at most so many, or that it has more
+abbrev pub IsBounded : ℕ → List ℕ → Option (Vec ℕ Global) → Type 0
+IsBounded limit file None = limit < length file
+IsBounded limit file (Some bytes) = (file ≡ bytes.items) × (length bytes.items ≤ limit)
+
+-- the same of the file of a name on a desk that tells
 abbrev pub IsRead : Told → List ℕ → ℕ → Option (Vec ℕ Global) → Type 0
-IsRead told name limit text = MatchOption told (Unit {0}) (λ content. IsTextOf content name limit text)
+IsRead told name limit text =
+    MatchOption told (Unit {0}) (λ content. IsSomeAnd (file_of content name) (λ file. IsBounded limit file text))
 
--- the three input files of these names were read
-pub record AreRead (told : Told) (names : Names) (files : InputFiles) : Type 0 where
-  pub issue : IsRead told names.issue file_limit files.issue
-  pub rates : IsRead told names.rates file_limit files.rates
-  pub prices : IsRead told names.prices file_limit files.prices
+-- each of the input files has at most as many bytes as its limit
+pub record AreWithin (texts : InputTexts) : Type 0 where
+  pub issue : length texts.issue ≤ file_limit
+  pub rates : length texts.rates ≤ file_limit
+  pub prices : length texts.prices ≤ file_limit
 
--- one of the three input files isn't there
-abbrev pub IsAnyAbsent : Told → Names → Type 0
-IsAnyAbsent told names =
-    MatchOption told (Unit {0}) (λ content. (file_of content names.issue ≡ None) ⊎ (file_of content names.rates ≡ None) ⊎ (file_of content names.prices ≡ None))
+-- the three input files of these names are there, with these bytes
+pub record AreThere (content : Content) (names : Names) (texts : InputTexts) : Type 0 where
+  pub issue : file_of content names.issue ≡ Some texts.issue
+  pub rates : file_of content names.rates ≡ Some texts.rates
+  pub prices : file_of content names.prices ≡ Some texts.prices
+
+abbrev pub AreRead : Told → Names → InputTexts → Type 0
+AreRead told names texts = MatchOption told (Unit {0}) (λ content. AreThere content names texts)
+
+-- what is read of the input files ends with one that has more bytes than its limit
+abbrev pub IsTooLong : Told → Names → FileKind → Type 0
+IsTooLong told names kind =
+    MatchOption told (Unit {0}) (λ content. IsSomeAnd (inputs_of content names) (λ texts. first_too_long texts ≡ Some kind))
+
+-- one of the input files that are read isn't there
+abbrev pub LacksInput : Told → Names → Type 0
+LacksInput told names = MatchOption told (Unit {0}) (λ content. inputs_of content names ≡ None)
 
 -- the certificate of the name is there, and this is the answer to it
-abbrev pub CertificateAnswers : Told → List ℕ → CaseForm → Answer → Type 0
+abbrev pub CertificateAnswers : Told → List ℕ → CaseContents → Answer → Type 0
 CertificateAnswers told name case answer =
-    MatchOption told (Unit {0}) (λ content. IsSomeAnd (file_of content name) (λ file. answer ≡ certificate_answer case (bounded certificate_limit file)))
+    MatchOption told (Unit {0}) (λ content. IsSomeAnd (file_of content name) (λ file. answer ≡ certificate_answer case file))
 
 -- the certificate of the name isn't there
 abbrev pub LacksCertificate : Told → List ℕ → Type 0

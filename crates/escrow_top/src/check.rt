@@ -1,32 +1,45 @@
-ghost use Rattle.std.specs.Prelude.{◌≡◌, IfOk, IsErrOf, IsTrue, OnOk};
+ghost use Rattle.std.specs.Prelude.{◌≡◌, ◌≤◌, IfOk, IsErrOf, IsTrue, MatchOption, OnOk, length};
 ghost use Rattle.escrow_desk.specs.Counts.{Rose};
-ghost use Rattle.escrow_top.specs.Answer.{certificate_answer, certificate_limit};
-ghost use Rattle.escrow_top.specs.CaseForm.{IsWithin, case_view, text_of};
-ghost use Rattle.escrow_top.specs.Reading.{CertificateAnswers, FilesAnswer, LacksCertificate, LacksNamed, input_names};
-ghost use Rattle.escrow_top.specs.Ending.{is_checked};
+ghost use Rattle.escrow_top.specs.Answer.{certificate_answer, certificate_limit, claim_answer, refused as refused_answer};
+ghost use Rattle.row_fields.specs.RowForm.{refusal_of};
+ghost use Rattle.case_file.specs.Case.{case_view};
+ghost use Rattle.escrow_top.specs.CertificateForm.{claim_of};
+ghost use Rattle.escrow_top.specs.Reading.{AreRead, AreWithin, CertificateAnswers, FilesAnswer, LacksCertificate, LacksNamed, input_names, input_texts};
+ghost use Rattle.escrow_top.specs.Ending.{AreAccepted, is_checked};
 ghost use Rattle.escrow_top.specs.Reply.{answer};
 
-use crate::case::{Case, read_case};
+use case_file::{Case, CaseFault, read_case};
 use crate::certificate::read_certificate;
-use crate::files::{FileNames, read_file, read_inputs};
-use crate::reply::{Reply, unbuilt};
+use crate::files::{FileNames, InputFiles, read_file, read_inputs};
+use crate::reply::{Reply, refused, unbuilt, without_case};
+use crate::status::Status;
 use crate::stop::Stop;
 use crate::verdict::weigh;
-use escrow_desk::{Desk, FileKind, NoMemory};
+use escrow_desk::{Desk, FileKind, NoMemory, Refusal, RefusalKind};
 use std::alloc::Global;
 
 /// The most bytes of a certificate.
 const CERTIFICATE_LIMIT: u64 = 67_108_864;
 
-// The reply to the text of a certificate, which is None where it is over its limit.
-fn reply_to_text(alloc: Global, case: &Case, text: &Option<Vec<u8>>) -> Result<Reply, NoMemory>
-    ensures answer { IfOk result (λ reply. answer reply ≡ certificate_answer (case_view case.now) (text_of text.now)) }
+// The reply that a file has more bytes than its limit.
+fn too_long(alloc: Global, file: FileKind) -> Result<Reply, NoMemory>
+    ensures answer { IfOk result (λ reply. answer reply ≡ refused_answer (refusal_of file 0 RefusalKind.TooLong)) }
+    ensures status { IfOk result (λ reply. reply.status ≡ Status.Refused) }
+{
+    let refusal = Refusal {
+        file,
+        row: 0,
+        kind: RefusalKind::TooLong,
+    };
+    refused(alloc, &refusal)
+}
+
+// The reply to the bytes of a certificate within its limit.
+fn reply_to_bytes(alloc: Global, case: &Case, bytes: &[u8]) -> Result<Reply, NoMemory>
+    ensures answer { IfOk result (λ reply. answer reply ≡ claim_answer (case_view case.now) (claim_of (length case.now.book.needs) bytes.now)) }
     ensures status { IfOk result (λ reply. IsTrue (is_checked reply.status)) }
 {
-    let Some(bytes) = text else {
-        return unbuilt(alloc, FileKind::Cert);
-    };
-    match read_certificate(alloc, bytes.as_slice(), case.book.need_count())? {
+    match read_certificate(alloc, bytes, case.book.need_count())? {
         Some(certificate) => weigh(alloc, case, &certificate),
         None => unbuilt(alloc, FileKind::Cert),
     }
@@ -50,8 +63,44 @@ fn reply_to_certificate<D: Desk>(
     ensures no_file { IsErrOf result Stop.NoFile → Rose (D.absences desk.old) (D.absences desk.new) × (D.read_faults desk.new ≡ D.read_faults desk.old) }
     ensures writes { D.write_faults desk.new ≡ D.write_faults desk.old }
 {
-    let text = read_file(alloc, desk, name, CERTIFICATE_LIMIT)?;
-    Ok(reply_to_text(alloc, case, &text)?)
+    match read_file(alloc, desk, name, CERTIFICATE_LIMIT)? {
+        Some(bytes) => Ok(reply_to_bytes(alloc, case, bytes.as_slice())?),
+        None => Ok(too_long(alloc, FileKind::Cert)?),
+    }
+}
+
+// The reply to the input files that were read, and to the certificate, which is read only where they give a case.
+fn reply_to_files<D: Desk>(
+    alloc: Global,
+    desk: &mut D,
+    names: &FileNames<'_>,
+    files: &InputFiles,
+) -> Result<Reply, Stop>
+    requires read { AreRead (D.told desk.old) (input_names names.now) (input_texts files.now) }
+    requires within { AreWithin (input_texts files.now) }
+    ensures answer { IfOk result (λ reply. FilesAnswer (D.told desk.old) (input_names names.now) (answer reply)) }
+    ensures status { IfOk result (λ reply. IsTrue (is_checked reply.status)) }
+    ensures yes { IfOk result (λ reply. reply.status ≡ Status.Done
+        → MatchOption (D.told desk.old) (Unit {0}) (λ content. AreAccepted content (input_names names.now))) }
+    ensures absent { IsErrOf result Stop.NoFile → LacksNamed (D.told desk.old) (input_names names.now) }
+    ensures told { D.told desk.new ≡ D.told desk.old }
+
+    ensures calm { OnOk result ((D.read_faults desk.new ≡ D.read_faults desk.old) × (D.absences desk.new ≡ D.absences desk.old)) }
+    ensures no_memory { IsErrOf result Stop.NoMemory → (D.read_faults desk.new ≡ D.read_faults desk.old) × (D.absences desk.new ≡ D.absences desk.old) }
+    ensures fault { IsErrOf result Stop.ReadFault → Rose (D.read_faults desk.old) (D.read_faults desk.new) × (D.absences desk.new ≡ D.absences desk.old) }
+    ensures no_file { IsErrOf result Stop.NoFile → Rose (D.absences desk.old) (D.absences desk.new) × (D.read_faults desk.new ≡ D.read_faults desk.old) }
+    ensures writes { D.write_faults desk.new ≡ D.write_faults desk.old }
+{
+    match read_case(
+        alloc,
+        files.issue.as_slice(),
+        files.rates.as_slice(),
+        files.prices.as_slice(),
+    ) {
+        Ok(case) => reply_to_certificate(alloc, desk, names.cert, &case),
+        Err(CaseFault::NoCase(why)) => Ok(without_case(alloc, why)?),
+        Err(CaseFault::NoMemory) => Err(Stop::NoMemory),
+    }
 }
 
 /// The reply of `check` to the files of these names. The input files are read first, in their order, and the
@@ -63,6 +112,8 @@ pub(crate) fn check<D: Desk>(
 ) -> Result<Reply, Stop>
     ensures answer { IfOk result (λ reply. FilesAnswer (D.told desk.old) (input_names names.now) (answer reply)) }
     ensures status { IfOk result (λ reply. IsTrue (is_checked reply.status)) }
+    ensures yes { IfOk result (λ reply. reply.status ≡ Status.Done
+        → MatchOption (D.told desk.old) (Unit {0}) (λ content. AreAccepted content (input_names names.now))) }
     ensures absent { IsErrOf result Stop.NoFile → LacksNamed (D.told desk.old) (input_names names.now) }
     ensures told { D.told desk.new ≡ D.told desk.old }
 
@@ -72,9 +123,8 @@ pub(crate) fn check<D: Desk>(
     ensures no_file { IsErrOf result Stop.NoFile → Rose (D.absences desk.old) (D.absences desk.new) × (D.read_faults desk.new ≡ D.read_faults desk.old) }
     ensures writes { D.write_faults desk.new ≡ D.write_faults desk.old }
 {
-    let files = read_inputs(alloc, desk, names)?;
-    match read_case(alloc, &files)? {
-        Ok(case) => reply_to_certificate(alloc, desk, names.cert, &case),
-        Err(kind) => Ok(unbuilt(alloc, kind)?),
+    match read_inputs(alloc, desk, names)? {
+        Ok(files) => reply_to_files(alloc, desk, names, &files),
+        Err(kind) => Ok(too_long(alloc, kind)?),
     }
 }

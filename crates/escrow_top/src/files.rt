@@ -1,12 +1,10 @@
-ghost use Rattle.std.specs.Prelude.{◌≡◌, IfOk, IsErrOf, OnOk};
+ghost use Rattle.std.specs.Prelude.{◌≡◌, ◌≤◌, IfOk, IfSome, IsErrOf, MatchResult, OnOk, length};
 ghost use Rattle.escrow_desk.specs.Counts.{Rose};
 ghost use Rattle.escrow_desk.specs.Content.{IsAbsent};
-ghost use Rattle.escrow_top.specs.CaseForm.{AreWithin, IsWithin, file_limit};
-ghost use Rattle.escrow_top.specs.Reading.{AreRead, IsAnyAbsent, IsRead, input_names};
+ghost use Rattle.escrow_top.specs.Reading.{AreRead, AreWithin, IsRead, IsTooLong, LacksInput, input_names, input_texts};
 
-use crate::case::InputFiles;
 use crate::stop::Stop;
-use escrow_desk::{Desk, ReadRefusal, read_all};
+use escrow_desk::{Desk, FileKind, ReadRefusal, read_all};
 use std::alloc::Global;
 
 /// The most bytes of an input file.
@@ -21,6 +19,14 @@ pub(crate) struct FileNames<'a> {
     pub cert: &'a str,
 }
 
+/// The bytes of the three input files.
+#[derive(Drop)]
+pub(crate) struct InputFiles {
+    pub issue: Vec<u8>,
+    pub rates: Vec<u8>,
+    pub prices: Vec<u8>,
+}
+
 /// The bytes of a file; None where it has more than the limit. No content changes.
 pub(crate) fn read_file<D: Desk>(
     alloc: Global,
@@ -29,7 +35,7 @@ pub(crate) fn read_file<D: Desk>(
     limit: u64,
 ) -> Result<Option<Vec<u8>>, Stop>
     ensures read { IfOk result (λ text. IsRead (D.told desk.old) name.now limit text) }
-    ensures within { IfOk result (λ text. IsWithin limit text) }
+    ensures within { IfOk result (λ text. IfSome text (λ bytes. length bytes.items ≤ limit)) }
     ensures absent { IsErrOf result Stop.NoFile → IsAbsent (D.told desk.old) name.now }
     ensures told { D.told desk.new ≡ D.told desk.old }
 
@@ -48,15 +54,18 @@ pub(crate) fn read_file<D: Desk>(
     }
 }
 
-/// The three input files, read in their order. No content changes.
+/// The three input files, read in their order; or the first that has more bytes than its limit, after which none is
+/// read. No content changes.
 pub(crate) fn read_inputs<D: Desk>(
     alloc: Global,
     desk: &mut D,
     names: &FileNames<'_>,
-) -> Result<InputFiles, Stop>
-    ensures read { IfOk result (λ files. AreRead (D.told desk.old) (input_names names.now) files) }
-    ensures within { IfOk result AreWithin }
-    ensures absent { IsErrOf result Stop.NoFile → IsAnyAbsent (D.told desk.old) (input_names names.now) }
+) -> Result<Result<InputFiles, FileKind>, Stop>
+    ensures read { IfOk result (λ found. MatchResult found
+        (λ files. AreRead (D.told desk.old) (input_names names.now) (input_texts files))
+        (IsTooLong (D.told desk.old) (input_names names.now))) }
+    ensures within { IfOk result (λ found. IfOk found (λ files. AreWithin (input_texts files))) }
+    ensures absent { IsErrOf result Stop.NoFile → LacksInput (D.told desk.old) (input_names names.now) }
     ensures told { D.told desk.new ≡ D.told desk.old }
 
     ensures calm { OnOk result ((D.read_faults desk.new ≡ D.read_faults desk.old) × (D.absences desk.new ≡ D.absences desk.old)) }
@@ -65,12 +74,18 @@ pub(crate) fn read_inputs<D: Desk>(
     ensures no_file { IsErrOf result Stop.NoFile → Rose (D.absences desk.old) (D.absences desk.new) × (D.read_faults desk.new ≡ D.read_faults desk.old) }
     ensures writes { D.write_faults desk.new ≡ D.write_faults desk.old }
 {
-    let issue = read_file(alloc, desk, names.issue, FILE_LIMIT)?;
-    let rates = read_file(alloc, desk, names.rates, FILE_LIMIT)?;
-    let prices = read_file(alloc, desk, names.prices, FILE_LIMIT)?;
-    Ok(InputFiles {
+    let Some(issue) = read_file(alloc, desk, names.issue, FILE_LIMIT)? else {
+        return Ok(Err(FileKind::Issue));
+    };
+    let Some(rates) = read_file(alloc, desk, names.rates, FILE_LIMIT)? else {
+        return Ok(Err(FileKind::Rates));
+    };
+    let Some(prices) = read_file(alloc, desk, names.prices, FILE_LIMIT)? else {
+        return Ok(Err(FileKind::Prices));
+    };
+    Ok(Ok(InputFiles {
         issue,
         rates,
         prices,
-    })
+    }))
 }

@@ -1,17 +1,13 @@
 //! The program's one call, from its words to its status.
 #![tactic(auto)]
 
-mod case;
 mod certificate;
 mod check;
 mod command;
 mod files;
-mod issue;
 mod needs;
-mod offers;
 mod program;
 mod reply;
-mod row;
 mod status;
 mod stop;
 mod verdict;

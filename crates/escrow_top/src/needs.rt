@@ -1,5 +1,5 @@
 ghost use Rattle.std.specs.Prelude.{◌≡◌, ◌≤◌, length};
-ghost use Rattle.cash_table.specs.Book.{total};
+ghost use Rattle.escrow_units.specs.Flows.{total};
 
 use escrow_units::Flow;
 

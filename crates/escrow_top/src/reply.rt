@@ -1,15 +1,16 @@
 ghost use Rattle.std.specs.Prelude.{◌≡◌, ◌++◌, IfOk, IsTrue, OnOk};
-ghost use Rattle.escrow_top.specs.Answer.{text_line, reason_text, yes_text as yes_text_of, yield_words as yield_words_of, file_word as file_word_of, unbuilt as unbuilt_answer, accepted, not_accepted};
-ghost use Rattle.escrow_top.specs.CaseForm.{case_view};
-ghost use Rattle.escrow_top.specs.Ending.{is_checked};
+ghost use Rattle.escrow_top.specs.Answer.{text_line, reason_text, yes_text as yes_text_of, yield_words as yield_words_of, file_word as file_word_of, kind_word as kind_word_of, unbuilt as unbuilt_answer, refused as refused_answer, no_case_answer, refused_text, accepted, not_accepted};
+ghost use Rattle.case_file.specs.Case.{case_view};
+ghost use Rattle.escrow_top.specs.Ending.{is_checked, is_stopped};
 ghost use Rattle.escrow_top.specs.Reply.{answer};
-ghost use Rattle.cash_table.specs.Portfolio.{IsPermitted};
+ghost use Rattle.offer_book.specs.Portfolio.{IsPermitted};
 
-use crate::case::Case;
+use case_file::Case;
+use case_file::NoCase;
 use crate::status::Status;
 use crate::verdict::Reason;
 use cash_table::{Plan, cost, security_cost};
-use escrow_desk::{FileKind, NoMemory};
+use escrow_desk::{FileKind, NoMemory, Refusal, RefusalKind};
 use escrow_units::{Cents, print_cents, print_day, print_yield};
 use std::alloc::Global;
 
@@ -71,15 +72,78 @@ fn file_word(kind: FileKind) -> &'static [u8]
     }
 }
 
+// The name of a refusal in the texts.
+fn kind_word(kind: RefusalKind) -> &'static [u8]
+    ensures { result.now ≡ kind_word_of kind }
+{
+    match kind {
+        RefusalKind::TooLong => b"TooLong",
+        RefusalKind::Missing => b"Missing",
+        RefusalKind::UnknownRow => b"UnknownRow",
+        RefusalKind::WrongFields => b"WrongFields",
+        RefusalKind::BadNumber => b"BadNumber",
+        RefusalKind::BadDate => b"BadDate",
+        RefusalKind::OutOfRange => b"OutOfRange",
+        RefusalKind::PriceRange => b"PriceRange",
+        RefusalKind::Repeated => b"Repeated",
+        RefusalKind::DateOrder => b"DateOrder",
+        RefusalKind::Overlap => b"Overlap",
+        RefusalKind::Matured => b"Matured",
+        RefusalKind::NeedsTooLarge => b"NeedsTooLarge",
+        RefusalKind::TooManyDates => b"TooManyDates",
+        RefusalKind::NoRate => b"NoRate",
+        RefusalKind::RateAboveTable => b"RateAboveTable",
+        RefusalKind::TooShort => b"TooShort",
+        RefusalKind::TooLongTerm => b"TooLongTerm",
+        RefusalKind::FirstDate => b"FirstDate",
+        RefusalKind::TooManyLines => b"TooManyLines",
+    }
+}
+
+// The text of a refusal.
+fn refusal_line(alloc: Global, refusal: &Refusal) -> Result<Vec<u8>, NoMemory>
+    ensures { IfOk result (λ text. text.items ≡ refused_text refusal.now) }
+{
+    let mut text = Vec::new(alloc);
+    text.extend_from_slice(b"refused ")?;
+    text.extend_from_slice(file_word(refusal.file))?;
+    text.extend_from_slice(b" row ")?;
+    text.extend_from_slice(refusal.row.to_string(alloc)?.as_bytes())?;
+    push_line(&mut text, b" ", kind_word(refusal.kind))?;
+    Ok(text)
+}
+
+/// The reply that a file is refused.
+pub(crate) fn refused(alloc: Global, refusal: &Refusal) -> Result<Reply, NoMemory>
+    ensures answer { IfOk result (λ reply. answer reply ≡ refused_answer refusal.now) }
+    ensures status { IfOk result (λ reply. reply.status ≡ Status.Refused) }
+{
+    Ok(Reply {
+        status: Status::Refused,
+        text: refusal_line(alloc, refusal)?,
+    })
+}
+
 /// The reply that the form of a file isn't built yet.
 pub(crate) fn unbuilt(alloc: Global, kind: FileKind) -> Result<Reply, NoMemory>
     ensures answer { IfOk result (λ reply. answer reply ≡ unbuilt_answer kind) }
-    ensures status { IfOk result (λ reply. IsTrue (is_checked reply.status)) }
+    ensures status { IfOk result (λ reply. reply.status ≡ Status.Unbuilt) }
 {
     Ok(Reply {
         status: Status::Unbuilt,
         text: one_line(alloc, b"unbuilt ", file_word(kind))?,
     })
+}
+
+/// The reply where the input files give no case.
+pub(crate) fn without_case(alloc: Global, why: NoCase) -> Result<Reply, NoMemory>
+    ensures answer { IfOk result (λ reply. answer reply ≡ no_case_answer why) }
+    ensures status { IfOk result (λ reply. IsTrue (is_stopped reply.status)) }
+{
+    match why {
+        NoCase::Refused(refusal) => refused(alloc, &refusal),
+        NoCase::Unbuilt(kind) => unbuilt(alloc, kind),
+    }
 }
 
 // The interval of the yield in words.

@@ -173,27 +173,274 @@ fn reasons_of_no(rt: HostRuntime) -> Result<(), Fail> {
     try_rows(&rt, rt.alloc(), &rows)
 }
 
+// The first files with another file of one kind.
+fn with_issue(issue: &'static [u8]) -> Files {
+    Files { issue, ..FIRST }
+}
+
+fn with_rates(rates: &'static [u8]) -> Files {
+    Files { rates, ..FIRST }
+}
+
 #[test]
-fn forms_not_built_yet(rt: HostRuntime) -> Result<(), Fail> {
+fn notes_and_bonds(rt: HostRuntime) -> Result<(), Fail> {
+    let note = b"terms,1000,100\noffer,2027-01-15,0.00,,10000\n";
+    let bond = b"terms,1000,100\noffer,2040-01-15,0.00,,10000\n";
     let rows = [
         Row {
             files: Files {
-                issue: b"settle,2025-01-15\nneed,2025-04-15,x\nrestricted,4.00\n",
+                issue: b"settle,2025-01-15\nneed,2027-01-15,5000.00\nrestricted,4.00\n",
+                rates: note,
                 ..FIRST
             },
-            status: Status::Unbuilt,
-            said: b"unbuilt issue\n",
+            status: Status::Done,
+            said: FIRST_TEXT,
         },
         Row {
             files: Files {
-                rates: b"terms,1000,100\noffer,2025-04-15,4.00,,10000\n",
+                issue: b"settle,2025-01-15\nneed,2040-01-15,5000.00\nrestricted,4.00\n",
+                rates: bond,
                 ..FIRST
             },
-            status: Status::Unbuilt,
-            said: b"unbuilt rates\n",
+            status: Status::Done,
+            said: FIRST_TEXT,
+        },
+        Row {
+            files: with_rates(note),
+            status: Status::No,
+            said: b"no ShortOn 2025-04-15\n",
+        },
+        Row {
+            files: with_rates(bond),
+            status: Status::No,
+            said: b"no ShortOn 2025-04-15\n",
+        },
+        Row {
+            files: with_rates(b"terms,1000,100\noffer,2025-01-30,0.00,,10000\n"),
+            status: Status::Done,
+            said: FIRST_TEXT,
+        },
+    ];
+    try_rows(&rt, rt.alloc(), &rows)
+}
+
+#[test]
+fn opening_cash_and_gaps(rt: HostRuntime) -> Result<(), Fail> {
+    let rows = [
+        Row {
+            files: Files {
+                issue: b"settle,2025-01-15\ncash,20.00\nneed,2025-01-15,10.00\nrestricted,4.00\n",
+                rates: b"",
+                prices: b"",
+                cert: b"escrow-certificate 1\nportfolio 1\nbuy 0 1000\ngap 0\nnodes 1\nl 1 0 1000000000000\nend\n",
+            },
+            status: Status::Done,
+            said: b"yes\ncost 10.00\nyield empty\nlimit 4.00100000\ngap 0.00\n",
         },
         Row {
             files: Files {
+                issue: b"settle,2025-01-15\ncash,20.00\nneed,2025-01-15,10.00\nrestricted,4.00\n",
+                rates: b"",
+                prices: b"",
+                cert: b"escrow-certificate 1\nportfolio 1\nbuy 0 2001\ngap 0\nnodes 1\nl 1 0 1000000000000\nend\n",
+            },
+            status: Status::No,
+            said: b"no NotPermitted 0\n",
+        },
+        Row {
+            files: Files {
+                issue: b"settle,2025-01-15\nneed,2025-04-15,4500.00\nrestricted,4.00\nallowance,500.00\n",
+                cert: b"escrow-certificate 1\nportfolio 1\nbuy 1 50\ngap 50000\nnodes 1\nl 1 0 1000000000000\nend\n",
+                ..FIRST
+            },
+            status: Status::Done,
+            said: b"yes\ncost 5000.00\nyield 0.00000000 0.00000000\nlimit 4.00100000\ngap 500.00\n",
+        },
+        Row {
+            files: Files {
+                issue: b"settle,2025-01-15\nneed,2025-04-15,4500.00\nrestricted,4.00\nallowance,500.00\n",
+                cert: b"escrow-certificate 1\nportfolio 1\nbuy 1 50\ngap 50001\nnodes 1\nl 1 0 1000000000000\nend\n",
+                ..FIRST
+            },
+            status: Status::No,
+            said: b"no GapAbove\n",
+        },
+        Row {
+            files: with_issue(b"settle,2025-01-15\ncall,2025-04-15,100\nbond,2030-04-15,5000.00,0\nrestricted,4.00\n"),
+            status: Status::Done,
+            said: FIRST_TEXT,
+        },
+    ];
+    try_rows(&rt, rt.alloc(), &rows)
+}
+
+#[test]
+fn refused_issues(rt: HostRuntime) -> Result<(), Fail> {
+    let rows: [(&'static [u8], &'static [u8]); 13] = [
+        (b"", b"refused issue row 1 Missing\n"),
+        (
+            b"settle,2025-01-15\nneed,2025-02-30,5.00\nrestricted,4.00\n",
+            b"refused issue row 2 BadDate\n",
+        ),
+        (
+            b"settle,2025-01-15\nneed,2025-04-15,5000.00\nrestricted,4.00\nrestricted,4.00\n",
+            b"refused issue row 4 Repeated\n",
+        ),
+        (
+            b"settle,2025-01-15\nneed,2025-04-15,5000.00\nrestricted,4.00\ncall,2025-01-15,100\n",
+            b"refused issue row 4 DateOrder\n",
+        ),
+        (
+            b"settle,2025-01-15\nneed,2025-04-15,x\nrestricted,4.00\n",
+            b"refused issue row 2 BadNumber\n",
+        ),
+        (
+            b"settle,2025-01-15\nneeds,2025-04-15,1.00\n",
+            b"refused issue row 2 UnknownRow\n",
+        ),
+        (
+            b"settle,2025-01-15\nneed,2025-04-15\n",
+            b"refused issue row 2 WrongFields\n",
+        ),
+        (
+            b"settle,2025-01-15\ncall,2026-01-15,9.99\n",
+            b"refused issue row 2 PriceRange\n",
+        ),
+        (b"settle,1999-12-31\n", b"refused issue row 1 OutOfRange\n"),
+        (
+            b"settle,2025-01-15\nsettle,2025-01-15\n",
+            b"refused issue row 2 Repeated\n",
+        ),
+        (b"settle,2025-01-15\n", b"refused issue row 0 Missing\n"),
+        (
+            b"settle,2025-01-15\nrestricted,4.00\nneed,2025-04-15,100000000000.00\nneed,2025-04-15,0.01\n",
+            b"refused issue row 0 NeedsTooLarge\n",
+        ),
+        (
+            b"settle,2025-01-15\nprice,100000.00\npay,2025-07-15,102000.00\n",
+            b"unbuilt issue\n",
+        ),
+    ];
+    for (issue, said) in &rows {
+        let ran = outcome_of(rt.alloc(), &CHECK, &with_issue(issue), u64::MAX)?;
+        assert_eq!(rt; ran.desk.said(), *said);
+        let unbuilt = said.first() == Some(&b'u');
+        let status = if unbuilt {
+            Status::Unbuilt
+        } else {
+            Status::Refused
+        };
+        assert_eq!(rt; ran.status, status);
+    }
+    Ok(())
+}
+
+#[test]
+fn refused_rates(rt: HostRuntime) -> Result<(), Fail> {
+    let rows: [(&'static [u8], &'static [u8]); 17] = [
+        (
+            b"offer,2025-04-15,0.00,,10000\n",
+            b"refused rates row 1 Missing\n",
+        ),
+        (
+            b"terms,1000,100\nterms,1000,100\n",
+            b"refused rates row 2 Repeated\n",
+        ),
+        (
+            b"terms,1000,100\nbid,2025-04-15\n",
+            b"refused rates row 2 UnknownRow\n",
+        ),
+        (
+            b"terms,1000,100\noffer,2025-04-15,0.00,10000\n",
+            b"refused rates row 2 WrongFields\n",
+        ),
+        (
+            b"terms,1000,x\n",
+            b"refused rates row 1 BadNumber\n",
+        ),
+        (
+            b"terms,1000,100\noffer,2025-04-31,0.00,,10000\n",
+            b"refused rates row 2 BadDate\n",
+        ),
+        (
+            b"terms,1000,100\noffer,2025-04-15,0.00,,999\n",
+            b"refused rates row 2 OutOfRange\n",
+        ),
+        (
+            b"terms,1000,100\nrate,2025-04-15,2025-04-14,4.00\n",
+            b"refused rates row 2 DateOrder\n",
+        ),
+        (
+            b"terms,1000,100\nrate,2025-04-15,2025-05-15,4.00\nrate,2025-05-15,2025-06-15,4.00\n",
+            b"refused rates row 3 Overlap\n",
+        ),
+        (
+            b"terms,1000,100\noffer,2025-01-29,0.00,,10000\n",
+            b"refused rates row 2 TooShort\n",
+        ),
+        (
+            b"terms,1000,100\nrate,2025-01-15,2025-12-31,4.00\noffer,2025-02-13,4.00,,10000\n",
+            b"refused rates row 3 TooShort\n",
+        ),
+        (
+            b"terms,1000,100\nrate,2025-01-15,2025-12-31,4.00\noffer,2025-02-14,4.00,,10000\n",
+            b"unbuilt rates\n",
+        ),
+        (
+            b"terms,1000,100\noffer,2025-02-14,4.00,,10000\n",
+            b"refused rates row 2 NoRate\n",
+        ),
+        (
+            b"terms,1000,100\nrate,2025-01-15,2025-12-31,4.00\noffer,2025-02-14,4.01,,10000\n",
+            b"refused rates row 3 RateAboveTable\n",
+        ),
+        (
+            b"terms,1000,100\noffer,2065-01-16,0.00,,10000\n",
+            b"refused rates row 2 TooLongTerm\n",
+        ),
+        (
+            b"terms,1000,100\noffer,2025-04-15,0.00,2025-04-15,10000\n",
+            b"refused rates row 2 FirstDate\n",
+        ),
+        (
+            b"terms,1000,100\noffer,2025-01-29,0.00,,10000\nbid\n",
+            b"refused rates row 3 UnknownRow\n",
+        ),
+    ];
+    for (rates, said) in &rows {
+        let ran = outcome_of(rt.alloc(), &CHECK, &with_rates(rates), u64::MAX)?;
+        assert_eq!(rt; ran.desk.said(), *said);
+    }
+    Ok(())
+}
+
+// The order in which files that are at fault together are told: lengths, then the issue's rows, the rates' rows, the
+// prices, the rules of the offers, what isn't built yet, and the certificate.
+#[test]
+fn order_of_refusals(rt: HostRuntime) -> Result<(), Fail> {
+    let rows = [
+        Row {
+            files: Files {
+                issue: b"settle,2025-01-15\nneed,x,1.00\n",
+                rates: b"offer\n",
+                prices: b"terms,1000,1000\n",
+                cert: b"",
+            },
+            status: Status::Refused,
+            said: b"refused issue row 2 BadDate\n",
+        },
+        Row {
+            files: Files {
+                rates: b"offer\n",
+                prices: b"terms,1000,1000\n",
+                ..FIRST
+            },
+            status: Status::Refused,
+            said: b"refused rates row 1 Missing\n",
+        },
+        Row {
+            files: Files {
+                rates: b"terms,1000,100\noffer,2025-01-29,0.00,,10000\n",
                 prices: b"terms,1000,1000\n",
                 ..FIRST
             },
@@ -202,14 +449,67 @@ fn forms_not_built_yet(rt: HostRuntime) -> Result<(), Fail> {
         },
         Row {
             files: Files {
-                cert: b"escrow-certificate 1\nportfolio 1\nbuy 1 50\ngap 0\nnodes 1\nl 1 0 1000000000000\n",
+                issue: b"settle,2025-01-15\nprice,100000.00\npay,2025-07-15,102000.00\n",
+                rates: b"terms,1000,100\noffer,2025-01-29,0.00,,10000\n",
                 ..FIRST
             },
+            status: Status::Refused,
+            said: b"refused rates row 2 TooShort\n",
+        },
+        Row {
+            files: Files {
+                issue: b"settle,2025-01-15\nprice,100000.00\npay,2025-07-15,102000.00\n",
+                rates: b"terms,1000,100\nrate,2025-01-15,2025-12-31,4.00\noffer,2025-02-14,4.00,,10000\n",
+                ..FIRST
+            },
+            status: Status::Unbuilt,
+            said: b"unbuilt issue\n",
+        },
+        Row {
+            files: Files {
+                rates: b"terms,1000,100\nrate,2025-01-15,2025-12-31,4.00\noffer,2025-02-14,4.00,,10000\n",
+                cert: b"",
+                ..FIRST
+            },
+            status: Status::Unbuilt,
+            said: b"unbuilt rates\n",
+        },
+        Row {
+            files: Files { cert: b"", ..FIRST },
             status: Status::Unbuilt,
             said: b"unbuilt cert\n",
         },
     ];
     try_rows(&rt, rt.alloc(), &rows)
+}
+
+// What `check` answers where the rate file has these bytes, and there is no certificate.
+fn try_rates(rt: &impl Abort, alloc: Global, rates: Vec<u8>, said: &[u8]) -> Result<(), Fail> {
+    let issue = named(alloc, "i", FIRST.issue)?;
+    let name = String::from_str(alloc, "r")?;
+    let rates = NamedBytes { name, bytes: rates };
+    let prices = named(alloc, "p", FIRST.prices)?;
+    let files = vec![in alloc; issue, rates, prices]?;
+    let mut desk = MemoryDesk::make(alloc, files, Vec::new(alloc));
+    let mut words = Vec::new(alloc);
+    for word in &CHECK {
+        words.push(String::from_str(alloc, word)?)?;
+    }
+    let status = run(alloc, words.as_slice(), &mut desk);
+    assert_eq!(rt; status, Status::Refused);
+    assert_eq!(rt; desk.said(), said);
+    Ok(())
+}
+
+#[test]
+fn limits_of_rate_files(rt: HostRuntime) -> Result<(), Fail> {
+    let long = vec![in rt.alloc(); b'\n'; 1_048_577]?;
+    try_rates(&rt, rt.alloc(), long, b"refused rates row 0 TooLong\n")?;
+    let mut many = Vec::from_slice(rt.alloc(), b"terms,1000,100\n")?;
+    for _ in 0..257 {
+        many.extend_from_slice(b"offer,2025-04-15,0.00,,10000\n")?;
+    }
+    try_rates(&rt, rt.alloc(), many, b"refused prices row 0 TooManyLines\n")
 }
 
 #[test]

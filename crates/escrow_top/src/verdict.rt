@@ -1,18 +1,19 @@
 ghost use Rattle.std.specs.Prelude.{◌≡◌, ◌≤◌, ◌^◌, length, IfOk, IsTrue, MatchResult, Some, None, option_map};
-ghost use Rattle.cash_table.specs.Portfolio.{IsPermitted};
+ghost use Rattle.offer_book.specs.Portfolio.{IsPermitted};
 ghost use Rattle.escrow_top.specs.Answer.{is_offered as is_offered_of, first_not_offered, portfolio_of, reason_against as reason_against_of, weighed, claim_answer};
 ghost use Rattle.escrow_top.specs.CertificateForm.{claim};
-ghost use Rattle.escrow_top.specs.CaseForm.{case_view};
+ghost use Rattle.case_file.specs.Case.{case_view};
 ghost use Rattle.escrow_top.specs.Ending.{is_checked};
 ghost use Rattle.escrow_top.specs.Reply.{answer};
 
-use crate::case::Case;
+use case_file::Case;
 use crate::certificate::{Certificate, Purchase};
 use crate::needs::needs_total;
 use crate::reply::{Reply, refusal, yes};
-use cash_table::{Book, Plan, cost, first_short};
+use cash_table::{Plan, cost, first_short};
 use escrow_desk::NoMemory;
 use escrow_units::Day;
+use offer_book::Book;
 use std::alloc::Global;
 
 /// Why a certificate isn't accepted.
@@ -59,17 +60,18 @@ fn plan_of(
 }
 
 // Why a permitted portfolio isn't accepted with a gap.
-fn reason_against(book: &Book, plan: &Plan, gap: u64) -> Option<Reason>
-    requires { IsPermitted book.now plan.now }
-    ensures { result ≡ reason_against_of book.now plan.now gap }
+fn reason_against(case: &Case, plan: &Plan, gap: u64) -> Option<Reason>
+    requires { IsPermitted case.now.book plan.now }
+    ensures { result ≡ reason_against_of (case_view case.now) plan.now gap }
 {
+    let book = &case.book;
     if let Some(day) = first_short(book, plan) {
         return Some(Reason::ShortOn(day));
     }
     if needs_total(book.needs()) < cost(book, plan).0.saturating_sub(gap) as u128 {
         return Some(Reason::WeakLeaf(1));
     }
-    if gap != 0 {
+    if gap > case.allowance.0 {
         return Some(Reason::GapAbove);
     }
     None
@@ -79,10 +81,10 @@ fn reason_against(book: &Book, plan: &Plan, gap: u64) -> Option<Reason>
 fn weigh_plan(alloc: Global, case: &Case, plan: &Plan, gap: u64) -> Result<Reply, NoMemory>
     requires { IsPermitted case.now.book plan.now }
     ensures answer { IfOk result (λ reply. answer reply
-        ≡ weighed (case_view case.now) plan.now gap (reason_against_of case.now.book plan.now gap)) }
+        ≡ weighed (case_view case.now) plan.now gap (reason_against_of (case_view case.now) plan.now gap)) }
     ensures status { IfOk result (λ reply. IsTrue (is_checked reply.status)) }
 {
-    match reason_against(&case.book, plan, gap) {
+    match reason_against(case, plan, gap) {
         Some(reason) => refusal(alloc, reason),
         None => yes(alloc, case, plan, gap),
     }

@@ -1,5 +1,5 @@
 -- The terms of SLGS time deposit securities (31 CFR part 344).
-use Rattle.std.specs.Prelude.{◌≡◌, ℕ, ◌==◌, if◌then◌else◌, ℤ, pos, ◌+ℤ◌, ◌≤ℤ◌, ◌<ℤ◌}
+use Rattle.std.specs.Prelude.{◌≡◌, ℕ, ◌==◌, if◌then◌else◌, Bool, ◌&&◌, ℤ, pos, ◌+ℤ◌, ◌≤ℤ◌, ◌<ℤ◌, int_le}
 use Rattle.jiff_core.specs.Calendar.{IsBetween}
 use Rattle.escrow_units.specs.Calendar.{IsSeriesDate, years_after_of}
 use Rattle.escrow_units.specs.declared.security.Slgs.{Slgs}
@@ -10,6 +10,10 @@ use Rattle.escrow_units.specs.declared.security.StepRule.TheVariants as rule
 -- a settlement day: from 2000-01-01 to 2150-01-01 (this project's own)
 abbrev pub IsSettlement : ℤ → Type 0
 IsSettlement n = IsBetween (pos 10_957) (pos 65_744) n
+
+-- whether a day is one
+abbrev pub is_settlement : ℤ → Bool
+is_settlement n = int_le (pos 10_957) n && int_le n (pos 65_744)
 
 -- the fewest days to maturity: 30, or 15 for a security that bears no interest (31 CFR part 344)
 abbrev pub shortest_term : ℕ → ℕ

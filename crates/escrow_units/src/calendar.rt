@@ -8,8 +8,8 @@ use crate::security::StepRule;
 use jiff::ToSpan;
 use jiff::civil::Date;
 
-// The date of a day.
-pub(crate) fn plain_date(day: Day) -> jiff_core::civil::Date
+/// The date of a day.
+pub fn plain_date(day: Day) -> jiff_core::civil::Date
     ensures number { epoch_day result ≡ day }
     ensures years { IsDayNumber day }
 {
@@ -47,7 +47,8 @@ fn thirty_day_place(day: Day) -> u32
 
 /// The index of a day: how many days it comes after settlement, by years of twelve months of thirty days (30/360).
 ///
-/// One half-year is 180. Settlement isn't after the day, and the day isn't later than 40 years after settlement.
+/// A 31st counts as the 30th, so the index of a later day can be the same. Settlement isn't after the day, and the day
+/// isn't later than 40 years after settlement.
 pub fn index360(settle: Day, day: Day) -> u32
     requires order { settle ≤ℤ day }
     requires near { day ≤ℤ years_after_of settle 40 }

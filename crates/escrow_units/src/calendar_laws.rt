@@ -8,7 +8,8 @@ pub fn date_laws()
 {}
 
 /// What the dates of a series are, in the terms of bonds: they start at maturity and fall by half-years of 181 to 184
-/// days, on the same day of the month or at month ends, and count 180 of the index each.
+/// days, on the same day of the month or at month ends. Where they keep the day of the month, and it is at most the
+/// 28th, each half-year counts 180 of the index.
 pub fn series_laws()
     ensures start { SeriesStartsAtMaturity }
     ensures fall { SeriesFalls }

@@ -10,6 +10,7 @@ mod decimal;
 mod denomination;
 mod digits;
 mod fault;
+mod interest;
 #[cfg(test)]
 mod number_tests;
 mod number_text;
@@ -17,15 +18,17 @@ mod price_text;
 mod printed;
 mod rounding;
 mod security;
+mod settlement;
 
 pub use amount::{Cents, Price8, Rate, YieldUnits};
-pub use calendar::{days_between, half_back, index360, years_after};
+pub use calendar::{days_between, half_back, index360, plain_date, years_after};
 pub use calendar_laws::{date_laws, index_laws, kind_laws, series_laws, year_laws};
 pub use date_text::{print_day, read_day};
 pub use day::Day;
 pub use decimal::whole_number;
 pub use denomination::{read_cap, read_terms};
 pub use fault::NumberFault;
+pub use interest::earned;
 pub use number_text::{
     decimal_spelling, read_cents, read_count, read_dollars, read_rate, read_yield,
 };
@@ -33,3 +36,4 @@ pub use price_text::read_price;
 pub use printed::{print_cents, print_rate, print_yield};
 pub use rounding::near;
 pub use security::{AskedRate, Flow, Slgs, SlgsKind, StepRule, Terms};
+pub use settlement::is_settlement;

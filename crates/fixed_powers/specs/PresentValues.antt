@@ -1,16 +1,10 @@
 -- Present values by outward powers, in units of 2^-62 of a cent: this project's own.
-use Rattle.std.specs.Prelude.{◌≡◌, ℕ, ◌+◌, ◌-◌, ◌*◌, ◌<◌, ◌≤◌, List, map, ℤ}
+use Rattle.std.specs.Prelude.{◌≡◌, ℕ, ◌+◌, ◌*◌, ◌<◌, ◌≤◌, List}
 use Rattle.std.specs.List.{Any, sum_by}
-use Rattle.escrow_units.specs.Calendar.{e_of}
 use Rattle.escrow_units.specs.PresentValue.{IndexedFlow, last_index, PresentValueAtLeast, PresentValueAtMost}
-use Rattle.escrow_units.specs.declared.security.Flow.{Flow}
 use Rattle.fixed_powers.specs.DiscountPowers.{one, power_of}
 use Rattle.fixed_powers.specs.declared.side.Side.{Side}
 use Rattle.fixed_powers.specs.declared.side.Side.TheVariants.{Low, High}
-
--- flows by their index, which counts from settlement by the 30/360 number of the day
-abbrev pub indexed : ℤ → List Flow → List IndexedFlow
-indexed settle flows = map (λ flow. record { index = e_of flow.day - e_of settle; cents = flow.cents.0 }) flows
 
 -- the sum of the flows, not discounted
 abbrev pub total_cents : List IndexedFlow → ℕ

@@ -8,6 +8,7 @@ mod present_values;
 mod root;
 mod side;
 
+pub use chain::ONE;
 pub use laws::{powers_are_ordered, powers_are_sharp, powers_enclose};
 pub use powers::Powers;
 pub use present_values::{

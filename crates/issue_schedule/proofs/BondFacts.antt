@@ -12,7 +12,8 @@ use Rattle.escrow_units.specs.SlgsTerms.{IsSettlement}
 use Rattle.escrow_units.specs.declared.security.StepRule.TheVariants as rule
 use Rattle.escrow_units.proofs.DateFacts.{pos_abs}
 use Rattle.issue_schedule.specs.IssueTerms.{IsLater}
-use Rattle.issue_schedule.specs.Needs.{series, on}
+use Rattle.day_sums.specs.Summed.{on}
+use Rattle.issue_schedule.specs.Needs.{series}
 use Rattle.escrow_units.specs.declared.security.Flow.{Flow}
 
 abbrev pub step_date : ℤ → ℕ → ℤ

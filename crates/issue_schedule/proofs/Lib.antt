@@ -1,4 +1,6 @@
 pub mod BondFacts
 pub mod FileFacts
-pub mod SumFacts
-pub mod SumLaws
+pub mod InterestFacts
+pub mod NeedFacts
+pub mod PeriodFacts
+pub mod PaymentFacts

@@ -10,9 +10,9 @@ use Rattle.escrow_units.specs.PriceText.{price_of}
 use Rattle.escrow_units.specs.declared.amount.Cents.{Cents}
 use Rattle.escrow_units.specs.declared.amount.YieldUnits.{YieldUnits}
 use Rattle.escrow_units.specs.declared.security.Flow.{Flow}
-use Rattle.issue_schedule.specs.DaySums.{total_limit}
+use Rattle.issue_schedule.specs.Limits.{total_limit}
 use Rattle.issue_schedule.specs.IssueTerms.{needs_total, need_dates}
-use Rattle.issue_schedule.specs.Needs.{total}
+use Rattle.escrow_units.specs.Flows.{total}
 use Rattle.issue_schedule.specs.Rows.{Row, field_of, is_word, ◌>>=◌, or_refused, or_bad_date, day_by, of_width, at_row}
 use Rattle.issue_schedule.specs.declared.draft.Draft.{Draft}
 use Rattle.issue_schedule.specs.declared.draft.IssuePrice.{IssuePrice}

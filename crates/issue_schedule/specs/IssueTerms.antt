@@ -3,8 +3,9 @@ use Rattle.std.specs.Prelude.{◌≡◌, ℕ, ◌^◌, ◌≤◌, ◌<ℤ◌, �
 use Rattle.escrow_units.specs.Calendar.{years_after_of}
 use Rattle.escrow_units.specs.SlgsTerms.{IsSettlement}
 use Rattle.escrow_units.specs.declared.security.Flow.{Flow}
-use Rattle.issue_schedule.specs.DaySums.{total_limit}
-use Rattle.issue_schedule.specs.Needs.{all_needs, needs_of, total}
+use Rattle.issue_schedule.specs.Limits.{total_limit}
+use Rattle.escrow_units.specs.Flows.{total}
+use Rattle.issue_schedule.specs.Needs.{all_needs, needs_of}
 use Rattle.issue_schedule.specs.declared.draft.Draft.{Draft}
 use Rattle.issue_schedule.specs.declared.draft.IssuePrice.{IssuePrice}
 use Rattle.issue_schedule.specs.declared.issue.Bond.{Bond}

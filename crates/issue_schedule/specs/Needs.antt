@@ -1,11 +1,12 @@
 -- What old bonds and direct needs come to on each day.
-use Rattle.std.specs.Prelude.{ℕ, zero, suc, ◌+◌, ◌-◌, ◌*◌, ◌^◌, ◌==◌, ◌&&◌, if◌then◌else◌, int_lt, int_le, List, [], ◌∷◌, ◌++◌, map, filter, find, sum_by, Option, Some, None, unwrap_or, ℤ}
+use Rattle.std.specs.Prelude.{ℕ, zero, suc, ◌+◌, ◌-◌, ◌*◌, ◌^◌, ◌&&◌, if◌then◌else◌, int_lt, int_le, List, [], ◌∷◌, ◌++◌, map, filter, find, Option, Some, None, unwrap_or, ℤ}
 use Rattle.std.specs.List.{flat_map}
-use Rattle.std.specs.Ordering.{int_cmp, int_eq, match_ordering}
+use Rattle.std.specs.Ordering.{int_eq}
 use Rattle.escrow_units.specs.Calendar.{half_back_of, e_of}
 use Rattle.escrow_units.specs.Rounding.{near}
 use Rattle.escrow_units.specs.declared.security.Flow.{Flow}
 use Rattle.escrow_units.specs.declared.security.StepRule.TheVariants as rule
+use Rattle.day_sums.specs.Summed.{on, summed}
 use Rattle.issue_schedule.specs.declared.issue.Bond.{Bond}
 use Rattle.issue_schedule.specs.declared.issue.Call.{Call}
 
@@ -21,10 +22,6 @@ series_of maturity = series maturity 0 85
 -- a bond pays interest on the dates of its series after settlement, here up to a last day
 abbrev pub interest_dates : ℤ → ℤ → ℤ → List ℤ
 interest_dates settle last maturity = filter (λ date. int_lt settle date && int_le date last) (series_of maturity)
-
--- so many cents on a day
-abbrev pub on : ℤ → ℕ → Flow
-on day cents = record { day = day; cents = record { 0 = cents } }
 
 -- the interest of a half-year, half the coupon, to the cent
 abbrev pub half_coupon : Bond → ℕ
@@ -70,28 +67,6 @@ bond_needs settle (Some call) bond =
 abbrev pub all_needs : ℤ → Option Call → List Flow → List Bond → List Flow
 all_needs settle call direct bonds = direct ++ flat_map (bond_needs settle call) bonds
 
--- the sum of amounts, in cents
-abbrev pub total : List Flow → ℕ
-total flows = sum_by (λ flow. flow.cents.0) flows
-
--- one more amount: it joins that of its day, or stands on a day of its own in the order of days
-unfoldable pub with_amount : Flow → List Flow → List Flow
-with_amount flow [] = flow ∷ []
-with_amount flow (need ∷ needs) =
-    match_ordering (int_cmp flow.day need.day)
-    (flow ∷ need ∷ needs)
-    (on need.day (need.cents.0 + flow.cents.0) ∷ needs)
-    (need ∷ with_amount flow needs)
-
--- nothing is no need
-abbrev pub with_need : Flow → List Flow → List Flow
-with_need flow needs = if flow.cents.0 == 0 then needs else with_amount flow needs
-
--- amounts added, one after the other
-abbrev pub with_needs : List Flow → List Flow → List Flow
-with_needs needs [] = needs
-with_needs needs (flow ∷ flows) = with_needs (with_need flow needs) flows
-
--- the needs in order of day, each day once
+-- the needs in order of day, each day once: what direct needs and bonds need, summed by day
 unfoldable pub needs_of : ℤ → Option Call → List Flow → List Bond → List Flow
-needs_of settle call direct bonds = with_needs [] (all_needs settle call direct bonds)
+needs_of settle call direct bonds = summed (all_needs settle call direct bonds)

@@ -7,16 +7,16 @@ mod draft;
 mod fields;
 mod issue;
 mod laws;
+mod limits;
 mod lists;
 mod read;
 mod row;
 mod schedule;
-mod sums;
 #[cfg(test)]
 mod tests;
 
 pub use issue::{Bond, Call, Issue, Restricted};
-pub use laws::needs_laws;
+pub use laws::{bond_laws, needs_laws};
 pub use lists::{Bonds, Flows};
 pub use read::read_issue;
 pub use schedule::needs;

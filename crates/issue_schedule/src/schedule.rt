@@ -1,28 +1,33 @@
-ghost use Rattle.std.specs.Prelude.{◌≡◌, IfOk};
-ghost use Rattle.issue_schedule.specs.DaySums.{amounts};
+ghost use Rattle.std.specs.Prelude.{◌≡◌, ◌≤◌, ◌+◌, sum_by, IfOk};
+ghost use Rattle.escrow_units.specs.Calendar.{years_after_of};
+ghost use Rattle.escrow_units.specs.Flows.{Rise, total};
+ghost use Rattle.day_sums.specs.SummedLaws.{AreAboveZero, FallWithin};
 ghost use Rattle.issue_schedule.specs.IssueTerms.{HasNeeds};
-ghost use Rattle.issue_schedule.specs.Needs.{needs_of};
+ghost use Rattle.issue_schedule.specs.Limits.{total_limit};
+ghost use Rattle.issue_schedule.specs.Needs.{bond_needs as bond_needs_of, needs_of};
 
+use crate::bond::bond_needs;
 use crate::issue::Issue;
-use crate::sums::{add_bonds, add_needs, in_order};
+use day_sums::DaySums;
 use escrow_desk::NoMemory;
 use escrow_units::Flow;
 use std::alloc::Global;
-use std::collections::BTreeMap;
 
 // What is needed on each day.
-#[tactic(auto, unfolding(crate::specs::Needs::needs_of))]
-fn day_sums(alloc: Global, issue: &Issue) -> Result<BTreeMap<i32, Flow>, NoMemory>
+fn needs_by_day(alloc: Global, issue: &Issue) -> Result<DaySums, NoMemory>
     requires { HasNeeds issue.now }
-    ensures { IfOk result (λ sums. amounts sums ≡ needs_of issue.now.settle issue.now.call issue.now.direct issue.now.bonds) }
+    ensures { IfOk result (λ sums. sums ≡ needs_of issue.now.settle issue.now.call issue.now.direct issue.now.bonds) }
 {
-    let mut sums = BTreeMap::new(alloc);
-    add_needs(&mut sums, issue.direct.as_slice())?;
-    add_bonds(&mut sums, issue)?;
+    let mut sums = DaySums::none(alloc);
+    sums.add(issue.direct.as_slice())?;
+    for bond in issue.bonds.as_slice() {
+        sums.add(bond_needs(issue.settle, issue.call, bond).as_slice())?;
+    }
     Ok(sums)
 }
 
-/// The need dates of an issue, in order, with what is needed on each: the direct needs, and what the old bonds pay.
+/// The need dates of an issue, in order, with what is needed on each: the direct needs, and what the old bonds pay. They lie
+/// from settlement to 40 years later, and come to the needs of the issue: at most 10^13 cents.
 ///
 /// A bond pays half its coupon on each date of its series after settlement, up to maturity, and there its principal. One
 /// that matures after the call pays the interest up to the call, and there the call price; where the call is no date of
@@ -35,6 +40,11 @@ fn day_sums(alloc: Global, issue: &Issue) -> Result<BTreeMap<i32, Flow>, NoMemor
 pub fn needs(alloc: Global, issue: &Issue) -> Result<Vec<Flow>, NoMemory>
     requires { HasNeeds issue.now }
     ensures value { IfOk result (λ needs. needs.items ≡ needs_of issue.now.settle issue.now.call issue.now.direct issue.now.bonds) }
+    ensures within { IfOk result (λ needs. FallWithin issue.now.settle (years_after_of issue.now.settle 40) needs.items) }
+    ensures rise { IfOk result (λ needs. Rise needs.items) }
+    ensures above { IfOk result (λ needs. AreAboveZero needs.items) }
+    ensures total { IfOk result (λ needs. total needs.items ≡ total issue.now.direct + sum_by (λ bond. total (bond_needs_of issue.now.settle issue.now.call bond)) issue.now.bonds) }
+    ensures limit { IfOk result (λ needs. total needs.items ≤ total_limit) }
 {
-    in_order(alloc, day_sums(alloc, issue)?)
+    needs_by_day(alloc, issue)?.into_flows(alloc)
 }

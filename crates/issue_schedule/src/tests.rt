@@ -2,7 +2,7 @@ ghost use Rattle.std.specs.Prelude.{IfOk};
 ghost use Rattle.escrow_units.specs.DayNumber.{IsDayNumber};
 ghost use Rattle.issue_schedule.specs.IssueTerms.{IsIssue};
 
-use crate::{Call, Issue, Restricted, needs, read_issue};
+use crate::{Call, Issue, Restricted, bond_laws, needs, needs_laws, read_issue};
 use escrow_desk::{CaseError, FileKind, Refusal, RefusalKind, read_rows};
 use escrow_units::{Cents, Day, Flow, Price8, YieldUnits};
 use std::alloc::Global;
@@ -23,7 +23,7 @@ fn issue_of(alloc: Global, text: &[u8]) -> Result<Result<Issue, CaseError>, Fail
 
 #[test]
 fn faulty_rows_are_refused(rt: HostRuntime) -> Result<(), Fail> {
-    let faults: [(&[u8], u32, RefusalKind); 65] = [
+    let faults: [(&[u8], u32, RefusalKind); 72] = [
         (b"", 1, RefusalKind::Missing),
         (b"need,2025-01-15,5.00", 1, RefusalKind::Missing),
         (b"bond", 1, RefusalKind::Missing),
@@ -36,6 +36,12 @@ fn faulty_rows_are_refused(rt: HostRuntime) -> Result<(), Fail> {
             b"settle,2025-01-15\nsettle,1999-12-31",
             2,
             RefusalKind::OutOfRange,
+        ),
+        (b"settle,2025-01-15\nsettle", 2, RefusalKind::WrongFields),
+        (
+            b"settle,2025-01-15\nsettle,2025-02-30",
+            2,
+            RefusalKind::BadDate,
         ),
         (
             b"settle,2025-01-15\nsettle,2025-01-15",
@@ -64,6 +70,11 @@ fn faulty_rows_are_refused(rt: HostRuntime) -> Result<(), Fail> {
             RefusalKind::PriceRange,
         ),
         (
+            b"settle,2025-01-15\ncall,2025-01-15,300.00000001",
+            2,
+            RefusalKind::PriceRange,
+        ),
+        (
             b"settle,2025-01-15\ncall,2025-01-15,100",
             2,
             RefusalKind::DateOrder,
@@ -84,6 +95,11 @@ fn faulty_rows_are_refused(rt: HostRuntime) -> Result<(), Fail> {
             b"settle,2025-01-15\nbond,2025-01-15,100000000000.01,x",
             2,
             RefusalKind::OutOfRange,
+        ),
+        (
+            b"settle,2025-01-15\nbond,2025-01-15,1,x",
+            2,
+            RefusalKind::BadNumber,
         ),
         (
             b"settle,2025-01-15\nbond,2025-01-15,1,30.001",
@@ -146,6 +162,11 @@ fn faulty_rows_are_refused(rt: HostRuntime) -> Result<(), Fail> {
         (b"settle,2025-01-15\nprice", 2, RefusalKind::WrongFields),
         (b"settle,2025-01-15\nprice,x", 2, RefusalKind::BadNumber),
         (b"settle,2025-01-15\nprice,0", 2, RefusalKind::OutOfRange),
+        (
+            b"settle,2025-01-15\nprice,100000000000.01",
+            2,
+            RefusalKind::OutOfRange,
+        ),
         (b"settle,2025-01-15\npay,1", 2, RefusalKind::WrongFields),
         (
             b"settle,2025-01-15\npay,2025-02-30,x",
@@ -163,12 +184,22 @@ fn faulty_rows_are_refused(rt: HostRuntime) -> Result<(), Fail> {
             RefusalKind::BadNumber,
         ),
         (
+            b"settle,2025-01-15\npay,2025-01-15,100000000000.01",
+            2,
+            RefusalKind::OutOfRange,
+        ),
+        (
             b"settle,2025-01-15\npay,2025-01-15,5",
             2,
             RefusalKind::DateOrder,
         ),
         (b"settle,2025-01-15\nallowance", 2, RefusalKind::WrongFields),
         (b"settle,2025-01-15\nallowance,x", 2, RefusalKind::BadNumber),
+        (
+            b"settle,2025-01-15\nallowance,100000000000.01",
+            2,
+            RefusalKind::OutOfRange,
+        ),
         (b"settle,2025-01-15\nbudget", 2, RefusalKind::WrongFields),
         (b"settle,2025-01-15\nbudget,x", 2, RefusalKind::BadNumber),
         (b"settle,2025-01-15\nbudget,0", 2, RefusalKind::OutOfRange),
@@ -267,6 +298,29 @@ fn faulty_rows_are_refused(rt: HostRuntime) -> Result<(), Fail> {
 }
 
 #[test]
+fn last_good_values_are_read(rt: HostRuntime) -> Result<(), Fail> {
+    let texts: [&[u8]; 12] = [
+        b"settle,2000-01-01\nrestricted,29.99",
+        b"settle,2150-01-01\nrestricted,0",
+        b"settle,2025-01-15\nrestricted,4\ncall,2065-01-15,10",
+        b"settle,2025-01-15\nrestricted,4\ncall,2025-01-16,300",
+        b"settle,2025-01-15\nrestricted,4\nbond,2065-01-15,1,30",
+        b"settle,2025-01-15\nrestricted,4\nbond,2025-01-16,99999999999.99,0",
+        b"settle,2025-01-15\nrestricted,4\nneed,2065-01-15,1",
+        b"settle,2025-01-15\nrestricted,4\nneed,2025-01-15,100000000000",
+        b"settle,2025-01-15\nrestricted,4\ncash,100000000000",
+        b"settle,2025-01-15\nrestricted,4\nallowance,100000000000",
+        b"settle,2025-01-15\nrestricted,4\nbudget,1",
+        b"settle,2025-01-15\nprice,0.01\npay,2025-01-16,100000000000",
+    ];
+    for text in &texts {
+        let read = issue_of(rt.alloc(), text)?;
+        assert_eq!(rt; read.map(|_| ()), Ok(()));
+    }
+    Ok(())
+}
+
+#[test]
 fn need_dates_are_limited(rt: HostRuntime) -> Result<(), Fail> {
     let bonds = b"settle,2025-01-15\nrestricted,4\nbond,2064-07-01,1000,1\nbond,2064-07-02,1000,1\n\
         bond,2064-07-03,1000,1\nbond,2064-07-04,1000,1\nbond,2064-07-05,1000,1\nbond,2064-07-06,1000,1\n\
@@ -300,6 +354,8 @@ fn on(day: i32, cents: u64) -> Flow
 
 #[test]
 fn bonds_need_interest_principal_and_the_call_price(rt: HostRuntime) -> Result<(), Fail> {
+    needs_laws();
+    bond_laws();
     let by_series = b"settle,2025-01-15\ncall,2026-07-01,101\nbond,2026-01-01,2000000.00,4.000\n\
         bond,2030-07-01,10000000.00,5.000\nrestricted,4.00\n";
     let called = issue_of(rt.alloc(), by_series)??;
@@ -319,6 +375,13 @@ fn bonds_need_interest_principal_and_the_call_price(rt: HostRuntime) -> Result<(
         on(20_680, 1_016_111_111),
     ];
     assert_eq!(rt; needs(rt.alloc(), &accrued)?.as_slice(), later.as_slice());
+    let at_maturity =
+        b"settle,2030-01-02\ncall,2030-07-01,101\nbond,2030-07-01,100.00,4.000\nrestricted,4.00\n";
+    let held = issue_of(rt.alloc(), at_maturity)??;
+    assert_eq!(rt;
+        needs(rt.alloc(), &held)?.as_slice(),
+        [on(22_096, 10_200)].as_slice()
+    );
     Ok(())
 }
 

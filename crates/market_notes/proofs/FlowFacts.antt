@@ -10,19 +10,21 @@ use Rattle.std.proofs.lemmas.List.Elements.{All-map, All-same}
 use Rattle.std.proofs.lemmas.List.Kept.{AllPairs-cons}
 use Rattle.std.proofs.lemmas.List.Sums.{sum_by-cons}
 use Rattle.jiff_core.proofs.SignedLemmas.{signed_arith}
-use Rattle.escrow_units.proofs.DateFacts.{pos_abs}
+use Rattle.escrow_units.proofs.FlowFacts.{choice-false, choice-true, days_to-count, days_to-some, rise-map}
+use Rattle.escrow_units.proofs.RoundingFacts.{near-mono, near-zero}
+use Rattle.escrow_units.proofs.SeriesDates.{dates_after, dates_after-last, dates_after-rise, dates_before, half_back_of-reach, half_back_of-zero}
 use Rattle.escrow_units.specs.Calendar.{half_back_of}
+use Rattle.escrow_units.specs.Flows.{EndsOn, Rise, index_of}
 use Rattle.escrow_units.specs.Rounding.{near}
+use Rattle.escrow_units.specs.Series.{days_to}
 use Rattle.escrow_units.specs.declared.security.Flow.{Flow}
 use Rattle.escrow_units.specs.declared.security.StepRule.{StepRule}
 use Rattle.escrow_units.specs.declared.security.StepRule.TheVariants as rule
 use Rattle.market_notes.specs.NoteFlows.{payment_dates, payments_of, payment_on, principal_on, half_year_interest, price_part, accrued_interest, cost_of, previous_date, next_date}
-use Rattle.market_notes.specs.NoteLaws.{IsCouponDate, SettlesIn, CostsPriceOnCouponDate, Rise, AreAfterSettlement, EndsOn, PayFaceOnce, AreAtMost, PayNoLessForMore}
-use Rattle.market_notes.specs.NoteTerms.{index_of}
+use Rattle.market_notes.specs.NoteLaws.{IsCouponDate, SettlesIn, CostsPriceOnCouponDate, AreAfterSettlement, PayFaceOnce, AreAtMost, PayNoLessForMore}
 use Rattle.market_notes.specs.PriceForm.{has_matured}
-use Rattle.market_notes.specs.Series.{days_to}
 use Rattle.market_notes.specs.declared.note.Note.{Note}
-use Rattle.market_notes.proofs.SeriesFacts.{IsTerm, PaysOn, dates_after, dates_before, dates_after-late, dates_after-rise, dates_after-last, half_back_of-zero, half_back_of-reach}
+use Rattle.market_notes.proofs.SeriesFacts.{IsTerm, PaysOn, dates_after-late}
 
 -- a maturity that is late enough
 pub record IsLater (settle maturity : ℤ) : Type 0 where
@@ -31,28 +33,6 @@ pub record IsLater (settle maturity : ℤ) : Type 0 where
 
 pub later : (settle maturity : ℤ) → has_matured settle maturity ≡ false → IsLater settle maturity
 later settle maturity h = record { after = grind (arith, ints); index = grind (arith, ints) }
-
--- rounded parts
-pub near-zero : (a b : ℕ) → a ≡ 0 → 0 < b → near a b ≡ 0
-unfolding near
-near-zero a b e h = rw e (below b (2 * b) (omega arith))
-  where
-    below : (n m : ℕ) → n < m → (2 * 0 + n) / m ≡ 0
-    below n m h = let e : 2 * 0 + n ≡ n = omega arith in rw e (div-eq_of_lt h)
-
-pub near-mono : (a b c : ℕ) → 0 < b → a ≤ c → near a b ≤ near c b
-unfolding near
-near-mono a b c h le =
-    let less = div-mul-le_self (2 * a + b) (2 * b) in
-    le-div ((2 * a + b) / (2 * b)) (2 * c + b) (2 * b) (omega arith) (omega (arith, less))
-
-pub days_to-count : (from to : ℤ) (n : ℕ) → from +ℤ pos n ≡ to → days_to from to ≡ n
-days_to-count from to n e = let apart : to -ℤ from ≡ pos n = omega (arith, signed_arith, e) in ap unsigned_abs apart
-
-pub days-some : (from to : ℤ) → from <ℤ to → 0 < days_to from to
-days-some from to less =
-    let apart : to -ℤ from ≡ pos (unsigned_abs (to -ℤ from)) = pos_abs (to -ℤ from) (omega (arith, signed_arith, less)) in
-    omega (arith, signed_arith, apart, less)
 
 -- the accrued interest, by the days of its half-year
 pub accrued-is : (note : Note) (face : ℕ) (from to : ℤ) (elapsed whole : ℕ) → from ≡ previous_date note → to ≡ next_date note
@@ -65,7 +45,7 @@ accrued-is note face from to elapsed whole e f g h =
 none-accrued : (note : Note) (face : ℕ) → SettlesIn note (previous_date note) (next_date note) → IsCouponDate note note.settle → accrued_interest note face ≡ 0
 unfolding accrued_interest
 none-accrued note face around on =
-    let some : 0 < days_to (previous_date note) (next_date note) = days-some (previous_date note) (next_date note) (omega (arith, signed_arith, around.begun, around.unpaid)) in
+    let some : 0 < days_to (previous_date note) (next_date note) = days_to-some (previous_date note) (next_date note) (omega (arith, signed_arith, around.begun, around.unpaid)) in
     elim (around.between note.settle on) [
       | inl by ↦
           let none : days_to (previous_date note) note.settle ≡ 0 = days_to-count (previous_date note) note.settle 0 (omega (arith, signed_arith, by, around.begun)) in
@@ -83,7 +63,7 @@ price-more note face more le = near-mono _ _ _ (omega arith) (mul-le-mul_right n
 accrued-more : (note : Note) (face more : ℕ) → SettlesIn note (previous_date note) (next_date note) → face ≤ more → accrued_interest note face ≤ accrued_interest note more
 unfolding accrued_interest
 accrued-more note face more around le =
-    let some : 0 < days_to (previous_date note) (next_date note) = days-some (previous_date note) (next_date note) (omega (arith, signed_arith, around.begun, around.unpaid)) in
+    let some : 0 < days_to (previous_date note) (next_date note) = days_to-some (previous_date note) (next_date note) (omega (arith, signed_arith, around.begun, around.unpaid)) in
     near-mono _ _ _ (omega arith) (mul-le-mul_right (days_to (previous_date note) note.settle) (mul-le-mul_right note.coupon.0 le))
 
 pub costs-more : (note : Note) (face more : ℕ) → SettlesIn note (previous_date note) (next_date note) → face ≤ more → cost_of note face ≤ cost_of note more
@@ -99,23 +79,16 @@ payments-series : (note : Note) (face n : ℕ) → PaysOn note n → payments_of
 unfolding payments_of
 payments-series note face n p = ap (map (payment_on note face)) p.dates
 
-rise-map : (note : Note) (face : ℕ) (dates : List ℤ) → AllPairs (λ a b. a <ℤ b) dates → Rise (map (payment_on note face) dates)
-rise-map note face [] h = λ i j d lt within. absurd (omega arith)
-rise-map note face (x ∷ xs) h =
-    AllPairs-cons (λ (a b : Flow). a.day <ℤ b.day) (payment_on note face x) (map (payment_on note face) xs)
-    (All-map (λ (b : Flow). x <ℤ b.day) (payment_on note face) xs (λ k d lt. h 0 (suc k) d (omega arith) (omega arith)))
-    (rise-map note face xs (λ i j d lt within. h (suc i) (suc j) d (omega arith) (omega arith)))
-
 pub payments-rise : (note : Note) (face n : ℕ) → IsTerm note → PaysOn note n → Rise (payments_of note face)
 payments-rise note face n t p =
     subst Rise (sym (payments-series note face n p))
-    (rise-map note face (dates_after note.maturity rule.MonthEnd n) (dates_after-rise note.maturity rule.MonthEnd n t.base (omega (arith, p.few))))
+    (rise-map (payment_on note face) (λ day. refl) (dates_after note.maturity rule.MonthEnd n) (dates_after-rise note.maturity rule.MonthEnd n t.base (omega (arith, p.few))))
 
 pub payments-after : (note : Note) (face n : ℕ) → IsTerm note → PaysOn note n → note.settle <ℤ next_date note → AreAfterSettlement note (payments_of note face)
 payments-after note face n t p late =
     All-same (λ (flow : Flow). IsCouponDate note flow.day × (note.settle <ℤ flow.day)) (payments_of note face) (map (payment_on note face) (dates_after note.maturity rule.MonthEnd n)) (payments-series note face n p)
     (All-map (λ (flow : Flow). IsCouponDate note flow.day × (note.settle <ℤ flow.day)) (payment_on note face) (dates_after note.maturity rule.MonthEnd n)
-    (dates_after-late note.maturity note.settle rule.MonthEnd n t.base (omega (arith, p.few)) (λ _. omega (arith, signed_arith, late, p.next))))
+    (dates_after-late note n t p late))
 
 pub payments-end : (note : Note) (face n : ℕ) → IsTerm note → PaysOn note n → EndsOn note.maturity (payments_of note face)
 payments-end note face n t p = record {
@@ -152,13 +125,6 @@ face-sum interest principal face maturity r (suc k) last none =
       rest,
       none (suc k) (omega arith) (omega arith),
     )
-
-choice-true : (t : Bool) (a b : ℕ) → t ≡ true → (if t then a else b) ≡ a
-choice-true t a b e = rw e refl
-
-choice-false : (t : Bool) (a b : ℕ) → (t ≡ true → ⊥) → (if t then a else b) ≡ b
-choice-false true a b h = absurd (h refl)
-choice-false false a b h = refl
 
 choice-mono : (t : Bool) (a b : ℕ) → a ≤ b → (if t then a else 0) ≤ (if t then b else 0)
 choice-mono true a b h = h

@@ -4,7 +4,8 @@ use Rattle.jiff_core.proofs.SignedLemmas.{signed_arith}
 use Rattle.escrow_units.specs.Calendar.{date_of, years_after_of}
 use Rattle.escrow_units.proofs.SeriesFacts.{years_after_of-none}
 use Rattle.escrow_units.proofs.YearFacts.{years_after_of-passes}
-use Rattle.market_notes.specs.NoteTerms.{IsNote, index_of}
+use Rattle.escrow_units.specs.Flows.{index_of}
+use Rattle.market_notes.specs.NoteTerms.{IsNote}
 
 -- a maturity up to 14,600 days after 2025-01-15
 within : (n : ℕ) → n ≤ 34_703 → pos n ≤ℤ years_after_of (pos 20103) 40

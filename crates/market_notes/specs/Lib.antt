@@ -3,4 +3,3 @@ pub mod NoteLaws
 pub mod NoteRules
 pub mod NoteTerms
 pub mod PriceForm
-pub mod Series

@@ -4,9 +4,9 @@ use Rattle.std.specs.Prelude.{ℕ, ◌+◌, ◌-◌, ◌*◌, ◌^◌, if◌then
 use Rattle.std.specs.Ordering.{int_eq}
 use Rattle.escrow_units.specs.Calendar.{half_back_of}
 use Rattle.escrow_units.specs.Rounding.{near}
+use Rattle.escrow_units.specs.Series.{days_to, series_dates}
 use Rattle.escrow_units.specs.declared.security.Flow.{Flow}
 use Rattle.escrow_units.specs.declared.security.StepRule.TheVariants as rule
-use Rattle.market_notes.specs.Series.{days_to, series_dates}
 use Rattle.market_notes.specs.declared.note.Note.{Note}
 
 -- a note pays on the dates of its series after settlement

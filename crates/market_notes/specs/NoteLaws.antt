@@ -1,6 +1,7 @@
 -- What the cost and the payments of a marketable note are, in the terms of bonds.
-use Rattle.std.specs.Prelude.{◌≡◌, ℕ, ◌+◌, ◌*◌, ◌<◌, ◌≤◌, List, [], ◌∷◌, ◌++◌, length, get_or, map, All, AllPairs, sum_by, ℤ, ◌≤ℤ◌, ◌<ℤ◌, ◌⊎◌}
+use Rattle.std.specs.Prelude.{◌≡◌, ℕ, ◌+◌, ◌*◌, ◌<◌, ◌≤◌, List, length, get_or, map, All, ℤ, ◌≤ℤ◌, ◌<ℤ◌, ◌⊎◌}
 use Rattle.escrow_units.specs.Calendar.{IsSeriesDate}
+use Rattle.escrow_units.specs.Flows.{total}
 use Rattle.escrow_units.specs.declared.security.Flow.{Flow}
 use Rattle.escrow_units.specs.declared.security.StepRule.TheVariants as rule
 use Rattle.market_notes.specs.NoteFlows.{cost_of, half_year_interest, payments_of, price_part}
@@ -26,25 +27,14 @@ CostsPriceOnCouponDate note face cost = IsCouponDate note note.settle → cost �
 abbrev pub CostsNoLessForMore : Note → ℕ → ℕ → Type 0
 CostsNoLessForMore note face cost = (more : ℕ) → face ≤ more → cost ≤ cost_of note more
 
--- each payment falls before each later one
-abbrev pub Rise : List Flow → Type 0
-Rise flows = AllPairs (λ earlier later. earlier.day <ℤ later.day) flows
-
 -- all payments fall on coupon dates after settlement
 abbrev pub AreAfterSettlement : Note → List Flow → Type 0
 AreAfterSettlement note flows = All (λ flow. IsCouponDate note flow.day × (note.settle <ℤ flow.day)) flows
 
--- the last payment falls on a day
-pub record EndsOn (day : ℤ) (flows : List Flow) : Type 0 where
-  pub before : List Flow
-  pub last : Flow
-  pub order : flows ≡ before ++ last ∷ []
-  pub falls : last.day ≡ day
-
 -- the face is paid once, and half a year's interest with each payment
 abbrev pub PayFaceOnce : Note → ℕ → List Flow → Type 0
 PayFaceOnce note face flows =
-    sum_by (λ flow. flow.cents.0) flows ≡ face + length flows * half_year_interest note face
+    total flows ≡ face + length flows * half_year_interest note face
 
 -- payments on the same days, none of them less than the one in its place
 pub record AreAtMost (flows others : List Flow) : Type 0 where

@@ -1,15 +1,12 @@
 -- What marketable notes and price files keep. The limits are this project's own.
-use Rattle.std.specs.Prelude.{◌≡◌, ℕ, ◌-◌, ◌≤◌, ℤ, ◌≤ℤ◌, ◌<ℤ◌, All, IfSome, IsSomeAnd}
-use Rattle.escrow_units.specs.Calendar.{e_of, years_after_of}
+use Rattle.std.specs.Prelude.{◌≡◌, ◌≤◌, ℤ, ◌≤ℤ◌, ◌<ℤ◌, All, IfSome, IsSomeAnd}
+use Rattle.escrow_units.specs.Calendar.{years_after_of}
 use Rattle.escrow_units.specs.Denomination.{AreTerms}
+use Rattle.escrow_units.specs.Flows.{index_of}
 use Rattle.escrow_units.specs.SlgsTerms.{IsSettlement}
 use Rattle.escrow_units.specs.declared.security.Terms.{Terms}
 use Rattle.market_notes.specs.declared.note.Note.{Note}
 use Rattle.market_notes.specs.declared.note.NoteFile.{NoteFile}
-
--- the days from settlement to a day by years of twelve months of thirty days (30/360)
-abbrev pub index_of : ℤ → ℤ → ℕ
-index_of settle day = e_of day - e_of settle
 
 -- a note that matures after settlement, at an index of at least 1 and at most 40 years later, with a coupon of at most 30
 -- percent and a price from 10 to 300 percent of par

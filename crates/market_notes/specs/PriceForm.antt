@@ -1,5 +1,5 @@
 -- The price file: its rows, and what they give or where they are refused. The rows are this project's own.
-use Rattle.std.specs.Prelude.{ℕ, ◌+◌, Bool, ◌||◌, ◌==◌, int_lt, int_le, if◌then◌else◌, List, [], ◌∷◌, Option, Some, None, Result, Ok, Err, codes, ℤ}
+use Rattle.std.specs.Prelude.{ℕ, ◌+◌, Bool, ◌||◌, ◌==◌, int_le, if◌then◌else◌, List, [], ◌∷◌, Option, Some, None, Result, Ok, Err, codes, ℤ}
 use Rattle.escrow_desk.specs.declared.refusal.FileKind.TheVariants as file
 use Rattle.escrow_desk.specs.declared.refusal.Refusal.{Refusal}
 use Rattle.escrow_desk.specs.declared.refusal.RefusalKind.{RefusalKind}
@@ -13,14 +13,8 @@ use Rattle.market_notes.specs.declared.fields.RowKind.{RowKind}
 use Rattle.market_notes.specs.declared.fields.RowKind.TheVariants as row_kind
 use Rattle.market_notes.specs.declared.note.Note.{Note}
 use Rattle.market_notes.specs.declared.note.NoteFile.{NoteFile}
-use Rattle.market_notes.specs.NoteTerms.{index_of}
-pub use Rattle.row_fields.specs.RowForm.{Row, field_of, is_word, ◌>>=◌, or_refused, day_field, of_width, terms_row, first_row, refusal_of, answer_of_row, Answers}
-
--- a date up to the latest maturity
-abbrev pub maturity_field : ℤ → List ℕ → Result ℤ RefusalKind
-maturity_field latest bytes = do
-  day ← day_field bytes
-  if int_lt latest day then Err kind.OutOfRange else Ok day
+use Rattle.escrow_units.specs.Flows.{index_of}
+pub use Rattle.row_fields.specs.RowForm.{Row, field_of, is_word, ◌>>=◌, or_refused, day_by, of_width, repeated_terms, first_row, refusal_of, answer_of_row, Answers}
 
 -- a maturity at or before settlement; and one of the index 0, which is the 31st where settlement is on the 30th
 abbrev pub has_matured : ℤ → ℤ → Bool
@@ -32,7 +26,7 @@ unmatured note = if has_matured note.settle note.maturity then Err kind.Matured 
 -- `note,MATURITY,COUPON,PRICE,CAP`: a note on offer, which matures after settlement and at most 40 years after it
 abbrev pub note_row : ℤ → Terms → Row → Result Note RefusalKind
 note_row settle terms row = of_width 5 row (do
-  maturity ← maturity_field (years_after_of settle 40) (field_of row 1)
+  maturity ← day_by (years_after_of settle 40) (field_of row 1)
   coupon ← or_refused (rate_of (field_of row 2))
   price ← or_refused (price_of (field_of row 3))
   cap ← or_refused (cap_of terms (field_of row 4))
@@ -44,15 +38,9 @@ kind_of_row word =
     if is_word (codes "terms") word then Some row_kind.Terms else
     (if is_word (codes "note") word then Some row_kind.Note else None)
 
--- a second `terms` row
-abbrev pub repeated_terms : Row → Result Note RefusalKind
-repeated_terms row = do
-  _ ← terms_row row
-  Err kind.Repeated
-
 -- the note of a row after the first: `terms` stands once
 abbrev pub row_note_of : Option RowKind → ℤ → Terms → Row → Result Note RefusalKind
-row_note_of (Some row_kind.Terms) settle terms row = repeated_terms row
+row_note_of (Some row_kind.Terms) settle terms row = Err (repeated_terms row)
 row_note_of (Some row_kind.Note) settle terms row = note_row settle terms row
 row_note_of None settle terms row = Err kind.UnknownRow
 

@@ -1,13 +1,13 @@
-ghost use Rattle.std.specs.Prelude.{◌≡◌, ◌*◌, ◌^◌, ◌<◌, ◌≤◌};
-ghost use Rattle.escrow_units.specs.Rounding.{near};
+ghost use Rattle.std.specs.Prelude.{◌≡◌, ◌^◌, ◌<◌, ◌≤◌};
+ghost use Rattle.escrow_units.specs.Flows.{EndsOn, Rise};
 ghost use Rattle.market_notes.specs.NoteFlows.{accrued_interest, cost_of, half_year_interest as half_year_interest_of, next_date, payments_of, previous_date, price_part as price_part_of};
-ghost use Rattle.market_notes.specs.NoteLaws.{AreAfterSettlement, CostsNoLessForMore, CostsPriceOnCouponDate, EndsOn, PayFaceOnce, PayNoLessForMore, Rise, SettlesIn};
+ghost use Rattle.market_notes.specs.NoteLaws.{AreAfterSettlement, CostsNoLessForMore, CostsPriceOnCouponDate, PayFaceOnce, PayNoLessForMore, SettlesIn};
 ghost use Rattle.market_notes.specs.NoteTerms.{IsNote};
 
 use crate::note::Note;
 use crate::schedule::schedule_of;
 use arrayvec::ArrayVec;
-use escrow_units::{Cents, Flow, days_between, near};
+use escrow_units::{Cents, Flow, days_between, earned, near};
 
 // The price of a face, without accrued interest.
 #[tactic(auto, unfolding(crate::specs::NoteFlows::price_part))]
@@ -20,21 +20,6 @@ fn price_part(note: &Note, face: Cents) -> u64
     near(face.0 as u128 * note.price.0 as u128, 10_000_000_000) as u64
 }
 
-// What a face earns in so many parts of a whole: `face * coupon * parts / whole`, to the cent.
-fn earned(note: &Note, face: Cents, parts: u32, whole: u32) -> u64
-    requires note { IsNote note.now }
-    requires face { face.0 ≤ 10 ^ 11 }
-    requires parts { parts ≤ 1000 }
-    requires whole { 0 < whole }
-    ensures value { result ≡ near (face.0 * note.now.coupon.0 * parts) whole }
-    ensures bound { result < 2 ^ 62 }
-{
-    near(
-        face.0 as u128 * note.coupon.0 as u128 * parts as u128,
-        whole as u128,
-    ) as u64
-}
-
 // The interest of a half-year.
 #[tactic(auto, unfolding(crate::specs::NoteFlows::half_year_interest))]
 fn half_year_interest(note: &Note, face: Cents) -> u64
@@ -43,7 +28,7 @@ fn half_year_interest(note: &Note, face: Cents) -> u64
     ensures value { result ≡ half_year_interest_of note.now face.0 }
     ensures bound { result < 2 ^ 62 }
 {
-    earned(note, face, 1, 200_000)
+    earned(face, note.coupon, 1, 200_000)
 }
 
 /// The cost of a face of a note, in cents: its price and the accrued interest, each rounded to the cent, halves up.
@@ -62,7 +47,7 @@ pub fn note_cost(note: &Note, face: Cents) -> Cents
     let schedule = schedule_of(note);
     let elapsed = days_between(schedule.previous, note.settle);
     let half_year = days_between(schedule.previous, schedule.next);
-    Cents(price_part(note, face) + earned(note, face, elapsed, 200_000 * half_year))
+    Cents(price_part(note, face) + earned(face, note.coupon, elapsed, 200_000 * half_year))
 }
 
 /// The payments of a face of a note, in order of date: half the annual coupon on each date of its series after

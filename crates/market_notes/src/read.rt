@@ -3,26 +3,15 @@ ghost use Rattle.escrow_desk.specs.declared.refusal.CaseError.TheVariants.{Refus
 ghost use Rattle.escrow_units.specs.SlgsTerms.{IsSettlement};
 ghost use Rattle.market_notes.specs.NoteTerms.{IsNoteFile, IsOffered};
 ghost use Rattle.market_notes.specs.NoteRules.{AreRules};
-ghost use Rattle.market_notes.specs.PriceForm.{Answers, at_row as answer_at_row, note_file_of, notes_of, refusal_at, repeated_terms as repeated_terms_of, row_note as note_of_row};
+ghost use Rattle.market_notes.specs.PriceForm.{Answers, at_row as answer_at_row, note_file_of, notes_of, refusal_at, row_note as note_of_row};
 
 use crate::fields::{RowKind, row_kind};
 use crate::note::{Note, NoteFile, Notes};
 use crate::row::{NoteRules, note_row};
 use escrow_desk::{CaseError, FileKind, RefusalKind, Rows};
 use escrow_units::{Day, years_after};
-use row_fields::{at_row, first_row, row_word, terms_row};
+use row_fields::{at_row, first_row, repeated_terms, row_word};
 use std::alloc::Global;
-
-// A second `terms` row, which may not stand.
-fn repeated_terms(rows: &Rows, row: u32) -> RefusalKind
-    requires { row < length rows.now }
-    ensures { repeated_terms_of (slice_index_or rows.now row []) ≡ Err result }
-{
-    match terms_row(rows, row) {
-        Ok(_) => RefusalKind::Repeated,
-        Err(kind) => kind,
-    }
-}
 
 // The note of a row after the first, by the row's place from 0.
 fn row_note(rules: &NoteRules, rows: &Rows, row: u32) -> Result<Note, RefusalKind>

@@ -5,11 +5,10 @@ ghost use Rattle.market_notes.specs.NoteTerms.{IsOffered};
 ghost use Rattle.market_notes.specs.NoteRules.{AreRules};
 ghost use Rattle.market_notes.specs.PriceForm.{has_matured as has_matured_of, note_row as note_of_row};
 
-use crate::fields::maturity_field;
 use crate::note::Note;
 use escrow_desk::{RefusalKind, Rows};
 use escrow_units::{Day, Terms, index360, read_cap, read_price, read_rate};
-use row_fields::refusal_kind;
+use row_fields::{day_by, refusal_kind};
 
 /// What the rows of notes are read by.
 #[derive(Clone, Copy)]
@@ -27,7 +26,7 @@ fn has_matured(settle: Day, maturity: Day) -> bool
     requires { maturity ≤ℤ years_after_of settle 40 }
     ensures { result ≡ has_matured_of settle maturity }
 {
-    maturity.number() <= settle.number() || index360(settle, maturity) == 0
+    maturity <= settle || index360(settle, maturity) == 0
 }
 
 /// `note,MATURITY,COUPON,PRICE,CAP`
@@ -40,7 +39,7 @@ pub(crate) fn note_row(rules: &NoteRules, rows: &Rows, row: u32) -> Result<Note,
     if rows.width(row) != 5 {
         return Err(RefusalKind::WrongFields);
     }
-    let maturity = maturity_field(rows.field(row, 1), rules.latest)?;
+    let maturity = day_by(rows.field(row, 1), rules.latest)?;
     let coupon = read_rate(rows.field(row, 2)).map_err(refusal_kind)?;
     let price = read_price(rows.field(row, 3)).map_err(refusal_kind)?;
     let cap = read_cap(rows.field(row, 4), rules.terms).map_err(refusal_kind)?;

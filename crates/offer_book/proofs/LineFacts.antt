@@ -18,9 +18,10 @@ use Rattle.escrow_units.specs.declared.security.SlgsKind.{SlgsKind}
 use Rattle.escrow_units.specs.declared.security.SlgsKind.TheVariants as kind
 use Rattle.escrow_units.proofs.SeriesFacts.{years_after_of-none}
 use Rattle.escrow_units.proofs.YearFacts.{years_after_of-passes}
-use Rattle.slgs_interest.specs.Payments.{payment_dates, payments_of, payment_on, interest_on, principal_on, first_interest, first_interest_of_kind, first_period_interest, half_year_interest, before_first, second_before_first, days_to}
+use Rattle.slgs_interest.specs.Payments.{payment_dates, payments_of, payment_on, interest_on, principal_on, first_interest, first_interest_of_kind, first_period_interest, half_year_interest, before_first, second_before_first}
+use Rattle.escrow_units.specs.Series.{days_to}
 use Rattle.slgs_interest.specs.PaymentLaws.{AreSmall, AreWithinTerm}
-use Rattle.slgs_interest.proofs.Amounts.{near-zero}
+use Rattle.escrow_units.proofs.RoundingFacts.{near-zero}
 use Rattle.slgs_interest.proofs.PaymentFacts.{payments-face, payments-principal, payments-small, payments-within}
 use Rattle.slgs_interest.proofs.Series.{IsPaid, paid, certificate-first}
 use Rattle.offer_book.specs.declared.line.LineKind.{LineKind}

@@ -3,9 +3,13 @@
 
 mod book;
 mod line;
+mod offers;
 
 pub use book::Book;
 pub use line::{Line, LineKind};
+pub use offers::{offer_laws, slgs_lines};
 
 #[cfg(test)]
 mod book_tests;
+#[cfg(test)]
+mod offer_tests;

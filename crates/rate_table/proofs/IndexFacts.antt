@@ -1,5 +1,5 @@
 -- One more range by its first day.
-use Rattle.std.proofs.Common.{◌≡◌, ◌∙◌, refl, sym, arith, List, [], ◌∷◌, ◌++◌, ℤ, ◌≤ℤ◌, true, false, inl, inr, subst}
+use Rattle.std.proofs.Common.{◌≡◌, ◌∙◌, refl, sym, arith, ℕ, ◌+◌, ◌<◌, length, List, [], ◌∷◌, ◌++◌, ℤ, ◌≤ℤ◌, true, false, inl, inr, subst, get_or, take}
 use Rattle.std.specs.Prelude.{Some, Contains, All}
 use Rattle.std.specs.List.{list_any}
 use Rattle.std.specs.Ordering.{int_cmp, is_eq}
@@ -7,12 +7,13 @@ use Rattle.std.specs.BTreeMap.{BTreeMap, get, Updates}
 use Rattle.std.proofs.lemmas.Int.{ints}
 use Rattle.std.proofs.lemmas.Cmp.{int_ranked}
 use Rattle.std.proofs.lemmas.Bool.{cases_Bool}
-use Rattle.std.proofs.lemmas.List.Folds.{list_any_at}
+use Rattle.std.proofs.lemmas.List.{get_or_default, get_or-take, length-take, take_more}
+use Rattle.std.proofs.lemmas.List.Folds.{list_any_at, list_any_none}
 use Rattle.std.proofs.lemmas.List.Elements.{All-contains, Contains-push, Contains-append_left, Contains-push_cases}
 use Rattle.rate_table.specs.declared.table.RateRange.{RateRange}
 use Rattle.rate_table.specs.RangeIndex.{IsIndex, IsListed}
-use Rattle.rate_table.specs.Table.{IsRange, meets}
-use Rattle.rate_table.proofs.OverlapFacts.{meets-true}
+use Rattle.rate_table.specs.Table.{AreApart, IsRange, meets}
+use Rattle.rate_table.proofs.OverlapFacts.{meets-sym, meets-true}
 
 -- a range that has a day in common with no other begins on a day of its own
 own-first : (ranges : List RateRange) (range other : RateRange) → All IsRange ranges → IsRange range → list_any (meets range) ranges ≡ false → Contains ranges other → other.from ≡ range.from → ⊥
@@ -57,3 +58,16 @@ index-push ranges m n range index in_order good apart updates = record {
   has = λ other among. push-has ranges m n range other index in_order good apart updates among;
   only = push-only ranges m n range index updates;
 }
+
+-- an index of the first ranges, with the next one added
+pub index-more : (ranges : List RateRange) (m n : BTreeMap ℤ RateRange) (range : RateRange) (k : ℕ) → All IsRange ranges → AreApart ranges → k < length ranges → get_or ranges k range ≡ range → IsIndex (take k ranges) m → Updates int_cmp m n range.from (Some range) → IsIndex (take (k + 1) ranges) n
+index-more ranges m n range k in_order apart short is index updates =
+    let good : IsRange range = subst IsRange is (in_order k range short) in
+    let earlier : All IsRange (take k ranges) = λ i d i-short.
+    let before : i < k = omega (arith, length-take k ranges) in
+    rw (get_or-take k ranges i d before) (in_order i d (omega arith)) in
+    let none : list_any (meets range) (take k ranges) ≡ false = list_any_none (meets range) (take k ranges) (λ i d i-short.
+    let before : i < k = omega (arith, length-take k ranges) in
+    rw (get_or-take k ranges i d before)
+    (meets-sym (get_or ranges i d) range (rw (← (get_or_default ranges k d range short ∙ is)) (apart i k d before short)))) in
+    rw (take_more ranges k range short) (rw is (index-push (take k ranges) m n range index earlier good none updates))

@@ -17,7 +17,7 @@ use Rattle.rate_table.specs.declared.table.RateRange.{RateRange}
 use Rattle.rate_table.specs.declared.table.Offer.{Offer}
 use Rattle.rate_table.specs.declared.table.RateFile.{RateFile}
 use Rattle.rate_table.specs.Table.{meets}
-pub use Rattle.row_fields.specs.RowForm.{Row, field_of, is_word, ◌>>=◌, or_refused, day_field, of_width, terms_row, first_row, refusal_of, answer_of_row, Answers}
+pub use Rattle.row_fields.specs.RowForm.{Row, field_of, is_word, ◌>>=◌, or_refused, day_field, of_width, repeated_terms, first_row, refusal_of, answer_of_row, Answers}
 
 -- a rate in whole hundredths of a percentage point
 abbrev pub hundredths_field : List ℕ → Result Rate RefusalKind
@@ -63,12 +63,6 @@ kind_of_row word =
     (if is_word (codes "rate") word then Some row_kind.Range else
     (if is_word (codes "offer") word then Some row_kind.Offer else None))
 
--- a second `terms` row
-abbrev pub repeated_terms : Row → Result RateFile RefusalKind
-repeated_terms row = do
-  _ ← terms_row row
-  Err kind.Repeated
-
 -- a file with one more range, which has no day in common with an earlier one
 abbrev pub with_range : RateFile → RateRange → Result RateFile RefusalKind
 with_range file range =
@@ -88,7 +82,7 @@ with_offer_row terms file number row = do
 
 -- a file with one more row, by the row's number; its terms are those of row 1, and stand once
 abbrev pub with_row_of : Option RowKind → Terms → RateFile → ℕ → Row → Result RateFile RefusalKind
-with_row_of (Some row_kind.Terms) terms file number row = repeated_terms row
+with_row_of (Some row_kind.Terms) terms file number row = Err (repeated_terms row)
 with_row_of (Some row_kind.Range) terms file number row = with_range_row file row
 with_row_of (Some row_kind.Offer) terms file number row = with_offer_row terms file number row
 with_row_of None terms file number row = Err kind.UnknownRow

@@ -3,12 +3,14 @@
 
 mod draft;
 mod fields;
+mod index;
 mod lookup;
 mod overlap;
 mod read;
 mod row;
 mod table;
 
+pub use index::RateIndex;
 pub use lookup::maximum;
 pub use read::read_rates;
 pub use table::{Offer, Offers, RateFile, RateRange, RateRanges};

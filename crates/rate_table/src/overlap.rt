@@ -1,21 +1,10 @@
-ghost use Rattle.std.specs.Prelude.{◌≡◌, int_le, MatchOption};
+ghost use Rattle.std.specs.Prelude.{◌≡◌, int_le};
 ghost use Rattle.std.specs.List.{list_any};
-ghost use Rattle.rate_table.specs.RangeIndex.{IsDraft, IsLatest, HasNoneBy};
+ghost use Rattle.rate_table.specs.RangeIndex.{IsDraft};
 ghost use Rattle.rate_table.specs.Table.{meets};
 
 use crate::draft::Draft;
 use crate::table::RateRange;
-use std::collections::BTreeMap;
-
-// The range at the latest first day up to this day.
-fn latest_by(by_first: &BTreeMap<i32, RateRange>, day: i32) -> Option<RateRange>
-    ensures { MatchOption result (HasNoneBy by_first.now day) (IsLatest by_first.now day) }
-{
-    match by_first.range(..=day).next_back() {
-        Some((_, range)) => Some(*range),
-        None => None,
-    }
-}
 
 // Whether a range begins by the end of another.
 fn begins_by_end(range: &RateRange, other: &RateRange) -> bool
@@ -32,7 +21,7 @@ pub(crate) fn overlaps(draft: &Draft, range: &RateRange) -> bool
     requires { IsDraft draft.now }
     ensures { result ≡ list_any (meets range.now) draft.now.ranges.items }
 {
-    match latest_by(&draft.by_first, range.to.number()) {
+    match draft.index.latest_by(range.to) {
         Some(latest) => begins_by_end(range, &latest),
         None => false,
     }

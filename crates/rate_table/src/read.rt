@@ -3,20 +3,20 @@ ghost use Rattle.std.specs.List.{list_any};
 ghost use Rattle.std.specs.Result.{result_and};
 ghost use Rattle.escrow_desk.specs.declared.refusal.CaseError.TheVariants.{Refused, NoMemory};
 ghost use Rattle.escrow_units.specs.Denomination.{AreTerms};
-ghost use Rattle.rate_table.specs.RateForm.{Answers, at_row as answer_at_row, bare_file, rate_file_of, refusal_at, repeated_terms as repeated_terms_of, with_offer_row, with_range_row, with_row, with_rows};
+ghost use Rattle.rate_table.specs.RateForm.{Answers, at_row as answer_at_row, bare_file, rate_file_of, refusal_at, with_offer_row, with_range_row, with_row, with_rows};
 ghost use Rattle.rate_table.specs.RangeIndex.{IsDraft, IsIndex, draft_file};
 ghost use Rattle.rate_table.specs.Table.{IsRateFile, IsRange, IsOffer, meets};
 
 use crate::draft::Draft;
 use crate::fields::{RowKind, row_kind};
+use crate::index::RateIndex;
 use crate::overlap::overlaps;
 use crate::row::{offer_row, range_row};
 use crate::table::{Offer, Offers, RateFile, RateRange, RateRanges};
 use escrow_desk::{CaseError, FileKind, RefusalKind, Rows};
 use escrow_units::{Day, Terms};
-use row_fields::{at_row, first_row, refused, row_word, terms_row};
+use row_fields::{at_row, first_row, refused, repeated_terms, row_word};
 use std::alloc::Global;
-use std::collections::BTreeMap;
 
 // A file of these terms, without ranges and offers.
 fn new_draft(alloc: Global, terms: Terms) -> Draft
@@ -27,7 +27,7 @@ fn new_draft(alloc: Global, terms: Terms) -> Draft
     Draft {
         terms,
         ranges: Vec::new(alloc),
-        by_first: BTreeMap::new(alloc),
+        index: RateIndex::new(alloc),
         offers: Vec::new(alloc),
     }
 }
@@ -35,22 +35,22 @@ fn new_draft(alloc: Global, terms: Terms) -> Draft
 // One more range, which has no day in common with an earlier one.
 fn push_range(
     ranges: &mut Vec<RateRange>,
-    by_first: &mut BTreeMap<i32, RateRange>,
+    index: &mut RateIndex,
     range: &RateRange,
 ) -> Result<(), CaseError>
-    requires index { IsIndex ranges.old.items by_first.old }
+    requires index { IsIndex ranges.old.items index.old.by_first }
     requires order { All IsRange ranges.old.items }
     requires range { IsRange range.now }
     requires apart { list_any (meets range.now) ranges.old.items ≡ false }
     ensures memory { IfErr result (λ error. error ≡ NoMemory) }
     ensures ranges { OnOk result (ranges.new.items ≡ ranges.old.items ++ range.now ∷ []) }
-    ensures index { OnOk result (IsIndex ranges.new.items by_first.new) }
+    ensures index { OnOk result (IsIndex ranges.new.items index.new.by_first) }
 {
     if ranges.push(*range).is_err() {
         return Err(CaseError::NoMemory);
     }
-    match by_first.insert(range.from.number(), *range) {
-        Ok(_) => Ok(()),
+    match index.add(range) {
+        Ok(()) => Ok(()),
         Err(_) => Err(CaseError::NoMemory),
     }
 }
@@ -64,17 +64,6 @@ fn push_offer(offers: &mut Vec<Offer>, offer: &Offer) -> Result<(), CaseError>
         return Err(CaseError::NoMemory);
     }
     Ok(())
-}
-
-// A second `terms` row, which may not stand.
-fn repeated_terms(rows: &Rows, row: u32) -> RefusalKind
-    requires { row < length rows.now }
-    ensures { repeated_terms_of (slice_index_or rows.now row []) ≡ Err result }
-{
-    match terms_row(rows, row) {
-        Ok(_) => RefusalKind::Repeated,
-        Err(kind) => kind,
-    }
 }
 
 // `rate,FROM,TO,MAXIMUM`: one more range, where it has no day in common with an earlier one.
@@ -91,7 +80,7 @@ fn add_range(draft: &mut Draft, rows: &Rows, row: u32) -> Result<(), CaseError>
     if overlaps(draft, &range) {
         return Err(refused(FileKind::Rates, row + 1, RefusalKind::Overlap));
     }
-    push_range(&mut draft.ranges, &mut draft.by_first, &range)?;
+    push_range(&mut draft.ranges, &mut draft.index, &range)?;
     Ok(())
 }
 

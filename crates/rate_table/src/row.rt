@@ -20,7 +20,7 @@ pub(crate) fn range_row(rows: &Rows, row: u32) -> Result<RateRange, RefusalKind>
     let from = day_field(rows.field(row, 1))?;
     let to = day_field(rows.field(row, 2))?;
     let most = hundredths_field(rows.field(row, 3))?;
-    if to.number() < from.number() {
+    if to < from {
         return Err(RefusalKind::DateOrder);
     }
     Ok(RateRange { from, to, most })

@@ -1,7 +1,7 @@
 ghost use Rattle.std.specs.Prelude.{IfOk};
-ghost use Rattle.rate_table.specs.Table.{AreApart};
+ghost use Rattle.rate_table.specs.Table.{IsRateFile};
 
-use crate::{Offer, RateFile, RateRange, maximum, read_rates};
+use crate::{Offer, RateFile, RateIndex, RateRange, maximum, read_rates};
 use escrow_desk::{CaseError, FileKind, Refusal, RefusalKind, read_rows};
 use escrow_units::{AskedRate, Day, Rate, Terms};
 use std::alloc::Global;
@@ -9,7 +9,7 @@ use std::test::Fail;
 
 // The rate file of a text, settled on 2025-01-15.
 fn rates_of(alloc: Global, text: &[u8]) -> Result<Result<RateFile, CaseError>, Fail>
-    ensures { IfOk result (λ read. IfOk read (λ file. AreApart file.ranges)) }
+    ensures { IfOk result (λ read. IfOk read IsRateFile) }
 {
     if text.len() > 1_048_576 {
         return Err(Fail::new("too long"));
@@ -188,6 +188,20 @@ fn rates_and_offers_are_read(rt: HostRuntime) -> Result<(), Fail> {
     assert_eq!(rt; maximum(&file, Day::new(20_088)), None);
     assert_eq!(rt; maximum(&file, Day::new(20_269)), Some(Rate(4_250)));
     assert_eq!(rt; maximum(&file, Day::new(20_453)), Some(Rate(4_500)));
+    let Ok(index) = RateIndex::make(rt.alloc(), &file) else {
+        return Err(Fail::new("no memory"));
+    };
+    let maxima = [
+        (20_088, None),
+        (20_089, Some(Rate(4_250))),
+        (20_269, Some(Rate(4_250))),
+        (20_270, Some(Rate(4_500))),
+        (20_453, Some(Rate(4_500))),
+        (20_454, None),
+    ];
+    for (day, most) in maxima {
+        assert_eq!(rt; index.maximum(Day::new(day)), most, "at {day}");
+    }
     let wide = rates_of(rt.alloc(), b"terms,1,1\nrate,1950-01-01,2199-12-31,30\n")??;
     assert_eq!(rt; maximum(&wide, Day::new(-7_305)), Some(Rate(30_000)));
     Ok(())

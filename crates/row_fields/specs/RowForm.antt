@@ -1,5 +1,5 @@
 -- Rows of an input file: their fields, and how a fault of a field or a row is answered. The rows are this project's own.
-use Rattle.std.specs.Prelude.{◌≡◌, ℕ, Bool, ◌==◌, nat_eq, if◌then◌else◌, List, [], length, slice_index_or, Option, Some, None, Result, Ok, Err, codes, ℤ, ⊤}
+use Rattle.std.specs.Prelude.{◌≡◌, ℕ, Bool, ◌==◌, nat_eq, int_lt, if◌then◌else◌, List, [], length, slice_index_or, Option, Some, None, ok_or, Result, Ok, Err, codes, ℤ, ⊤}
 use lib.Pointwise.{pointwise}
 use Rattle.escrow_desk.specs.declared.refusal.CaseError.{CaseError}
 use Rattle.escrow_desk.specs.declared.refusal.CaseError.TheVariants as error
@@ -48,7 +48,13 @@ or_bad_date (Some day) = Ok day
 
 -- a date
 abbrev pub day_field : List ℕ → Result ℤ RefusalKind
-day_field bytes = or_bad_date (day_of bytes)
+day_field bytes = ok_or (day_of bytes) kind.BadDate
+
+-- a date up to a last day
+abbrev pub day_by : ℤ → List ℕ → Result ℤ RefusalKind
+day_by last bytes = do
+  day ← day_field bytes
+  if int_lt last day then Err kind.OutOfRange else Ok day
 
 -- a row of so many fields
 abbrev pub of_width : {T : Type 0} → ℕ → Row → Result T RefusalKind → Result T RefusalKind
@@ -57,6 +63,14 @@ of_width width row answer = if length row == width then answer else Err kind.Wro
 -- `terms,MINIMUM,STEP`: the denominations of each security of the file
 abbrev pub terms_row : Row → Result Terms RefusalKind
 terms_row row = of_width 3 row (or_refused (terms_of (field_of row 1) (field_of row 2)))
+
+-- a second `terms` row is refused by the fault of its fields, or else because it is repeated
+abbrev pub fault_or : {T : Type 0} → RefusalKind → Result T RefusalKind → RefusalKind
+fault_or refused (Ok value) = refused
+fault_or refused (Err fault) = fault
+
+abbrev pub repeated_terms : Row → RefusalKind
+repeated_terms row = fault_or kind.Repeated (terms_row row)
 
 -- row 1 is `terms`
 abbrev pub first_row : Row → Result Terms RefusalKind

@@ -3,11 +3,11 @@
 //! The readers of the input files share what is here.
 #![tactic(auto)]
 
-ghost use Rattle.std.specs.Prelude.{◌≡◌, ◌<◌, [], length, slice_index_or, IfOk};
-ghost use Rattle.escrow_desk.specs.declared.refusal.CaseError.TheVariants.{Refused};
+ghost use Rattle.std.specs.Prelude.{◌≡◌, ◌≢◌, ◌<◌, ◌≤ℤ◌, [], length, slice_index_or, IfOk, IfErr};
+ghost use Rattle.escrow_desk.specs.declared.refusal.CaseError.TheVariants.{Refused, NoMemory};
 ghost use Rattle.escrow_units.specs.DateText.{IsFieldDay};
 ghost use Rattle.escrow_units.specs.Denomination.{AreTerms};
-ghost use Rattle.row_fields.specs.RowForm.{Answers, answer_of_row, day_field as day_of_field, field_of, first_row as first_of_rows, kind_of, refusal_of, terms_row as terms_of_row};
+ghost use Rattle.row_fields.specs.RowForm.{Answers, answer_of_row, day_by as day_by_of_field, day_field as day_of_field, field_of, first_row as first_of_rows, kind_of, refusal_of, repeated_terms as repeated_terms_of, terms_row as terms_of_row};
 
 use escrow_desk::{CaseError, FileKind, Refusal, RefusalKind, Rows};
 use escrow_units::{Day, NumberFault, Terms, read_day, read_terms};
@@ -46,6 +46,19 @@ pub fn day_field(bytes: &[u8]) -> Result<Day, RefusalKind>
     }
 }
 
+/// A date up to a last day; a later one is `OutOfRange`.
+pub fn day_by(bytes: &[u8], last: Day) -> Result<Day, RefusalKind>
+    ensures value { result ≡ day_by_of_field last bytes.now }
+    ensures years { IfOk result IsFieldDay }
+    ensures by { IfOk result (λ day. day ≤ℤ last) }
+{
+    let day = day_field(bytes)?;
+    if last < day {
+        return Err(RefusalKind::OutOfRange);
+    }
+    Ok(day)
+}
+
 /// `terms,MINIMUM,STEP`: the denominations of a file's securities, in dollars. Rows count from 0.
 pub fn terms_row(rows: &Rows, row: u32) -> Result<Terms, RefusalKind>
     requires { row < length rows.now }
@@ -56,6 +69,17 @@ pub fn terms_row(rows: &Rows, row: u32) -> Result<Terms, RefusalKind>
         return Err(RefusalKind::WrongFields);
     }
     read_terms(rows.field(row, 1), rows.field(row, 2)).map_err(refusal_kind)
+}
+
+/// Why a second `terms` row is refused: the fault of its fields, or else `Repeated`. Rows count from 0.
+pub fn repeated_terms(rows: &Rows, row: u32) -> RefusalKind
+    requires { row < length rows.now }
+    ensures { result ≡ repeated_terms_of (slice_index_or rows.now row []) }
+{
+    match terms_row(rows, row) {
+        Ok(_) => RefusalKind::Repeated,
+        Err(fault) => fault,
+    }
 }
 
 /// The denominations of the first row, which is `terms`; any other first row is `Missing`.
@@ -81,13 +105,14 @@ pub fn refused(file: FileKind, number: u32, kind: RefusalKind) -> CaseError
     })
 }
 
-/// The answer of a row, by its number from 1, as an answer of its file.
+/// The answer of a row, by its number from 1, as an answer of its file. It takes no memory.
 pub fn at_row<T>(
     file: FileKind,
     number: u32,
     answer: Result<T, RefusalKind>,
 ) -> Result<T, CaseError>
-    ensures { Answers result (answer_of_row file number answer) }
+    ensures answer { Answers result (answer_of_row file number answer) }
+    ensures memory { IfErr result (λ error. error ≢ NoMemory) }
 {
     match answer {
         Ok(value) => Ok(value),

@@ -1,13 +1,13 @@
 -- Rounded interest.
-use Rattle.std.proofs.Common.{◌≡◌, ℕ, ◌+◌, ◌*◌, ◌/◌, ◌^◌, ◌<◌, ◌≤◌, sym, ap, arith, refl}
-use Rattle.std.proofs.Math.Nat.{mul-div-mul_right, div-eq_of_lt, mul-le-mul, mul-le-mul_right}
-use Rattle.std.proofs.lemmas.Nat.{div_below}
-use Rattle.std.specs.Prelude.{ℤ, pos, ◌+ℤ◌, ◌-ℤ◌, ◌≤ℤ◌, ◌<ℤ◌, int_lt, unsigned_abs, Bool, true, false, if◌then◌else◌}
-use Rattle.std.proofs.lemmas.Int.{ints}
-use Rattle.escrow_units.proofs.DateFacts.{pos_abs}
+use Rattle.std.proofs.Common.{◌≡◌, ℕ, ◌+◌, ◌*◌, ◌^◌, ◌<◌, ◌≤◌, sym, ap, arith, refl}
+use Rattle.std.proofs.Math.Nat.{mul-div-mul_right, mul-le-mul, mul-le-mul_right}
+use Rattle.std.specs.Prelude.{ℤ, pos, ◌+ℤ◌, ◌≤ℤ◌, ◌<ℤ◌, int_lt, Bool, true, false, if◌then◌else◌}
+use Rattle.escrow_units.proofs.FlowFacts.{days_to-count, days_to-some, int_lt-not, int_lt-test}
+use Rattle.escrow_units.proofs.RoundingFacts.{near-at-most, near-zero}
 use Rattle.jiff_core.proofs.SignedLemmas.{signed_arith}
 use Rattle.escrow_units.specs.Rounding.{near}
-use Rattle.slgs_interest.specs.Payments.{days_to, interest_to}
+use Rattle.escrow_units.specs.Series.{days_to}
+use Rattle.slgs_interest.specs.Payments.{interest_to}
 
 -- the same part of a whole
 pub near-scaled : (a b d : ℕ) → 0 < d → near (a * d) (b * d) ≡ near a b
@@ -16,36 +16,6 @@ near-scaled a b d h =
     let above : 2 * (a * d) + b * d ≡ (2 * a + b) * d = omega arith in
     let below : 2 * (b * d) ≡ 2 * b * d = omega arith in
     rw (above, below) (mul-div-mul_right (2 * a + b) (2 * b) h)
-
-pub near-zero : (a b : ℕ) → a ≡ 0 → 0 < b → near a b ≡ 0
-unfolding near
-near-zero a b e h = rw e (below b (2 * b) (omega arith))
-  where
-    below : (n m : ℕ) → n < m → (2 * 0 + n) / m ≡ 0
-    below n m h = let e : 2 * 0 + n ≡ n = omega arith in rw e (div-eq_of_lt h)
-
-pub days_to-count : (from to : ℤ) (n : ℕ) → from +ℤ pos n ≡ to → days_to from to ≡ n
-days_to-count from to n e = let apart : to -ℤ from ≡ pos n = omega (arith, signed_arith, e) in ap unsigned_abs apart
-
-pub days-some : (from to : ℤ) → from <ℤ to → 0 < days_to from to
-days-some from to less =
-    let apart : to -ℤ from ≡ pos (unsigned_abs (to -ℤ from)) = pos_abs (to -ℤ from) (omega (arith, signed_arith, less)) in
-    omega (arith, signed_arith, apart, less)
-
--- tests of signed numbers
-pub int_lt-test : (a b : ℤ) → a <ℤ b → int_lt a b ≡ true
-int_lt-test a b h = at (int_lt a b) refl
-  where
-    at : (t : Bool) → int_lt a b ≡ t → t ≡ true
-    at true e = refl
-    at false e = absurd (omega (arith, ints))
-
-pub int_lt-not : (a b : ℤ) → b ≤ℤ a → int_lt a b ≡ false
-int_lt-not a b h = at (int_lt a b) refl
-  where
-    at : (t : Bool) → int_lt a b ≡ t → t ≡ false
-    at true e = absurd (omega (arith, ints))
-    at false e = refl
 
 -- the interest of a long first period, and of a short one
 pub long-period : (face rate : ℕ) (settle first before second : ℤ) (half days : ℕ) → settle <ℤ before → second +ℤ pos half ≡ before → settle +ℤ pos days ≡ before
@@ -62,7 +32,7 @@ short-period face rate settle first before second half days less h d =
 pub whole-period : (face rate : ℕ) (settle first before second : ℤ) → settle ≡ before → settle <ℤ first → interest_to face rate settle first before second ≡ near (face * rate) 200_000
 whole-period face rate settle first before second e less =
     let least : before ≤ℤ settle = omega (arith, signed_arith, e) in
-    let some : 0 < days_to settle first = days-some settle first less in
+    let some : 0 < days_to settle first = days_to-some settle first less in
     let same : days_to before first ≡ days_to settle first = ap (λ day. days_to day first) (sym e) in
     rw (int_lt-not settle before least, same) (near-scaled (face * rate) 200_000 (days_to settle first) some)
 
@@ -76,25 +46,18 @@ no-interest face rate settle first before second e less second_less =
 
     at : (t : Bool) → (if t then near (face * rate * (days_to second before + days_to settle before)) (200_000 * days_to second before)
         else near (face * rate * days_to settle first) (200_000 * days_to before first)) ≡ 0
-    at true = near-zero _ _ (nothing (days_to second before + days_to settle before)) (let some = days-some second before second_less in omega arith)
-    at false = near-zero _ _ (nothing (days_to settle first)) (let some = days-some before first less in omega arith)
-
--- a part of a whole that is at most c times the whole
-pub near-at-most : (a b c : ℕ) → 0 < b → a ≤ c * b → near a b ≤ c
-unfolding near
-near-at-most a b c h le =
-    let below = div_below (2 * a + b) (2 * b) (c + 1) (omega arith) (omega arith) in
-    omega (arith, below)
+    at true = near-zero _ _ (nothing (days_to second before + days_to settle before)) (let some = days_to-some second before second_less in omega arith)
+    at false = near-zero _ _ (nothing (days_to settle first)) (let some = days_to-some before first less in omega arith)
 
 yearly : (face rate days : ℕ) → face ≤ 10 ^ 11 → rate ≤ 30_000 → face * rate * days ≤ 3_000_000_000_000_000 * days
 yearly face rate days f r =
     let product = mul-le-mul f r in
     mul-le-mul_right days (omega (arith, product))
 
--- interest of up to three times a half-year's days, at no more than 30 percent
-pub interest-at-most : (face rate days whole per : ℕ) → face ≤ 10 ^ 11 → rate ≤ 30_000 → 0 < whole → days ≤ 3 * whole → 100_000 ≤ per
-    → near (face * rate * days) (per * whole) ≤ 10 ^ 11
+-- interest at no more than 30 percent, for so few days that it is at most four tenths of the face
+pub interest-at-most : (face rate days whole per : ℕ) → face ≤ 10 ^ 11 → rate ≤ 30_000 → 0 < whole → 300_000 * days ≤ 4 * (per * whole) → 100_000 ≤ per
+    → near (face * rate * days) (per * whole) ≤ 4 * 10 ^ 10
 interest-at-most face rate days whole per f r some few large =
     let product = yearly face rate days f r in
     let scaled = mul-le-mul_right whole large in
-    near-at-most (face * rate * days) (per * whole) (10 ^ 11) (omega (arith, scaled)) (omega (arith, product, scaled))
+    near-at-most (face * rate * days) (per * whole) (4 * 10 ^ 10) (omega (arith, scaled)) (omega (arith, product, few))

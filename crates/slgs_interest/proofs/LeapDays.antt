@@ -14,9 +14,10 @@ use Rattle.escrow_units.proofs.DateFacts.{date_of-stands, pos_abs}
 use Rattle.escrow_units.proofs.DayFacts.{date_of-number, e_of-mono}
 use Rattle.escrow_units.proofs.SeriesFacts.{base_date, IsBaseDate, leap_day_bound, february, years_after_of-none}
 use Rattle.escrow_units.proofs.YearFacts.{years_after_of-passes, years_after_of-day}
+use Rattle.escrow_units.specs.Series.{days_to}
 use Rattle.slgs_interest.specs.LeapDay.{HasLeapDay}
 use Rattle.slgs_interest.specs.PaymentLaws.{IsLeapDayBetween}
-use Rattle.slgs_interest.specs.Payments.{is_leap_day, has_leap_day, days_to, basis_of}
+use Rattle.slgs_interest.specs.Payments.{is_leap_day, has_leap_day, basis_of}
 
 -- a 29 February among some days after a day
 found_by_more : (a b : Bool) → a ≡ true → (a || b) ≡ true

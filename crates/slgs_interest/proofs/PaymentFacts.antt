@@ -1,14 +1,17 @@
 -- What the payments of a security are.
-use Rattle.std.proofs.Common.{◌≡◌, ◌∙◌, ℕ, ◌+◌, ◌*◌, ◌<◌, ◌≤◌, zero, suc, refl, sym, ap, subst, arith, ℤ, ◌≤ℤ◌, ◌<ℤ◌, Bool, true, false, if◌then◌else◌, List, [], ◌∷◌, map, length, take, AllPairs, sum_by, get_or, pos, ◌+ℤ◌, ◌-ℤ◌, ◌^◌, int_lt}
+use Rattle.std.proofs.Common.{◌≡◌, ◌∙◌, ℕ, ◌+◌, ◌*◌, ◌<◌, ◌≤◌, zero, suc, refl, sym, ap, subst, arith, ℤ, ◌≤ℤ◌, ◌<ℤ◌, Bool, true, false, if◌then◌else◌, List, [], ◌∷◌, ◌++◌, ◌-◌, map, length, take, sum_by, get_or, pos, ◌+ℤ◌, ◌^◌, int_lt}
 use Rattle.std.proofs.Math.Nat.{mul-le-mul}
 use Rattle.std.proofs.lemmas.Int.{ints}
-use Rattle.escrow_units.proofs.DateFacts.{pos_abs}
+use Rattle.escrow_units.proofs.FlowFacts.{choice-false, choice-true, days_to-whole, rise-map}
+use Rattle.escrow_units.proofs.RoundingFacts.{near-at-most, near-zero}
+use Rattle.escrow_units.proofs.SeriesDates.{dates_after, dates_after-all, dates_after-last, dates_after-rise, dates_before, half_back_of-order, half_back_of-reach, half_back_of-zero}
+use Rattle.escrow_units.specs.Flows.{EndsOn, Rise}
 use Rattle.escrow_units.specs.Rounding.{near}
+use Rattle.escrow_units.specs.Series.{days_to}
 use Rattle.std.specs.Ordering.{int_eq}
 use Rattle.std.proofs.lemmas.Bool.Decides.{Decides-int_eq}
 use Rattle.std.proofs.lemmas.List.{map-append, take_all}
 use Rattle.std.proofs.lemmas.List.Elements.{All-map, All-weaker, All-same}
-use Rattle.std.proofs.lemmas.List.Kept.{AllPairs-cons}
 use Rattle.std.proofs.lemmas.List.Sums.{sum_by-cons}
 use Rattle.jiff_core.proofs.SignedLemmas.{signed_arith}
 use Rattle.escrow_units.specs.Calendar.{half_back_of}
@@ -17,48 +20,45 @@ use Rattle.escrow_units.specs.declared.security.Slgs.{Slgs}
 use Rattle.escrow_units.specs.declared.security.SlgsKind.{SlgsKind}
 use Rattle.escrow_units.specs.declared.security.SlgsKind.TheVariants as kind
 use Rattle.escrow_units.specs.declared.security.StepRule.TheVariants as rule
-use Rattle.slgs_interest.specs.Payments.{series_dates, payment_dates, payments_of, payment_on, interest_on, principal_on, first_interest, first_interest_of_kind, first_period_interest, half_year_interest, before_first, second_before_first, has_leap_day, basis_of, days_to}
-use Rattle.slgs_interest.specs.PaymentLaws.{Rise, EndsOn, AreSmall, AreWithinTerm, PayPrincipalOnce, PayFaceAlone, PayEqualInterest}
-use Rattle.slgs_interest.proofs.Amounts.{near-zero, near-at-most, interest-at-most, no-interest, whole-period}
-use Rattle.slgs_interest.proofs.Series.{IsPaid, series_dates-within, series_dates-rise, series_dates-last, dates_before, half_back_of-zero, half_back_of-reach}
+use Rattle.slgs_interest.specs.Payments.{payment_dates, payments_of, payment_on, interest_on, principal_on, first_interest, first_interest_of_kind, first_period_interest, half_year_interest, before_first, second_before_first, has_leap_day, basis_of}
+use Rattle.slgs_interest.specs.PaymentLaws.{AreSmall, EarnLittle, AreWithinTerm, PayPrincipalOnce, PayFaceAlone, PayEqualInterest}
+use Rattle.slgs_interest.proofs.Amounts.{interest-at-most, no-interest, whole-period}
+use Rattle.slgs_interest.proofs.Series.{IsPaid}
 
 pub payments-are : (slgs : Slgs) (face : ℕ) (flows : List Flow) (i : ℕ) (dates : List ℤ) → flows ≡ map (payment_on slgs face) (take i dates)
     → length dates ≤ i → dates ≡ payment_dates slgs → flows ≡ payments_of slgs face
 unfolding payments_of
 payments-are slgs face flows i dates e all f = e ∙ ap (map (payment_on slgs face)) (take_all i dates all ∙ f)
 
-payments-series : (slgs : Slgs) (face : ℕ) (p : IsPaid slgs) → payments_of slgs face ≡ map (payment_on slgs face) (series_dates slgs.maturity p.steps)
+payments-series : (slgs : Slgs) (face : ℕ) (p : IsPaid slgs) → payments_of slgs face ≡ map (payment_on slgs face) (dates_after slgs.maturity rule.SameDay (p.steps + 1))
 unfolding payments_of
 payments-series slgs face p = ap (map (payment_on slgs face)) p.dates
 
--- dates that rise give payments that rise
-rise-map : (slgs : Slgs) (face : ℕ) (dates : List ℤ) → AllPairs (λ a b. a <ℤ b) dates → Rise (map (payment_on slgs face) dates)
-rise-map slgs face [] h = λ i j d lt within. absurd (omega arith)
-rise-map slgs face (x ∷ xs) h =
-    AllPairs-cons (λ (a b : Flow). a.day <ℤ b.day) (payment_on slgs face x) (map (payment_on slgs face) xs)
-    (All-map (λ (b : Flow). x <ℤ b.day) (payment_on slgs face) xs (λ k d lt. h 0 (suc k) d (omega arith) (omega arith)))
-    (rise-map slgs face xs (λ i j d lt within. h (suc i) (suc j) d (omega arith) (omega arith)))
-
 pub payments-rise : (slgs : Slgs) (face : ℕ) → IsPaid slgs → Rise (payments_of slgs face)
 payments-rise slgs face p =
-    subst Rise (sym (payments-series slgs face p)) (rise-map slgs face (series_dates slgs.maturity p.steps) (series_dates-rise slgs.maturity p.steps p.base (omega (arith, p.few))))
+    subst Rise (sym (payments-series slgs face p)) (rise-map (payment_on slgs face) (λ day. refl) (dates_after slgs.maturity rule.SameDay (p.steps + 1)) (dates_after-rise slgs.maturity rule.SameDay (p.steps + 1) p.base (omega (arith, p.few))))
 
 pub payments-end : (slgs : Slgs) (face : ℕ) → IsPaid slgs → EndsOn slgs.maturity (payments_of slgs face)
-payments-end slgs face p = record {
-  before = map (payment_on slgs face) (dates_before slgs.maturity p.steps);
-  last = payment_on slgs face slgs.maturity;
-  order = payments-series slgs face p
-      ∙ (ap (map (payment_on slgs face)) (series_dates-last slgs.maturity p.steps p.base) ∙ map-append (payment_on slgs face) (dates_before slgs.maturity p.steps) (slgs.maturity ∷ []));
-  falls = refl;
-}
+payments-end slgs face p =
+    let less : p.steps + 1 - 1 ≡ p.steps = omega arith in
+    let last : dates_after slgs.maturity rule.SameDay (p.steps + 1) ≡ dates_before slgs.maturity rule.SameDay p.steps ++ slgs.maturity ∷ [] =
+    rw less at (dates_after-last slgs.maturity rule.SameDay (p.steps + 1) p.base (omega arith)) in
+    record {
+      before = map (payment_on slgs face) (dates_before slgs.maturity rule.SameDay p.steps);
+      last = payment_on slgs face slgs.maturity;
+      order = payments-series slgs face p
+          ∙ (ap (map (payment_on slgs face)) last ∙ map-append (payment_on slgs face) (dates_before slgs.maturity rule.SameDay p.steps) (slgs.maturity ∷ []));
+      falls = refl;
+    }
 
 pub payments-within : (slgs : Slgs) (face : ℕ) → IsPaid slgs → AreWithinTerm slgs (payments_of slgs face)
 payments-within slgs face p =
-    All-same (λ (flow : Flow). (slgs.settle <ℤ flow.day) × (flow.day ≤ℤ slgs.maturity)) (payments_of slgs face) (map (payment_on slgs face) (series_dates slgs.maturity p.steps)) (payments-series slgs face p)
-    (All-map (λ (flow : Flow). (slgs.settle <ℤ flow.day) × (flow.day ≤ℤ slgs.maturity)) (payment_on slgs face) (series_dates slgs.maturity p.steps)
-    (All-weaker (λ date. (half_back_of slgs.maturity p.steps rule.SameDay ≤ℤ date) × (date ≤ℤ slgs.maturity)) (λ date. (slgs.settle <ℤ date) × (date ≤ℤ slgs.maturity))
-    (λ date w. (omega (arith, signed_arith, p.late, p.first, w.0), w.1)) (series_dates slgs.maturity p.steps)
-    (series_dates-within slgs.maturity p.steps p.base (omega (arith, p.few)))))
+    All-same (λ (flow : Flow). (slgs.settle <ℤ flow.day) × (flow.day ≤ℤ slgs.maturity)) (payments_of slgs face) (map (payment_on slgs face) (dates_after slgs.maturity rule.SameDay (p.steps + 1))) (payments-series slgs face p)
+    (All-map (λ (flow : Flow). (slgs.settle <ℤ flow.day) × (flow.day ≤ℤ slgs.maturity)) (payment_on slgs face) (dates_after slgs.maturity rule.SameDay (p.steps + 1))
+    (dates_after-all (λ date. (slgs.settle <ℤ date) × (date ≤ℤ slgs.maturity)) slgs.maturity rule.SameDay (p.steps + 1) (λ j less.
+    let late = half_back_of-order slgs.maturity rule.SameDay j p.steps p.base (omega arith) (omega (arith, p.few)) in
+    let reach = half_back_of-reach slgs.maturity rule.SameDay j p.base (omega (arith, p.few)) in
+    (omega (arith, signed_arith, p.late, p.first, late), omega (arith, signed_arith, reach)))))
 
 -- flows of interest and principal
 flow_of : (ℤ → ℕ) → (ℤ → ℕ) → ℤ → Flow
@@ -70,29 +70,22 @@ cents_of flow = flow.cents.0
 -- where the principal falls at maturity alone, it is paid once
 principal-sum : (interest principal : ℤ → ℕ) (face : ℕ) (maturity : ℤ) (k : ℕ) → principal (half_back_of maturity 0 rule.SameDay) ≡ face
     → ((j : ℕ) → 1 ≤ j → j ≤ k → principal (half_back_of maturity j rule.SameDay) ≡ 0)
-    → sum_by cents_of (map (flow_of interest principal) (series_dates maturity k))
-    ≡ face + sum_by (λ flow. interest flow.day) (map (flow_of interest principal) (series_dates maturity k))
-unfolding series_dates flow_of cents_of
+    → sum_by cents_of (map (flow_of interest principal) (dates_after maturity rule.SameDay (suc k)))
+    ≡ face + sum_by (λ flow. interest flow.day) (map (flow_of interest principal) (dates_after maturity rule.SameDay (suc k)))
+unfolding dates_after flow_of cents_of
 principal-sum interest principal face maturity zero last none =
     let day = half_back_of maturity 0 rule.SameDay in
     omega (arith, sum_by-cons cents_of (flow_of interest principal day) [], sum_by-cons (λ (flow : Flow). interest flow.day) (flow_of interest principal day) [], last)
 principal-sum interest principal face maturity (suc k) last none =
-    let day = half_back_of maturity (k + 1) rule.SameDay in
+    let day = half_back_of maturity (suc k) rule.SameDay in
     let rest = principal-sum interest principal face maturity k last (λ j some few. none j some (omega arith)) in
     omega (
       arith,
-      sum_by-cons cents_of (flow_of interest principal day) (map (flow_of interest principal) (series_dates maturity k)),
-      sum_by-cons (λ (flow : Flow). interest flow.day) (flow_of interest principal day) (map (flow_of interest principal) (series_dates maturity k)),
+      sum_by-cons cents_of (flow_of interest principal day) (map (flow_of interest principal) (dates_after maturity rule.SameDay (suc k))),
+      sum_by-cons (λ (flow : Flow). interest flow.day) (flow_of interest principal day) (map (flow_of interest principal) (dates_after maturity rule.SameDay (suc k))),
       rest,
-      none (k + 1) (omega arith) (omega arith),
+      none (suc k) (omega arith) (omega arith),
     )
-
-choice-true : (t : Bool) (a b : ℕ) → t ≡ true → (if t then a else b) ≡ a
-choice-true t a b e = rw e refl
-
-choice-false : (t : Bool) (a b : ℕ) → (t ≡ true → ⊥) → (if t then a else b) ≡ b
-choice-false true a b h = absurd (h refl)
-choice-false false a b h = refl
 
 choice-both : (t : Bool) (a b c : ℕ) → a ≡ c → b ≡ c → (if t then a else b) ≡ c
 choice-both true a b c e f = e
@@ -101,11 +94,12 @@ choice-both false a b c e f = f
 pub payments-principal : (slgs : Slgs) (face : ℕ) → IsPaid slgs → PayPrincipalOnce slgs face (payments_of slgs face)
 unfolding flow_of cents_of
 payments-principal slgs face p =
-    subst (PayPrincipalOnce slgs face) (sym (payments-series slgs face p))
+    let more : p.steps + 1 ≡ suc p.steps = omega arith in
+    subst (PayPrincipalOnce slgs face) (sym (payments-series slgs face p ∙ ap (λ (n : ℕ). map (payment_on slgs face) (dates_after slgs.maturity rule.SameDay n)) more))
     (principal-sum (interest_on slgs face) (principal_on slgs face) face slgs.maturity p.steps
-    (choice-true (int_eq (half_back_of slgs.maturity 0 rule.SameDay) slgs.maturity) face 0 ((Decides-int_eq (half_back_of slgs.maturity 0 rule.SameDay) slgs.maturity).1 (half_back_of-zero slgs.maturity p.base)))
+    (choice-true (int_eq (half_back_of slgs.maturity 0 rule.SameDay) slgs.maturity) face 0 ((Decides-int_eq (half_back_of slgs.maturity 0 rule.SameDay) slgs.maturity).1 (half_back_of-zero slgs.maturity rule.SameDay p.base)))
     (λ j some few.
-    let reach = half_back_of-reach slgs.maturity j p.base (omega (arith, p.few)) in
+    let reach = half_back_of-reach slgs.maturity rule.SameDay j p.base (omega (arith, p.few)) in
     choice-false (int_eq (half_back_of slgs.maturity j rule.SameDay) slgs.maturity) face 0
     (λ t. omega (arith, signed_arith, reach, (Decides-int_eq (half_back_of slgs.maturity j rule.SameDay) slgs.maturity).0 t))))
 
@@ -179,7 +173,7 @@ payments-equal slgs face p = λ other e.
         → interest_on slgs face day + principal_on slgs face day ≡ half_year_interest slgs face + principal_on slgs face day
     equal day f = ap (λ n. n + principal_on slgs face day) (choice-both (int_eq day slgs.first) (first_interest slgs face) (half_year_interest slgs face) (half_year_interest slgs face) f refl)
 
--- no interest is above the greatest face
+-- no interest is above 400 million dollars
 basis-least : (settle maturity : ℤ) → 365 ≤ basis_of settle maturity
 basis-least settle maturity = at (has_leap_day settle (days_to settle maturity))
   where
@@ -187,17 +181,12 @@ basis-least settle maturity = at (has_leap_day settle (days_to settle maturity))
     at true = omega arith
     at false = omega arith
 
-days_to-whole : (from to : ℤ) → from ≤ℤ to → from +ℤ pos (days_to from to) ≡ to
-days_to-whole from to order =
-    let e = pos_abs (to -ℤ from) (omega (arith, signed_arith, order)) in
-    omega (arith, signed_arith, e)
-
 choice-most : (t : Bool) (a b c : ℕ) → a ≤ c → b ≤ c → (if t then a else b) ≤ c
 choice-most true a b c e f = e
 choice-most false a b c e f = f
 
 first-small : (slgs : Slgs) (face : ℕ) → IsPaid slgs → (slgs.kind ≡ kind.Certificate → slgs.first ≡ slgs.maturity) → face ≤ 10 ^ 11 → slgs.rate.0 ≤ 30_000
-    → first_interest slgs face ≤ 10 ^ 11
+    → first_interest slgs face ≤ 4 * 10 ^ 10
 unfolding first_interest
 first-small slgs face p same f r = at slgs.kind same
   where
@@ -214,7 +203,7 @@ first-small slgs face p same f r = at slgs.kind same
         → (if t
         then near (face * slgs.rate.0 * (days_to (second_before_first slgs) (before_first slgs) + days_to slgs.settle (before_first slgs)))
         (200_000 * days_to (second_before_first slgs) (before_first slgs))
-        else near (face * slgs.rate.0 * days_to slgs.settle slgs.first) (200_000 * days_to (before_first slgs) slgs.first)) ≤ 10 ^ 11
+        else near (face * slgs.rate.0 * days_to slgs.settle slgs.first) (200_000 * days_to (before_first slgs) slgs.first)) ≤ 4 * 10 ^ 10
     long true e =
         let less : slgs.settle <ℤ before_first slgs = omega (arith, ints) in
         let days = days_to-whole slgs.settle (before_first slgs) (omega (arith, signed_arith, less)) in
@@ -225,7 +214,7 @@ first-small slgs face p same f r = at slgs.kind same
         interest-at-most face slgs.rate.0 (days_to slgs.settle slgs.first) (days_to (before_first slgs) slgs.first) 200_000 f r
         (omega (arith, signed_arith, before, p.before.least)) (omega (arith, signed_arith, before, term, p.before.least, p.early)) (omega arith)
 
-    at : (k : SlgsKind) → (k ≡ kind.Certificate → slgs.first ≡ slgs.maturity) → first_interest_of_kind k slgs face ≤ 10 ^ 11
+    at : (k : SlgsKind) → (k ≡ kind.Certificate → slgs.first ≡ slgs.maturity) → first_interest_of_kind k slgs face ≤ 4 * 10 ^ 10
     at kind.Certificate same =
         let e : days_to slgs.settle slgs.maturity ≡ days_to slgs.settle slgs.first = ap (λ (day : ℤ). days_to slgs.settle day) (sym (same refl)) in
         interest-at-most face slgs.rate.0 (days_to slgs.settle slgs.maturity) (basis_of slgs.settle slgs.maturity) 100_000 f r
@@ -233,20 +222,29 @@ first-small slgs face p same f r = at slgs.kind same
     at kind.Note same = long (int_lt slgs.settle (before_first slgs)) refl
     at kind.Bond same = long (int_lt slgs.settle (before_first slgs)) refl
 
-payment-small : (slgs : Slgs) (face : ℕ) → face ≤ 10 ^ 11 → slgs.rate.0 ≤ 30_000 → first_interest slgs face ≤ 10 ^ 11
-    → (day : ℤ) → interest_on slgs face day + principal_on slgs face day ≤ 2 * 10 ^ 11
-payment-small slgs face f r first day =
-    let later = near-at-most (face * slgs.rate.0) 200_000 (10 ^ 11) (omega arith) (omega (arith, mul-le-mul f r)) in
-    let interest = choice-most (int_eq day slgs.first) (first_interest slgs face) (half_year_interest slgs face) (10 ^ 11) first later in
-    let principal = choice-most (int_eq day slgs.maturity) face 0 (10 ^ 11) f (omega arith) in
-    sum_at_most _ _ interest principal
-  where
-    sum_at_most : (m n : ℕ) → m ≤ 10 ^ 11 → n ≤ 10 ^ 11 → m + n ≤ 2 * 10 ^ 11
-    sum_at_most m n a b = omega arith
+interest-small : (slgs : Slgs) (face : ℕ) → face ≤ 10 ^ 11 → slgs.rate.0 ≤ 30_000 → first_interest slgs face ≤ 4 * 10 ^ 10
+    → (day : ℤ) → interest_on slgs face day ≤ 4 * 10 ^ 10
+interest-small slgs face f r first day =
+    let later = near-at-most (face * slgs.rate.0) 200_000 (4 * 10 ^ 10) (omega arith) (omega (arith, mul-le-mul f r)) in
+    choice-most (int_eq day slgs.first) (first_interest slgs face) (half_year_interest slgs face) (4 * 10 ^ 10) first later
 
+pub payments-interest : (slgs : Slgs) (face : ℕ) → IsPaid slgs → (slgs.kind ≡ kind.Certificate → slgs.first ≡ slgs.maturity) → face ≤ 10 ^ 11 → slgs.rate.0 ≤ 30_000
+    → EarnLittle slgs face (payments_of slgs face)
+unfolding payments_of
+payments-interest slgs face p same f r =
+    All-map (λ (flow : Flow). flow.cents.0 ≤ 4 * 10 ^ 10 + principal_on slgs face flow.day) (payment_on slgs face) (payment_dates slgs)
+    (λ k d lt. more _ _ (interest-small slgs face f r (first-small slgs face p same f r) (get_or (payment_dates slgs) k d)))
+  where
+    more : (m n : ℕ) → m ≤ 4 * 10 ^ 10 → m + n ≤ 4 * 10 ^ 10 + n
+    more m n a = omega arith
+
+-- and no principal above the greatest face
 pub payments-small : (slgs : Slgs) (face : ℕ) → IsPaid slgs → (slgs.kind ≡ kind.Certificate → slgs.first ≡ slgs.maturity) → face ≤ 10 ^ 11 → slgs.rate.0 ≤ 30_000
     → AreSmall (payments_of slgs face)
-unfolding payments_of
 payments-small slgs face p same f r =
-    All-map (λ (flow : Flow). flow.cents.0 ≤ 2 * 10 ^ 11) (payment_on slgs face) (payment_dates slgs)
-    (λ k d lt. payment-small slgs face f r (first-small slgs face p same f r) (get_or (payment_dates slgs) k d))
+    All-weaker (λ (flow : Flow). flow.cents.0 ≤ 4 * 10 ^ 10 + principal_on slgs face flow.day) (λ (flow : Flow). flow.cents.0 ≤ 2 * 10 ^ 11)
+    (λ flow little. sum_at_most _ _ little (choice-most (int_eq flow.day slgs.maturity) face 0 (10 ^ 11) f (omega arith)))
+    (payments_of slgs face) (payments-interest slgs face p same f r)
+  where
+    sum_at_most : (m n : ℕ) → m ≤ 4 * 10 ^ 10 + n → n ≤ 10 ^ 11 → m ≤ 2 * 10 ^ 11
+    sum_at_most m n a b = omega arith

@@ -1,23 +1,13 @@
 -- What the payments of a SLGS security are, in the terms of bonds.
-use Rattle.std.specs.Prelude.{◌≡◌, ◌↔◌, ℕ, ◌+◌, ◌*◌, ◌^◌, ◌≤◌, IsTrue, List, [], ◌∷◌, ◌++◌, All, AllPairs, sum_by, ℤ, ◌≤ℤ◌, ◌<ℤ◌}
+use Rattle.std.specs.Prelude.{◌≡◌, ◌↔◌, ℕ, ◌+◌, ◌*◌, ◌^◌, ◌≤◌, IsTrue, List, All, sum_by, ℤ, ◌≤ℤ◌, ◌<ℤ◌}
 use Rattle.escrow_units.specs.Calendar.{IsSeriesDate}
+use Rattle.escrow_units.specs.Flows.{total}
 use Rattle.escrow_units.specs.SlgsTerms.{IsSettlement, IsSlgs}
 use Rattle.escrow_units.specs.declared.security.Flow.{Flow}
 use Rattle.escrow_units.specs.declared.security.Slgs.{Slgs}
 use Rattle.escrow_units.specs.declared.security.SlgsKind.TheVariants as kind
 use Rattle.escrow_units.specs.declared.security.StepRule.TheVariants as rule
 use Rattle.slgs_interest.specs.Payments.{basis_of, before_first, half_year_interest, interest_on, is_leap_day, principal_on, second_before_first}
-
--- each payment falls before each later one
-abbrev pub Rise : List Flow → Type 0
-Rise flows = AllPairs (λ earlier later. earlier.day <ℤ later.day) flows
-
--- the last payment falls on a day
-pub record EndsOn (day : ℤ) (flows : List Flow) : Type 0 where
-  pub before : List Flow
-  pub last : Flow
-  pub order : flows ≡ before ++ last ∷ []
-  pub falls : last.day ≡ day
 
 -- all payments come after settlement, and none after maturity
 abbrev pub AreWithinTerm : Slgs → List Flow → Type 0
@@ -26,11 +16,11 @@ AreWithinTerm slgs flows = All (λ flow. (slgs.settle <ℤ flow.day) × (flow.da
 -- the payments are the principal, once, and the interest
 abbrev pub PayPrincipalOnce : Slgs → ℕ → List Flow → Type 0
 PayPrincipalOnce slgs face flows =
-    sum_by (λ flow. flow.cents.0) flows ≡ face + sum_by (λ flow. interest_on slgs face flow.day) flows
+    total flows ≡ face + sum_by (λ flow. interest_on slgs face flow.day) flows
 
 -- without interest they are the principal
 abbrev pub PayFaceAlone : Slgs → ℕ → List Flow → Type 0
-PayFaceAlone slgs face flows = slgs.rate.0 ≡ 0 → sum_by (λ flow. flow.cents.0) flows ≡ face
+PayFaceAlone slgs face flows = slgs.rate.0 ≡ 0 → total flows ≡ face
 
 -- a note or bond that settles on the date of its series before the first payment pays the same interest each time
 abbrev pub PayEqualInterest : Slgs → ℕ → List Flow → Type 0
@@ -41,6 +31,10 @@ PayEqualInterest slgs face flows =
 -- no payment of a permitted face is above 2 billion dollars
 abbrev pub AreSmall : List Flow → Type 0
 AreSmall flows = All (λ flow. flow.cents.0 ≤ 2 * 10 ^ 11) flows
+
+-- no payment of a permitted face has more than 400 million dollars of interest
+abbrev pub EarnLittle : Slgs → ℕ → List Flow → Type 0
+EarnLittle slgs face flows = All (λ flow. flow.cents.0 ≤ 4 * 10 ^ 10 + principal_on slgs face flow.day) flows
 
 -- the latest date of the series before a day
 pub record IsLatestBefore (maturity day date : ℤ) : Type 0 where

@@ -1,18 +1,15 @@
 -- The payments of SLGS time deposit securities. Kinds and semiannual interest are those of 31 CFR part 344; the basis of a
 -- certificate, the interest of short and long first periods and the rounding of each payment are this project's own.
-use Rattle.std.specs.Prelude.{ℕ, zero, suc, ◌+◌, ◌*◌, ◌==◌, Bool, false, ◌&&◌, ◌||◌, if◌then◌else◌, List, [], ◌∷◌, map, filter, length, ℤ, pos, ◌+ℤ◌, ◌-ℤ◌, int_lt, int_le, unsigned_abs}
+use Rattle.std.specs.Prelude.{ℕ, zero, suc, ◌+◌, ◌*◌, ◌==◌, Bool, false, ◌&&◌, ◌||◌, if◌then◌else◌, List, map, filter, length, ℤ, pos, ◌+ℤ◌, int_lt, int_le}
 use Rattle.std.specs.Ordering.{int_eq}
 use Rattle.escrow_units.specs.Calendar.{date_of, half_back_of}
 use Rattle.escrow_units.specs.Rounding.{near}
+use Rattle.escrow_units.specs.Series.{days_to, series_dates}
 use Rattle.escrow_units.specs.declared.security.Flow.{Flow}
 use Rattle.escrow_units.specs.declared.security.Slgs.{Slgs}
 use Rattle.escrow_units.specs.declared.security.SlgsKind.{SlgsKind}
 use Rattle.escrow_units.specs.declared.security.SlgsKind.TheVariants as kind
 use Rattle.escrow_units.specs.declared.security.StepRule.TheVariants as rule
-
--- the days from one day to a later one
-abbrev pub days_to : ℤ → ℤ → ℕ
-days_to from to = unsigned_abs (to -ℤ from)
 
 abbrev pub is_leap_day : ℤ → Bool
 is_leap_day day = ((date_of day).month == 2) && ((date_of day).day == 29)
@@ -26,14 +23,9 @@ has_leap_day day (suc n) = is_leap_day (day +ℤ pos (n + 1)) || has_leap_day da
 abbrev pub basis_of : ℤ → ℤ → ℕ
 basis_of settle maturity = if has_leap_day settle (days_to settle maturity) then 366 else 365
 
--- the dates of the series from so many half-years before maturity on, in order
-unfoldable pub series_dates : ℤ → ℕ → List ℤ
-series_dates maturity zero = half_back_of maturity 0 rule.SameDay ∷ []
-series_dates maturity (suc k) = half_back_of maturity (k + 1) rule.SameDay ∷ series_dates maturity k
-
 -- a security pays on the dates of its series that are not before its first payment date
 unfoldable pub payment_dates : Slgs → List ℤ
-payment_dates slgs = filter (λ date. int_le slgs.first date) (series_dates slgs.maturity 84)
+payment_dates slgs = filter (λ date. int_le slgs.first date) (series_dates slgs.maturity rule.SameDay 84)
 
 -- the date of the series before the first payment, and the one before that
 abbrev pub before_first : Slgs → ℤ

@@ -1,6 +1,7 @@
 ghost use Rattle.std.specs.Prelude.{◌≡◌, ◌^◌, ◌≤◌, length};
+ghost use Rattle.escrow_units.specs.Flows.{EndsOn, Rise};
 ghost use Rattle.escrow_units.specs.SlgsTerms.{IsSettlement, IsSlgs};
-ghost use Rattle.slgs_interest.specs.PaymentLaws.{AreSmall, AreWithinTerm, EndsOn, PayEqualInterest, PayFaceAlone, PayPrincipalOnce, Rise};
+ghost use Rattle.slgs_interest.specs.PaymentLaws.{AreSmall, AreWithinTerm, EarnLittle, PayEqualInterest, PayFaceAlone, PayPrincipalOnce};
 ghost use Rattle.slgs_interest.specs.Payments.{payment_dates, payments_of};
 
 use crate::interest::{half_year, of_first_payment};
@@ -33,7 +34,8 @@ fn dates_of(slgs: &Slgs) -> ArrayVec<Day, 84>
 /// Kinds and semiannual interest are those of 31 CFR part 344, the basis and the first periods this project's own.
 ///
 /// Settlement is from 2000-01-01 to 2150-01-01, and the security keeps the terms of SLGS securities. Its rate is at most 30
-/// percent, and the face at most 10^11 cents; then each payment is at most 2 * 10^11 cents.
+/// percent, and the face at most 10^11 cents; then each payment is at most 2 * 10^11 cents, and has at most 4 * 10^10 cents
+/// of interest.
 pub fn payments(slgs: &Slgs, face: Cents) -> ArrayVec<Flow, 84>
     requires settlement { IsSettlement slgs.now.settle }
     requires terms { IsSlgs slgs.now }
@@ -44,6 +46,7 @@ pub fn payments(slgs: &Slgs, face: Cents) -> ArrayVec<Flow, 84>
     ensures end_at_maturity { EndsOn slgs.now.maturity result.items }
     ensures within_term { AreWithinTerm slgs.now result.items }
     ensures small { AreSmall result.items }
+    ensures interest_bound { EarnLittle slgs.now face.0 result.items }
     ensures principal_once { PayPrincipalOnce slgs.now face.0 result.items }
     ensures face_alone { PayFaceAlone slgs.now face.0 result.items }
     ensures equal_interest { PayEqualInterest slgs.now face.0 result.items }

@@ -1,25 +1,9 @@
-ghost use Rattle.std.specs.Prelude.{◌≡◌, ◌≢◌, ◌+◌, ◌*◌, ◌^◌, ◌<◌, ◌≤◌, length};
-ghost use Rattle.escrow_units.specs.Rounding.{near};
+ghost use Rattle.std.specs.Prelude.{◌≡◌, ◌≢◌, ◌^◌, ◌<◌, ◌≤◌, length};
 ghost use Rattle.escrow_units.specs.SlgsTerms.{IsSettlement, IsSlgs};
 ghost use Rattle.slgs_interest.specs.Payments.{certificate_interest, first_interest, first_period_interest, half_year_interest, payment_dates};
 
 use crate::leap_day::basis;
-use escrow_units::{Cents, Rate, Slgs, SlgsKind, StepRule, days_between, half_back, near};
-
-// What a face earns in so many parts of a whole: `face * rate * parts / whole`, to the cent.
-fn earned(face: Cents, rate: Rate, parts: u32, whole: u32) -> u64
-    requires face { face.0 ≤ 10 ^ 11 }
-    requires rate { rate.0 ≤ 30_000 }
-    requires parts { parts ≤ 1000 }
-    requires whole { 0 < whole }
-    ensures value { result ≡ near (face.0 * rate.0 * parts) whole }
-    ensures bound { result < 2 ^ 62 }
-{
-    near(
-        face.0 as u128 * rate.0 as u128 * parts as u128,
-        whole as u128,
-    ) as u64
-}
+use escrow_units::{Cents, Slgs, SlgsKind, StepRule, days_between, earned, half_back};
 
 /// The interest of a half-year on a face of at most 10^11 cents, at a rate of at most 30 percent.
 pub(crate) fn half_year(slgs: &Slgs, face: Cents) -> u64

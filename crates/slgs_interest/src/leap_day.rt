@@ -1,32 +1,19 @@
 ghost use Rattle.std.specs.Prelude.{◌≡◌, ◌↔◌, ◌⊎◌, IsTrue, ◌≤ℤ◌, ◌<ℤ◌};
 ghost use Rattle.jiff_core.specs.Calendar.{IsYear};
-ghost use Rattle.jiff_core.specs.Date.{epoch_day};
 ghost use Rattle.escrow_units.specs.Calendar.{date_of, years_after_of};
-ghost use Rattle.escrow_units.specs.DayNumber.{IsDayNumber};
 ghost use Rattle.escrow_units.specs.SlgsTerms.{IsSettlement};
 ghost use Rattle.slgs_interest.specs.LeapDay.{HasLeapDay};
 ghost use Rattle.slgs_interest.specs.Payments.{basis_of};
 
-use escrow_units::Day;
+use escrow_units::{Day, plain_date};
 use jiff_core::civil::Date;
-
-// The date of a day.
-fn civil_date(day: Day) -> Date
-    ensures number { epoch_day result ≡ day }
-    ensures days { IsDayNumber day }
-{
-    match Date::from_unix_epoch_day(day.number() as i64) {
-        Ok(date) => date,
-        Err(_) => unreachable!(),
-    }
-}
 
 // The year of a day.
 fn year_of(day: Day) -> i16
     ensures year { result ≡ (date_of day).year }
     ensures range { IsYear result }
 {
-    civil_date(day).year
+    plain_date(day).year
 }
 
 // Whether a day number lies after one day and not after another.

@@ -1,1 +1,2 @@
+pub mod ClassificationFacts
 pub mod RuleFacts

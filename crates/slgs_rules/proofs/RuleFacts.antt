@@ -1,5 +1,5 @@
 -- The earliest date of a series, and the one answer to a request.
-use Rattle.std.proofs.Common.{◌≡◌, ◌∙◌, ℕ, ◌+◌, ◌-◌, ◌*◌, ◌≤◌, zero, suc, refl, sym, ap, arith, ℤ, pos, ◌+ℤ◌, ◌≤ℤ◌, ◌<ℤ◌, inl, inr, ◌⊎◌, Option, None, Some, IfSome, Result, Ok, Err}
+use Rattle.std.proofs.Common.{◌≡◌, ◌∙◌, ℕ, ◌+◌, ◌-◌, ◌≤◌, zero, suc, refl, sym, ap, arith, ℤ, pos, ◌+ℤ◌, ◌≤ℤ◌, ◌<ℤ◌, inl, inr, ◌⊎◌, Option, None, Some, IfSome, Result, Ok, Err}
 use Rattle.std.proofs.lemmas.Bool.{cases_lt}
 use Rattle.std.proofs.lemmas.Int.{by_lt_z}
 use Rattle.jiff_core.proofs.SignedLemmas.{signed_arith}
@@ -10,7 +10,8 @@ use Rattle.escrow_units.specs.declared.security.Slgs.{Slgs}
 use Rattle.escrow_units.specs.declared.security.SlgsKind.{SlgsKind}
 use Rattle.escrow_units.specs.declared.security.SlgsKind.TheVariants as kind
 use Rattle.escrow_units.specs.declared.security.StepRule.TheVariants as rule
-use Rattle.escrow_units.proofs.SeriesFacts.{half_back_of-start, half_back_of-falls, half_back_of-steps, years_after_of-none}
+use Rattle.escrow_units.proofs.SeriesDates.{base-day, half_back_of-order, half_back_of-reach}
+use Rattle.escrow_units.proofs.SeriesFacts.{half_back_of-steps, years_after_of-none}
 use Rattle.escrow_units.proofs.YearFacts.{years_after_of-passes, settlement-base, kinds-exclusive}
 use Rattle.slgs_rules.specs.TermRules.{Request, IsAnswer, IsSubscription, IsFirstFault, IsEarliestFrom, IsNamedOrEarliest, IsFirstOfKind, IsNameable, place}
 use Rattle.slgs_rules.specs.declared.fault.RuleFault.{RuleFault}
@@ -30,7 +31,7 @@ pub record IsSpan (settle : ℤ) : Type 0 where
 pub span : (settle : ℤ) → IsSettlement settle → IsSpan settle
 span settle h =
     let base : IsBaseDay settle = (h.0, omega (arith, signed_arith, h.1)) in
-    let own : IsDayNumber settle = (omega (arith, signed_arith, h.0), omega (arith, signed_arith, h.1)) in
+    let own = base-day settle base in
     let none = years_after_of-none settle own in
     let one = years_after_of-passes settle 0 1 base (omega arith) in
     let ten = years_after_of-passes settle 0 10 base (omega arith) in
@@ -48,26 +49,6 @@ span settle h =
       forty_most = omega (arith, signed_arith, forty.most, none);
     }
 
--- a later step leads to no later date
-half_back_of-order : (maturity : ℤ) (j k : ℕ) → IsBaseDay maturity → j ≤ k → k ≤ 84
-    → half_back_of maturity k rule.SameDay ≤ℤ half_back_of maturity j rule.SameDay
-half_back_of-order maturity j k h le few =
-    elim (cases_lt j k) [
-      | inl later ↦ omega (arith, signed_arith, half_back_of-falls maturity rule.SameDay j k h later few)
-      | inr same ↦ let e : k ≡ j = omega arith in rw e (omega (arith, signed_arith))
-    ]
-
--- k half-years have at least 181 days each
-half_back_of-reach : (maturity : ℤ) (k : ℕ) → IsBaseDay maturity → k ≤ 84
-    → (half_back_of maturity k rule.SameDay +ℤ pos (181 * k)) ≤ℤ maturity
-half_back_of-reach maturity zero h few =
-    let own : IsDayNumber maturity = (omega (arith, signed_arith, h.0), omega (arith, signed_arith, h.1)) in
-    omega (arith, signed_arith, half_back_of-start maturity rule.SameDay own)
-half_back_of-reach maturity (suc k) h few =
-    let more : k + 1 ≡ suc k = omega arith in
-    let step = rw more at (half_back_of-steps maturity rule.SameDay k h (omega arith)) in
-    omega (arith, signed_arith, step.least, half_back_of-reach maturity k h (omega arith))
-
 -- a date is the earliest where the next one is before the day
 pub earliest-before : (maturity from date next : ℤ) (steps : ℕ) → IsBaseDay maturity → 1 ≤ steps → steps ≤ 84
     → date ≡ half_back_of maturity (steps - 1) rule.SameDay → next ≡ half_back_of maturity steps rule.SameDay → from ≤ℤ date → next <ℤ from
@@ -76,8 +57,8 @@ earliest-before maturity from date next steps h some few e f late before = recor
   series = record { steps = steps - 1; few = omega arith; back = e };
   late = late;
   earliest = λ other series from_other. elim (cases_lt series.steps steps) [
-    | inl sooner ↦ omega (arith, signed_arith, e, series.back, half_back_of-order maturity series.steps (steps - 1) h (omega arith) (omega arith))
-    | inr later ↦ absurd (omega (arith, signed_arith, f, series.back, half_back_of-order maturity steps series.steps h later series.few))
+    | inl sooner ↦ omega (arith, signed_arith, e, series.back, half_back_of-order maturity rule.SameDay series.steps (steps - 1) h (omega arith) (omega arith))
+    | inr later ↦ absurd (omega (arith, signed_arith, f, series.back, half_back_of-order maturity rule.SameDay steps series.steps h later series.few))
   ];
 }
 
@@ -88,7 +69,7 @@ earliest-last maturity from date steps h last e late = record {
   series = record { steps = steps; few = omega arith; back = e };
   late = late;
   earliest = λ other series from_other.
-      omega (arith, signed_arith, e, series.back, half_back_of-order maturity series.steps steps h (omega (arith, series.few)) (omega arith));
+      omega (arith, signed_arith, e, series.back, half_back_of-order maturity rule.SameDay series.steps steps h (omega (arith, series.few)) (omega arith));
 }
 
 -- two earliest dates are one
@@ -118,7 +99,7 @@ pub earliest-early : (settle maturity first : ℤ) → IsSettlement settle → y
 earliest-early settle maturity first h longer most e =
     let years = span settle h in
     let base = settlement-base settle maturity h (omega (arith, signed_arith, years.year_least)) most in
-    let reach = half_back_of-reach maturity e.series.steps base e.series.few in
+    let reach = half_back_of-reach maturity rule.SameDay e.series.steps base e.series.few in
     elim (cases_lt e.series.steps 84) [
       | inl few ↦
           let step = half_back_of-steps maturity rule.SameDay e.series.steps base few in
@@ -155,6 +136,10 @@ fault_at-place fault.TooShort = refl
 fault_at-place fault.TooLong = refl
 fault_at-place fault.FirstDate = refl
 
+-- faults at one place are one
+pub same_place : (f g : RuleFault) → place f ≡ place g → f ≡ g
+same_place f g same = sym (fault_at-place f) ∙ (ap fault_at same ∙ fault_at-place g)
+
 fault-unique : (request : Request) (f g : RuleFault) → IsFirstFault request f → IsFirstFault request g → f ≡ g
 fault-unique request f g p q =
     elim (cases_lt (place f) (place g)) [
@@ -162,8 +147,7 @@ fault-unique request f g p q =
       | inr after ↦ elim (cases_lt (place g) (place f)) [
         | inl before ↦ absurd (q.breaks (p.kept_before g before))
         | inr not_after ↦
-            let same : place f ≡ place g = omega arith in
-            sym (fault_at-place f) ∙ (ap fault_at same ∙ fault_at-place g)
+            same_place f g (omega arith)
       ]
     ]
 

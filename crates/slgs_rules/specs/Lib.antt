@@ -1,2 +1,3 @@
+pub mod Classification
 pub mod RuleLaws
 pub mod TermRules

@@ -2,6 +2,7 @@
 use Rattle.std.specs.Prelude.{◌≡◌, Result}
 use Rattle.escrow_units.specs.SlgsTerms.{IsSettlement, IsSlgs}
 use Rattle.escrow_units.specs.declared.security.Slgs.{Slgs}
+use Rattle.slgs_rules.specs.Classification.{classified}
 use Rattle.slgs_rules.specs.TermRules.{Request, IsAnswer, IsSubscription}
 use Rattle.slgs_rules.specs.declared.fault.RuleFault.{RuleFault}
 
@@ -14,3 +15,7 @@ AnswersAreUnique =
 abbrev pub SubscriptionsKeepTerms : Type 0
 SubscriptionsKeepTerms =
     (request : Request) (slgs : Slgs) → IsSettlement request.settle → IsSubscription request slgs → IsSlgs slgs
+
+-- the definition by tests gives the answer of the rules
+abbrev pub ClassifiedIsAnswer : Type 0
+ClassifiedIsAnswer = (request : Request) → IsSettlement request.settle → IsAnswer request (classified request)

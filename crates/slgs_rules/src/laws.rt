@@ -1,8 +1,9 @@
-ghost use Rattle.slgs_rules.specs.RuleLaws.{AnswersAreUnique, SubscriptionsKeepTerms};
+ghost use Rattle.slgs_rules.specs.RuleLaws.{AnswersAreUnique, ClassifiedIsAnswer, SubscriptionsKeepTerms};
 
-/// What the rules of subscriptions mean: a request has one answer, and a security that is sold keeps the terms of SLGS
-/// securities.
+/// What the rules of subscriptions mean: a request has one answer, which the definition by tests gives,
+/// and a security that is sold keeps the terms of SLGS securities.
 pub fn rule_laws()
     ensures unique { AnswersAreUnique }
+    ensures classified { ClassifiedIsAnswer }
     ensures terms { SubscriptionsKeepTerms }
 {}

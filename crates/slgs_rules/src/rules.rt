@@ -1,6 +1,7 @@
 ghost use Rattle.std.specs.Prelude.{◌≡◌, ◌↔◌, ◌⊎◌, IsTrue, IfOk, IfErr, OnOk, IfSome, pos, ◌+ℤ◌, ◌≤ℤ◌, ◌<ℤ◌};
 ghost use Rattle.escrow_units.specs.Calendar.{IsBaseDay, years_after_of};
 ghost use Rattle.escrow_units.specs.SlgsTerms.{IsFirstInterest, IsFirstPayment, IsOfKind, IsSettlement, IsSlgs, shortest_term};
+ghost use Rattle.slgs_rules.specs.Classification.{classified};
 ghost use Rattle.slgs_rules.specs.TermRules.{HasRate, IsAnswer, IsEarliestFrom, IsFirstOfKind, IsNameable, IsNamedOrEarliest, IsWithinTable, rate_of};
 
 use crate::fault::RuleFault;
@@ -151,6 +152,7 @@ pub fn classify(
 ) -> Result<Slgs, RuleFault>
     requires { IsSettlement settle }
     ensures answer { IsAnswer (record { settle = settle; maturity = maturity; rate = rate; first = first; most = most }) result }
+    ensures value { result ≡ classified (record { settle = settle; maturity = maturity; rate = rate; first = first; most = most }) }
     ensures terms { IfOk result IsSlgs }
 {
     let rate = borne_rate(rate, most)?;

@@ -8,13 +8,14 @@ use Rattle.escrow_units.specs.declared.security.Flow.{Flow}
 use Rattle.std.proofs.lemmas.Bool.{cases_lt, le-leb, leb-true, leb-false, lt-leb}
 use Rattle.std.proofs.lemmas.List.Sums.{sum_by-cons, sum_by_more}
 use Rattle.fixed_powers.specs.DiscountPowers.{one}
-use Rattle.fixed_powers.specs.PresentValues.{HasLaterAmount, indexed, total_cents, present_value}
+use Rattle.escrow_units.specs.Flows.{indexed, total}
+use Rattle.fixed_powers.specs.PresentValues.{HasLaterAmount, total_cents, present_value}
 use Rattle.fixed_powers.specs.declared.side.Side.TheVariants.{Low, High}
 use Rattle.fixed_powers.proofs.PresentValueFacts.{value_falls, low_value-le-high, value-at_zero, value-ordered, value-lt, low_value-encloses, high_value-encloses, value_sharp, low_value-excludes}
 use Rattle.fixed_powers.proofs.SearchFacts.{greatest-passes, greatest-most, least-within, least-passes, least-most}
 use Rattle.escrow_units.specs.declared.amount.YieldUnits.{YieldUnits}
 use Rattle.yield_enclosure.specs.declared.answer.YieldAnswer.TheVariants.{Between, Above}
-use Rattle.yield_enclosure.specs.YieldAnswers.{FallWithin40Years, answer_of_covered, total, is_worth, is_within, AreDearerBelow, is_no_dearer, lower_end, upper_end, IsLowerEnd, IsUpperEnd, AreYieldEnds}
+use Rattle.yield_enclosure.specs.YieldAnswers.{FallWithin40Years, answer_of_covered, is_worth, is_within, AreDearerBelow, is_no_dearer, lower_end, upper_end, IsLowerEnd, IsUpperEnd, AreYieldEnds}
 use Rattle.escrow_units.specs.PresentValue.{IndexedFlow, last_index}
 
 -- the greatest index is at most what each index is at most

@@ -1,1 +1,2 @@
 pub mod YieldAnswers
+pub mod YieldLaws

@@ -1,6 +1,6 @@
 -- The yield of flows for a cost, as an interval: this project's own, over the exact yield of 26 CFR 1.148-5(b).
 use Rattle.std.specs.Prelude.{◌≡◌, ℕ, ◌+◌, ◌-◌, ◌*◌, ◌<◌, ◌≤◌, Bool, true, false, nat_lt, nat_le, ◌==◌, ◌&&◌, if◌then◌else◌, List, [], length, ℤ, ◌≤ℤ◌}
-use Rattle.std.specs.List.{All, sum_by}
+use Rattle.std.specs.List.{All}
 use Rattle.escrow_units.specs.Calendar.{years_after_of}
 use Rattle.escrow_units.specs.PresentValue.{IndexedFlow, PresentValueAtLeast, PresentValueAtMost, YieldLiesIn}
 use Rattle.escrow_units.specs.declared.security.Flow.{Flow}
@@ -15,10 +15,6 @@ use Rattle.yield_enclosure.specs.declared.answer.YieldAnswer.TheVariants.{Empty,
 abbrev pub FallWithin40Years : ℤ → List Flow → Type 0
 FallWithin40Years settle flows =
     All (λ flow. (settle ≤ℤ flow.day) × (flow.day ≤ℤ years_after_of settle 40)) flows
-
--- the sum of the flows, in cents
-abbrev pub total : List Flow → ℕ
-total flows = sum_by (λ flow. flow.cents.0) flows
 
 -- at the yield n the flows are worth the cost, rounded down
 abbrev pub is_worth : List IndexedFlow → ℕ → ℕ → Bool

@@ -3,19 +3,17 @@
 ghost use Rattle.std.specs.Prelude.{◌≡◌, false, ◌+◌, ◌*◌, ◌<◌, ◌≤◌, ◌^◌, IfOk};
 ghost use Rattle.escrow_units.specs.PresentValue.{last_index};
 ghost use Rattle.fixed_powers.specs.DiscountPowers.{one};
-ghost use Rattle.fixed_powers.specs.PresentValues.{HasLaterAmount, indexed, total_cents, present_value};
+ghost use Rattle.escrow_units.specs.Flows.{indexed, total};
+ghost use Rattle.fixed_powers.specs.PresentValues.{HasLaterAmount, total_cents, present_value};
 ghost use Rattle.fixed_powers.specs.declared.side.Side.TheVariants.{Low};
-ghost use Rattle.yield_enclosure.specs.YieldAnswers.{FallWithin40Years, AreDearerBelow, total, is_within, is_worth, is_no_dearer, IsLowerEnd, IsUpperEnd, IsToldBy, answer_of_covered, yield_answer_of};
+ghost use Rattle.yield_enclosure.specs.YieldAnswers.{FallWithin40Years, AreDearerBelow, is_within, is_worth, is_no_dearer, IsLowerEnd, IsUpperEnd, IsToldBy, answer_of_covered, yield_answer_of};
 
 use crate::answer::YieldAnswer;
 use crate::timeline::Timeline;
 use escrow_desk::NoMemory;
 use escrow_units::{Cents, Day, Flow, YieldUnits};
-use fixed_powers::Side;
+use fixed_powers::{ONE, Side};
 use std::alloc::Global;
-
-// One, as a number of 62 fraction bits.
-const ONE: u128 = 1 << 62;
 
 // 30 percent: a yield that reaches it is above the interval's bounds.
 const MOST: YieldUnits = YieldUnits(3_000_000_000);
@@ -39,7 +37,7 @@ fn is_worth(alloc: Global, flows: &Timeline, cost: Cents, n: YieldUnits) -> Resu
     ensures { IfOk result (λ yes. yes ≡ is_worth flows.now cost.0 n.0) }
 {
     let value = flows.present_value(alloc, n, Side::Low)?;
-    Ok(ONE * cost.0 as u128 <= value)
+    Ok(ONE as u128 * cost.0 as u128 <= value)
 }
 
 // Whether the flows are worth no more than the cost at a yield, rounded up.
@@ -54,7 +52,7 @@ fn is_no_dearer(
     ensures { IfOk result (λ yes. yes ≡ is_no_dearer flows.now cost.0 n.0) }
 {
     let value = flows.present_value(alloc, n, Side::High)?;
-    Ok(value <= ONE * cost.0 as u128)
+    Ok(value <= ONE as u128 * cost.0 as u128)
 }
 
 // The greatest yield at which the flows are worth the cost: from 0 to just below 30 percent.

@@ -3,10 +3,12 @@
 
 mod answer;
 mod enclosure;
+mod laws;
 mod timeline;
 
 pub use answer::YieldAnswer;
 pub use enclosure::{interval, within};
+pub use laws::zero_yield_law;
 
 #[cfg(test)]
 mod tests;

@@ -1,7 +1,8 @@
 ghost use Rattle.std.specs.Prelude.{◌≡◌, ◌+◌, ◌≤◌, ◌^◌, true};
 ghost use Rattle.escrow_units.specs.Calendar.{IsBaseDay};
 ghost use Rattle.escrow_units.specs.DayNumber.{IsDayNumber};
-ghost use Rattle.yield_enclosure.specs.YieldAnswers.{FallWithin40Years, total};
+ghost use Rattle.escrow_units.specs.Flows.{total};
+ghost use Rattle.yield_enclosure.specs.YieldAnswers.{FallWithin40Years};
 
 use super::*;
 use escrow_units::{Cents, Day, Flow, YieldUnits, years_after};
@@ -123,7 +124,7 @@ fn known_yields(rt: HostRuntime) -> Result<(), Fail> {
             cost: 1_000,
             answer: between(0, 0),
         },
-        // Ten more: in order of day and out of it, near 0, near 30 percent, and on settlement.
+        // Eleven more: in order of day and out of it, at ends of months, near 0, near 30 percent, and on settlement.
         Row {
             flows: [
                 flow(20_284, 200_000),
@@ -198,7 +199,17 @@ fn known_yields(rt: HostRuntime) -> Result<(), Fail> {
             cost: 500_000,
             answer: between(487_047_656, 487_047_657),
         },
+        Row {
+            flows: [
+                flow(34_713, 100_000_000),
+                flow(27_452, 35_000_000),
+                flow(30_923, 27_500_050),
+            ],
+            cost: 50_000_000,
+            answer: between(364_050_950, 364_050_951),
+        },
     ];
+    zero_yield_law();
     for row in &rows {
         assert_eq!(rt;
             answer(rt.alloc(), &row.flows, row.cost),
@@ -207,6 +218,22 @@ fn known_yields(rt: HostRuntime) -> Result<(), Fail> {
             row.cost
         );
     }
+    // Nine amounts: a note's payments, and three more out of order, two of them on one day.
+    let many = [
+        flow(20_284, 212_500),
+        flow(20_468, 212_500),
+        flow(20_649, 212_500),
+        flow(20_833, 212_500),
+        flow(21_014, 212_500),
+        flow(21_198, 10_212_500),
+        flow(20_543, 1_234_567),
+        flow(20_543, 89),
+        flow(21_973, 3_000_001),
+    ];
+    assert_eq!(rt;
+        answer(rt.alloc(), &many, 13_500_000),
+        Some(between(447_412_951, 447_412_952))
+    );
     Ok(())
 }
 

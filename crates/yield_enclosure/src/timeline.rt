@@ -3,7 +3,8 @@
 ghost use Rattle.std.specs.Prelude.{◌≡◌, ◌+◌, ◌<◌, ◌≤◌, ◌^◌, IfOk};
 ghost use Rattle.std.specs.List.{All};
 ghost use Rattle.escrow_units.specs.PresentValue.{IndexedFlow, last_index};
-ghost use Rattle.fixed_powers.specs.PresentValues.{indexed, total_cents, present_value};
+ghost use Rattle.escrow_units.specs.Flows.{indexed};
+ghost use Rattle.fixed_powers.specs.PresentValues.{total_cents, present_value};
 ghost use Rattle.yield_enclosure.specs.YieldAnswers.{FallWithin40Years};
 
 use escrow_desk::NoMemory;

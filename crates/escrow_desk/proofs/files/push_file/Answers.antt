@@ -9,5 +9,5 @@ pub returns-clause-ok : goal.returns-clause-ok
 returns-clause-ok c =
     let good : is_ok c.push.result ≡ true = search rules in
     rw (rw good at c.push.ensures.items) (
-    files-push c.args.files.now.items c.args.name.now (record { name = c.in-Ok.name; bytes = c.in-Ok-from_slice.bytes }) c.requires c.in-Ok.ensures.ok
-    ∙ ap (insert (files_of c.args.files.now.items) c.args.name.now) c.in-Ok-from_slice.ensures.items)
+    files-push c.args.files.now.items c.args.name.now (record { name = c.in_ok-name.name; bytes = c.in_ok-bytes.bytes }) c.requires c.in_ok-name.ensures.ok
+    ∙ ap (insert (files_of c.args.files.now.items) c.args.name.now) c.in_ok-bytes.ensures.items)

@@ -1,5 +1,5 @@
 use Rattle.std.proofs.Common.{◌≡◌, ◌≤◌, ◌*◌, ◌^◌, take}
-use Rattle.cash_table.specs.Book.{total}
+use Rattle.escrow_units.specs.Flows.{total}
 use Rattle.escrow_top.proofs.needs.needs_total.Given as goal
 
 abbrev pub invariant-loop-need : goal.invariant-loop-need

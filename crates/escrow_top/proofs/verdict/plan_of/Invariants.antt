@@ -1,5 +1,5 @@
 use Rattle.std.proofs.Common.{◌≡◌, length, take, None}
-use Rattle.cash_table.specs.Portfolio.{IsPermitted}
+use Rattle.offer_book.specs.Portfolio.{IsPermitted}
 use Rattle.escrow_top.specs.Answer.{first_not_offered, portfolio_of}
 use Rattle.escrow_top.proofs.verdict.plan_of.Given as goal
 

@@ -1,5 +1,6 @@
 use Rattle.std.proofs.Common.{◌≡◌, ◌∙◌, ◌++◌, sym, rules, arith, ◌≤◌, ◌<◌, ◌≤ℤ◌, ◌<ℤ◌}
-use Rattle.issue_schedule.specs.Needs.{half_coupon, on}
+use Rattle.day_sums.specs.Summed.{on}
+use Rattle.issue_schedule.specs.Needs.{half_coupon}
 use Rattle.issue_schedule.proofs.BondFacts.{step_date, if_by, interest-more, interest-done, interest-all}
 use Rattle.issue_schedule.proofs.bond.push_interest.Goals as goal
 

@@ -1,7 +1,8 @@
 use Rattle.std.proofs.Common.{◌≡◌, ◌-◌, ◌+◌, ◌≤◌, ◌++◌, map}
 use Rattle.std.specs.Prelude.{filter, int_le, int_lt, ◌&&◌}
 use Rattle.arrayvec.specs.ArrayVec.{array_vec_len}
-use Rattle.issue_schedule.specs.Needs.{series, interest, on, half_coupon}
+use Rattle.day_sums.specs.Summed.{on}
+use Rattle.issue_schedule.specs.Needs.{series, interest, half_coupon}
 use Rattle.issue_schedule.proofs.bond.push_interest.Given as goal
 
 abbrev pub invariant-loop-step : goal.invariant-loop-step

@@ -1,7 +1,8 @@
 use Rattle.std.proofs.Common.{◌∙◌, ◌<ℤ◌, sym, subst, arith}
 use Rattle.jiff_core.proofs.SignedLemmas.{signed_arith}
 use Rattle.market_notes.specs.NoteFlows.{next_date}
-use Rattle.market_notes.specs.NoteLaws.{AreAfterSettlement, EndsOn, PayFaceOnce, PayNoLessForMore, Rise}
+use Rattle.escrow_units.specs.Flows.{EndsOn, Rise}
+use Rattle.market_notes.specs.NoteLaws.{AreAfterSettlement, PayFaceOnce, PayNoLessForMore}
 use Rattle.market_notes.proofs.FlowFacts.{payments-are, payments-rise, payments-after, payments-end, payments-face, payments-more}
 use Rattle.market_notes.proofs.SeriesFacts.{term, has_dates}
 use Rattle.market_notes.proofs.flows.note_payments.Goals as goal

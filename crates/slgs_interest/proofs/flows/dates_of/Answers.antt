@@ -2,13 +2,14 @@ use Rattle.std.proofs.Common.{arith, rules, ◌∙◌, ◌<ℤ◌, ◌≤ℤ◌,
 use Rattle.jiff_core.proofs.SignedLemmas.{signed_arith}
 use Rattle.escrow_units.specs.Calendar.{half_back_of}
 use Rattle.escrow_units.specs.declared.security.StepRule.TheVariants as rule
-use Rattle.slgs_interest.proofs.Series.{paid, walk-start, walk-more, walk-end, refill-reverse, half_back_of-reach}
+use Rattle.escrow_units.proofs.SeriesDates.{half_back_of-reach, refill-reverse}
+use Rattle.slgs_interest.proofs.Series.{paid, walk-start, walk-more, walk-end}
 use Rattle.slgs_interest.proofs.flows.dates_of.Goals as goal
 
 pub loop-dates-init : goal.loop-dates-init
 loop-dates-init c =
     let p = paid c.args.slgs.now c.requires.settlement c.requires.terms in
-    let reach = half_back_of-reach c.args.slgs.now.maturity p.steps p.base (omega (arith, p.few)) in
+    let reach = half_back_of-reach c.args.slgs.now.maturity rule.SameDay p.steps p.base (omega (arith, p.few)) in
     walk-start c.args.slgs.now.maturity c.args.slgs.now.first c.push.new.self.items p.base
     (omega (arith, signed_arith, reach, p.first))
     (c.push.ensures.items ∙ ap (λ (xs : List ℤ). xs ++ c.args.slgs.now.maturity ∷ []) c.new-dates.ensures)

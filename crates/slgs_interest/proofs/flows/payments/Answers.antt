@@ -1,6 +1,7 @@
 use Rattle.std.proofs.Common.{◌∙◌, sym, subst}
-use Rattle.slgs_interest.specs.PaymentLaws.{AreSmall, AreWithinTerm, EndsOn, PayEqualInterest, PayFaceAlone, PayPrincipalOnce, Rise}
-use Rattle.slgs_interest.proofs.PaymentFacts.{payments-are, payments-rise, payments-end, payments-within, payments-small, payments-principal, payments-face, payments-equal}
+use Rattle.escrow_units.specs.Flows.{EndsOn, Rise}
+use Rattle.slgs_interest.specs.PaymentLaws.{AreSmall, AreWithinTerm, EarnLittle, PayEqualInterest, PayFaceAlone, PayPrincipalOnce}
+use Rattle.slgs_interest.proofs.PaymentFacts.{payments-are, payments-rise, payments-end, payments-within, payments-interest, payments-small, payments-principal, payments-face, payments-equal}
 use Rattle.slgs_interest.proofs.Series.{paid, certificate-first}
 use Rattle.slgs_interest.proofs.flows.payments.Goals as goal
 
@@ -37,3 +38,8 @@ pub returns-clause-small : goal.returns-clause-small
 returns-clause-small c =
     subst AreSmall (sym (returns-clause-payments c))
     (payments-small c.args.slgs.now c.args.face.0 (paid c.args.slgs.now c.requires.settlement c.requires.terms) (certificate-first c.args.slgs.now c.requires.terms) c.requires.face c.requires.rate)
+
+pub returns-clause-interest_bound : goal.returns-clause-interest_bound
+returns-clause-interest_bound c =
+    subst (EarnLittle c.args.slgs.now c.args.face.0) (sym (returns-clause-payments c))
+    (payments-interest c.args.slgs.now c.args.face.0 (paid c.args.slgs.now c.requires.settlement c.requires.terms) (certificate-first c.args.slgs.now c.requires.terms) c.requires.face c.requires.rate)

@@ -6,7 +6,7 @@ use Rattle.slgs_interest.proofs.leap_day.year_of.Goals as goal
 
 pub returns-clause-year : goal.returns-clause-year
 returns-clause-year c =
-    let narrow : FitsSigned w16 c.civil_date.result.year = search rules in
-    let same : to_z w16 (of_z w16 c.civil_date.result.year) ≡ c.civil_date.result.year = to_z-of_z w16 c.civil_date.result.year narrow in
-    let date = rw c.civil_date.ensures.number at (date_of-date c.civil_date.result (rw c.civil_date.ensures.number c.civil_date.ensures.days)) in
+    let narrow : FitsSigned w16 c.plain_date.result.year = search rules in
+    let same : to_z w16 (of_z w16 c.plain_date.result.year) ≡ c.plain_date.result.year = to_z-of_z w16 c.plain_date.result.year narrow in
+    let date = rw c.plain_date.ensures.number at (date_of-date c.plain_date.result (rw c.plain_date.ensures.number c.plain_date.ensures.years)) in
     same ∙ sym (ap (λ (d : CivilDate). d.year) date)

@@ -1,15 +1,12 @@
 use Rattle.std.proofs.Common.{arith, rules, ◌≡◌, ◌+◌, ◌-◌, sym, ◌<ℤ◌, ◌≤ℤ◌}
-use Rattle.jiff_core.proofs.SignedLemmas.{signed_arith}
-use Rattle.escrow_units.specs.DayNumber.{IsDayNumber}
 use Rattle.escrow_units.specs.declared.security.StepRule.TheVariants as rule
-use Rattle.escrow_units.proofs.SeriesFacts.{half_back_of-start}
+use Rattle.escrow_units.proofs.SeriesDates.{half_back_of-zero}
 use Rattle.slgs_rules.proofs.RuleFacts.{earliest-before, earliest-last}
 use Rattle.slgs_rules.proofs.rules.earliest_date.Goals as goal
 
 pub loop-steps-init : goal.loop-steps-init
 loop-steps-init c =
-    let own : IsDayNumber c.args.maturity = (omega (arith, signed_arith, c.requires.base.0), omega (arith, signed_arith, c.requires.base.1)) in
-    record { date = sym (half_back_of-start c.args.maturity rule.SameDay own); late = c.requires.order }
+    record { date = sym (half_back_of-zero c.args.maturity rule.SameDay c.requires.base); late = c.requires.order }
 
 pub returns-then-lt : goal.returns-then-lt
 returns-then-lt c =

@@ -1,5 +1,5 @@
 use Rattle.std.proofs.Common.{◌≡◌, take}
-use Rattle.yield_enclosure.specs.YieldAnswers.{total}
+use Rattle.escrow_units.specs.Flows.{total}
 use Rattle.yield_enclosure.proofs.enclosure.sum_of.Given as goal
 
 abbrev pub invariant-loop-flow : goal.invariant-loop-flow

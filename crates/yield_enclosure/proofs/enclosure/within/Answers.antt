@@ -1,6 +1,7 @@
 use Rattle.std.proofs.Common.{rules, ◌≡◌, ◌≤◌, false, List, IfOk, subst}
 use Rattle.escrow_units.specs.PresentValue.{IndexedFlow}
-use Rattle.fixed_powers.specs.PresentValues.{HasLaterAmount, indexed}
+use Rattle.escrow_units.specs.Flows.{indexed}
+use Rattle.fixed_powers.specs.PresentValues.{HasLaterAmount}
 use Rattle.yield_enclosure.specs.YieldAnswers.{AreDearerBelow}
 use Rattle.yield_enclosure.proofs.enclosure.within.Goals as goal
 

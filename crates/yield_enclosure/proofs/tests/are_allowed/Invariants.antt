@@ -1,5 +1,6 @@
 use Rattle.std.proofs.Common.{◌≡◌, ◌+◌, ◌≤◌, ◌^◌, take}
-use Rattle.yield_enclosure.specs.YieldAnswers.{FallWithin40Years, total}
+use Rattle.escrow_units.specs.Flows.{total}
+use Rattle.yield_enclosure.specs.YieldAnswers.{FallWithin40Years}
 use Rattle.yield_enclosure.proofs.tests.are_allowed.Given as goal
 
 -- the flows before the counter are in the sum, and none of them is out of range

@@ -1,6 +1,6 @@
 use Rattle.std.proofs.Common.{◌≡◌, ◌≤◌, take}
 use Rattle.std.specs.List.{All}
-use Rattle.fixed_powers.specs.PresentValues.{indexed}
+use Rattle.escrow_units.specs.Flows.{indexed}
 use Rattle.yield_enclosure.proofs.timeline.Timeline.make.Given as goal
 
 -- the flows before the counter stand by their index, none of them past `longest`

@@ -1,0 +1,11 @@
+//! The case that the three input files give: a book, a limit on the yield, an allowance and a budget.
+#![tactic(auto)]
+
+mod case;
+mod fault;
+
+pub use case::{Case, read_case};
+pub use fault::{CaseFault, NoCase};
+
+#[cfg(test)]
+mod tests;

@@ -1,0 +1,43 @@
+-- The three input files, and how they are read.
+use Rattle.std.specs.Prelude.{ℕ, nat_lt, nat_le, ◌&&◌, if◌then◌else◌, List, [], length, Option, Some, None, option_and_then}
+use Rattle.escrow_desk.specs.Content.{Content, file_of}
+use Rattle.escrow_desk.specs.declared.refusal.FileKind.{FileKind}
+use Rattle.escrow_desk.specs.declared.refusal.FileKind.TheVariants as file
+use Rattle.escrow_top.specs.CertificateForm.{◌>>=◌}
+
+-- the names of the four files
+pub record Names : Type 0 where
+  pub issue : List ℕ
+  pub rates : List ℕ
+  pub prices : List ℕ
+  pub cert : List ℕ
+
+-- the bytes of the three input files
+pub record InputTexts : Type 0 where
+  pub issue : List ℕ
+  pub rates : List ℕ
+  pub prices : List ℕ
+
+-- the most bytes of an input file
+abbrev pub file_limit : ℕ
+file_limit = 1_048_576
+
+-- the first of the input files that has more bytes than its limit
+abbrev pub first_too_long : InputTexts → Option FileKind
+first_too_long texts =
+    if nat_lt file_limit (length texts.issue) then Some file.Issue else
+    (if nat_lt file_limit (length texts.rates) then Some file.Rates else
+    (if nat_lt file_limit (length texts.prices) then Some file.Prices else None))
+
+-- the bytes of a file, where the files before it keep to their limit: after one that doesn't, none is read
+abbrev pub next_file : Content → List ℕ → Option FileKind → Option (List ℕ)
+next_file content name None = file_of content name
+next_file content name (Some kind) = Some []
+
+-- what is read of the input files, in their order; None where one that is read isn't there
+abbrev pub inputs_of : Content → Names → Option InputTexts
+inputs_of content names = do
+  issue ← file_of content names.issue
+  rates ← next_file content names.rates (first_too_long (record { issue = issue; rates = []; prices = [] }))
+  prices ← next_file content names.prices (first_too_long (record { issue = issue; rates = rates; prices = [] }))
+  Some (record { issue = issue; rates = rates; prices = prices })

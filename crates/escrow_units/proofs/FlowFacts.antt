@@ -1,0 +1,67 @@
+-- Days between, and amounts on days.
+use Rattle.std.proofs.Common.{◌≡◌, ◌∙◌, ℕ, ◌+◌, ◌<◌, zero, suc, refl, sym, ap, arith, ℤ, pos, ◌+ℤ◌, ◌-ℤ◌, ◌≤ℤ◌, ◌<ℤ◌, int_le, int_lt, unsigned_abs, Bool, true, false, if◌then◌else◌, List, [], ◌∷◌, map, get_or, AllPairs}
+use Rattle.std.proofs.lemmas.Int.{ints}
+use Rattle.std.proofs.lemmas.List.Elements.{All-map}
+use Rattle.std.proofs.lemmas.List.Kept.{AllPairs-cons}
+use Rattle.jiff_core.proofs.SignedLemmas.{signed_arith}
+use Rattle.escrow_units.specs.Flows.{Rise}
+use Rattle.escrow_units.specs.Series.{days_to}
+use Rattle.escrow_units.specs.declared.security.Flow.{Flow}
+use Rattle.escrow_units.proofs.DateFacts.{pos_abs}
+
+-- tests of signed numbers
+pub int_le-test : (a b : ℤ) → a ≤ℤ b → int_le a b ≡ true
+int_le-test a b h = at (int_le a b) refl
+  where
+    at : (t : Bool) → int_le a b ≡ t → t ≡ true
+    at true e = refl
+    at false e = absurd (omega (arith, ints))
+
+pub int_le-not : (a b : ℤ) → b <ℤ a → int_le a b ≡ false
+int_le-not a b h = at (int_le a b) refl
+  where
+    at : (t : Bool) → int_le a b ≡ t → t ≡ false
+    at true e = absurd (omega (arith, ints))
+    at false e = refl
+
+pub int_lt-test : (a b : ℤ) → a <ℤ b → int_lt a b ≡ true
+int_lt-test a b h = at (int_lt a b) refl
+  where
+    at : (t : Bool) → int_lt a b ≡ t → t ≡ true
+    at true e = refl
+    at false e = absurd (omega (arith, ints))
+
+pub int_lt-not : (a b : ℤ) → b ≤ℤ a → int_lt a b ≡ false
+int_lt-not a b h = at (int_lt a b) refl
+  where
+    at : (t : Bool) → int_lt a b ≡ t → t ≡ false
+    at true e = absurd (omega (arith, ints))
+    at false e = refl
+
+-- what an amount is that is chosen by a test
+pub choice-true : (t : Bool) (a b : ℕ) → t ≡ true → (if t then a else b) ≡ a
+choice-true t a b e = rw e refl
+
+pub choice-false : (t : Bool) (a b : ℕ) → (t ≡ true → ⊥) → (if t then a else b) ≡ b
+choice-false true a b h = absurd (h refl)
+choice-false false a b h = refl
+
+-- days between two days
+pub days_to-whole : (from to : ℤ) → from ≤ℤ to → from +ℤ pos (days_to from to) ≡ to
+days_to-whole from to order =
+    let e = pos_abs (to -ℤ from) (omega (arith, signed_arith, order)) in
+    omega (arith, signed_arith, e)
+
+pub days_to-count : (from to : ℤ) (n : ℕ) → from +ℤ pos n ≡ to → days_to from to ≡ n
+days_to-count from to n e = let apart : to -ℤ from ≡ pos n = omega (arith, signed_arith, e) in ap unsigned_abs apart
+
+pub days_to-some : (from to : ℤ) → from <ℤ to → 0 < days_to from to
+days_to-some from to less = omega (arith, signed_arith, less, days_to-whole from to (omega (arith, signed_arith, less)))
+
+-- amounts on days that rise rise
+pub rise-map : (flow : ℤ → Flow) → ((day : ℤ) → (flow day).day ≡ day) → (dates : List ℤ) → AllPairs (λ a b. a <ℤ b) dates → Rise (map flow dates)
+rise-map flow falls [] h = λ i j d lt within. absurd (omega arith)
+rise-map flow falls (x ∷ xs) h =
+    AllPairs-cons (λ (a b : Flow). a.day <ℤ b.day) (flow x) (map flow xs)
+    (All-map (λ (b : Flow). (flow x).day <ℤ b.day) flow xs (λ k d lt. rw (falls x, falls (get_or xs k d)) (h 0 (suc k) d (omega arith) (omega arith))))
+    (rise-map flow falls xs (λ i j d lt within. h (suc i) (suc j) d (omega arith) (omega arith)))

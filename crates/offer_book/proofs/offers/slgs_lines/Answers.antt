@@ -1,0 +1,40 @@
+use Rattle.std.proofs.Common.{arith, ap, get_or, ◌≡◌, ◌<◌, ◌≤◌, length, Ok}
+use Rattle.std.proofs.lemmas.Result.{err_from_is_err_and}
+use Rattle.offer_book.proofs.OfferFacts.{all-sold, file-lines, lines-count, lines-keep_rules, no-lines, refused-answers}
+use Rattle.offer_book.proofs.offers.slgs_lines.Goals as goal
+
+pub returns-in_default-clause-lines : goal.returns-in_default-clause-lines
+returns-in_default-clause-lines c = rw c.new-lines.ensures.items (no-lines c.args.settle c.args.rates.now c.in_default.is)
+
+pub returns-in_default-clause-rules : goal.returns-in_default-clause-rules
+returns-in_default-clause-rules c =
+    (lines-keep_rules c.args.settle c.args.rates.now c.new-lines.result.items c.requires.settlement c.requires.file (returns-in_default-clause-lines c)).0
+
+pub returns-in_default-clause-count : goal.returns-in_default-clause-count
+returns-in_default-clause-count c = lines-count c.args.settle c.args.rates.now c.new-lines.result.items (returns-in_default-clause-rules c)
+
+pub returns-in_err-line-clause-lines : goal.returns-in_err-line-clause-lines
+returns-in_err-line-clause-lines c =
+    let p = err_from_is_err_and c.from_residual.result c.from_residual.ensures.1 in
+    let short : c.loop-offer.offer-index < length c.args.rates.now.offers = omega (arith, ap length c.as_slice-offer-items.ensures) in
+    let is = rw c.as_slice-offer-items.ensures at c.offer-item.is in
+    rw (p.1, p.2) (refused-answers c.args.settle c.args.rates.now c.in-Some.terms c.loop-offer.offer-index c.loop-offer.lines.items c.offer-item.result c.in_err-line.field-0.0
+    c.in-Some.is short is c.loop-offer.invariant (c.in_err-line.ensures c.args.rates.now.ranges c.in-Ok.ensures))
+
+pub returns-clause-lines : goal.returns-clause-lines
+returns-clause-lines c =
+    let whole : length c.args.rates.now.offers ≤ c.loop-offer.offer-index = omega (arith, ap length c.as_slice-offer-items.ensures) in
+    file-lines c.args.settle c.args.rates.now c.in-Some.terms (Ok c.loop-offer.lines.items) c.in-Some.is
+    (all-sold c.args.settle c.args.rates.now.ranges c.in-Some.terms c.args.rates.now.offers c.loop-offer.offer-index c.loop-offer.lines.items
+    whole c.loop-offer.invariant)
+
+pub returns-clause-rules : goal.returns-clause-rules
+returns-clause-rules c =
+    (lines-keep_rules c.args.settle c.args.rates.now c.loop-offer.lines.items c.requires.settlement c.requires.file (returns-clause-lines c)).0
+
+pub returns-clause-securities : goal.returns-clause-securities
+returns-clause-securities c =
+    (lines-keep_rules c.args.settle c.args.rates.now c.loop-offer.lines.items c.requires.settlement c.requires.file (returns-clause-lines c)).1
+
+pub returns-clause-count : goal.returns-clause-count
+returns-clause-count c = lines-count c.args.settle c.args.rates.now c.loop-offer.lines.items (returns-clause-rules c)

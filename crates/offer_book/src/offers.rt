@@ -1,0 +1,105 @@
+ghost use Rattle.std.specs.Prelude.{◌≡◌, All, List, IfOk, length, vec_items};
+ghost use Rattle.std.specs.Result.{result_map_both};
+ghost use Rattle.escrow_units.specs.Denomination.{AreTerms};
+ghost use Rattle.escrow_units.specs.SlgsTerms.{IsSettlement};
+ghost use Rattle.row_fields.specs.RowForm.{Answers};
+ghost use Rattle.rate_table.specs.RangeIndex.{IsRateIndex};
+ghost use Rattle.rate_table.specs.Table.{IsRateFile};
+ghost use Rattle.rate_table.specs.declared.table.RateRange.{RateRange};
+ghost use Rattle.offer_book.specs.Book.{IsSecurityLine};
+ghost use Rattle.offer_book.specs.Offers.{AreLinesOf, EachOfferHasOneLine, LinesKeepRules, RefusalsNameFirstFault, line_of as line_of_terms, offered_line as line_of_offer, rule_kind as kind_of_rule, slgs_lines_of};
+
+use crate::line::{Line, LineKind};
+use escrow_desk::{CaseError, FileKind, RefusalKind};
+use escrow_units::{Day, Slgs, Terms};
+use rate_table::{Offer, RateFile, RateIndex};
+use row_fields::at_row;
+use slgs_rules::{RuleFault, classify};
+use std::alloc::Global;
+
+// The name of the refusal for a rule that an offer breaks.
+fn rule_kind(fault: RuleFault) -> RefusalKind
+    ensures { result ≡ kind_of_rule fault }
+{
+    match fault {
+        RuleFault::NoRate => RefusalKind::NoRate,
+        RuleFault::RateAboveTable => RefusalKind::RateAboveTable,
+        RuleFault::TooShort => RefusalKind::TooShort,
+        RuleFault::TooLong => RefusalKind::TooLongTerm,
+        RuleFault::FirstDate => RefusalKind::FirstDate,
+    }
+}
+
+// The line of a security of which at most `cap` dollars are sold.
+fn line_of(terms: Terms, slgs: Slgs, cap: u64) -> Line
+    requires { AreTerms terms }
+    ensures { result ≡ line_of_terms terms slgs cap }
+{
+    Line {
+        kind: LineKind::Security(slgs),
+        step: 100 * terms.step,
+        least: terms.minimum / terms.step,
+        most: cap / terms.step,
+    }
+}
+
+// The line of an offer, by the terms of its file and an index of the file's ranges.
+fn offered_line(
+    settle: Day,
+    index: &RateIndex,
+    terms: Terms,
+    offer: &Offer,
+) -> Result<Line, CaseError>
+    requires settlement { IsSettlement settle }
+    requires terms { AreTerms terms }
+    ensures { (ranges : List RateRange) → IsRateIndex ranges index.now → Answers result (line_of_offer settle ranges terms offer.now) }
+{
+    let most = index.maximum(offer.maturity);
+    let sold = classify(settle, offer.maturity, offer.rate, offer.first, most);
+    let slgs = at_row(FileKind::Rates, offer.row, sold.map_err(rule_kind))?;
+    Ok(line_of(terms, slgs, offer.cap))
+}
+
+/// The lines of the SLGS securities that a rate file offers, in the order of their rows.
+///
+/// Settlement is from 2000-01-01 to 2150-01-01, and the file is one that was read. A line's step is the file's, in cents;
+/// its least number of units makes the file's minimum, and its greatest is that of whole steps within the offer's cap. Its
+/// security keeps every rule of term and rate that `classify` tries, against the greatest rate of the file's table at its
+/// maturity. A file without rows offers nothing.
+///
+/// # Errors
+///
+/// `Refused` with file `Rates` for the first offer that breaks a rule, with its row, from 1, and the name of the first rule
+/// that it breaks: `NoRate`, `RateAboveTable`, `TooShort`, `TooLongTerm` or `FirstDate`. `NoMemory` where memory ran out.
+pub fn slgs_lines(alloc: Global, settle: Day, rates: &RateFile) -> Result<Vec<Line>, CaseError>
+    requires settlement { IsSettlement settle }
+    requires file { IsRateFile rates.now }
+    ensures lines { Answers (result_map_both vec_items (λ error. error) result) (slgs_lines_of settle rates.now) }
+    ensures rules { IfOk result (λ lines. AreLinesOf settle rates.now lines.items) }
+    ensures count { IfOk result (λ lines. length lines.items ≡ length rates.now.offers) }
+    ensures securities { IfOk result (λ lines. All (IsSecurityLine settle) lines.items) }
+{
+    let mut lines = Vec::new(alloc);
+    let Some(terms) = rates.terms else {
+        return Ok(lines);
+    };
+    let Ok(index) = RateIndex::make(alloc, rates) else {
+        return Err(CaseError::NoMemory);
+    };
+    for offer in rates.offers.as_slice() {
+        let line = offered_line(settle, &index, terms, offer)?;
+        // Its fields are copied one by one, since the proof of the push reads their types.
+        if lines.push(Line { ..line }).is_err() {
+            return Err(CaseError::NoMemory);
+        }
+    }
+    Ok(lines)
+}
+
+/// What the lines of a file's offers are: each obeys every rule of term and rate of the file and keeps the limits of a
+/// book's lines, and each offer has one; and that a refusal names the first offer that breaks a rule.
+pub fn offer_laws()
+    ensures lines { LinesKeepRules }
+    ensures count { EachOfferHasOneLine }
+    ensures refusals { RefusalsNameFirstFault }
+{}

@@ -1,0 +1,6 @@
+use Rattle.std.proofs.Common.{take}
+use Rattle.rate_table.specs.RangeIndex.{IsIndex}
+use Rattle.rate_table.proofs.index.RateIndex.make.Given as goal
+
+abbrev pub invariant-loop-range : goal.invariant-loop-range
+invariant-loop-range l = IsIndex (take l.range-index l.fn.file.ranges) l.index.by_first
