@@ -1,5 +1,5 @@
 -- What securities pay, summed by day.
-use Rattle.std.proofs.Common.{◌≡◌, ◌∙◌, ℕ, ◌+◌, ◌-◌, ◌*◌, ◌^◌, ◌<◌, ◌≤◌, List, [], ◌∷◌, ◌++◌, length, take, drop, refl, sym, ap, subst, arith, inl, inr, ℤ, ◌≤ℤ◌, int_le}
+use Rattle.std.proofs.Common.{◌≡◌, ◌∙◌, ℕ, ◌+◌, ◌^◌, ◌≤◌, List, [], ◌∷◌, ◌++◌, take, drop, refl, sym, ap, arith, inr, ℤ, ◌≤ℤ◌}
 use Rattle.std.specs.Prelude.{pos, ◌+ℤ◌}
 use Rattle.std.specs.List.{All, sum_by, flat_map, zip}
 use Rattle.std.specs.Ordering.{int_eq}

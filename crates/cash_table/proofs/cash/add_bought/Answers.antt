@@ -2,7 +2,6 @@ use Rattle.std.proofs.Common.{◌≡◌, slice_index_or, length, ap, ◌∙◌, 
 use Rattle.std.specs.List.{zip}
 use Rattle.std.proofs.lemmas.List.{take_all, length_push}
 use Rattle.escrow_units.specs.Flows.{total}
-use Rattle.day_sums.specs.Summed.{total_by}
 use Rattle.cash_table.proofs.ZipFacts.{this_pair, all_pairs, sum_by-zip_more, sum_by-zip_room}
 use Rattle.cash_table.proofs.PaymentFacts.{pair_payments, pair_total, total-payments, units_at}
 use Rattle.cash_table.proofs.ReceiptFacts.{receipts_more, nothing_by}

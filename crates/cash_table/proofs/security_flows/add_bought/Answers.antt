@@ -1,8 +1,7 @@
 use Rattle.std.proofs.Common.{◌≡◌, length, sym, ap, ◌∙◌, arith}
-use Rattle.std.specs.List.{flat_map, zip}
+use Rattle.std.specs.List.{zip}
 use Rattle.std.proofs.lemmas.List.{take_all, length_push}
 use Rattle.escrow_units.specs.Flows.{total}
-use Rattle.day_sums.specs.Summed.{summed}
 use Rattle.day_sums.proofs.Uniqueness.{nothing}
 use Rattle.cash_table.proofs.ZipFacts.{this_pair, all_pairs, sum_by-zip_room}
 use Rattle.cash_table.proofs.PaymentFacts.{pair_payments, pair_total, total-payments, units_at}
