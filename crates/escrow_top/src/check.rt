@@ -9,13 +9,13 @@ ghost use Rattle.escrow_top.specs.Reading.{AreRead, AreWithin, CertificateAnswer
 ghost use Rattle.escrow_top.specs.Ending.{AreAccepted, is_checked};
 ghost use Rattle.escrow_top.specs.Reply.{answer};
 
-use case_file::{Case, CaseFault, read_case};
 use crate::certificate::read_certificate;
 use crate::files::{FileNames, InputFiles, read_file, read_inputs};
 use crate::reply::{Reply, refused, unbuilt, without_case};
 use crate::status::Status;
 use crate::stop::Stop;
 use crate::verdict::weigh;
+use case_file::{Case, CaseFault, read_case};
 use escrow_desk::{Desk, FileKind, NoMemory, Refusal, RefusalKind};
 use std::alloc::Global;
 

@@ -6,10 +6,9 @@ ghost use Rattle.escrow_top.specs.Reply.{answer};
 ghost use Rattle.offer_book.specs.Book.{IsBookWithoutInterest};
 ghost use Rattle.offer_book.specs.Portfolio.{IsPermitted};
 
-use case_file::Case;
-use case_file::NoCase;
 use crate::status::Status;
 use crate::verdict::Reason;
+use case_file::{Case, NoCase};
 use cash_table::{Plan, cost, flows, security_cost};
 use escrow_desk::{FileKind, NoMemory, Refusal, RefusalKind};
 use escrow_units::{Cents, print_cents, print_day, print_yield};

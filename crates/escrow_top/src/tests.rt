@@ -266,7 +266,9 @@ fn opening_cash_and_gaps(rt: HostRuntime) -> Result<(), Fail> {
             said: b"no GapAbove\n",
         },
         Row {
-            files: with_issue(b"settle,2025-01-15\ncall,2025-04-15,100\nbond,2030-04-15,5000.00,0\nrestricted,4.00\n"),
+            files: with_issue(
+                b"settle,2025-01-15\ncall,2025-04-15,100\nbond,2030-04-15,5000.00,0\nrestricted,4.00\n",
+            ),
             status: Status::Done,
             said: FIRST_TEXT,
         },
@@ -354,10 +356,7 @@ fn refused_rates(rt: HostRuntime) -> Result<(), Fail> {
             b"terms,1000,100\noffer,2025-04-15,0.00,10000\n",
             b"refused rates row 2 WrongFields\n",
         ),
-        (
-            b"terms,1000,x\n",
-            b"refused rates row 1 BadNumber\n",
-        ),
+        (b"terms,1000,x\n", b"refused rates row 1 BadNumber\n"),
         (
             b"terms,1000,100\noffer,2025-04-31,0.00,,10000\n",
             b"refused rates row 2 BadDate\n",
@@ -509,7 +508,12 @@ fn limits_of_rate_files(rt: HostRuntime) -> Result<(), Fail> {
     for _ in 0..257 {
         many.extend_from_slice(b"offer,2025-04-15,0.00,,10000\n")?;
     }
-    try_rates(&rt, rt.alloc(), many, b"refused prices row 0 TooManyLines\n")
+    try_rates(
+        &rt,
+        rt.alloc(),
+        many,
+        b"refused prices row 0 TooManyLines\n",
+    )
 }
 
 #[test]

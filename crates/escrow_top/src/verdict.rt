@@ -7,10 +7,10 @@ ghost use Rattle.case_file.specs.Case.{case_view};
 ghost use Rattle.escrow_top.specs.Ending.{is_checked};
 ghost use Rattle.escrow_top.specs.Reply.{answer};
 
-use case_file::Case;
 use crate::certificate::{Certificate, Purchase};
 use crate::needs::needs_total;
 use crate::reply::{Reply, refusal, yes};
+use case_file::Case;
 use cash_table::{Plan, cost, first_short};
 use escrow_desk::NoMemory;
 use escrow_units::Day;
