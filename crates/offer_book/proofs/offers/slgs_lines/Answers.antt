@@ -1,4 +1,4 @@
-use Rattle.std.proofs.Common.{arith, ap, get_or, ◌≡◌, ◌<◌, ◌≤◌, length, Ok}
+use Rattle.std.proofs.Common.{arith, ap, ◌<◌, ◌≤◌, length, Ok}
 use Rattle.std.proofs.lemmas.Result.{err_from_is_err_and}
 use Rattle.offer_book.proofs.OfferFacts.{all-sold, file-lines, lines-count, lines-keep_rules, no-lines, refused-answers}
 use Rattle.offer_book.proofs.offers.slgs_lines.Goals as goal
