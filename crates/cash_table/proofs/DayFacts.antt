@@ -14,17 +14,13 @@ use Rattle.offer_book.specs.Book.{BookContents}
 use Rattle.offer_book.specs.Portfolio.{payments, Meets, IsFirstShort}
 use Rattle.cash_table.specs.First.{is_short, first_short_of}
 use Rattle.cash_table.specs.Receipts.{cents_by, AreReceipts, IsCovered, IsFirstUncovered}
+use Rattle.cash_table.proofs.ZipFacts.{sum_by-zero}
 use Rattle.cash_table.proofs.ReceiptFacts.{cents_by-due, cents_by-later}
 
-pub sum_by-same : {X : Type 0} (f g : X → ℕ) (xs : List X) → All (λ x. f x ≡ g x) xs → sum_by f xs ≡ sum_by g xs
+sum_by-same : {X : Type 0} (f g : X → ℕ) (xs : List X) → All (λ x. f x ≡ g x) xs → sum_by f xs ≡ sum_by g xs
 sum_by-same f g [] same = refl
 sum_by-same f g (x ∷ xs) same =
     omega (arith, sum_by-cons f x xs, sum_by-cons g x xs, All-head (λ y. f y ≡ g y) x xs same, sum_by-same f g xs (All-tail (λ y. f y ≡ g y) x xs same))
-
-pub sum_by-zero : {X : Type 0} (f : X → ℕ) (xs : List X) → All (λ x. f x ≡ 0) xs → sum_by f xs ≡ 0
-sum_by-zero f [] none = refl
-sum_by-zero f (x ∷ xs) none =
-    omega (arith, sum_by-cons f x xs, All-head (λ y. f y ≡ 0) x xs none, sum_by-zero f xs (All-tail (λ y. f y ≡ 0) x xs none))
 
 -- flows that have all come, or none of which has
 pub total_by-due : (t : ℤ) (flows : List Flow) → All (λ flow. flow.day ≤ℤ t) flows → total_by t flows ≡ total flows

@@ -1,11 +1,13 @@
 -- What securities pay, summed by day.
-use Rattle.std.proofs.Common.{◌≡◌, ◌∙◌, ℕ, ◌+◌, ◌^◌, ◌≤◌, List, [], ◌∷◌, ◌++◌, take, drop, refl, sym, ap, arith, inr, ℤ, ◌≤ℤ◌}
+use Rattle.std.proofs.Common.{◌≡◌, ◌∙◌, ℕ, ◌+◌, ◌*◌, ◌^◌, ◌≤◌, List, [], ◌∷◌, ◌++◌, length, get_or, take, drop, sym, ap, arith, inr, ℤ, ◌≤ℤ◌}
 use Rattle.std.specs.Prelude.{pos, ◌+ℤ◌}
 use Rattle.std.specs.List.{All, sum_by, flat_map, zip}
 use Rattle.std.specs.Ordering.{int_eq}
-use Rattle.std.proofs.lemmas.List.Elements.{All-head, All-tail, All-nil, All-append, All-weaker}
+use Rattle.std.proofs.lemmas.List.Elements.{All-head, All-tail, All-nil, All-cons, All-append, All-weaker}
+use Rattle.std.proofs.lemmas.Slice.Zip.{length-zip}
+use Rattle.std.proofs.Math.Nat.{mul-le-mul_right}
 use Rattle.std.proofs.lemmas.Int.{ints}
-use Rattle.std.proofs.lemmas.List.Sums.{sum_by-cons, sum_by-append}
+use Rattle.std.proofs.lemmas.List.Sums.{sum_by-le}
 use Rattle.escrow_units.specs.Calendar.{years_after_of}
 use Rattle.escrow_units.specs.DayNumber.{IsDayNumber}
 use Rattle.escrow_units.specs.Flows.{index_of, total}
@@ -19,10 +21,10 @@ use Rattle.day_sums.proofs.Uniqueness.{keep-total, same-sums, in-steps}
 use Rattle.offer_book.specs.declared.line.Line.{Line}
 use Rattle.offer_book.specs.Book.{AreLines, AreWithinFortyYears, BookContents, IsBook, IsSecurityLine}
 use Rattle.offer_book.specs.Portfolio.{IsPermitted, security_flows}
-use Rattle.offer_book.proofs.LineFacts.{line_payments-none, line_payments-within, line_payments-late}
-use Rattle.cash_table.proofs.CostFacts.{PairIsPermitted}
-use Rattle.cash_table.proofs.PaymentFacts.{pair_payments, pair_total, payments_at_most, payments_more, total-payments}
-use Rattle.cash_table.proofs.ZipFacts.{StandAt}
+use Rattle.offer_book.proofs.LineFacts.{line_payments-little, line_payments-none, line_payments-within, line_payments-late}
+use Rattle.cash_table.proofs.CostFacts.{PairIsPermitted, permitted_few}
+use Rattle.cash_table.proofs.PaymentFacts.{pair_payments, pair_total, payments_more, total-payments}
+use Rattle.cash_table.proofs.ZipFacts.{StandAt, sum_by-zero}
 
 pub total-sums : (sums : List Flow) (settle : ℤ) (lines : List Line) (plan : List ℕ) (i : ℕ) → sums ≡ summed (flat_map (pair_payments settle) (take i (zip lines plan)))
     → total sums ≡ sum_by (pair_total settle) (take i (zip lines plan))
@@ -39,10 +41,8 @@ sums_more sums more pays settle lines plan i line units at e f g =
     ∙ ap summed (sym (payments_more settle lines plan i line units at))
 
 count-none : (day : ℤ) (flows : List Flow) → All (λ flow. flow.cents.0 ≡ 0) flows → count (λ d. int_eq d day) flows ≡ 0
-count-none day [] none = refl
-count-none day (flow ∷ flows) none =
-    let zero = counted-zero (int_eq flow.day day) flow.cents.0 (All-head (λ (f : Flow). f.cents.0 ≡ 0) flow flows none) in
-    omega (arith, sum_by-cons (counted (λ d. int_eq d day)) flow flows, zero, count-none day flows (All-tail (λ (f : Flow). f.cents.0 ≡ 0) flow flows none))
+count-none day flows none =
+    sum_by-zero (counted (λ d. int_eq d day)) flows (λ k d lt. counted-zero (int_eq (get_or flows k d).day day) (get_or flows k d).cents.0 (none k d lt))
 
 -- a line without units changes nothing
 pub sums_same : (sums : List Flow) (settle : ℤ) (lines : List Line) (plan : List ℕ) (i : ℕ) (line : Line) (units : ℕ) → StandAt lines plan i line units → units ≡ 0
@@ -108,14 +108,30 @@ securities_permitted [] plan permitted = All-nil PairIsPermitted
 securities_permitted (line ∷ lines) [] permitted = All-nil PairIsPermitted
 securities_permitted (line ∷ lines) (units ∷ plan) permitted = All-tail PairIsPermitted (line, units) (zip lines plan) permitted
 
-pub securities_at_most : (book : BookContents) (plan : List ℕ) → IsBook book → IsPermitted book plan → total (flat_map (pair_payments book.settle) (drop 1 (zip book.lines plan))) ≤ 10 ^ 16
-securities_at_most book plan limits permitted =
-    omega (arith, payments_at_most book plan limits permitted, part (zip book.lines plan))
-  where
-    part : (pairs : List (Line × ℕ)) → total (flat_map (pair_payments book.settle) (drop 1 pairs)) ≤ total (flat_map (pair_payments book.settle) pairs)
-    part [] = omega arith
-    part (pair ∷ pairs) = omega (arith, sum_by-append (λ (f : Flow). f.cents.0) (pair_payments book.settle pair) (flat_map (pair_payments book.settle) pairs))
+-- securities pay less than 10^15 cents together, even with what they cost
+securities_total : (settle : ℤ) (lines : List Line) (plan : List ℕ) → IsSettlement settle → All (IsSecurityLine settle) lines → All PairIsPermitted (zip lines plan)
+    → All (λ p. pair_total settle p ≤ 346 * 10 ^ 10) (zip lines plan)
+securities_total settle [] plan h securities permitted = All-nil (λ p. pair_total settle p ≤ 346 * 10 ^ 10)
+securities_total settle (line ∷ lines) [] h securities permitted = All-nil (λ p. pair_total settle p ≤ 346 * 10 ^ 10)
+securities_total settle (line ∷ lines) (units ∷ plan) h securities permitted =
+    All-cons (λ p. pair_total settle p ≤ 346 * 10 ^ 10) (line, units) (zip lines plan)
+    (line_payments-little settle line units h (All-head (IsSecurityLine settle) line lines securities) (permitted_few line units (All-head PairIsPermitted (line, units) (zip lines plan) permitted)))
+    (securities_total settle lines plan h (All-tail (IsSecurityLine settle) line lines securities) (All-tail PairIsPermitted (line, units) (zip lines plan) permitted))
 
-pub flows_at_most : (book : BookContents) (plan : List ℕ) → IsBook book → IsPermitted book plan → total (security_flows book plan) ≤ 10 ^ 16
+total_at_most : (settle : ℤ) (lines : List Line) (plan : List ℕ) → IsSettlement settle → AreLines settle lines → All PairIsPermitted (drop 1 (zip lines plan))
+    → sum_by (pair_total settle) (drop 1 (zip lines plan)) ≤ 89 * 10 ^ 13
+total_at_most settle [] plan h lines permitted = absurd lines
+total_at_most settle (cash ∷ securities) [] h lines permitted = omega arith
+total_at_most settle (cash ∷ securities) (units ∷ plan) h lines permitted =
+    let each = sum_by-le (pair_total settle) (346 * 10 ^ 10) (zip securities plan) (securities_total settle securities plan h lines.1 permitted) in
+    let count : length (zip securities plan) ≤ 256 = omega (arith, length-zip securities plan, lines.2) in
+    omega (arith, each, mul-le-mul_right (346 * 10 ^ 10) count)
+
+pub securities_at_most : (book : BookContents) (plan : List ℕ) → IsBook book → IsPermitted book plan → total (flat_map (pair_payments book.settle) (drop 1 (zip book.lines plan))) ≤ 89 * 10 ^ 13
+securities_at_most book plan limits permitted =
+    let bound = total_at_most book.settle book.lines plan limits.settlement limits.lines (securities_permitted book.lines plan permitted.units) in
+    omega (arith, bound, total-payments book.settle (drop 1 (zip book.lines plan)))
+
+pub flows_at_most : (book : BookContents) (plan : List ℕ) → IsBook book → IsPermitted book plan → total (security_flows book plan) ≤ 89 * 10 ^ 13
 flows_at_most book plan limits permitted =
     omega (arith, keep-total (flat_map (pair_payments book.settle) (drop 1 (zip book.lines plan))), securities_at_most book plan limits permitted)

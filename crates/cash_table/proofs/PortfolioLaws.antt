@@ -19,7 +19,8 @@ use Rattle.offer_book.specs.Portfolio.{IsPermitted, Meets, payments, cost, secur
 use Rattle.offer_book.proofs.LineFacts.{cash-payments, line_payments-cost, line_payments-face, line_payments-none}
 use Rattle.cash_table.proofs.CostFacts.{pair_cost, cost_is}
 use Rattle.cash_table.proofs.PaymentFacts.{pair_payments, pair_total, total-payments}
-use Rattle.cash_table.proofs.DayFacts.{sum_by-zero, total_by-due, total_by-at_most}
+use Rattle.cash_table.proofs.DayFacts.{total_by-due, total_by-at_most}
+use Rattle.cash_table.proofs.ZipFacts.{sum_by-zero}
 use Rattle.cash_table.proofs.YieldFacts.{yields_nothing, total_cents-indexed}
 
 -- securities pay no less than they cost

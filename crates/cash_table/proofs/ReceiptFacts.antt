@@ -1,53 +1,36 @@
 -- Receipts by need date, one payment after another.
-use Rattle.std.proofs.Common.{◌≡◌, ℕ, zero, suc, ◌+◌, ◌<◌, ◌≤◌, Bool, true, false, T, cond, List, [], ◌∷◌, length, get_or, take, set, refl, ap, ◌∙◌, inl, inr, arith, ℤ, ◌<ℤ◌, ◌≤ℤ◌, int_lt, int_le}
+use Rattle.std.proofs.Common.{◌≡◌, ℕ, zero, suc, ◌+◌, ◌<◌, ◌≤◌, true, false, cond, List, [], ◌∷◌, length, get_or, take, set, ap, ◌∙◌, inl, inr, arith, ℤ, ◌<ℤ◌, ◌≤ℤ◌, int_lt, int_le}
 use Rattle.std.specs.List.{All, AllWithin, sum, flat_map, zip}
 use Rattle.std.proofs.lemmas.Bool.{cases_lt}
 use Rattle.std.proofs.lemmas.Int.{ints}
 use Rattle.std.proofs.lemmas.List.{get_or_default, take-set-le}
-use Rattle.std.proofs.lemmas.List.Elements.{All-head, All-tail}
 use Rattle.std.proofs.lemmas.List.Sums.{sum_by-cons, sum_by-append}
 use Rattle.std.specs.List.Sorted.{IsPartitionedBy}
 use Rattle.escrow_units.specs.declared.security.Flow.{Flow}
 use Rattle.offer_book.specs.declared.line.Line.{Line}
 use Rattle.escrow_units.specs.Flows.{Rise, total}
+use Rattle.escrow_units.proofs.FlowFacts.{int_le-not, int_le-test, int_lt-test}
 use Rattle.day_sums.specs.Summed.{total_by}
 use Rattle.day_sums.proofs.SumFacts.{counted-zero}
 use Rattle.offer_book.proofs.LineFacts.{line_payments-none}
 use Rattle.cash_table.specs.Receipts.{cents_by, AreReceipts}
 use Rattle.cash_table.proofs.PaymentFacts.{pair_payments, payments_more}
-use Rattle.cash_table.proofs.ZipFacts.{StandAt, sum_by-at_more}
-
-passed : (b : Bool) → T b → b ≡ true
-passed true h = refl
-passed false h = absurd h
-
-as_passed : (b : Bool) → b ≡ true → T b
-as_passed true h = tt
-as_passed false h = cc
-
-pub le_test : (a b : ℤ) → a ≤ℤ b → int_le a b ≡ true
-le_test a b h = passed (int_le a b) h.le
-
-pub lt_test : (a b : ℤ) → a <ℤ b → int_lt a b ≡ true
-lt_test a b h = passed (int_lt a b) h.lt
+use Rattle.cash_table.proofs.ZipFacts.{StandAt, sum_by-at_more, sum_by-zero}
 
 pub lt_from_test : (a b : ℤ) → int_lt a b ≡ true → a <ℤ b
-lt_from_test a b h = record { lt = as_passed (int_lt a b) h }
+lt_from_test a b h = grind (arith, ints)
 
 pub le_from_lt_test : (a b : ℤ) → int_lt a b ≡ false → b ≤ℤ a
 le_from_lt_test a b h = grind (arith, ints)
 
-pub le_fails : (a b : ℤ) → b <ℤ a → int_le a b ≡ false
-le_fails a b h = grind (arith, ints)
-
-pub lt_trans : (a b c : ℤ) → a <ℤ b → b <ℤ c → a <ℤ c
+lt_trans : (a b c : ℤ) → a <ℤ b → b <ℤ c → a <ℤ c
 lt_trans a b c h k = omega (arith, ints)
 
 -- the days before a day come first
 pub days_are_partitioned : (needs : List Flow) (day : ℤ) → Rise needs → IsPartitionedBy (λ need. int_lt need.day day) needs
 days_are_partitioned needs day rising = λ i j d order within later.
     elim (cases_lt i j) [
-      | inl less ↦ lt_test (get_or needs i d).day day (lt_trans (get_or needs i d).day (get_or needs j d).day day (rising i j d less within) (lt_from_test (get_or needs j d).day day later))
+      | inl less ↦ int_lt-test (get_or needs i d).day day (lt_trans (get_or needs i d).day (get_or needs j d).day day (rising i j d less within) (lt_from_test (get_or needs j d).day day later))
       | inr same ↦ (let here : i ≡ j = omega arith in ap (λ n. int_lt (get_or needs n d).day day) here ∙ later)
     ]
 
@@ -61,10 +44,10 @@ sum-take-set_add (x ∷ xs) (suc p) c (suc n) before within =
     omega (arith, sum_by-cons (λ y. y) x (take n (set xs p (get_or xs p 0 + c))), sum_by-cons (λ y. y) x (take n xs), sum-take-set_add xs p c n (omega arith) (omega arith))
 
 pub cents_by-due : (t : ℤ) (flow : Flow) → flow.day ≤ℤ t → cents_by t flow ≡ flow.cents.0
-cents_by-due t flow due = ap (λ b. cond b flow.cents.0 0) (le_test flow.day t due)
+cents_by-due t flow due = ap (λ b. cond b flow.cents.0 0) (int_le-test flow.day t due)
 
 pub cents_by-later : (t : ℤ) (flow : Flow) → t <ℤ flow.day → cents_by t flow ≡ 0
-cents_by-later t flow later = ap (λ b. cond b flow.cents.0 0) (le_fails flow.day t later)
+cents_by-later t flow later = ap (λ b. cond b flow.cents.0 0) (int_le-not flow.day t later)
 
 -- a payment at its place is in the receipts of each need date from its day on
 pub receipt_added : (needs : List Flow) (receipts : List ℕ) (flow : Flow) (place k : ℕ) (d : Flow) → place < length receipts → AllWithin (λ need. need.day <ℤ flow.day) needs 0 place → AllWithin (λ need. flow.day ≤ℤ need.day) needs place (length needs) → k < length needs → sum (take (k + 1) (set receipts place (get_or receipts place 0 + flow.cents.0))) ≡ sum (take (k + 1) receipts) + cents_by (get_or needs k d).day flow
@@ -96,9 +79,7 @@ cents_by-none : (t : ℤ) (flow : Flow) → flow.cents.0 ≡ 0 → cents_by t fl
 cents_by-none t flow none = counted-zero (int_le flow.day t) flow.cents.0 none
 
 total_by-none : (t : ℤ) (flows : List Flow) → All (λ flow. flow.cents.0 ≡ 0) flows → total_by t flows ≡ 0
-total_by-none t [] none = refl
-total_by-none t (flow ∷ flows) none =
-    omega (arith, sum_by-cons (cents_by t) flow flows, cents_by-none t flow (All-head (λ (f : Flow). f.cents.0 ≡ 0) flow flows none), total_by-none t flows (All-tail (λ (f : Flow). f.cents.0 ≡ 0) flow flows none))
+total_by-none t flows none = sum_by-zero (cents_by t) flows (λ k d lt. cents_by-none t (get_or flows k d) (none k d lt))
 
 pub nothing_by : (t settle : ℤ) (line : Line) (units : ℕ) → units ≡ 0 → total_by t (pair_payments settle (line, units)) ≡ 0
 nothing_by t settle line units none = total_by-none t (pair_payments settle (line, units)) (line_payments-none settle line units none)

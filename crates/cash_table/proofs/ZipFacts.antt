@@ -1,5 +1,5 @@
--- Sums over the pairs of two lists, one pair after another.
-use Rattle.std.proofs.Common.{◌≡◌, ℕ, ◌+◌, ◌<◌, ◌≤◌, List, Option, Some, None, length, get_or, take, ap, arith}
+-- Sums over lists and over the pairs of two lists, one after another.
+use Rattle.std.proofs.Common.{◌≡◌, ℕ, ◌+◌, ◌<◌, ◌≤◌, List, [], ◌∷◌, Option, Some, None, refl, length, get_or, take, ap, arith}
 use Rattle.std.proofs.iter.Yields.{fronts}
 use Rattle.std.proofs.lemmas.Iterator.{zips}
 use Rattle.std.specs.Iterator.{Yields}
@@ -8,9 +8,16 @@ use Rattle.std.specs.Slice.Iter.{iter_rest}
 use Rattle.std.specs.declared.iter.Zip.{Zip}
 use Rattle.std.specs.declared.slice.Iter.{Iter}
 use denote.Ref.{Bor}
-use Rattle.std.specs.List.{sum_by, zip}
-use Rattle.std.proofs.lemmas.List.Sums.{sum_by_more, sum_by_more_le}
+use Rattle.std.specs.List.{All, sum_by, zip}
+use Rattle.std.proofs.lemmas.List.Elements.{All-head, All-tail}
+use Rattle.std.proofs.lemmas.List.Sums.{sum_by-cons, sum_by_more, sum_by_more_le}
 use Rattle.std.proofs.lemmas.Slice.Zip.{length-zip, get_or-zip, zip_turn, zip_end}
+
+-- a sum of nothings
+pub sum_by-zero : {X : Type 0} (f : X → ℕ) (xs : List X) → All (λ x. f x ≡ 0) xs → sum_by f xs ≡ 0
+sum_by-zero f [] none = refl
+sum_by-zero f (x ∷ xs) none =
+    omega (arith, sum_by-cons f x xs, All-head (λ y. f y ≡ 0) x xs none, sum_by-zero f xs (All-tail (λ y. f y ≡ 0) x xs none))
 
 -- x and y stand at place i of two lists
 pub record StandAt {A B : Type 0} (xs : List A) (ys : List B) (i : ℕ) (x : A) (y : B) : Type 0 where

@@ -45,7 +45,7 @@ pub fn flow_days()
         → All (λ flow. 1 ≤ index_of book.settle flow.day) (security_flows book plan) }
 {}
 
-/// A law: a permitted portfolio costs at most 360 billion dollars, and its securities pay at most 100 trillion.
+/// A law: a permitted portfolio costs at most 360 billion dollars, and its securities pay at most 8,900 billion.
 pub fn bounds()
     ensures cost { (book : BookContents) (plan : List ℕ)
         → IsBook book
@@ -54,7 +54,7 @@ pub fn bounds()
     ensures flows { (book : BookContents) (plan : List ℕ)
         → IsBook book
         → IsPermitted book plan
-        → total (security_flows book plan) ≤ 10 ^ 16 }
+        → total (security_flows book plan) ≤ 89 * 10 ^ 13 }
 {}
 
 /// A law: the cost of a permitted portfolio is its opening cash, which is the units of line 0, and its security cost.

@@ -1,4 +1,4 @@
-ghost use Rattle.std.specs.Prelude.{◌≡◌, ◌^◌, ◌<◌, ◌≤◌, [], IfOk, OnOk};
+ghost use Rattle.std.specs.Prelude.{◌≡◌, ◌*◌, ◌^◌, ◌<◌, ◌≤◌, [], IfOk, OnOk};
 ghost use Rattle.std.specs.List.{All, flat_map, zip};
 ghost use Rattle.escrow_units.specs.Flows.{Rise, index_of, total};
 ghost use Rattle.escrow_units.specs.SlgsTerms.{IsSettlement};
@@ -26,7 +26,7 @@ pub fn flows(alloc: Global, book: &Book, plan: &Plan) -> Result<Vec<Flow>, NoMem
     ensures above { IfOk result (λ flows. AreAboveZero flows.items) }
     ensures within { IfOk result (λ flows. AreWithinFortyYears book.now.settle flows.items) }
     ensures later { IfOk result (λ flows. All (λ flow. 1 ≤ index_of book.now.settle flow.day) flows.items) }
-    ensures bound { IfOk result (λ flows. total flows.items ≤ 10 ^ 16) }
+    ensures bound { IfOk result (λ flows. total flows.items ≤ 89 * 10 ^ 13) }
 {
     let mut sums = DaySums::none(alloc);
     add_bought(

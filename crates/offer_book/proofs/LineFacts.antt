@@ -22,7 +22,7 @@ use Rattle.slgs_interest.specs.Payments.{payment_dates, payments_of, payment_on,
 use Rattle.escrow_units.specs.Series.{days_to}
 use Rattle.slgs_interest.specs.PaymentLaws.{AreSmall, AreWithinTerm}
 use Rattle.escrow_units.proofs.RoundingFacts.{near-zero}
-use Rattle.slgs_interest.proofs.PaymentFacts.{payments-face, payments-principal, payments-small, payments-within}
+use Rattle.slgs_interest.proofs.PaymentFacts.{payments-face, payments-interest, payments-principal, payments-small, payments-within}
 use Rattle.slgs_interest.proofs.Series.{IsPaid, paid, certificate-first}
 use Rattle.offer_book.specs.declared.line.LineKind.{LineKind}
 use Rattle.offer_book.specs.declared.line.LineKind.TheVariants.{Cash, Security}
@@ -128,6 +128,24 @@ kind-total settle (Security slgs) amount h security few =
     let p = is_paid settle slgs h security in
     small-total (payments_of slgs amount) (payments_of-few slgs amount p) (payments-small slgs amount p (certificate-first slgs security.1) few security.2)
 
+parts-paid : (slgs : Slgs) (face : ℕ) → All (λ flow. flow.cents.0 ≡ interest_on slgs face flow.day + principal_on slgs face flow.day) (payments_of slgs face)
+unfolding payments_of
+parts-paid slgs face =
+    All-map (λ (flow : Flow). flow.cents.0 ≡ interest_on slgs face flow.day + principal_on slgs face flow.day) (payment_on slgs face) (payment_dates slgs) (λ k d lt. refl)
+
+-- the face once, and on each date at most four tenths of the greatest face
+pays-little : (slgs : Slgs) (face : ℕ) → IsPaid slgs → (slgs.kind ≡ kind.Certificate → slgs.first ≡ slgs.maturity) → face ≤ 10 ^ 11 → slgs.rate.0 ≤ 30_000
+    → total (payments_of slgs face) ≤ 346 * 10 ^ 10
+pays-little slgs face p same few low =
+    let little = payments-interest slgs face p same few low in
+    let interest = sum_by-le (λ (flow : Flow). interest_on slgs face flow.day) (4 * 10 ^ 10) (payments_of slgs face) (λ k d lt. omega (arith, parts-paid slgs face k d lt, little k d lt)) in
+    omega (arith, payments-principal slgs face p, interest, mul-le-mul_right (4 * 10 ^ 10) (payments_of-few slgs face p))
+
+kind-little : (settle : ℤ) (kind : LineKind) (amount : ℕ) → IsSettlement settle → IsSecurity settle kind → amount ≤ 10 ^ 11 → total (kind_payments settle kind amount) ≤ 346 * 10 ^ 10
+kind-little settle Cash amount h security few = absurd security
+kind-little settle (Security slgs) amount h security few =
+    pays-little slgs amount (is_paid settle slgs h security) (certificate-first slgs security.1) few security.2
+
 kind-cost : (settle : ℤ) (kind : LineKind) (amount : ℕ) → IsSettlement settle → IsSecurity settle kind → amount ≤ total (kind_payments settle kind amount)
 kind-cost settle Cash amount h security = absurd security
 kind-cost settle (Security slgs) amount h security =
@@ -159,6 +177,9 @@ line_payments-total settle line units h is_line few = elim is_line [
   | inl cash ↦ omega (arith, ap total (cash-payments settle line units cash), cash-at_most line units cash few)
   | inr security ↦ kind-total settle line.kind (line_cost line units) h security.security (security-at_most settle line units security few)
 ]
+
+pub line_payments-little : (settle : ℤ) (line : Line) (units : ℕ) → IsSettlement settle → IsSecurityLine settle line → units ≤ line.most → total (line_payments settle line units) ≤ 346 * 10 ^ 10
+line_payments-little settle line units h security few = kind-little settle line.kind (line_cost line units) h security.security (security-at_most settle line units security few)
 
 -- no less than they cost
 pub line_payments-cost : (settle : ℤ) (line : Line) (units : ℕ) → IsSettlement settle → IsSecurityLine settle line → line_cost line units ≤ total (line_payments settle line units)

@@ -1,4 +1,4 @@
-use Rattle.std.proofs.Common.{◌≡◌, ◌≤◌, ◌^◌, List, ℤ, ◌∙◌, sym, subst, arith}
+use Rattle.std.proofs.Common.{◌≡◌, ◌≤◌, ◌*◌, ◌^◌, List, ℤ, ◌∙◌, sym, subst, arith}
 use Rattle.std.specs.List.{All}
 use Rattle.std.proofs.lemmas.List.{take_rest}
 use Rattle.std.proofs.lemmas.Result.{IfOk-weaker}
@@ -14,7 +14,7 @@ abbrev AreLater : ℤ → List Flow → Type 0
 AreLater settle flows = All (λ flow. 1 ≤ index_of settle flow.day) flows
 
 abbrev IsBounded : List Flow → Type 0
-IsBounded flows = total flows ≤ 10 ^ 16
+IsBounded flows = total flows ≤ 89 * 10 ^ 13
 
 pub add_bought-requires-clause-permitted : goal.add_bought-requires-clause-permitted
 add_bought-requires-clause-permitted c =
