@@ -1,4 +1,4 @@
-ghost use Rattle.std.specs.Prelude.{◌≡◌, ◌^◌, ◌<◌, ◌≤◌, length};
+ghost use Rattle.std.specs.Prelude.{◌≡◌, ◌^◌, ◌<◌, ◌≤◌, length, ◌*◌};
 ghost use Rattle.std.specs.List.{sum_by, zip};
 ghost use Rattle.offer_book.specs.Portfolio.{IsPermitted, line_cost, cost as cost_of, security_cost as security_cost_of};
 
@@ -14,10 +14,11 @@ pub fn cost(book: &Book, plan: &Plan) -> Cents
     Cents(lines_cost(book.lines(), plan.units()))
 }
 
-/// What the securities of a permitted portfolio cost, without opening cash, in cents.
+/// What the securities of a permitted portfolio cost, without opening cash, in cents: at most 360 billion dollars.
 pub fn security_cost(book: &Book, plan: &Plan) -> Cents
     requires { IsPermitted book.now plan.now }
-    ensures { result.0 ≡ security_cost_of book.now plan.now }
+    ensures value { result.0 ≡ security_cost_of book.now plan.now }
+    ensures bound { result.0 ≤ 36 * 10 ^ 12 }
 {
     Cents(lines_cost(&book.lines()[1..], &plan.units()[1..]))
 }

@@ -2,7 +2,6 @@ ghost use Rattle.std.specs.Prelude.{◌≡◌, ◌≤◌, IfOk, IsErrOf, IsTrue,
 ghost use Rattle.escrow_desk.specs.Counts.{Rose};
 ghost use Rattle.escrow_top.specs.Answer.{certificate_answer, certificate_limit, claim_answer, refused as refused_answer};
 ghost use Rattle.row_fields.specs.RowForm.{refusal_of};
-ghost use Rattle.offer_book.specs.Book.{IsBookWithoutInterest};
 ghost use Rattle.case_file.specs.Case.{case_view};
 ghost use Rattle.escrow_top.specs.CertificateForm.{claim_of};
 ghost use Rattle.escrow_top.specs.Reading.{AreRead, AreWithin, CertificateAnswers, FilesAnswer, LacksCertificate, LacksNamed, input_names, input_texts};
@@ -37,7 +36,6 @@ fn too_long(alloc: Global, file: FileKind) -> Result<Reply, NoMemory>
 
 // The reply to the bytes of a certificate within its limit.
 fn reply_to_bytes(alloc: Global, case: &Case, bytes: &[u8]) -> Result<Reply, NoMemory>
-    requires { IsBookWithoutInterest case.now.book }
     ensures answer { IfOk result (λ reply. answer reply ≡ claim_answer (case_view case.now) (claim_of (length case.now.book.needs) bytes.now)) }
     ensures status { IfOk result (λ reply. IsTrue (is_checked reply.status)) }
 {
@@ -54,7 +52,6 @@ fn reply_to_certificate<D: Desk>(
     name: &str,
     case: &Case,
 ) -> Result<Reply, Stop>
-    requires { IsBookWithoutInterest case.now.book }
     ensures answer { IfOk result (λ reply. CertificateAnswers (D.told desk.old) name.now (case_view case.now) (answer reply)) }
     ensures status { IfOk result (λ reply. IsTrue (is_checked reply.status)) }
     ensures absent { IsErrOf result Stop.NoFile → LacksCertificate (D.told desk.old) name.now }

@@ -3,7 +3,6 @@ ghost use Rattle.escrow_top.specs.Answer.{text_line, reason_text, portfolio_yiel
 ghost use Rattle.case_file.specs.Case.{case_view};
 ghost use Rattle.escrow_top.specs.Ending.{is_checked, is_stopped};
 ghost use Rattle.escrow_top.specs.Reply.{answer};
-ghost use Rattle.offer_book.specs.Book.{IsBookWithoutInterest};
 ghost use Rattle.offer_book.specs.Portfolio.{IsPermitted};
 
 use crate::status::Status;
@@ -150,8 +149,7 @@ pub(crate) fn without_case(alloc: Global, why: NoCase) -> Result<Reply, NoMemory
 
 // The yield of a portfolio's securities, as an interval.
 fn portfolio_yield(alloc: Global, book: &Book, plan: &Plan) -> Result<YieldAnswer, NoMemory>
-    requires permitted { IsPermitted book.now plan.now }
-    requires interest { IsBookWithoutInterest book.now }
+    requires { IsPermitted book.now plan.now }
     ensures { IfOk result (λ answer. answer ≡ portfolio_yield_of book.now plan.now) }
 {
     let flows = flows(alloc, book, plan)?;
@@ -183,8 +181,7 @@ fn yield_words(alloc: Global, answer: YieldAnswer) -> Result<Vec<u8>, NoMemory>
 
 // `yes` and the summary of a portfolio.
 fn yes_text(alloc: Global, case: &Case, plan: &Plan, gap: u64) -> Result<Vec<u8>, NoMemory>
-    requires permitted { IsPermitted case.now.book plan.now }
-    requires interest { IsBookWithoutInterest case.now.book }
+    requires { IsPermitted case.now.book plan.now }
     ensures { IfOk result (λ text. text.items ≡ yes_text_of (case_view case.now) plan.now gap) }
 {
     let mut text = one_line(alloc, b"yes", b"")?;
@@ -202,8 +199,7 @@ fn yes_text(alloc: Global, case: &Case, plan: &Plan, gap: u64) -> Result<Vec<u8>
 
 /// The reply that accepts a portfolio with a gap.
 pub(crate) fn yes(alloc: Global, case: &Case, plan: &Plan, gap: u64) -> Result<Reply, NoMemory>
-    requires permitted { IsPermitted case.now.book plan.now }
-    requires interest { IsBookWithoutInterest case.now.book }
+    requires { IsPermitted case.now.book plan.now }
     ensures answer { IfOk result (λ reply. answer reply ≡ accepted (case_view case.now) plan.now gap) }
     ensures status { IfOk result (λ reply. IsTrue (is_checked reply.status)) }
 {

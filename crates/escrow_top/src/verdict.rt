@@ -1,5 +1,4 @@
 ghost use Rattle.std.specs.Prelude.{◌≡◌, ◌≤◌, ◌^◌, length, IfOk, IsTrue, MatchResult, Some, None, option_map};
-ghost use Rattle.offer_book.specs.Book.{IsBookWithoutInterest};
 ghost use Rattle.offer_book.specs.Portfolio.{IsPermitted};
 ghost use Rattle.escrow_top.specs.Answer.{is_offered as is_offered_of, first_not_offered, portfolio_of, reason_against as reason_against_of, weighed, claim_answer};
 ghost use Rattle.escrow_top.specs.CertificateForm.{claim};
@@ -80,8 +79,7 @@ fn reason_against(case: &Case, plan: &Plan, gap: u64) -> Option<Reason>
 
 // The reply to a permitted portfolio with a gap.
 fn weigh_plan(alloc: Global, case: &Case, plan: &Plan, gap: u64) -> Result<Reply, NoMemory>
-    requires permitted { IsPermitted case.now.book plan.now }
-    requires interest { IsBookWithoutInterest case.now.book }
+    requires { IsPermitted case.now.book plan.now }
     ensures answer { IfOk result (λ reply. answer reply
         ≡ weighed (case_view case.now) plan.now gap (reason_against_of (case_view case.now) plan.now gap)) }
     ensures status { IfOk result (λ reply. IsTrue (is_checked reply.status)) }
@@ -100,7 +98,6 @@ pub(crate) fn weigh(
     case: &Case,
     certificate: &Certificate,
 ) -> Result<Reply, NoMemory>
-    requires { IsBookWithoutInterest case.now.book }
     ensures answer { IfOk result (λ reply. answer reply ≡ claim_answer (case_view case.now) (Some (claim certificate.now))) }
     ensures status { IfOk result (λ reply. IsTrue (is_checked reply.status)) }
 {

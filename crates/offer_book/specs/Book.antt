@@ -82,7 +82,3 @@ IsWithoutInterest line = IsKindWithoutInterest line.kind
 abbrev pub AreWithoutInterest : List Line → Type 0
 AreWithoutInterest [] = Unit {0}
 AreWithoutInterest (cash ∷ securities) = All IsWithoutInterest securities
-
--- a book within every limit, whose securities bear no interest
-abbrev pub IsBookWithoutInterest : BookContents → Type 0
-IsBookWithoutInterest book = IsBook book × AreWithoutInterest book.lines
