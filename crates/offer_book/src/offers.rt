@@ -3,11 +3,12 @@ ghost use Rattle.std.specs.Result.{result_map_both};
 ghost use Rattle.escrow_units.specs.Denomination.{AreTerms};
 ghost use Rattle.escrow_units.specs.SlgsTerms.{IsSettlement};
 ghost use Rattle.row_fields.specs.RowForm.{Answers};
+ghost use Rattle.slgs_rules.specs.Classification.{classified};
 ghost use Rattle.rate_table.specs.RangeIndex.{IsRateIndex};
 ghost use Rattle.rate_table.specs.Table.{IsRateFile};
 ghost use Rattle.rate_table.specs.declared.table.RateRange.{RateRange};
 ghost use Rattle.offer_book.specs.Book.{IsSecurityLine};
-ghost use Rattle.offer_book.specs.Offers.{AreLinesOf, EachOfferHasOneLine, LinesKeepRules, RefusalsNameFirstFault, line_of as line_of_terms, offered_line as line_of_offer, rule_kind as kind_of_rule, slgs_lines_of};
+ghost use Rattle.offer_book.specs.Offers.{AreLinesOf, EachOfferHasOneLine, LinesKeepRules, RefusalsNameFirstFault, line_of as line_of_terms, line_or_refused, request_of, rule_kind as kind_of_rule, slgs_lines_of};
 
 use crate::line::{Line, LineKind};
 use escrow_desk::{CaseError, FileKind, RefusalKind};
@@ -43,21 +44,23 @@ fn line_of(terms: Terms, slgs: Slgs, cap: u64) -> Line
     }
 }
 
-// The line of an offer, by the terms of its file and an index of the file's ranges.
+// The line of an offer, by the terms of its file and an index of the file's ranges, or the name of the rule that it breaks.
 fn offered_line(
     settle: Day,
     index: &RateIndex,
     terms: Terms,
     offer: &Offer,
-) -> Result<Line, CaseError>
+) -> Result<Line, RefusalKind>
     requires settlement { IsSettlement settle }
     requires terms { AreTerms terms }
-    ensures { (ranges : List RateRange) → IsRateIndex ranges index.now → Answers result (line_of_offer settle ranges terms offer.now) }
+    ensures { (ranges : List RateRange) → IsRateIndex ranges index.now
+        → result ≡ line_or_refused terms offer.now.cap (classified (request_of settle ranges offer.now)) }
 {
     let most = index.maximum(offer.maturity);
-    let sold = classify(settle, offer.maturity, offer.rate, offer.first, most);
-    let slgs = at_row(FileKind::Rates, offer.row, sold.map_err(rule_kind))?;
-    Ok(line_of(terms, slgs, offer.cap))
+    match classify(settle, offer.maturity, offer.rate, offer.first, most) {
+        Ok(slgs) => Ok(line_of(terms, slgs, offer.cap)),
+        Err(fault) => Err(rule_kind(fault)),
+    }
 }
 
 /// The lines of the SLGS securities that a rate file offers, in the order of their rows.
@@ -87,7 +90,8 @@ pub fn slgs_lines(alloc: Global, settle: Day, rates: &RateFile) -> Result<Vec<Li
         return Err(CaseError::NoMemory);
     };
     for offer in rates.offers.as_slice() {
-        let line = offered_line(settle, &index, terms, offer)?;
+        let sold = offered_line(settle, &index, terms, offer);
+        let line = at_row(FileKind::Rates, offer.row, sold)?;
         // Its fields are copied one by one, since the proof of the push reads their types.
         if lines.push(Line { ..line }).is_err() {
             return Err(CaseError::NoMemory);
