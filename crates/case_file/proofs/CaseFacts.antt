@@ -1,7 +1,6 @@
 -- What a case that was read keeps.
-use Rattle.std.proofs.Common.{◌≡◌, ℕ, ◌≤◌, List, [], ◌∷◌, drop, length, refl}
-use Rattle.std.specs.Prelude.{All, Result, Ok, Err, IfOk, Bool, true, false}
-use Rattle.std.specs.List.{list_any}
+use Rattle.std.proofs.Common.{◌≡◌, ◌≤◌, List, ◌∷◌, length, refl}
+use Rattle.std.specs.Prelude.{All, Result, Ok, Err, IfOk}
 use Rattle.escrow_units.specs.declared.security.Flow.{Flow}
 use Rattle.row_fields.specs.RowForm.{Row}
 use Rattle.issue_schedule.specs.declared.issue.Issue.{Issue}

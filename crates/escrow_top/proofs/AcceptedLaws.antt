@@ -1,6 +1,6 @@
 -- What `yes` means, proved.
-use Rattle.std.proofs.Common.{◌≡◌, ℕ, ◌+◌, ◌-◌, ◌≤◌, Bool, true, false, not, ◌==◌, nat_lt, ◌∙◌, Option, Some, None, MatchOption, Result, Ok, Err, List, length, refl, subst, arith}
-use Rattle.std.specs.Prelude.{option_map, option_and_then}
+use Rattle.std.proofs.Common.{◌≡◌, ℕ, ◌+◌, ◌-◌, ◌≤◌, Bool, true, false, nat_lt, ◌∙◌, Option, Some, None, MatchOption, Ok, List, length, refl, subst, arith}
+use Rattle.std.specs.Prelude.{option_map}
 use Rattle.std.proofs.lemmas.Bool.{ltb-false}
 use Rattle.escrow_desk.specs.Rows.{rows_of}
 use Rattle.offer_book.specs.Book.{BookContents, IsBook}
@@ -12,7 +12,7 @@ use Rattle.cash_table.proofs.PortfolioLaws.{meets_cost, zero_yield}
 use Rattle.escrow_top.specs.CertificateForm.{Claim, claim_of}
 use Rattle.escrow_top.specs.InputFiles.{InputTexts}
 use Rattle.case_file.specs.Case.{CaseContents, IsKept}
-use Rattle.escrow_top.specs.Answer.{first_not_offered, portfolio, portfolio_yield, given, or_else, is_leaf_weak, reason_against, reason_of, yes_text, weighed, claim_answer, certificate_answer, certificate_limit, refused, case_of, check_answer}
+use Rattle.escrow_top.specs.Answer.{first_not_offered, portfolio, portfolio_yield, given, or_else, is_leaf_weak, reason_against, reason_of, yes_text, weighed, claim_answer, certificate_answer, certificate_limit, case_of}
 use Rattle.escrow_top.specs.Accepted.{Accepted}
 use Rattle.escrow_top.specs.declared.status.Status.TheVariants as status
 use Rattle.escrow_top.specs.declared.verdict.Reason.{Reason}

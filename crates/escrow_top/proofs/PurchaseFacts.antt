@@ -1,5 +1,5 @@
 -- The first purchase that isn't offered, as far as a list was read.
-use Rattle.std.proofs.Common.{◌≡◌, ◌∙◌, ℕ, zero, suc, ◌<◌, ◌+◌, List, [], ◌∷◌, length, take, get_or, Option, Some, None, Bool, true, false, cond, refl, ap, arith}
+use Rattle.std.proofs.Common.{◌≡◌, ℕ, zero, suc, ◌<◌, ◌+◌, List, [], ◌∷◌, length, take, get_or, Option, Some, None, Bool, true, false, cond, refl, arith}
 use Rattle.std.specs.List.{find}
 use Rattle.escrow_top.specs.CertificateForm.{Claim}
 use Rattle.case_file.specs.Case.{CaseContents}

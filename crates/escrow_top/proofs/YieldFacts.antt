@@ -1,12 +1,12 @@
 -- The yield that is printed of securities without interest, proved.
-use Rattle.std.proofs.Common.{◌≡◌, ◌∙◌, ℕ, ◌-◌, ◌≤◌, ◌<◌, ◌==◌, List, [], ◌∷◌, map, drop, length, ℤ, ◌≤ℤ◌, Bool, true, false, refl, sym, ap, arith, subst}
+use Rattle.std.proofs.Common.{◌≡◌, ◌∙◌, ℕ, ◌≤◌, ◌==◌, List, [], ◌∷◌, drop, ℤ, ◌≤ℤ◌, Bool, true, false, refl, sym, arith, subst}
 use Rattle.std.specs.Prelude.{All, if◌then◌else◌}
-use Rattle.std.specs.List.{Any, flat_map, zip}
+use Rattle.std.specs.List.{flat_map, zip}
 use Rattle.std.proofs.lemmas.Int.{ints}
 use Rattle.std.proofs.lemmas.List.Elements.{All-map}
 use Rattle.escrow_units.specs.Calendar.{IsBaseDay, years_after_of}
 use Rattle.escrow_units.specs.DayNumber.{IsDayNumber}
-use Rattle.escrow_units.specs.Flows.{index_of, indexed, total}
+use Rattle.escrow_units.specs.Flows.{index_of, indexed}
 use Rattle.escrow_units.specs.PresentValue.{IndexedFlow, YieldLiesIn}
 use Rattle.escrow_units.specs.SlgsTerms.{IsSettlement}
 use Rattle.escrow_units.specs.declared.security.Flow.{Flow}
@@ -14,13 +14,12 @@ use Rattle.escrow_units.proofs.DayFacts.{e_of-years}
 use Rattle.escrow_units.proofs.YearFacts.{settlement-base}
 use Rattle.day_sums.specs.SummedLaws.{AreAboveZero}
 use Rattle.day_sums.proofs.SumFacts.{above-summed}
-use Rattle.fixed_powers.specs.PresentValues.{HasLaterAmount, total_cents}
+use Rattle.fixed_powers.specs.PresentValues.{HasLaterAmount}
 use Rattle.offer_book.specs.Book.{AreWithinFortyYears, AreWithoutInterest, BookContents, IsBook}
 use Rattle.offer_book.specs.Portfolio.{IsPermitted, line_payments, security_cost, security_flows}
 use Rattle.cash_table.proofs.FlowFacts.{flows_later, flows_within}
 use Rattle.cash_table.proofs.PortfolioLaws.{empty_at_no_cost, zero_interest_total}
 use Rattle.cash_table.proofs.YieldFacts.{total_cents-indexed}
-use Rattle.yield_enclosure.specs.YieldAnswers.{yield_answer_of}
 use Rattle.yield_enclosure.specs.declared.answer.YieldAnswer.{YieldAnswer}
 use Rattle.yield_enclosure.specs.declared.answer.YieldAnswer.TheVariants.{Empty, Between}
 use Rattle.yield_enclosure.proofs.ZeroYield.{zero_yield}

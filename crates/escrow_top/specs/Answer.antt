@@ -1,5 +1,5 @@
 -- What `check` answers: a status and the text that is said. The texts are this project's own.
-use Rattle.std.specs.Prelude.{◌≡◌, ℕ, ◌+◌, ◌-◌, Bool, false, not, ◌&&◌, ◌==◌, nat_lt, nat_le, nat_eq, if◌then◌else◌, List, [], ◌∷◌, ◌++◌, length, replicate, slice_index_or, slice_set, Option, Some, None, option_map, option_and_then, Result, Ok, Err, is_ok, codes, decimal}
+use Rattle.std.specs.Prelude.{ℕ, ◌-◌, Bool, false, not, ◌&&◌, nat_lt, nat_eq, if◌then◌else◌, List, [], ◌∷◌, ◌++◌, length, replicate, slice_index_or, slice_set, Option, Some, None, option_map, Result, Ok, Err, is_ok, codes, decimal}
 use Rattle.std.specs.List.{find, fold}
 use lib.Pointwise.{pointwise}
 use Rattle.escrow_desk.specs.Content.{Content, file_of}

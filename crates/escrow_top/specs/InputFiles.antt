@@ -1,5 +1,5 @@
 -- The three input files, and how they are read.
-use Rattle.std.specs.Prelude.{ℕ, nat_lt, nat_le, ◌&&◌, if◌then◌else◌, List, [], length, Option, Some, None, option_and_then}
+use Rattle.std.specs.Prelude.{ℕ, nat_lt, if◌then◌else◌, List, [], length, Option, Some, None}
 use Rattle.escrow_desk.specs.Content.{Content, file_of}
 use Rattle.escrow_desk.specs.declared.refusal.FileKind.{FileKind}
 use Rattle.escrow_desk.specs.declared.refusal.FileKind.TheVariants as file

@@ -3,12 +3,11 @@ use Rattle.std.specs.Prelude.{◌≡◌, ℕ, ◌≤◌, ◌<◌, List, length, 
 use Rattle.std.specs.declared.alloc.Global.{Global}
 use Rattle.escrow_desk.specs.Content.{Content, Told, file_of}
 use Rattle.escrow_desk.specs.declared.refusal.FileKind.{FileKind}
-use Rattle.escrow_desk.specs.declared.refusal.FileKind.TheVariants as file
 use Rattle.escrow_top.specs.declared.files.FileNames.{FileNames}
 use Rattle.escrow_top.specs.declared.files.InputFiles.{InputFiles}
 use Rattle.escrow_top.specs.InputFiles.{InputTexts, Names, file_limit, first_too_long, inputs_of}
 use Rattle.case_file.specs.Case.{CaseContents}
-use Rattle.escrow_top.specs.Answer.{Answer, certificate_answer, certificate_limit, named_answer}
+use Rattle.escrow_top.specs.Answer.{Answer, certificate_answer, named_answer}
 
 -- the names as bytes
 abbrev pub input_names : FileNames → Names

@@ -1,5 +1,4 @@
 -- Replies as contracts see them.
-use Rattle.std.specs.Prelude.{ℕ}
 use Rattle.escrow_top.specs.declared.reply.Reply.{Reply}
 use Rattle.escrow_top.specs.Answer.{Answer}
 

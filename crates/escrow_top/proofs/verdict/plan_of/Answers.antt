@@ -1,4 +1,4 @@
-use Rattle.std.proofs.Common.{◌≡◌, ◌∙◌, Bool, true, false, not, length, refl, ap, sym, arith}
+use Rattle.std.proofs.Common.{◌∙◌, not, length, refl, ap, sym}
 use Rattle.std.specs.Prelude.{replicate, slice_set}
 use Rattle.std.proofs.lemmas.List.Sums.{fold_more}
 use Rattle.escrow_top.specs.declared.certificate.Purchase.{Purchase}

@@ -1,7 +1,5 @@
-use Rattle.std.proofs.Common.{◌≡◌, ◌∙◌, length, None, refl}
 use Rattle.escrow_top.specs.CertificateForm.{claim}
 use Rattle.case_file.specs.Case.{case_view}
-use Rattle.escrow_top.specs.Answer.{first_not_offered, portfolio_of}
 use Rattle.escrow_top.proofs.PurchaseFacts.{claim_answer-offered}
 use Rattle.escrow_top.proofs.verdict.weigh.Goals as goal
 
