@@ -10,13 +10,15 @@ use Rattle.escrow_top.specs.InputFiles.{InputTexts, Names, first_too_long, input
 use Rattle.case_file.specs.Case.{CaseContents, IsKept, rows_case}
 use Rattle.escrow_top.specs.Answer.{Answer, answer_to, case_answer, case_of, certificate_answer, check_names, is_structure, named_answer, no_case_answer, refused, unbuilt_structure, usage, usage_text}
 use Rattle.escrow_top.specs.Accepted.{Accepted}
-use Rattle.escrow_top.specs.Ending.{Answers, AnswersPart, AreAccepted, IsAccepted, IsNoCommand, LacksFile, NamedAnswers, NamedAnswersPart}
+use Rattle.escrow_top.specs.NotAccepted.{NotAccepted}
+use Rattle.escrow_top.specs.Ending.{Answers, AnswersPart, HoldsWhereTold, IsAccepted, IsNotAccepted, IsNoCommand, LacksFile, NamedAnswers, NamedAnswersPart}
 use Rattle.escrow_top.specs.Reading.{AreRead, AreWithin, CertificateAnswers, FilesAnswer, IsTooLong, LacksCertificate, LacksInput, LacksNamed}
 use Rattle.case_file.specs.declared.fault.NoCase.{NoCase}
 use Rattle.case_file.specs.declared.fault.NoCase.TheVariants.{Refused}
 use Rattle.escrow_top.specs.declared.status.Status.{Status}
 use Rattle.escrow_top.specs.declared.status.Status.TheVariants as status
 use Rattle.escrow_top.proofs.AcceptedLaws.{accepted}
+use Rattle.escrow_top.proofs.NotAcceptedLaws.{not_accepted}
 use Rattle.escrow_top.specs.Reply.{answer}
 use Rattle.escrow_top.specs.declared.reply.Reply.{Reply}
 use Rattle.escrow_top.specs.declared.stop.Stop.{Stop}
@@ -62,24 +64,32 @@ pub inputs_lack : (told : Told) (names : Names) → LacksInput told names → La
 inputs_lack None names none = tt
 inputs_lack (Some content) names none = rw none refl
 
--- what `yes` to a certificate that was read means
-found_accepted : (texts : InputTexts) (case : CaseContents) (answer : Answer) (found : Option (List ℕ)) → case_of texts ≡ Ok case → IsKept (rows_of texts.rates) case → IsSomeAnd found (λ file. answer ≡ certificate_answer case file) → answer.status ≡ status.Done → IsSomeAnd found (λ cert. Accepted texts cert)
-found_accepted texts case answer None is kept said done = said
-found_accepted texts case answer (Some cert) is kept said done = accepted texts cert case is kept (rw said at done)
+-- what a status of the answer to a certificate means, of a certificate that was read
+found_means : (Holds : List ℕ → Type 0) (case : CaseContents) (answer : Answer) (reached : Status) (found : Option (List ℕ)) → ((cert : List ℕ) → (certificate_answer case cert).status ≡ reached → Holds cert) → IsSomeAnd found (λ file. answer ≡ certificate_answer case file) → answer.status ≡ reached → IsSomeAnd found Holds
+found_means Holds case answer reached None means said is = said
+found_means Holds case answer reached (Some cert) means said is = means cert (rw said at is)
 
-pub certificate_accepted : (told : Told) (names : Names) (texts : InputTexts) (case : CaseContents) (answer : Answer) → AreRead told names texts → case_of texts ≡ Ok case → IsKept (rows_of texts.rates) case → CertificateAnswers told names.cert case answer → answer.status ≡ status.Done → MatchOption told (Unit {0}) (λ content. AreAccepted content names)
-certificate_accepted None names texts case answer read is kept said done = tt
-certificate_accepted (Some content) names texts case answer read is kept said done =
+certificate_means : (Holds : InputTexts → List ℕ → Type 0) (told : Told) (names : Names) (texts : InputTexts) (case : CaseContents) (answer : Answer) (reached : Status) → AreRead told names texts → ((cert : List ℕ) → (certificate_answer case cert).status ≡ reached → Holds texts cert) → CertificateAnswers told names.cert case answer → answer.status ≡ reached → HoldsWhereTold Holds told names
+certificate_means Holds None names texts case answer reached read means said is = tt
+certificate_means Holds (Some content) names texts case answer reached read means said is =
     let issue = read.issue in
     let rates = read.rates in
     let prices = read.prices in
-    rw (issue, rates, prices) (found_accepted texts case answer (file_of content names.cert) is kept said done)
+    rw (issue, rates, prices) (found_means (Holds texts) case answer reached (file_of content names.cert) means said is)
 
 -- the same of a reply
-pub reply_accepted : (told : Told) (names : Names) (texts : InputTexts) (case : CaseContents) (result : Result Reply Stop) → AreRead told names texts → AreWithin texts → rows_case (rows_of texts.issue) (rows_of texts.rates) (rows_of texts.prices) ≡ Ok case → IsKept (rows_of texts.rates) case → IfOk result (λ reply. CertificateAnswers told names.cert case (answer reply)) → IfOk result (λ reply. reply.status ≡ status.Done → MatchOption told (Unit {0}) (λ content. AreAccepted content names))
-reply_accepted told names texts case (Err stop) read within is kept said = said
-reply_accepted told names texts case (Ok reply) read within is kept said = λ done.
-    certificate_accepted told names texts case (answer reply) read (rows_alone texts within ∙ is) kept said done
+reply_means : (Holds : InputTexts → List ℕ → Type 0) (told : Told) (names : Names) (texts : InputTexts) (case : CaseContents) (result : Result Reply Stop) (reached : Status) → AreRead told names texts → ((cert : List ℕ) → (certificate_answer case cert).status ≡ reached → Holds texts cert) → IfOk result (λ reply. CertificateAnswers told names.cert case (answer reply)) → IfOk result (λ reply. reply.status ≡ reached → HoldsWhereTold Holds told names)
+reply_means Holds told names texts case (Err stop) reached read means said = said
+reply_means Holds told names texts case (Ok reply) reached read means said =
+    λ is. certificate_means Holds told names texts case (answer reply) reached read means said is
+
+pub reply_accepted : (told : Told) (names : Names) (texts : InputTexts) (case : CaseContents) (result : Result Reply Stop) → AreRead told names texts → AreWithin texts → rows_case (rows_of texts.issue) (rows_of texts.rates) (rows_of texts.prices) ≡ Ok case → IsKept (rows_of texts.rates) case → IfOk result (λ reply. CertificateAnswers told names.cert case (answer reply)) → IfOk result (λ reply. reply.status ≡ status.Done → HoldsWhereTold Accepted told names)
+reply_accepted told names texts case result read within is kept said =
+    reply_means Accepted told names texts case result status.Done read (λ cert done. accepted texts cert case (rows_alone texts within ∙ is) kept done) said
+
+pub reply_not_accepted : (told : Told) (names : Names) (texts : InputTexts) (case : CaseContents) (result : Result Reply Stop) → AreRead told names texts → AreWithin texts → rows_case (rows_of texts.issue) (rows_of texts.rates) (rows_of texts.prices) ≡ Ok case → IsKept (rows_of texts.rates) case → IfOk result (λ reply. CertificateAnswers told names.cert case (answer reply)) → IfOk result (λ reply. reply.status ≡ status.No → HoldsWhereTold NotAccepted told names)
+reply_not_accepted told names texts case result read within is kept said =
+    reply_means NotAccepted told names texts case result status.No read (λ cert denied. not_accepted texts cert case (rows_alone texts within ∙ is) kept.book denied) said
 
 no_command : (words : List (List ℕ)) (content : Content) → IsNoCommand words → answer_to words content ≡ Some usage
 no_command words content none =
@@ -118,5 +128,8 @@ pub check_lacks : (told : Told) (words : List (List ℕ)) (names : Names) → is
 check_lacks None words names other is lacks = tt
 check_lacks (Some content) words names other is lacks = rw (other, is) lacks
 
-pub check_accepted : (told : Told) (words : List (List ℕ)) (names : Names) → check_names words ≡ Some names → MatchOption told (Unit {0}) (λ content. AreAccepted content names) → IsAccepted told words
-check_accepted told words names is accepted_all = rw is accepted_all
+pub check_accepted : (told : Told) (words : List (List ℕ)) (names : Names) → check_names words ≡ Some names → HoldsWhereTold Accepted told names → IsAccepted told words
+check_accepted told words names is holds = rw is holds
+
+pub check_not_accepted : (told : Told) (words : List (List ℕ)) (names : Names) → check_names words ≡ Some names → HoldsWhereTold NotAccepted told names → IsNotAccepted told words
+check_not_accepted told words names is holds = rw is holds

@@ -4,4 +4,5 @@ pub mod ClaimLaws
 pub mod InputFacts
 pub mod YieldFacts
 pub mod AcceptedLaws
+pub mod NotAcceptedLaws
 pub mod AnswerLaws

@@ -2,7 +2,8 @@
 use Rattle.std.specs.Prelude.{◌≡◌, ℕ, Bool, true, false, List, Option, Some, None, IsSomeAnd, MatchOption}
 use Rattle.escrow_desk.specs.Content.{Content, Told, file_of, with_said, SaidPart}
 use Rattle.escrow_top.specs.Accepted.{Accepted}
-use Rattle.escrow_top.specs.InputFiles.{Names}
+use Rattle.escrow_top.specs.NotAccepted.{NotAccepted}
+use Rattle.escrow_top.specs.InputFiles.{InputTexts, Names}
 use Rattle.escrow_top.specs.Answer.{Answer, answer_to, check_names, is_structure, named_answer}
 use Rattle.escrow_top.specs.declared.status.Status.{Status}
 use Rattle.escrow_top.specs.declared.status.Status.TheVariants as status
@@ -82,14 +83,21 @@ pub record IsNoCommand (words : List (List ℕ)) : Type 0 where
   pub no_structure : is_structure words ≡ false
   pub no_check : check_names words ≡ None
 
--- the files of these names are there, and accepted
-abbrev pub AreAccepted : Content → Names → Type 0
-AreAccepted content names =
+-- the four files of these names are there, and this holds of their bytes
+abbrev pub HoldsOfFiles : (InputTexts → List ℕ → Type 0) → Content → Names → Type 0
+HoldsOfFiles Holds content names =
     IsSomeAnd (file_of content names.issue) (λ issue. IsSomeAnd (file_of content names.rates) (λ rates.
     IsSomeAnd (file_of content names.prices) (λ prices. IsSomeAnd (file_of content names.cert) (λ cert.
-    Accepted (record { issue = issue; rates = rates; prices = prices }) cert))))
+    Holds (record { issue = issue; rates = rates; prices = prices }) cert))))
+
+-- the same where the desk tells
+abbrev pub HoldsWhereTold : (InputTexts → List ℕ → Type 0) → Told → Names → Type 0
+HoldsWhereTold Holds told names = MatchOption told (Unit {0}) (λ content. HoldsOfFiles Holds content names)
 
 -- the words are those of `check`, and where the desk tells, the four files that they name are there and accepted
 abbrev pub IsAccepted : Told → List (List ℕ) → Type 0
-IsAccepted told words =
-    IsSomeAnd (check_names words) (λ names. MatchOption told (Unit {0}) (λ content. AreAccepted content names))
+IsAccepted told words = IsSomeAnd (check_names words) (HoldsWhereTold Accepted told)
+
+-- the same of files that aren't accepted
+abbrev pub IsNotAccepted : Told → List (List ℕ) → Type 0
+IsNotAccepted told words = IsSomeAnd (check_names words) (HoldsWhereTold NotAccepted told)

@@ -3,6 +3,7 @@ pub mod InputFiles
 pub mod Answer
 pub mod Ending
 pub mod Accepted
+pub mod NotAccepted
 pub mod Reading
 pub mod Reply
 pub mod Stopping

@@ -1,11 +1,13 @@
-ghost use Rattle.std.specs.Prelude.{◌≡◌, ◌≤◌, IfOk, IsErrOf, IsTrue, MatchOption, OnOk, length};
+ghost use Rattle.std.specs.Prelude.{◌≡◌, ◌≤◌, IfOk, IsErrOf, IsTrue, OnOk, length};
 ghost use Rattle.escrow_desk.specs.Counts.{Rose};
 ghost use Rattle.escrow_top.specs.Answer.{certificate_answer, certificate_limit, claim_answer, refused as refused_answer};
 ghost use Rattle.row_fields.specs.RowForm.{refusal_of};
 ghost use Rattle.case_file.specs.Case.{case_view};
 ghost use Rattle.escrow_top.specs.CertificateForm.{claim_of};
 ghost use Rattle.escrow_top.specs.Reading.{AreRead, AreWithin, CertificateAnswers, FilesAnswer, LacksCertificate, LacksNamed, input_names, input_texts};
-ghost use Rattle.escrow_top.specs.Ending.{AreAccepted, is_checked};
+ghost use Rattle.escrow_top.specs.Ending.{HoldsWhereTold, is_checked};
+ghost use Rattle.escrow_top.specs.Accepted.{Accepted};
+ghost use Rattle.escrow_top.specs.NotAccepted.{NotAccepted};
 ghost use Rattle.escrow_top.specs.Reply.{answer};
 
 use crate::certificate::read_certificate;
@@ -80,8 +82,8 @@ fn reply_to_files<D: Desk>(
     requires within { AreWithin (input_texts files.now) }
     ensures answer { IfOk result (λ reply. FilesAnswer (D.told desk.old) (input_names names.now) (answer reply)) }
     ensures status { IfOk result (λ reply. IsTrue (is_checked reply.status)) }
-    ensures yes { IfOk result (λ reply. reply.status ≡ Status.Done
-        → MatchOption (D.told desk.old) (Unit {0}) (λ content. AreAccepted content (input_names names.now))) }
+    ensures yes { IfOk result (λ reply. reply.status ≡ Status.Done → HoldsWhereTold Accepted (D.told desk.old) (input_names names.now)) }
+    ensures no { IfOk result (λ reply. reply.status ≡ Status.No → HoldsWhereTold NotAccepted (D.told desk.old) (input_names names.now)) }
     ensures absent { IsErrOf result Stop.NoFile → LacksNamed (D.told desk.old) (input_names names.now) }
     ensures told { D.told desk.new ≡ D.told desk.old }
 
@@ -112,8 +114,8 @@ pub(crate) fn check<D: Desk>(
 ) -> Result<Reply, Stop>
     ensures answer { IfOk result (λ reply. FilesAnswer (D.told desk.old) (input_names names.now) (answer reply)) }
     ensures status { IfOk result (λ reply. IsTrue (is_checked reply.status)) }
-    ensures yes { IfOk result (λ reply. reply.status ≡ Status.Done
-        → MatchOption (D.told desk.old) (Unit {0}) (λ content. AreAccepted content (input_names names.now))) }
+    ensures yes { IfOk result (λ reply. reply.status ≡ Status.Done → HoldsWhereTold Accepted (D.told desk.old) (input_names names.now)) }
+    ensures no { IfOk result (λ reply. reply.status ≡ Status.No → HoldsWhereTold NotAccepted (D.told desk.old) (input_names names.now)) }
     ensures absent { IsErrOf result Stop.NoFile → LacksNamed (D.told desk.old) (input_names names.now) }
     ensures told { D.told desk.new ≡ D.told desk.old }
 

@@ -1,7 +1,9 @@
-ghost use Rattle.std.specs.Prelude.{◌≡◌, ◌↔◌, true, map, string_bytes, IfSome, IsTrue, MatchOption};
+ghost use Rattle.std.specs.Prelude.{◌≡◌, ◌↔◌, true, map, string_bytes, IfSome, IsTrue};
 ghost use Rattle.escrow_desk.specs.Content.{SaidAll, SaidPart};
 ghost use Rattle.escrow_desk.specs.Counts.{Rose};
-ghost use Rattle.escrow_top.specs.Ending.{Answers, AnswersPart, AreAccepted, IsAccepted, IsNoCommand, LacksFile, NamedAnswers, NamedAnswersPart, is_checked, is_reached};
+ghost use Rattle.escrow_top.specs.Ending.{Answers, AnswersPart, HoldsWhereTold, IsAccepted, IsNoCommand, IsNotAccepted, LacksFile, NamedAnswers, NamedAnswersPart, is_checked, is_reached};
+ghost use Rattle.escrow_top.specs.Accepted.{Accepted};
+ghost use Rattle.escrow_top.specs.NotAccepted.{NotAccepted};
 ghost use Rattle.escrow_top.specs.Answer.{check_names, is_structure};
 ghost use Rattle.escrow_top.specs.Reading.{LacksNamed, input_names};
 
@@ -39,7 +41,8 @@ fn run_check<D: Desk>(alloc: Global, names: &FileNames<'_>, desk: &mut D) -> Sta
     ensures part { result ≡ Status.WriteFault → NamedAnswersPart (D.told desk.old) (input_names names.now) (D.told desk.new) }
     ensures lacks { result ≡ Status.NoFile → LacksNamed (D.told desk.old) (input_names names.now) }
     ensures checked { IsTrue (is_reached result) → IsTrue (is_checked result) }
-    ensures yes { result ≡ Status.Done → MatchOption (D.told desk.old) (Unit {0}) (λ content. AreAccepted content (input_names names.now)) }
+    ensures yes { result ≡ Status.Done → HoldsWhereTold Accepted (D.told desk.old) (input_names names.now) }
+    ensures no { result ≡ Status.No → HoldsWhereTold NotAccepted (D.told desk.old) (input_names names.now) }
 
     ensures read_fault { result ≡ Status.ReadFault → Rose (D.read_faults desk.old) (D.read_faults desk.new) × (D.write_faults desk.new ≡ D.write_faults desk.old) × (D.absences desk.new ≡ D.absences desk.old) × (D.told desk.new ≡ D.told desk.old) }
     ensures write_fault { result ≡ Status.WriteFault → Rose (D.write_faults desk.old) (D.write_faults desk.new) × (D.read_faults desk.new ≡ D.read_faults desk.old) × (D.absences desk.new ≡ D.absences desk.old) }
@@ -64,6 +67,8 @@ pub fn run<D: Desk>(alloc: Global, words: &[String], desk: &mut D) -> Status
     ensures answers { IsTrue (is_reached result) → Answers (D.told desk.old) (map string_bytes words.now) result (D.told desk.new) }
     // What `yes` means, of the bytes of the four files.
     ensures yes { result ≡ Status.Done → IsAccepted (D.told desk.old) (map string_bytes words.now) }
+    // What `no` means: which reason stands, and that no earlier one does.
+    ensures no { result ≡ Status.No → IsNotAccepted (D.told desk.old) (map string_bytes words.now) }
     ensures part { result ≡ Status.WriteFault → AnswersPart (D.told desk.old) (map string_bytes words.now) (D.told desk.new) }
     ensures lacks { result ≡ Status.NoFile → LacksFile (D.told desk.old) (map string_bytes words.now) }
     ensures usage { IsTrue (is_reached result) → ((result ≡ Status.Usage) ↔ IsNoCommand (map string_bytes words.now)) }

@@ -482,13 +482,21 @@ fn order_of_refusals(rt: HostRuntime) -> Result<(), Fail> {
     try_rows(&rt, rt.alloc(), &rows)
 }
 
-// What `check` answers where the rate file has these bytes, and there is no certificate.
-fn try_rates(rt: &impl Abort, alloc: Global, rates: Vec<u8>, said: &[u8]) -> Result<(), Fail> {
+// What `check` answers to the first issue with a rate file and a certificate of these bytes.
+fn try_bytes(
+    rt: &impl Abort,
+    alloc: Global,
+    rates: Vec<u8>,
+    cert: Vec<u8>,
+    said: &[u8],
+) -> Result<(), Fail> {
     let issue = named(alloc, "i", FIRST.issue)?;
     let name = String::from_str(alloc, "r")?;
     let rates = NamedBytes { name, bytes: rates };
     let prices = named(alloc, "p", FIRST.prices)?;
-    let files = vec![in alloc; issue, rates, prices]?;
+    let name = String::from_str(alloc, "c")?;
+    let cert = NamedBytes { name, bytes: cert };
+    let files = vec![in alloc; issue, rates, prices, cert]?;
     let mut desk = MemoryDesk::make(alloc, files, Vec::new(alloc));
     let mut words = Vec::new(alloc);
     for word in &CHECK {
@@ -501,19 +509,30 @@ fn try_rates(rt: &impl Abort, alloc: Global, rates: Vec<u8>, said: &[u8]) -> Res
 }
 
 #[test]
-fn limits_of_rate_files(rt: HostRuntime) -> Result<(), Fail> {
-    let long = vec![in rt.alloc(); b'\n'; 1_048_577]?;
-    try_rates(&rt, rt.alloc(), long, b"refused rates row 0 TooLong\n")?;
-    let mut many = Vec::from_slice(rt.alloc(), b"terms,1000,100\n")?;
+fn limits_of_files(rt: HostRuntime) -> Result<(), Fail> {
+    let alloc = rt.alloc();
+    let long = vec![in alloc; b'\n'; 1_048_577]?;
+    try_bytes(
+        &rt,
+        alloc,
+        long,
+        Vec::new(alloc),
+        b"refused rates row 0 TooLong\n",
+    )?;
+    let mut many = Vec::from_slice(alloc, b"terms,1000,100\n")?;
     for _ in 0..257 {
         many.extend_from_slice(b"offer,2025-04-15,0.00,,10000\n")?;
     }
-    try_rates(
+    try_bytes(
         &rt,
-        rt.alloc(),
+        alloc,
         many,
+        Vec::new(alloc),
         b"refused prices row 0 TooManyLines\n",
-    )
+    )?;
+    let rates = Vec::from_slice(alloc, FIRST.rates)?;
+    let cert = vec![in alloc; b'x'; 67_108_865]?;
+    try_bytes(&rt, alloc, rates, cert, b"refused cert row 0 TooLong\n")
 }
 
 #[test]
