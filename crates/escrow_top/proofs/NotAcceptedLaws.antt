@@ -1,5 +1,5 @@
 -- What `no` means, proved.
-use Rattle.std.proofs.Common.{◌≡◌, ◌∙◌, ℕ, ◌+◌, ◌-◌, ◌≤◌, ◌<◌, Bool, true, false, not, cond, nat_lt, Option, Some, None, MatchOption, Ok, List, [], ◌∷◌, length, ℤ, refl, sym, ap, subst, arith}
+use Rattle.std.proofs.Common.{◌≡◌, ◌∙◌, ℕ, ◌-◌, ◌≤◌, ◌<◌, Bool, true, false, not, cond, nat_lt, Option, Some, None, MatchOption, Ok, List, [], ◌∷◌, length, ℤ, refl, sym, ap, subst, arith}
 use Rattle.std.specs.Prelude.{option_map}
 use Rattle.std.proofs.lemmas.List.Elements.{All-cons, All-nil}
 use Rattle.offer_book.specs.Book.{BookContents, IsBook}

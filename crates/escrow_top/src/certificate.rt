@@ -9,7 +9,7 @@ use std::alloc::Global;
 
 /// A purchase of a number of units of a line.
 #[derive(Clone, Copy, Debug, PartialEq, Eq)]
-pub struct Purchase {
+pub(crate) struct Purchase {
     /// The line, counted from 0, which is opening cash.
     pub line: u16,
     /// The number of units.
@@ -18,7 +18,7 @@ pub struct Purchase {
 
 /// What a certificate says: its purchases, by rising lines, and its gap in cents.
 #[derive(Debug, Drop)]
-pub struct Certificate {
+pub(crate) struct Certificate {
     pub purchases: Vec<Purchase>,
     pub gap: u64,
 }

@@ -18,7 +18,7 @@ use std::alloc::Global;
 
 /// Why a certificate isn't accepted.
 #[derive(Clone, Copy, Debug, PartialEq, Eq)]
-pub enum Reason {
+pub(crate) enum Reason {
     /// A purchase of this line isn't offered, or its units aren't permitted.
     NotPermitted(u16),
     /// The portfolio doesn't meet the needs; this is the first day on which it doesn't.
