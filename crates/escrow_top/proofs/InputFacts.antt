@@ -1,6 +1,7 @@
 -- What is read of the input files, proved.
 use Rattle.std.proofs.Common.{◌≡◌, ℕ, ◌≤◌, ◌<◌, List, [], length, Some, None, true, false, refl, arith}
 use Rattle.std.specs.Prelude.{nat_lt}
+use Rattle.std.proofs.lemmas.Bool.{lt-ltb}
 use Rattle.escrow_desk.specs.Content.{Content, file_of}
 use Rattle.escrow_desk.specs.Rows.{rows_of}
 use Rattle.escrow_desk.specs.declared.refusal.FileKind.TheVariants as file
@@ -8,9 +9,6 @@ use Rattle.escrow_top.specs.InputFiles.{InputTexts, Names, file_limit, first_too
 use Rattle.case_file.specs.Case.{rows_case}
 use Rattle.escrow_top.specs.Answer.{case_of}
 use Rattle.escrow_top.specs.Reading.{AreThere, AreWithin}
-
-over : (n : ℕ) → file_limit < n → nat_lt file_limit n ≡ true
-over n h = grind arith
 
 under : (n : ℕ) → n ≤ file_limit → nat_lt file_limit n ≡ false
 under n h = grind arith
@@ -30,13 +28,13 @@ within-all texts within = rw (under (length texts.issue) within.issue, under (le
 
 -- the first file over its limit
 over-issue : (issue rates prices : List ℕ) → file_limit < length issue → first_too_long (texts_of issue rates prices) ≡ Some file.Issue
-over-issue issue rates prices h = rw (over (length issue) h) refl
+over-issue issue rates prices h = rw (lt-ltb file_limit (length issue) h) refl
 
 over-rates : (issue rates prices : List ℕ) → length issue ≤ file_limit → file_limit < length rates → first_too_long (texts_of issue rates prices) ≡ Some file.Rates
-over-rates issue rates prices h k = rw (under (length issue) h, over (length rates) k) refl
+over-rates issue rates prices h k = rw (under (length issue) h, lt-ltb file_limit (length rates) k) refl
 
 over-prices : (issue rates prices : List ℕ) → length issue ≤ file_limit → length rates ≤ file_limit → file_limit < length prices → first_too_long (texts_of issue rates prices) ≡ Some file.Prices
-over-prices issue rates prices h k m = rw (under (length issue) h, under (length rates) k, over (length prices) m) refl
+over-prices issue rates prices h k m = rw (under (length issue) h, under (length rates) k, lt-ltb file_limit (length prices) m) refl
 
 -- where the three files are there, they are read
 pub read-all : (content : Content) (names : Names) (texts : InputTexts) → AreThere content names texts → AreWithin texts → inputs_of content names ≡ Some texts

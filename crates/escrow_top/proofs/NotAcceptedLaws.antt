@@ -1,6 +1,7 @@
 -- What `no` means, proved.
 use Rattle.std.proofs.Common.{◌≡◌, ◌∙◌, ℕ, ◌-◌, ◌≤◌, ◌<◌, Bool, true, false, not, cond, nat_lt, Option, Some, None, MatchOption, Ok, List, [], ◌∷◌, length, ℤ, refl, sym, ap, subst, arith}
 use Rattle.std.specs.Prelude.{option_map}
+use Rattle.std.proofs.lemmas.Bool.{ltb-false, ltb-true}
 use Rattle.std.proofs.lemmas.List.Elements.{All-cons, All-nil}
 use Rattle.offer_book.specs.Book.{BookContents, IsBook}
 use Rattle.offer_book.specs.Portfolio.{IsFirstShort, IsPermitted, Meets, cost, total_needs}
@@ -54,21 +55,15 @@ first_placed book (first ∷ others) purchase is =
 same_reason : (a b : Reason) → Some a ≡ Some b → a ≡ b
 same_reason a b is = cc
 
-less : (a b : ℕ) → nat_lt a b ≡ true → a < b
-less a b is = grind arith
-
-no_less : (a b : ℕ) → nat_lt a b ≡ false → b ≤ a
-no_less a b is = grind arith
-
 gap_stands : (case : CaseContents) (claim : Claim) (why : Reason) (above : Bool) → IsSound case.book (portfolio case.book claim) → is_leaf_weak case.book (portfolio case.book claim) claim.gap ≡ false → nat_lt case.allowance claim.gap ≡ above → given above reason.GapAbove ≡ Some why → Stands case claim why
 gap_stands case claim why true sound borne is found =
-    let costs = no_less (total_needs case.book) (cost case.book (portfolio case.book claim) - claim.gap) borne in
-    subst (Stands case claim) (same_reason reason.GapAbove why found) (sound, omega (arith, costs), less case.allowance claim.gap is)
+    let costs = ltb-false (total_needs case.book) (cost case.book (portfolio case.book claim) - claim.gap) borne in
+    subst (Stands case claim) (same_reason reason.GapAbove why found) (sound, omega (arith, costs), ltb-true case.allowance claim.gap is)
 gap_stands case claim why false sound borne is found = absurd (cc)
 
 weak_stands : (case : CaseContents) (claim : Claim) (why : Reason) (weak : Bool) → IsSound case.book (portfolio case.book claim) → is_leaf_weak case.book (portfolio case.book claim) claim.gap ≡ weak → or_else (given weak (reason.WeakLeaf 1)) (given (nat_lt case.allowance claim.gap) reason.GapAbove) ≡ Some why → Stands case claim why
 weak_stands case claim why true sound is found =
-    let costs = less (total_needs case.book) (cost case.book (portfolio case.book claim) - claim.gap) is in
+    let costs = ltb-true (total_needs case.book) (cost case.book (portfolio case.book claim) - claim.gap) is in
     subst (Stands case claim) (same_reason (reason.WeakLeaf 1) why found) (sound, refl, omega (arith, costs))
 weak_stands case claim why false sound is found = gap_stands case claim why (nat_lt case.allowance claim.gap) sound is refl found
 

@@ -278,7 +278,7 @@ fn opening_cash_and_gaps(rt: HostRuntime) -> Result<(), Fail> {
 
 #[test]
 fn refused_issues(rt: HostRuntime) -> Result<(), Fail> {
-    let rows: [(&'static [u8], &'static [u8]); 13] = [
+    let rows: [(&'static [u8], &'static [u8]); 12] = [
         (b"", b"refused issue row 1 Missing\n"),
         (
             b"settle,2025-01-15\nneed,2025-02-30,5.00\nrestricted,4.00\n",
@@ -318,28 +318,18 @@ fn refused_issues(rt: HostRuntime) -> Result<(), Fail> {
             b"settle,2025-01-15\nrestricted,4.00\nneed,2025-04-15,100000000000.00\nneed,2025-04-15,0.01\n",
             b"refused issue row 0 NeedsTooLarge\n",
         ),
-        (
-            b"settle,2025-01-15\nprice,100000.00\npay,2025-07-15,102000.00\n",
-            b"unbuilt issue\n",
-        ),
     ];
     for (issue, said) in &rows {
         let ran = outcome_of(rt.alloc(), &CHECK, &with_issue(issue), u64::MAX)?;
+        assert_eq!(rt; ran.status, Status::Refused);
         assert_eq!(rt; ran.desk.said(), *said);
-        let unbuilt = said.first() == Some(&b'u');
-        let status = if unbuilt {
-            Status::Unbuilt
-        } else {
-            Status::Refused
-        };
-        assert_eq!(rt; ran.status, status);
     }
     Ok(())
 }
 
 #[test]
 fn refused_rates(rt: HostRuntime) -> Result<(), Fail> {
-    let rows: [(&'static [u8], &'static [u8]); 17] = [
+    let rows: [(&'static [u8], &'static [u8]); 16] = [
         (
             b"offer,2025-04-15,0.00,,10000\n",
             b"refused rates row 1 Missing\n",
@@ -382,10 +372,6 @@ fn refused_rates(rt: HostRuntime) -> Result<(), Fail> {
             b"refused rates row 3 TooShort\n",
         ),
         (
-            b"terms,1000,100\nrate,2025-01-15,2025-12-31,4.00\noffer,2025-02-14,4.00,,10000\n",
-            b"unbuilt rates\n",
-        ),
-        (
             b"terms,1000,100\noffer,2025-02-14,4.00,,10000\n",
             b"refused rates row 2 NoRate\n",
         ),
@@ -408,6 +394,7 @@ fn refused_rates(rt: HostRuntime) -> Result<(), Fail> {
     ];
     for (rates, said) in &rows {
         let ran = outcome_of(rt.alloc(), &CHECK, &with_rates(rates), u64::MAX)?;
+        assert_eq!(rt; ran.status, Status::Refused);
         assert_eq!(rt; ran.desk.said(), *said);
     }
     Ok(())
