@@ -1,3 +1,3 @@
 pub mod SumFacts
 pub mod Uniqueness
-pub mod ByDayFacts
+pub mod TableFacts

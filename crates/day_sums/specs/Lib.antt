@@ -1,3 +1,3 @@
-pub mod ByDay
+pub mod Table
 pub mod Summed
 pub mod SummedLaws

@@ -1,3 +1,4 @@
+//! What sums of amounts by day are.
 ghost use Rattle.day_sums.specs.SummedLaws.{NothingSumsToNothing, SummedAreSums, SummedFallWithin, SummedInSteps, SummedKeepTotal, SummedKeepTotalBy, SumsAreUnique};
 
 /// What the sums of amounts by day are: on days that strictly rise, above 0 each, and on each day as much as the amounts come

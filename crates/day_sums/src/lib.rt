@@ -1,11 +1,10 @@
 //! Sums of amounts by day.
 #![tactic(auto)]
 
-mod by_day;
 mod laws;
 mod sums;
 #[cfg(test)]
 mod tests;
 
 pub use laws::summed_laws;
-pub use sums::{DaySums, sum_by_day};
+pub use sums::DaySums;

@@ -1,54 +1,79 @@
-ghost use Rattle.std.specs.Prelude.{◌≡◌, ◌<◌, ◌+◌, ◌^◌, [], ◌++◌, take, OnOk, OnErr, IfOk, ℕ};
+//! Sums of amounts by day, to which amounts are added.
+ghost use Rattle.std.specs.Prelude.{◌≡◌, ◌<◌, ◌≤ℤ◌, ◌+◌, ◌^◌, [], ◌∷◌, ◌++◌, All, IfOk};
 ghost use Rattle.escrow_units.specs.Flows.{Rise, total};
 ghost use Rattle.day_sums.specs.Summed.{summed};
-ghost use Rattle.day_sums.specs.SummedLaws.{AreAboveZero};
+ghost use Rattle.day_sums.specs.SummedLaws.{AreAboveZero, FallWithin};
+ghost use Rattle.day_sums.specs.Table.{HasPlace, sums_of};
 
-use crate::by_day::{in_order, put_all};
 use escrow_desk::NoMemory;
-use escrow_units::Flow;
+use escrow_units::{Cents, Day, Flow};
 use std::alloc::Global;
-use std::collections::BTreeMap;
 use std::marker::Model;
 
-/// Sums of amounts by day, to which amounts are added. Contracts see the sums in order of day.
+/// Sums of amounts that fall on the days of a span, in cents. Contracts see the span and the sums in order of day.
+///
+/// It is a table with a place for each day, so that an amount is added by one look.
 #[derive(Drop)]
 pub struct DaySums {
-    by_day: BTreeMap<i32, Flow>,
+    from: Day,
+    to: Day,
+    // the cents of each day from the first on
+    cents: Vec<u64>,
 }
 
 impl Model for DaySums {
-    ghost use Rattle.std.specs.Prelude.{List};
-    ghost use Rattle.escrow_units.specs.declared.security.Flow.{Flow};
-    ghost use Rattle.day_sums.specs.ByDay.{IsByDay, sums_of};
+    ghost use Rattle.day_sums.specs.Table.{IsTable, SpanSums, sums_of};
 
-    ghost Value = { List Flow };
+    ghost Value = { SpanSums };
 
-    ghost view = { λ s. sums_of s.by_day };
+    ghost view = { λ s. record { from = s.from; to = s.to; sums = sums_of s.from s.cents.items } };
 
-    ghost invariant = { λ s. IsByDay s.by_day };
+    ghost invariant = { λ s. IsTable s.from s.to s.cents.items };
+}
+
+// An amount, added to that of its day in a table that begins on a first day.
+fn put(cents: &mut [u64], first: Day, flow: &Flow)
+    requires place { HasPlace first cents.old flow.now }
+    requires room { total (sums_of first cents.old) + flow.now.cents.0 < 2 ^ 64 }
+    ensures { sums_of first cents.new ≡ summed (sums_of first cents.old ++ flow.now ∷ []) }
+{
+    let place = (flow.day.number() - first.number()) as usize;
+    cents[place] += flow.cents.0;
+}
+
+// Amounts added, each to that of its day in a table that begins on a first day.
+fn put_all(cents: &mut [u64], first: Day, flows: &[Flow])
+    requires places { All (HasPlace first cents.old) flows.now }
+    requires room { total (sums_of first cents.old) + total flows.now < 2 ^ 64 }
+    ensures { sums_of first cents.new ≡ summed (sums_of first cents.old ++ flows.now) }
+{
+    for flow in flows {
+        put(cents, first, flow);
+    }
 }
 
 impl DaySums {
-    /// No sums yet.
-    pub fn none(alloc: Global) -> DaySums
-        ensures { result ≡ [] }
-    {
-        DaySums {
-            by_day: BTreeMap::new(alloc),
-        }
-    }
-
-    /// Amounts added, each to the sum of its day.
+    /// No sums yet, of amounts that fall from one day to another, both included. All memory is taken here.
     ///
     /// # Errors
     ///
-    /// Where memory ran out; then only the first of them are added.
-    pub fn add(&mut self, flows: &[Flow]) -> Result<(), NoMemory>
-        requires { total self.old + total flows.now < 2 ^ 64 }
-        ensures sums { OnOk result (self.new ≡ summed (self.old ++ flows.now)) }
-        ensures so_far { OnErr result ((count : ℕ) × (self.new ≡ summed (self.old ++ take count flows.now))) }
+    /// Where memory ran out.
+    pub fn between(alloc: Global, from: Day, to: Day) -> Result<DaySums, NoMemory>
+        requires { from ≤ℤ to }
+        ensures { IfOk result (λ sums. sums ≡ record { from = from; to = to; sums = [] }) }
     {
-        put_all(&mut self.by_day, flows)
+        let days = (to.number() - from.number()) as usize + 1;
+        let cents = vec![in alloc; 0; days]?;
+        Ok(DaySums { from, to, cents })
+    }
+
+    /// Amounts added, each to the sum of its day. They and the sums come to less than 2^64 cents together.
+    pub fn add(&mut self, flows: &[Flow])
+        requires span { FallWithin self.old.from self.old.to flows.now }
+        requires room { total self.old.sums + total flows.now < 2 ^ 64 }
+        ensures { self.new ≡ record self.old { sums = summed (self.old.sums ++ flows.now) } }
+    {
+        put_all(self.cents.as_mut_slice(), self.from, flows);
     }
 
     /// The sums in order of day, each above 0.
@@ -57,28 +82,20 @@ impl DaySums {
     ///
     /// Where memory ran out.
     pub fn into_flows(self, alloc: Global) -> Result<Vec<Flow>, NoMemory>
-        ensures value { IfOk result (λ sums. sums.items ≡ self) }
+        ensures value { IfOk result (λ sums. sums.items ≡ self.sums) }
         ensures rise { IfOk result (λ sums. Rise sums.items) }
         ensures above { IfOk result (λ sums. AreAboveZero sums.items) }
     {
-        in_order(alloc, self.by_day)
+        let mut sums = Vec::new(alloc);
+        for (place, cents) in self.cents.iter().enumerate() {
+            if *cents > 0 {
+                let day = Day::new(self.from.number() + place as i32);
+                sums.push(Flow {
+                    day,
+                    cents: Cents(*cents),
+                })?;
+            }
+        }
+        Ok(sums)
     }
-}
-
-/// The sums of amounts by day, in cents: in order of day, each day once, none of 0 cents. The amounts come to less than 2^64
-/// cents together.
-///
-/// # Errors
-///
-/// Where memory ran out.
-pub fn sum_by_day(alloc: Global, flows: &[Flow]) -> Result<Vec<Flow>, NoMemory>
-    requires { total flows.now < 2 ^ 64 }
-    ensures value { IfOk result (λ sums. sums.items ≡ summed flows.now) }
-    ensures rise { IfOk result (λ sums. Rise sums.items) }
-    ensures above { IfOk result (λ sums. AreAboveZero sums.items) }
-    ensures total { IfOk result (λ sums. total sums.items ≡ total flows.now) }
-{
-    let mut sums = DaySums::none(alloc);
-    sums.add(flows)?;
-    sums.into_flows(alloc)
 }

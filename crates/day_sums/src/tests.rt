@@ -1,8 +1,9 @@
+//! Worked figures.
 ghost use Rattle.std.specs.Prelude.{◌≡◌};
 ghost use Rattle.escrow_units.specs.DayNumber.{IsDayNumber};
 ghost use Rattle.day_sums.specs.Summed.{on as on_day};
 
-use crate::{sum_by_day, summed_laws};
+use crate::{DaySums, summed_laws};
 use escrow_units::{Cents, Day, Flow};
 use std::test::Fail;
 
@@ -20,12 +21,16 @@ fn on(day: i32, cents: u64) -> Flow
 #[test]
 fn amounts_are_summed_by_day(rt: HostRuntime) -> Result<(), Fail> {
     summed_laws();
-    assert_eq!(rt; sum_by_day(rt.alloc(), &[])?.len(), 0);
-    let amounts = [on(9, 5), on(7, 1), on(8, 0), on(9, 6), on(-3, 2), on(7, 0)];
-    let sums = [on(-3, 2), on(7, 1), on(9, 11)];
+    let (first, last) = (Day::new(-3), Day::new(9));
+    let none = DaySums::between(rt.alloc(), first, last)?;
+    assert_eq!(rt; none.into_flows(rt.alloc())?.len(), 0);
+    let mut sums = DaySums::between(rt.alloc(), first, last)?;
+    sums.add(&[on(9, 5), on(7, 1), on(8, 0)]);
+    sums.add(&[on(9, 6), on(-3, 2), on(7, 0)]);
+    let expected = [on(-3, 2), on(7, 1), on(9, 11)];
     assert_eq!(rt;
-        sum_by_day(rt.alloc(), &amounts)?.as_slice(),
-        sums.as_slice()
+        sums.into_flows(rt.alloc())?.as_slice(),
+        expected.as_slice()
     );
     Ok(())
 }

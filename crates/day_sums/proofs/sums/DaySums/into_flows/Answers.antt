@@ -1,11 +1,45 @@
-use Rattle.std.proofs.Common.{◌≡◌}
-use Rattle.std.proofs.lemmas.Result.{IfOk-weaker}
+use Rattle.std.proofs.Common.{◌≡◌, ◌∙◌, ap, sym, subst, rules, ℤ, pos, ◌+ℤ◌, ◌<◌, ◌^◌, length, to_z, w32, get_or, arith}
+use Rattle.std.proofs.lemmas.Int.{ints, to_z-of_z, to_z_pos}
+use mir.Val.{SFits}
+use Rattle.day_sums.proofs.TableFacts.{push-sum}
 use Rattle.escrow_units.specs.Flows.{Rise}
-use Rattle.day_sums.specs.ByDay.{sums_of}
-use Rattle.day_sums.proofs.ByDayFacts.{rise-of}
+use Rattle.day_sums.specs.Summed.{summed}
+use Rattle.day_sums.specs.SummedLaws.{AreAboveZero}
+use Rattle.day_sums.specs.Table.{SpanSums}
+use Rattle.day_sums.proofs.TableFacts.{summed_more-none, summed_more-some, nothing-yet, all-sums}
+use Rattle.day_sums.proofs.SumFacts.{above-summed, pairs-from_rising, rising-summed}
 use Rattle.day_sums.proofs.sums.DaySums.into_flows.Goals as goal
+use Rattle.day_sums.proofs.sums.DaySums.into_flows.Goals.{then-cents-gt0+in_ok-push, else-cents-gt0}
+
+pub loop-place-init : goal.loop-place-init
+loop-place-init c = c.new-sums.ensures.items ∙ nothing-yet
+
+pub loop-place-preserved : goal.loop-place-preserved
+loop-place-preserved c = elim c.if-cents-gt0.branch [
+  | then-cents-gt0+in_ok-push w ↦
+      let more = summed_more-some c.args.self.from c.deref-cents-items.result.now c.loop-place.place 0 c.loop-place-test.true w.if-cents-gt0.true in
+      let from : c.self.inside.from ≡ c.args.self.from = ap (λ (s : SpanSums). s.from) c.self.view_is in
+      let places : length c.deref-cents-items.result.now ≡ length c.self.inside.cents.items = ap length c.deref-cents-items.ensures.value in
+      let few : c.loop-place.place < 2 ^ 31 = omega (arith, ints, c.self.invariant.places, c.self.invariant.first, c.self.invariant.last, places, c.loop-place-test.true) in
+      let small : to_z w32 c.loop-place.place ≡ pos c.loop-place.place = to_z_pos w32 c.loop-place.place few in
+      let fits : SFits w32 w.number.result = search rules in
+      let fits_sum : SFits w32 (w.number.result +ℤ pos c.loop-place.place) = search rules in
+      let day : w.new-day.result ≡ c.args.self.from +ℤ pos c.loop-place.place =
+      w.new-day.ensures ∙ rw small (simp to_z-of_z (ap (λ (z : ℤ). z +ℤ pos c.loop-place.place) (w.number.ensures.value ∙ from))) in
+      rw w.sums-is (push-sum c.loop-place.sums.items w.push.new.self.items _ _ w.new-day.result (c.args.self.from +ℤ pos c.loop-place.place) (get_or c.deref-cents-items.result.now c.loop-place.place 0)
+      w.in_ok-push.ensures.items c.loop-place.invariant day more)
+  | else-cents-gt0 w ↦
+      rw w.sums-is (c.loop-place.invariant ∙ sym (summed_more-none c.args.self.from c.deref-cents-items.result.now c.loop-place.place 0 c.loop-place-test.true (omega (arith, w.if-cents-gt0.false))))
+]
+
+pub returns-clause-value : goal.returns-clause-value
+returns-clause-value c =
+    let from : c.self.inside.from ≡ c.args.self.from = ap (λ (s : SpanSums). s.from) c.self.view_is in
+    c.loop-place.invariant ∙ all-sums c.args.self.from c.deref-cents-items.result.now c.loop-place.place c.loop-place-test.false
+    ∙ rw (c.deref-cents-items.ensures.value, ← from) (ap (λ (s : SpanSums). s.sums) c.self.view_is)
 
 pub returns-clause-rise : goal.returns-clause-rise
-returns-clause-rise c =
-    IfOk-weaker c.in_order.result (λ sums. sums.items ≡ sums_of c.self.inside.by_day) (λ sums. Rise sums.items)
-    (λ sums is. rise-of c.self.inside.by_day.entries sums.items c.self.invariant.ordered c.self.invariant.keyed is) c.in_order.ensures
+returns-clause-rise c = subst Rise (sym c.loop-place.invariant) (pairs-from_rising (summed _) (rising-summed _))
+
+pub returns-clause-above : goal.returns-clause-above
+returns-clause-above c = subst AreAboveZero (sym c.loop-place.invariant) (above-summed _)
