@@ -7,7 +7,7 @@ use Rattle.std.proofs.lemmas.Nat.{pow-add}
 use Rattle.std.proofs.Math.Nat.{mul-le-mul_left, mul-le-mul_right, pow-suc, pow-zero}
 use Rattle.escrow_units.specs.PresentValue.{IndexedFlow, half_year, two_m, last_index, AtLeastDayFactor, AtMostDayFactor}
 use Rattle.fixed_powers.specs.DiscountPowers.{one, down, up, root_low, power_of}
-use Rattle.fixed_powers.specs.PresentValues.{total_cents, present_value, LowValueEncloses, HighValueEncloses, ValueFallsWithYield, LowValueAtMostHigh, ValueIsTotalAtZero, ValueIsSharp, LowValueExcludes}
+use Rattle.fixed_powers.specs.PresentValues.{total_cents, present_value, LowValueEncloses, HighValueEncloses, ValueFallsWithYield, LowValueAtMostHigh, ValueFits, ValueIsTotalAtZero, ValueIsSharp, LowValueExcludes}
 use Rattle.fixed_powers.specs.declared.side.Side.{Side}
 use Rattle.fixed_powers.specs.declared.side.Side.TheVariants.{Low, High}
 use Rattle.fixed_powers.proofs.PowerFacts.{power_of-within, low-encloses, high-encloses, low-le-high, falls_with_yield, one_at_zero, one_at_no_days}
@@ -45,6 +45,10 @@ pub value-within : (side : Side) (n : ℕ) (flows : List IndexedFlow) → presen
 value-within side n flows =
     let terms = sum_by-mono (worth side n) (λ flow. flow.cents * one) flows (λ flow. mul-le-mul_left flow.cents (power_of-within side n flow.index)) in
     omega (arith, terms, total-at_one flows)
+
+-- those of at most 10^15 cents fit in 113 bits
+pub value-fits : ValueFits
+value-fits side n flows few = omega (arith, few, value-within side n flows, mul-le-mul_left one few)
 
 pub value-at_zero : ValueIsTotalAtZero
 value-at_zero side [] = omega arith

@@ -1,5 +1,5 @@
 -- Present values by outward powers, in units of 2^-62 of a cent: this project's own.
-use Rattle.std.specs.Prelude.{◌≡◌, ℕ, ◌+◌, ◌*◌, ◌<◌, ◌≤◌, List}
+use Rattle.std.specs.Prelude.{◌≡◌, ℕ, ◌+◌, ◌*◌, ◌^◌, ◌<◌, ◌≤◌, List}
 use Rattle.std.specs.List.{Any, sum_by}
 use Rattle.escrow_units.specs.PresentValue.{IndexedFlow, last_index, PresentValueAtLeast, PresentValueAtMost}
 use Rattle.fixed_powers.specs.DiscountPowers.{one, power_of}
@@ -43,6 +43,10 @@ LowValueAtMostHigh = (n : ℕ) (flows : List IndexedFlow) → present_value Low 
 -- at the yield 0 it is the sum of the flows
 abbrev pub ValueIsTotalAtZero : Type 0
 ValueIsTotalAtZero = (side : Side) (flows : List IndexedFlow) → present_value side 0 flows ≡ one * total_cents flows
+
+-- flows of at most 10^15 cents together are worth less than 2^113 units, on either side
+abbrev pub ValueFits : Type 0
+ValueFits = (side : Side) (n : ℕ) (flows : List IndexedFlow) → total_cents flows ≤ 10 ^ 15 → present_value side n flows < 2 ^ 113
 
 -- the present values of a yield, rounded down, lie above those of the next yield, rounded up
 pub record SeparatesValues (n : ℕ) (flows : List IndexedFlow) : Type 0 where

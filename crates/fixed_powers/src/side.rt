@@ -1,3 +1,5 @@
+//! The side of rounding.
+
 /// The side of the exact value to which a number is rounded.
 #[derive(Clone, Copy, Debug, PartialEq, Eq)]
 pub enum Side {

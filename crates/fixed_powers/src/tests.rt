@@ -1,3 +1,5 @@
+//! Worked figures, and a call of each law.
+
 use super::*;
 use escrow_units::YieldUnits;
 use std::test::*;

@@ -65,11 +65,11 @@ pub record AreYieldEnds (flows : List IndexedFlow) (cost lo hi : ℕ) : Type 0 w
   pub exact : YieldLiesIn flows cost lo hi
 
 -- what an answer says of the flows and the cost
-abbrev pub IsToldBy : List IndexedFlow → ℕ → YieldAnswer → Type 0
-IsToldBy flows cost Empty = (flows ≡ []) × (cost ≡ 0)
-IsToldBy flows cost Negative = total_cents flows < cost
-IsToldBy flows cost (Between lo hi) = AreYieldEnds flows cost lo.0 hi.0
-IsToldBy flows cost Above = PresentValueAtLeast 3_000_000_000 flows cost
+abbrev pub IsYieldAnswer : List IndexedFlow → ℕ → YieldAnswer → Type 0
+IsYieldAnswer flows cost Empty = (flows ≡ []) × (cost ≡ 0)
+IsYieldAnswer flows cost Negative = total_cents flows < cost
+IsYieldAnswer flows cost (Between lo hi) = AreYieldEnds flows cost lo.0 hi.0
+IsYieldAnswer flows cost Above = PresentValueAtLeast 3_000_000_000 flows cost
 
 -- a yield is within the limit: there is none, or it is below 0, or the upper end is at most the limit
 abbrev pub is_within : ℕ → YieldAnswer → Bool

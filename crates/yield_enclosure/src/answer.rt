@@ -1,3 +1,5 @@
+//! What is known of a yield.
+
 use escrow_units::YieldUnits;
 
 /// What is known of the exact yield of flows for a cost.

@@ -6,7 +6,7 @@ ghost use Rattle.fixed_powers.specs.DiscountPowers.{one};
 ghost use Rattle.escrow_units.specs.Flows.{indexed, total};
 ghost use Rattle.fixed_powers.specs.PresentValues.{HasLaterAmount, total_cents, present_value};
 ghost use Rattle.fixed_powers.specs.declared.side.Side.TheVariants.{Low};
-ghost use Rattle.yield_enclosure.specs.YieldAnswers.{FallWithin40Years, AreDearerBelow, is_within, is_worth, is_no_dearer, IsLowerEnd, IsUpperEnd, IsToldBy, answer_of_covered, yield_answer_of};
+ghost use Rattle.yield_enclosure.specs.YieldAnswers.{FallWithin40Years, AreDearerBelow, is_within, is_worth, is_no_dearer, IsLowerEnd, IsUpperEnd, IsYieldAnswer, answer_of_covered, yield_answer_of};
 
 use crate::answer::YieldAnswer;
 use crate::timeline::Timeline;
@@ -108,7 +108,7 @@ fn answer_of_covered(alloc: Global, flows: &Timeline, cost: Cents) -> Result<Yie
     requires cents { total_cents flows.now + cost.0 ≤ 10 ^ 15 }
     requires covered { cost.0 ≤ total_cents flows.now }
     ensures value { IfOk result (λ answer. answer ≡ answer_of_covered flows.now cost.0) }
-    ensures meaning { IfOk result (λ answer. IsToldBy flows.now cost.0 answer) }
+    ensures meaning { IfOk result (λ answer. IsYieldAnswer flows.now cost.0 answer) }
 {
     if is_worth(alloc, flows, cost, MOST)? {
         return Ok(YieldAnswer::Above);
@@ -136,7 +136,7 @@ pub fn interval(
     requires days { FallWithin40Years settle flows.now }
     requires cents { total flows.now + cost.0 ≤ 10 ^ 15 }
     ensures value { IfOk result (λ answer. answer ≡ yield_answer_of (indexed settle flows.now) cost.0) }
-    ensures meaning { IfOk result (λ answer. IsToldBy (indexed settle flows.now) cost.0 answer) }
+    ensures meaning { IfOk result (λ answer. IsYieldAnswer (indexed settle flows.now) cost.0 answer) }
 {
     if flows.is_empty() && cost.0 == 0 {
         return Ok(YieldAnswer::Empty);
