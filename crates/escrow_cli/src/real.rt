@@ -66,11 +66,7 @@ fn written(answer: io::Result<usize>, bytes: &[u8]) -> Result<usize, Failed>
 impl<R: Files + Print> Desk for RealDesk<'_, R> {
     ghost told = { λ desk. None };
 
-    ghost read_faults = { λ desk. desk.read_faults };
-
-    ghost write_faults = { λ desk. desk.write_faults };
-
-    ghost absences = { λ desk. desk.absences };
+    ghost counts = { λ desk. record { read_faults = desk.read_faults; write_faults = desk.write_faults; absences = desk.absences } };
 
     fn read(&mut self, name: &str, at: u64, into: &mut [u8]) -> Result<usize, DeskError> {
         match read_at(self.rt, name, at, into) {

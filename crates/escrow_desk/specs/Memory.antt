@@ -2,7 +2,7 @@
 use Rattle.std.specs.Prelude.{◌≡◌, ℕ, zero, suc, ◌+◌, ◌==◌, nat_lt, List, [], if◌then◌else◌, Bool, false, min, IsTrue, ◌⊎◌}
 use Rattle.std.specs.List.{list_any}
 use Rattle.escrow_desk.specs.Content.{Content, Files}
-use Rattle.escrow_desk.specs.Counts.{last_count, Rose}
+use Rattle.escrow_desk.specs.Counts.{Counts, last_count, Rose}
 
 -- whether a call's number is listed
 abbrev pub is_listed : List ℕ → ℕ → Bool
@@ -20,13 +20,11 @@ pub record MemoryState : Type 0 where
   pub failing : List ℕ
   pub calls : ℕ
   pub starved : ℕ
-  pub read_faults : ℕ
-  pub write_faults : ℕ
-  pub absences : ℕ
+  pub counts : Counts
 
 -- the failures are the growths that found no memory and the calls so far whose number is listed
 abbrev pub IsTallied : MemoryState → Type 0
-IsTallied desk = desk.read_faults + desk.write_faults ≡ desk.starved + listed_below desk.failing desk.calls
+IsTallied desk = desk.counts.read_faults + desk.counts.write_faults ≡ desk.starved + listed_below desk.failing desk.calls
 
 -- whether the next call, after this many calls, is one that is to fail; from the last count on calls have no number
 abbrev pub is_next_listed : List ℕ → ℕ → Bool
@@ -48,7 +46,5 @@ new_desk files failing = record {
   failing = failing;
   calls = 0;
   starved = 0;
-  read_faults = 0;
-  write_faults = 0;
-  absences = 0;
+  counts = record { read_faults = 0; write_faults = 0; absences = 0 };
 }

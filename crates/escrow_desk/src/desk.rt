@@ -1,5 +1,5 @@
-ghost use Rattle.std.specs.Prelude.{◌≡◌, ◌<◌, ◌≤◌, ℕ, length, OnOk, OnErr, IfOk, IsErrOf};
-ghost use Rattle.escrow_desk.specs.Counts.{Rose};
+ghost use Rattle.std.specs.Prelude.{◌≡◌, ◌<◌, ◌≤◌, length, OnOk, OnErr, IfOk, IsErrOf};
+ghost use Rattle.escrow_desk.specs.Counts.{Counts, CountsRead, CountsWrite};
 ghost use Rattle.escrow_desk.specs.Content.{Told, Given, IsAbsent, Emptied, Appended, Said};
 
 use thiserror::Error;
@@ -27,14 +27,8 @@ pub trait Desk {
     /// What the files hold and what was said, if the desk tells it. A desk that tells goes on telling.
     ghost told: { Self → Told };
 
-    /// How often a read failed.
-    ghost read_faults: { Self → ℕ };
-
-    /// How often another call failed.
-    ghost write_faults: { Self → ℕ };
-
-    /// How often a file that was to be read wasn't there.
-    ghost absences: { Self → ℕ };
+    /// How often a read failed, how often another call failed, and how often a file that was to be read wasn't there.
+    ghost counts: { Self → Counts };
 
     /// Puts bytes of the file from place `at` into the front of `into`, and answers how many. For a nonempty `into`
     /// none is the end of the file.
@@ -43,21 +37,13 @@ pub trait Desk {
         ensures given { IfOk result (λ n. Given (told self.old) name.now at into.old n into.new) }
         ensures absent { IsErrOf result DeskError.NoFile → IsAbsent (told self.old) name.now }
         ensures told { told self.new ≡ told self.old }
-
-        ensures calm { OnOk result ((read_faults self.new ≡ read_faults self.old) × (absences self.new ≡ absences self.old)) }
-        ensures failed { IsErrOf result DeskError.Failed → Rose (read_faults self.old) (read_faults self.new) × (absences self.new ≡ absences self.old) }
-        ensures no_file { IsErrOf result DeskError.NoFile → Rose (absences self.old) (absences self.new) × (read_faults self.new ≡ read_faults self.old) }
-        ensures writes { write_faults self.new ≡ write_faults self.old };
+        ensures counts { CountsRead result (counts self.old) (counts self.new) };
 
     /// Makes the file empty, or makes it.
     fn begin(&mut self, name: &str) -> Result<(), Failed>
         ensures emptied { OnOk result (Emptied (told self.old) name.now (told self.new)) }
         ensures kept { OnErr result (told self.new ≡ told self.old) }
-
-        ensures calm { OnOk result (write_faults self.new ≡ write_faults self.old) }
-        ensures failed { OnErr result (Rose (write_faults self.old) (write_faults self.new)) }
-        ensures reads { read_faults self.new ≡ read_faults self.old }
-        ensures absences { absences self.new ≡ absences self.old };
+        ensures counts { CountsWrite result (counts self.old) (counts self.new) };
 
     /// Adds a prefix of `bytes` to the file, and answers its length: at least 1 where `bytes` isn't empty.
     fn append(&mut self, name: &str, bytes: &[u8]) -> Result<usize, Failed>
@@ -65,11 +51,7 @@ pub trait Desk {
         ensures some { IfOk result (λ n. 0 < length bytes.now → 0 < n) }
         ensures appended { IfOk result (λ n. Appended (told self.old) name.now n bytes.now (told self.new)) }
         ensures kept { OnErr result (told self.new ≡ told self.old) }
-
-        ensures calm { OnOk result (write_faults self.new ≡ write_faults self.old) }
-        ensures failed { OnErr result (Rose (write_faults self.old) (write_faults self.new)) }
-        ensures reads { read_faults self.new ≡ read_faults self.old }
-        ensures absences { absences self.new ≡ absences self.old };
+        ensures counts { CountsWrite result (counts self.old) (counts self.new) };
 
     /// Adds a prefix of `bytes` to what was said, and answers its length: at least 1 where `bytes` isn't empty.
     fn say(&mut self, bytes: &[u8]) -> Result<usize, Failed>
@@ -77,9 +59,5 @@ pub trait Desk {
         ensures some { IfOk result (λ n. 0 < length bytes.now → 0 < n) }
         ensures said { IfOk result (λ n. Said (told self.old) n bytes.now (told self.new)) }
         ensures kept { OnErr result (told self.new ≡ told self.old) }
-
-        ensures calm { OnOk result (write_faults self.new ≡ write_faults self.old) }
-        ensures failed { OnErr result (Rose (write_faults self.old) (write_faults self.new)) }
-        ensures reads { read_faults self.new ≡ read_faults self.old }
-        ensures absences { absences self.new ≡ absences self.old };
+        ensures counts { CountsWrite result (counts self.old) (counts self.new) };
 }

@@ -1,5 +1,5 @@
 ghost use Rattle.std.specs.Prelude.{◌≡◌, ◌<◌, ◌≤◌, ◌↔◌, Some, length, OnOk, OnErr, IsErr, IfOk, IsTrue, IsErrOf, option_map};
-ghost use Rattle.escrow_desk.specs.Counts.{Rose};
+ghost use Rattle.escrow_desk.specs.Counts.{CountsRead, CountsWrite};
 ghost use Rattle.escrow_desk.specs.Content.{file_of, Given, IsAbsent, Emptied, Appended, Said};
 ghost use Rattle.escrow_desk.specs.Memory.{Calls, HasCause, IsTallied, is_next_listed, new_desk};
 ghost use Rattle.escrow_desk.specs.NamedFiles.{files_of, NamesDiffer};
@@ -37,9 +37,11 @@ impl Model for MemoryDesk {
       failing = desk.tally.failing.items;
       calls = desk.tally.calls;
       starved = desk.tally.starved;
-      read_faults = desk.tally.listed_reads;
-      write_faults = desk.tally.listed_writes + desk.tally.starved;
-      absences = desk.tally.absences;
+      counts = record {
+        read_faults = desk.tally.listed_reads;
+        write_faults = desk.tally.listed_writes + desk.tally.starved;
+        absences = desk.tally.absences;
+      };
     } };
 }
 
@@ -92,22 +94,14 @@ impl MemoryDesk {
 impl Desk for MemoryDesk {
     ghost told = { λ desk. Some desk.content };
 
-    ghost read_faults = { λ desk. desk.read_faults };
-
-    ghost write_faults = { λ desk. desk.write_faults };
-
-    ghost absences = { λ desk. desk.absences };
+    ghost counts = { λ desk. desk.counts };
 
     fn read(&mut self, name: &str, at: u64, into: &mut [u8]) -> Result<usize, DeskError>
         ensures count { IfOk result (λ n. n ≤ length into.new) }
         ensures given { IfOk result (λ n. Given (Some self.old.content) name.now at into.old n into.new) }
         ensures absent { IsErrOf result DeskError.NoFile → IsAbsent (Some self.old.content) name.now }
         ensures told { Some self.new.content ≡ Some self.old.content }
-
-        ensures calm { OnOk result ((self.new.read_faults ≡ self.old.read_faults) × (self.new.absences ≡ self.old.absences)) }
-        ensures failed { IsErrOf result DeskError.Failed → Rose self.old.read_faults self.new.read_faults × (self.new.absences ≡ self.old.absences) }
-        ensures no_file { IsErrOf result DeskError.NoFile → Rose self.old.absences self.new.absences × (self.new.read_faults ≡ self.old.read_faults) }
-        ensures writes { self.new.write_faults ≡ self.old.write_faults }
+        ensures counts { CountsRead result self.old.counts self.new.counts }
 
         // A read fails exactly where its number is listed, and starves nothing.
         ensures calls { Calls self.old self.new }
@@ -129,11 +123,7 @@ impl Desk for MemoryDesk {
     fn begin(&mut self, name: &str) -> Result<(), Failed>
         ensures emptied { OnOk result (Emptied (Some self.old.content) name.now (Some self.new.content)) }
         ensures kept { OnErr result (Some self.new.content ≡ Some self.old.content) }
-
-        ensures calm { OnOk result (self.new.write_faults ≡ self.old.write_faults) }
-        ensures failed { OnErr result (Rose self.old.write_faults self.new.write_faults) }
-        ensures reads { self.new.read_faults ≡ self.old.read_faults }
-        ensures absences { self.new.absences ≡ self.old.absences }
+        ensures counts { CountsWrite result self.old.counts self.new.counts }
 
         // It fails where its number is listed, and else only where a growth found no memory.
         ensures calls { Calls self.old self.new }
@@ -156,11 +146,7 @@ impl Desk for MemoryDesk {
         ensures some { IfOk result (λ n. 0 < length bytes.now → 0 < n) }
         ensures appended { IfOk result (λ n. Appended (Some self.old.content) name.now n bytes.now (Some self.new.content)) }
         ensures kept { OnErr result (Some self.new.content ≡ Some self.old.content) }
-
-        ensures calm { OnOk result (self.new.write_faults ≡ self.old.write_faults) }
-        ensures failed { OnErr result (Rose self.old.write_faults self.new.write_faults) }
-        ensures reads { self.new.read_faults ≡ self.old.read_faults }
-        ensures absences { self.new.absences ≡ self.old.absences }
+        ensures counts { CountsWrite result self.old.counts self.new.counts }
 
         // It fails where its number is listed, and else only where a growth found no memory.
         ensures calls { Calls self.old self.new }
@@ -183,11 +169,7 @@ impl Desk for MemoryDesk {
         ensures some { IfOk result (λ n. 0 < length bytes.now → 0 < n) }
         ensures said { IfOk result (λ n. Said (Some self.old.content) n bytes.now (Some self.new.content)) }
         ensures kept { OnErr result (Some self.new.content ≡ Some self.old.content) }
-
-        ensures calm { OnOk result (self.new.write_faults ≡ self.old.write_faults) }
-        ensures failed { OnErr result (Rose self.old.write_faults self.new.write_faults) }
-        ensures reads { self.new.read_faults ≡ self.old.read_faults }
-        ensures absences { self.new.absences ≡ self.old.absences }
+        ensures counts { CountsWrite result self.old.counts self.new.counts }
 
         // It fails where its number is listed, and else only where a growth found no memory.
         ensures calls { Calls self.old self.new }

@@ -1,7 +1,7 @@
-ghost use Rattle.std.specs.Prelude.{◌≡◌, ◌<◌, ◌≤◌, [], length, IsOk, IfOk, OnOk, OnErr, IsErrOf, unwrap_or};
+ghost use Rattle.std.specs.Prelude.{◌≡◌, ◌<◌, ◌≤◌, [], length, IsOk, IfOk, OnOk, OnErr, unwrap_or};
 ghost use Rattle.std.specs.FinMap as fin;
 ghost use Rattle.escrow_desk.specs.Content.{PartOf, Given, Emptied, Appended, Said};
-ghost use Rattle.escrow_desk.specs.Counts.{Rose};
+ghost use Rattle.escrow_desk.specs.Counts.{CountsRead, CountsWrite};
 ghost use Rattle.escrow_desk.specs.LentFiles.{untold, uncounted};
 ghost use Rattle.escrow_desk.specs.NamedFiles.{files_of};
 
@@ -42,11 +42,7 @@ impl<'a> NeverFails<'a> {
 impl Desk for NeverFails<'_> {
     ghost told = { untold };
 
-    ghost read_faults = { uncounted };
-
-    ghost write_faults = { uncounted };
-
-    ghost absences = { uncounted };
+    ghost counts = { uncounted };
 
     fn read(&mut self, name: &str, at: u64, into: &mut [u8]) -> Result<usize, DeskError>
         ensures answers { IsOk result }
@@ -56,9 +52,7 @@ impl Desk for NeverFails<'_> {
         // What the trait asks of a desk that tells nothing and counts nothing.
         ensures count { IfOk result (λ n. n ≤ length into.new) }
         ensures given { IfOk result (λ n. Given (untold self.old) name.now at into.old n into.new) }
-        ensures calm { OnOk result ((uncounted self.new ≡ uncounted self.old) × (uncounted self.new ≡ uncounted self.old)) }
-        ensures failed { IsErrOf result DeskError.Failed → Rose (uncounted self.old) (uncounted self.new) × (uncounted self.new ≡ uncounted self.old) }
-        ensures no_file { IsErrOf result DeskError.NoFile → Rose (uncounted self.old) (uncounted self.new) × (uncounted self.new ≡ uncounted self.old) }
+        ensures counts { CountsRead result (uncounted self.old) (uncounted self.new) }
     {
         match bytes_under(self.files, name) {
             Some(bytes) => Ok(copy_part(bytes, at, into)),
@@ -72,8 +66,7 @@ impl Desk for NeverFails<'_> {
 
         ensures emptied { OnOk result (Emptied (untold self.old) name.now (untold self.new)) }
         ensures kept { OnErr result (untold self.new ≡ untold self.old) }
-        ensures calm { OnOk result (uncounted self.new ≡ uncounted self.old) }
-        ensures failed { OnErr result (Rose (uncounted self.old) (uncounted self.new)) }
+        ensures counts { CountsWrite result (uncounted self.old) (uncounted self.new) }
     {
         let _ = name;
         Ok(())
@@ -88,8 +81,7 @@ impl Desk for NeverFails<'_> {
         ensures some { IfOk result (λ n. 0 < length bytes.now → 0 < n) }
         ensures appended { IfOk result (λ n. Appended (untold self.old) name.now n bytes.now (untold self.new)) }
         ensures kept { OnErr result (untold self.new ≡ untold self.old) }
-        ensures calm { OnOk result (uncounted self.new ≡ uncounted self.old) }
-        ensures failed { OnErr result (Rose (uncounted self.old) (uncounted self.new)) }
+        ensures counts { CountsWrite result (uncounted self.old) (uncounted self.new) }
     {
         let _ = name;
         Ok(bytes.len())
@@ -104,8 +96,7 @@ impl Desk for NeverFails<'_> {
         ensures some { IfOk result (λ n. 0 < length bytes.now → 0 < n) }
         ensures said { IfOk result (λ n. Said (untold self.old) n bytes.now (untold self.new)) }
         ensures kept { OnErr result (untold self.new ≡ untold self.old) }
-        ensures calm { OnOk result (uncounted self.new ≡ uncounted self.old) }
-        ensures failed { OnErr result (Rose (uncounted self.old) (uncounted self.new)) }
+        ensures counts { CountsWrite result (uncounted self.old) (uncounted self.new) }
     {
         Ok(bytes.len())
     }

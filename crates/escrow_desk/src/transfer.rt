@@ -1,5 +1,5 @@
 ghost use Rattle.std.specs.Prelude.{◌≡◌, ◌≤◌, length, OnOk, OnErr, IfOk, IsErrOf};
-ghost use Rattle.escrow_desk.specs.Counts.{Rose};
+ghost use Rattle.escrow_desk.specs.Counts.{CountsReadAll, CountsWrite};
 ghost use Rattle.escrow_desk.specs.Content.{IsFile, IsAbsent, IsLonger, SaidAll, SaidPart, WroteAll, WrotePart};
 
 use crate::desk::{Desk, DeskError, Failed};
@@ -26,14 +26,8 @@ pub fn read_all<D: Desk>(
     ensures too_long { IsErrOf result ReadRefusal.TooLong → IsLonger (D.told desk.old) name.now limit }
     ensures absent { IsErrOf result ReadRefusal.NoFile → IsAbsent (D.told desk.old) name.now }
     ensures told { D.told desk.new ≡ D.told desk.old }
-
     // Only a fault and an absence raise a count, and each its own alone.
-    ensures calm { OnOk result ((D.read_faults desk.new ≡ D.read_faults desk.old) × (D.absences desk.new ≡ D.absences desk.old)) }
-    ensures too_long_calm { IsErrOf result ReadRefusal.TooLong → (D.read_faults desk.new ≡ D.read_faults desk.old) × (D.absences desk.new ≡ D.absences desk.old) }
-    ensures no_memory_calm { IsErrOf result ReadRefusal.NoMemory → (D.read_faults desk.new ≡ D.read_faults desk.old) × (D.absences desk.new ≡ D.absences desk.old) }
-    ensures fault { IsErrOf result ReadRefusal.Fault → Rose (D.read_faults desk.old) (D.read_faults desk.new) × (D.absences desk.new ≡ D.absences desk.old) }
-    ensures no_file { IsErrOf result ReadRefusal.NoFile → Rose (D.absences desk.old) (D.absences desk.new) × (D.read_faults desk.new ≡ D.read_faults desk.old) }
-    ensures writes { D.write_faults desk.new ≡ D.write_faults desk.old }
+    ensures counts { CountsReadAll result (D.counts desk.old) (D.counts desk.new) }
 {
     let mut bytes = Vec::new(alloc);
     let mut piece = [0u8; PIECE];
@@ -68,11 +62,7 @@ pub fn read_all<D: Desk>(
 pub fn write_all<D: Desk>(desk: &mut D, name: &str, bytes: &[u8]) -> Result<(), Failed>
     ensures whole { OnOk result (WroteAll (D.told desk.old) name.now bytes.now (D.told desk.new)) }
     ensures part { OnErr result (WrotePart (D.told desk.old) name.now bytes.now (D.told desk.new)) }
-
-    ensures calm { OnOk result (D.write_faults desk.new ≡ D.write_faults desk.old) }
-    ensures failed { OnErr result (Rose (D.write_faults desk.old) (D.write_faults desk.new)) }
-    ensures reads { D.read_faults desk.new ≡ D.read_faults desk.old }
-    ensures absences { D.absences desk.new ≡ D.absences desk.old }
+    ensures counts { CountsWrite result (D.counts desk.old) (D.counts desk.new) }
 {
     desk.begin(name)?;
     let mut written = 0;
@@ -91,11 +81,7 @@ pub fn write_all<D: Desk>(desk: &mut D, name: &str, bytes: &[u8]) -> Result<(), 
 pub fn say_all<D: Desk>(desk: &mut D, bytes: &[u8]) -> Result<(), Failed>
     ensures whole { OnOk result (SaidAll (D.told desk.old) bytes.now (D.told desk.new)) }
     ensures part { OnErr result (SaidPart (D.told desk.old) bytes.now (D.told desk.new)) }
-
-    ensures calm { OnOk result (D.write_faults desk.new ≡ D.write_faults desk.old) }
-    ensures failed { OnErr result (Rose (D.write_faults desk.old) (D.write_faults desk.new)) }
-    ensures reads { D.read_faults desk.new ≡ D.read_faults desk.old }
-    ensures absences { D.absences desk.new ≡ D.absences desk.old }
+    ensures counts { CountsWrite result (D.counts desk.old) (D.counts desk.new) }
 {
     let mut said = 0;
     while said < bytes.len() {

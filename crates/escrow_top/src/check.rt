@@ -1,5 +1,4 @@
-ghost use Rattle.std.specs.Prelude.{◌≡◌, ◌≤◌, IfOk, IsErrOf, IsTrue, OnOk, length};
-ghost use Rattle.escrow_desk.specs.Counts.{Rose};
+ghost use Rattle.std.specs.Prelude.{◌≡◌, ◌≤◌, IfOk, IsErrOf, IsTrue, length};
 ghost use Rattle.escrow_top.specs.Answer.{certificate_answer, certificate_limit, claim_answer, refused as refused_answer};
 ghost use Rattle.row_fields.specs.RowForm.{refusal_of};
 ghost use Rattle.case_file.specs.Case.{case_view};
@@ -8,6 +7,7 @@ ghost use Rattle.escrow_top.specs.Reading.{AreRead, AreWithin, CertificateAnswer
 ghost use Rattle.escrow_top.specs.Ending.{HoldsWhereTold, is_checked};
 ghost use Rattle.escrow_top.specs.Accepted.{Accepted};
 ghost use Rattle.escrow_top.specs.NotAccepted.{NotAccepted};
+ghost use Rattle.escrow_top.specs.Stopping.{CountsStep};
 ghost use Rattle.escrow_top.specs.Reply.{answer};
 
 use crate::certificate::read_certificate;
@@ -58,12 +58,7 @@ fn reply_to_certificate<D: Desk>(
     ensures status { IfOk result (λ reply. IsTrue (is_checked reply.status)) }
     ensures absent { IsErrOf result Stop.NoFile → LacksCertificate (D.told desk.old) name.now }
     ensures told { D.told desk.new ≡ D.told desk.old }
-
-    ensures calm { OnOk result ((D.read_faults desk.new ≡ D.read_faults desk.old) × (D.absences desk.new ≡ D.absences desk.old)) }
-    ensures no_memory { IsErrOf result Stop.NoMemory → (D.read_faults desk.new ≡ D.read_faults desk.old) × (D.absences desk.new ≡ D.absences desk.old) }
-    ensures fault { IsErrOf result Stop.ReadFault → Rose (D.read_faults desk.old) (D.read_faults desk.new) × (D.absences desk.new ≡ D.absences desk.old) }
-    ensures no_file { IsErrOf result Stop.NoFile → Rose (D.absences desk.old) (D.absences desk.new) × (D.read_faults desk.new ≡ D.read_faults desk.old) }
-    ensures writes { D.write_faults desk.new ≡ D.write_faults desk.old }
+    ensures counts { CountsStep result (D.counts desk.old) (D.counts desk.new) }
 {
     match read_file(alloc, desk, name, CERTIFICATE_LIMIT)? {
         Some(bytes) => Ok(reply_to_bytes(alloc, case, bytes.as_slice())?),
@@ -86,12 +81,7 @@ fn reply_to_files<D: Desk>(
     ensures no { IfOk result (λ reply. reply.status ≡ Status.No → HoldsWhereTold NotAccepted (D.told desk.old) (input_names names.now)) }
     ensures absent { IsErrOf result Stop.NoFile → LacksNamed (D.told desk.old) (input_names names.now) }
     ensures told { D.told desk.new ≡ D.told desk.old }
-
-    ensures calm { OnOk result ((D.read_faults desk.new ≡ D.read_faults desk.old) × (D.absences desk.new ≡ D.absences desk.old)) }
-    ensures no_memory { IsErrOf result Stop.NoMemory → (D.read_faults desk.new ≡ D.read_faults desk.old) × (D.absences desk.new ≡ D.absences desk.old) }
-    ensures fault { IsErrOf result Stop.ReadFault → Rose (D.read_faults desk.old) (D.read_faults desk.new) × (D.absences desk.new ≡ D.absences desk.old) }
-    ensures no_file { IsErrOf result Stop.NoFile → Rose (D.absences desk.old) (D.absences desk.new) × (D.read_faults desk.new ≡ D.read_faults desk.old) }
-    ensures writes { D.write_faults desk.new ≡ D.write_faults desk.old }
+    ensures counts { CountsStep result (D.counts desk.old) (D.counts desk.new) }
 {
     match read_case(
         alloc,
@@ -118,12 +108,7 @@ pub(crate) fn check<D: Desk>(
     ensures no { IfOk result (λ reply. reply.status ≡ Status.No → HoldsWhereTold NotAccepted (D.told desk.old) (input_names names.now)) }
     ensures absent { IsErrOf result Stop.NoFile → LacksNamed (D.told desk.old) (input_names names.now) }
     ensures told { D.told desk.new ≡ D.told desk.old }
-
-    ensures calm { OnOk result ((D.read_faults desk.new ≡ D.read_faults desk.old) × (D.absences desk.new ≡ D.absences desk.old)) }
-    ensures no_memory { IsErrOf result Stop.NoMemory → (D.read_faults desk.new ≡ D.read_faults desk.old) × (D.absences desk.new ≡ D.absences desk.old) }
-    ensures fault { IsErrOf result Stop.ReadFault → Rose (D.read_faults desk.old) (D.read_faults desk.new) × (D.absences desk.new ≡ D.absences desk.old) }
-    ensures no_file { IsErrOf result Stop.NoFile → Rose (D.absences desk.old) (D.absences desk.new) × (D.read_faults desk.new ≡ D.read_faults desk.old) }
-    ensures writes { D.write_faults desk.new ≡ D.write_faults desk.old }
+    ensures counts { CountsStep result (D.counts desk.old) (D.counts desk.new) }
 {
     match read_inputs(alloc, desk, names)? {
         Ok(files) => reply_to_files(alloc, desk, names, &files),

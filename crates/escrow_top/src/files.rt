@@ -1,7 +1,7 @@
-ghost use Rattle.std.specs.Prelude.{◌≡◌, ◌≤◌, IfOk, IfSome, IsErrOf, MatchResult, OnOk, length};
-ghost use Rattle.escrow_desk.specs.Counts.{Rose};
+ghost use Rattle.std.specs.Prelude.{◌≡◌, ◌≤◌, IfOk, IfSome, IsErrOf, MatchResult, length};
 ghost use Rattle.escrow_desk.specs.Content.{IsAbsent};
 ghost use Rattle.escrow_top.specs.Reading.{AreRead, AreWithin, IsRead, IsTooLong, LacksInput, input_names, input_texts};
+ghost use Rattle.escrow_top.specs.Stopping.{CountsStep};
 
 use crate::stop::Stop;
 use escrow_desk::{Desk, FileKind, ReadRefusal, read_all};
@@ -38,12 +38,7 @@ pub(crate) fn read_file<D: Desk>(
     ensures within { IfOk result (λ text. IfSome text (λ bytes. length bytes.items ≤ limit)) }
     ensures absent { IsErrOf result Stop.NoFile → IsAbsent (D.told desk.old) name.now }
     ensures told { D.told desk.new ≡ D.told desk.old }
-
-    ensures calm { OnOk result ((D.read_faults desk.new ≡ D.read_faults desk.old) × (D.absences desk.new ≡ D.absences desk.old)) }
-    ensures no_memory { IsErrOf result Stop.NoMemory → (D.read_faults desk.new ≡ D.read_faults desk.old) × (D.absences desk.new ≡ D.absences desk.old) }
-    ensures fault { IsErrOf result Stop.ReadFault → Rose (D.read_faults desk.old) (D.read_faults desk.new) × (D.absences desk.new ≡ D.absences desk.old) }
-    ensures no_file { IsErrOf result Stop.NoFile → Rose (D.absences desk.old) (D.absences desk.new) × (D.read_faults desk.new ≡ D.read_faults desk.old) }
-    ensures writes { D.write_faults desk.new ≡ D.write_faults desk.old }
+    ensures counts { CountsStep result (D.counts desk.old) (D.counts desk.new) }
 {
     match read_all(alloc, desk, name, limit) {
         Ok(bytes) => Ok(Some(bytes)),
@@ -67,12 +62,7 @@ pub(crate) fn read_inputs<D: Desk>(
     ensures within { IfOk result (λ found. IfOk found (λ files. AreWithin (input_texts files))) }
     ensures absent { IsErrOf result Stop.NoFile → LacksInput (D.told desk.old) (input_names names.now) }
     ensures told { D.told desk.new ≡ D.told desk.old }
-
-    ensures calm { OnOk result ((D.read_faults desk.new ≡ D.read_faults desk.old) × (D.absences desk.new ≡ D.absences desk.old)) }
-    ensures no_memory { IsErrOf result Stop.NoMemory → (D.read_faults desk.new ≡ D.read_faults desk.old) × (D.absences desk.new ≡ D.absences desk.old) }
-    ensures fault { IsErrOf result Stop.ReadFault → Rose (D.read_faults desk.old) (D.read_faults desk.new) × (D.absences desk.new ≡ D.absences desk.old) }
-    ensures no_file { IsErrOf result Stop.NoFile → Rose (D.absences desk.old) (D.absences desk.new) × (D.read_faults desk.new ≡ D.read_faults desk.old) }
-    ensures writes { D.write_faults desk.new ≡ D.write_faults desk.old }
+    ensures counts { CountsStep result (D.counts desk.old) (D.counts desk.new) }
 {
     let Some(issue) = read_file(alloc, desk, names.issue, FILE_LIMIT)? else {
         return Ok(Err(FileKind::Issue));

@@ -1,11 +1,11 @@
 ghost use Rattle.std.specs.Prelude.{◌≡◌, ◌↔◌, true, map, string_bytes, IfSome, IsTrue};
 ghost use Rattle.escrow_desk.specs.Content.{SaidAll, SaidPart};
-ghost use Rattle.escrow_desk.specs.Counts.{Rose};
 ghost use Rattle.escrow_top.specs.Ending.{Answers, AnswersPart, HoldsWhereTold, IsAccepted, IsNoCommand, IsNotAccepted, LacksFile, NamedAnswers, NamedAnswersPart, is_checked, is_reached};
 ghost use Rattle.escrow_top.specs.Accepted.{Accepted};
 ghost use Rattle.escrow_top.specs.NotAccepted.{NotAccepted};
 ghost use Rattle.escrow_top.specs.Answer.{check_names, is_structure};
 ghost use Rattle.escrow_top.specs.Reading.{LacksNamed, input_names};
+ghost use Rattle.escrow_top.specs.Stopping.{EndedAs};
 
 use crate::check::check;
 use crate::command::{Command, command_of};
@@ -23,11 +23,7 @@ fn conclude<D: Desk>(desk: &mut D, status: Status, text: &[u8]) -> Status
     ensures said { IsTrue (is_reached result) → SaidAll (D.told desk.old) text.now (D.told desk.new) }
     ensures part { result ≡ Status.WriteFault → SaidPart (D.told desk.old) text.now (D.told desk.new) }
     ensures no_other { (result ≡ Status.ReadFault → ⊥) × (result ≡ Status.NoFile → ⊥) × (result ≡ Status.NoMemory → ⊥) }
-
-    ensures calm { IsTrue (is_reached result) → D.write_faults desk.new ≡ D.write_faults desk.old }
-    ensures failed { result ≡ Status.WriteFault → Rose (D.write_faults desk.old) (D.write_faults desk.new) }
-    ensures reads { D.read_faults desk.new ≡ D.read_faults desk.old }
-    ensures absences { D.absences desk.new ≡ D.absences desk.old }
+    ensures counts { EndedAs result (D.counts desk.old) (D.counts desk.new) (D.told desk.old) (D.told desk.new) }
 {
     match say_all(desk, text) {
         Ok(()) => status,
@@ -44,11 +40,7 @@ fn run_check<D: Desk>(alloc: Global, names: &FileNames<'_>, desk: &mut D) -> Sta
     ensures yes { result ≡ Status.Done → HoldsWhereTold Accepted (D.told desk.old) (input_names names.now) }
     ensures no { result ≡ Status.No → HoldsWhereTold NotAccepted (D.told desk.old) (input_names names.now) }
 
-    ensures read_fault { result ≡ Status.ReadFault → Rose (D.read_faults desk.old) (D.read_faults desk.new) × (D.write_faults desk.new ≡ D.write_faults desk.old) × (D.absences desk.new ≡ D.absences desk.old) × (D.told desk.new ≡ D.told desk.old) }
-    ensures write_fault { result ≡ Status.WriteFault → Rose (D.write_faults desk.old) (D.write_faults desk.new) × (D.read_faults desk.new ≡ D.read_faults desk.old) × (D.absences desk.new ≡ D.absences desk.old) }
-    ensures no_file { result ≡ Status.NoFile → Rose (D.absences desk.old) (D.absences desk.new) × (D.read_faults desk.new ≡ D.read_faults desk.old) × (D.write_faults desk.new ≡ D.write_faults desk.old) × (D.told desk.new ≡ D.told desk.old) }
-    ensures no_memory { result ≡ Status.NoMemory → (D.read_faults desk.new ≡ D.read_faults desk.old) × (D.write_faults desk.new ≡ D.write_faults desk.old) × (D.absences desk.new ≡ D.absences desk.old) × (D.told desk.new ≡ D.told desk.old) }
-    ensures calm { IsTrue (is_reached result) → (D.read_faults desk.new ≡ D.read_faults desk.old) × (D.write_faults desk.new ≡ D.write_faults desk.old) × (D.absences desk.new ≡ D.absences desk.old) }
+    ensures counts { EndedAs result (D.counts desk.old) (D.counts desk.new) (D.told desk.old) (D.told desk.new) }
 {
     match check(alloc, desk, names) {
         Ok(reply) => conclude(desk, reply.status, reply.text.as_slice()),
@@ -77,11 +69,7 @@ pub fn run<D: Desk>(alloc: Global, words: &[String], desk: &mut D) -> Status
     ensures checked { IsTrue (is_reached result) → IfSome (check_names (map string_bytes words.now)) (λ _. IsTrue (is_checked result)) }
 
     // Each way of being cut off has its cause: a count of the desk that rose in this call, or stands at its last value.
-    ensures read_fault { result ≡ Status.ReadFault → Rose (D.read_faults desk.old) (D.read_faults desk.new) × (D.write_faults desk.new ≡ D.write_faults desk.old) × (D.absences desk.new ≡ D.absences desk.old) × (D.told desk.new ≡ D.told desk.old) }
-    ensures write_fault { result ≡ Status.WriteFault → Rose (D.write_faults desk.old) (D.write_faults desk.new) × (D.read_faults desk.new ≡ D.read_faults desk.old) × (D.absences desk.new ≡ D.absences desk.old) }
-    ensures no_file { result ≡ Status.NoFile → Rose (D.absences desk.old) (D.absences desk.new) × (D.read_faults desk.new ≡ D.read_faults desk.old) × (D.write_faults desk.new ≡ D.write_faults desk.old) × (D.told desk.new ≡ D.told desk.old) }
-    ensures no_memory { result ≡ Status.NoMemory → (D.read_faults desk.new ≡ D.read_faults desk.old) × (D.write_faults desk.new ≡ D.write_faults desk.old) × (D.absences desk.new ≡ D.absences desk.old) × (D.told desk.new ≡ D.told desk.old) }
-    ensures calm { IsTrue (is_reached result) → (D.read_faults desk.new ≡ D.read_faults desk.old) × (D.write_faults desk.new ≡ D.write_faults desk.old) × (D.absences desk.new ≡ D.absences desk.old) }
+    ensures counts { EndedAs result (D.counts desk.old) (D.counts desk.new) (D.told desk.old) (D.told desk.new) }
 {
     match command_of(words) {
         None => conclude(desk, Status::Usage, USAGE),

@@ -16,7 +16,5 @@ loop-piece-preserved g c =
     record {
       front = rw items (front_more (g.D.Desk.told c.args.desk.now) c.args.name.now c.loop-piece.bytes.items (take c.if-more.room c.loop-piece.piece) c.read.new.into c.in-Ok.count before.front given);
       told = c.read.ensures.told ∙ before.told;
-      writes = c.read.ensures.writes ∙ before.writes;
-      reads = c.in-Ok.ensures.calm.0 ∙ before.reads;
-      absences = c.in-Ok.ensures.calm.1 ∙ before.absences;
+      counts = c.in-Ok.ensures.counts ∙ before.counts;
     }

@@ -8,7 +8,5 @@ loop-said-preserved g c =
     record {
       within = search rules;
       said = said_rest (g.D.Desk.told c.args.desk.now) (g.D.Desk.told c.loop-said.desk) (g.D.Desk.told c.say.new.self) c.args.bytes.now c.loop-said.said c.in_ok-count.count before.said c.in_ok-count.ensures.said;
-      calm = c.in_ok-count.ensures.calm ∙ before.calm;
-      reads = c.say.ensures.reads ∙ before.reads;
-      absences = c.say.ensures.absences ∙ before.absences;
+      counts = c.in_ok-count.ensures.counts ∙ before.counts;
     }

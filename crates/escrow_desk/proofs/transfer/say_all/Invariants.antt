@@ -6,9 +6,7 @@ abbrev pub invariant-loop-said : goal.invariant-loop-said
 invariant-loop-said g l = record {
   within : l.said ≤ length l.bytes;
   said : Said (g.D.Desk.told l.fn.desk) l.said l.bytes (g.D.Desk.told l.desk);
-  calm : g.D.Desk.write_faults l.desk ≡ g.D.Desk.write_faults l.fn.desk;
-  reads : g.D.Desk.read_faults l.desk ≡ g.D.Desk.read_faults l.fn.desk;
-  absences : g.D.Desk.absences l.desk ≡ g.D.Desk.absences l.fn.desk;
+  counts : g.D.Desk.counts l.desk ≡ g.D.Desk.counts l.fn.desk;
 }
 
 abbrev pub decreases-loop-said : goal.decreases-loop-said

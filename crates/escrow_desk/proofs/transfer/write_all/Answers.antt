@@ -8,7 +8,5 @@ loop-written-preserved g c =
     record {
       within = search rules;
       wrote = wrote_rest (g.D.Desk.told c.args.desk.now) (g.D.Desk.told c.loop-written.desk) (g.D.Desk.told c.append.new.self) c.args.name.now c.args.bytes.now c.loop-written.written c.in_ok-count.count before.wrote c.in_ok-count.ensures.appended;
-      calm = c.in_ok-count.ensures.calm ∙ before.calm;
-      reads = c.append.ensures.reads ∙ before.reads;
-      absences = c.append.ensures.absences ∙ before.absences;
+      counts = c.in_ok-count.ensures.counts ∙ before.counts;
     }

@@ -6,9 +6,7 @@ abbrev pub invariant-loop-written : goal.invariant-loop-written
 invariant-loop-written g l = record {
   within : l.written ≤ length l.bytes;
   wrote : Wrote (g.D.Desk.told l.fn.desk) l.name l.written l.bytes (g.D.Desk.told l.desk);
-  calm : g.D.Desk.write_faults l.desk ≡ g.D.Desk.write_faults l.fn.desk;
-  reads : g.D.Desk.read_faults l.desk ≡ g.D.Desk.read_faults l.fn.desk;
-  absences : g.D.Desk.absences l.desk ≡ g.D.Desk.absences l.fn.desk;
+  counts : g.D.Desk.counts l.desk ≡ g.D.Desk.counts l.fn.desk;
 }
 
 abbrev pub decreases-loop-written : goal.decreases-loop-written
