@@ -1,6 +1,6 @@
 -- Lists of amounts on days: their sum, their order, and their places in the day count of the yield.
 use Rattle.std.specs.Prelude.{◌≡◌, ℕ, ◌-◌, List, [], ◌∷◌, ◌++◌, map, AllPairs, sum_by, ℤ, ◌<ℤ◌}
-use Rattle.escrow_units.specs.Calendar.{e_of}
+use Rattle.escrow_units.specs.Calendar.{thirty_day_place_of}
 use Rattle.escrow_units.specs.PresentValue.{IndexedFlow}
 use Rattle.escrow_units.specs.declared.security.Flow.{Flow}
 
@@ -20,9 +20,9 @@ pub record EndsOn (day : ℤ) (flows : List Flow) : Type 0 where
   pub falls : last.day ≡ day
 
 -- the days from settlement to a day by years of twelve months of thirty days (30/360)
-abbrev pub index_of : ℤ → ℤ → ℕ
-index_of settle day = e_of day - e_of settle
+abbrev pub index360_of : ℤ → ℤ → ℕ
+index360_of settle day = thirty_day_place_of day - thirty_day_place_of settle
 
 -- amounts by their index, which counts from settlement
 abbrev pub indexed : ℤ → List Flow → List IndexedFlow
-indexed settle flows = map (λ flow. record { index = index_of settle flow.day; cents = flow.cents.0 }) flows
+indexed settle flows = map (λ flow. record { index = index360_of settle flow.day; cents = flow.cents.0 }) flows

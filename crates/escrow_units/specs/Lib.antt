@@ -1,5 +1,7 @@
 pub mod Calendar
 pub mod CalendarLaws
+pub mod CivilDates
+pub mod ClosedForm
 pub mod DateText
 pub mod DayNumber
 pub mod Denomination

@@ -4,8 +4,8 @@ use Rattle.escrow_units.specs.Calendar.{half_back_of}
 use Rattle.escrow_units.specs.declared.security.StepRule.{StepRule}
 
 -- the days from one day to a later one
-abbrev pub days_to : ℤ → ℤ → ℕ
-days_to from to = unsigned_abs (to -ℤ from)
+abbrev pub days_between_of : ℤ → ℤ → ℕ
+days_between_of from to = unsigned_abs (to -ℤ from)
 
 -- the dates of the series from so many half-years before maturity on, in order
 unfoldable pub series_dates : ℤ → StepRule → ℕ → List ℤ

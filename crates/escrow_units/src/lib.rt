@@ -11,6 +11,7 @@ mod denomination;
 mod digits;
 mod fault;
 mod interest;
+mod limits;
 #[cfg(test)]
 mod number_tests;
 mod number_text;
@@ -29,6 +30,10 @@ pub use decimal::whole_number;
 pub use denomination::{read_cap, read_terms};
 pub use fault::NumberFault;
 pub use interest::earned;
+pub use limits::{
+    AMOUNT_LIMIT, FIRST_WAIT, FLOWS_LIMIT, GREATEST_INDEX, GREATEST_YIELD, MOST_LINES,
+    MOST_NEED_DATES,
+};
 pub use number_text::{
     decimal_spelling, read_cents, read_count, read_dollars, read_rate, read_yield,
 };

@@ -8,13 +8,13 @@ use Rattle.std.proofs.lemmas.List.{map-append, take_all, get_or-map, length-map}
 use Rattle.std.proofs.lemmas.List.Elements.{All-map, All-same}
 use Rattle.std.proofs.lemmas.List.Sums.{sum_by-cons}
 use Rattle.jiff_core.proofs.SignedLemmas.{signed_arith}
-use Rattle.escrow_units.proofs.FlowFacts.{choice-false, choice-true, days_to-count, days_to-some, rise-map}
+use Rattle.escrow_units.proofs.FlowFacts.{choice-false, choice-true, days_between_of-count, days_between_of-some, rise-map}
 use Rattle.escrow_units.proofs.RoundingFacts.{near-mono, near-zero}
 use Rattle.escrow_units.proofs.SeriesDates.{dates_after, dates_after-last, dates_after-rise, dates_before, half_back_of-reach, half_back_of-zero}
 use Rattle.escrow_units.specs.Calendar.{half_back_of}
-use Rattle.escrow_units.specs.Flows.{EndsOn, Rise, index_of}
+use Rattle.escrow_units.specs.Flows.{EndsOn, Rise, index360_of}
 use Rattle.escrow_units.specs.Rounding.{near}
-use Rattle.escrow_units.specs.Series.{days_to}
+use Rattle.escrow_units.specs.Series.{days_between_of}
 use Rattle.escrow_units.specs.declared.security.Flow.{Flow}
 use Rattle.escrow_units.specs.declared.security.StepRule.{StepRule}
 use Rattle.escrow_units.specs.declared.security.StepRule.TheVariants as rule
@@ -27,7 +27,7 @@ use Rattle.market_notes.proofs.SeriesFacts.{IsTerm, PaysOn, dates_after-late}
 -- a maturity that is late enough
 pub record IsLater (settle maturity : ℤ) : Type 0 where
   pub after : settle <ℤ maturity
-  pub index : 1 ≤ index_of settle maturity
+  pub index : 1 ≤ index360_of settle maturity
 
 pub later : (settle maturity : ℤ) → has_matured settle maturity ≡ false → IsLater settle maturity
 later settle maturity h = record { after = grind (arith, ints); index = grind (arith, ints) }
@@ -38,15 +38,15 @@ pub accrued-is : (note : Note) (face : ℕ) (from to : ℤ) (elapsed whole : ℕ
     → near (face * note.coupon.0 * elapsed) (200_000 * whole) ≡ accrued_interest note face
 unfolding accrued_interest
 accrued-is note face from to elapsed whole e f g h =
-    rw (← e, ← f, days_to-count from note.settle elapsed g, days_to-count from to whole h) refl
+    rw (← e, ← f, days_between_of-count from note.settle elapsed g, days_between_of-count from to whole h) refl
 
 none-accrued : (note : Note) (face : ℕ) → SettlesIn note (previous_date note) (next_date note) → IsCouponDate note note.settle → accrued_interest note face ≡ 0
 unfolding accrued_interest
 none-accrued note face around on =
-    let some : 0 < days_to (previous_date note) (next_date note) = days_to-some (previous_date note) (next_date note) (omega (arith, signed_arith, around.begun, around.unpaid)) in
+    let some : 0 < days_between_of (previous_date note) (next_date note) = days_between_of-some (previous_date note) (next_date note) (omega (arith, signed_arith, around.begun, around.unpaid)) in
     elim (around.between note.settle on) [
       | inl by ↦
-          let none : days_to (previous_date note) note.settle ≡ 0 = days_to-count (previous_date note) note.settle 0 (omega (arith, signed_arith, by, around.begun)) in
+          let none : days_between_of (previous_date note) note.settle ≡ 0 = days_between_of-count (previous_date note) note.settle 0 (omega (arith, signed_arith, by, around.begun)) in
           near-zero _ _ (rw none (omega arith)) (omega arith)
       | inr past ↦ absurd (omega (arith, signed_arith, past, around.unpaid))
     ]
@@ -61,8 +61,8 @@ price-more note face more le = near-mono _ _ _ (omega arith) (mul-le-mul_right n
 accrued-more : (note : Note) (face more : ℕ) → SettlesIn note (previous_date note) (next_date note) → face ≤ more → accrued_interest note face ≤ accrued_interest note more
 unfolding accrued_interest
 accrued-more note face more around le =
-    let some : 0 < days_to (previous_date note) (next_date note) = days_to-some (previous_date note) (next_date note) (omega (arith, signed_arith, around.begun, around.unpaid)) in
-    near-mono _ _ _ (omega arith) (mul-le-mul_right (days_to (previous_date note) note.settle) (mul-le-mul_right note.coupon.0 le))
+    let some : 0 < days_between_of (previous_date note) (next_date note) = days_between_of-some (previous_date note) (next_date note) (omega (arith, signed_arith, around.begun, around.unpaid)) in
+    near-mono _ _ _ (omega arith) (mul-le-mul_right (days_between_of (previous_date note) note.settle) (mul-le-mul_right note.coupon.0 le))
 
 pub costs-more : (note : Note) (face more : ℕ) → SettlesIn note (previous_date note) (next_date note) → face ≤ more → cost_of note face ≤ cost_of note more
 costs-more note face more around le = omega (arith, price-more note face more le, accrued-more note face more around le)
