@@ -7,6 +7,7 @@ pub mod DayNumber
 pub mod Denomination
 pub mod Digits
 pub mod Flows
+pub mod Interest
 pub mod NumberText
 pub mod PresentValue
 pub mod PriceText

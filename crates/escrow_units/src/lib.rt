@@ -19,6 +19,7 @@ mod price_text;
 mod printed;
 mod rounding;
 mod security;
+mod series;
 mod settlement;
 
 pub use amount::{Cents, Price8, Rate, YieldUnits};
@@ -29,7 +30,7 @@ pub use day::Day;
 pub use decimal::whole_number;
 pub use denomination::{read_cap, read_terms};
 pub use fault::NumberFault;
-pub use interest::earned;
+pub use interest::{earned, half_coupon};
 pub use limits::{
     AMOUNT_LIMIT, FIRST_WAIT, FLOWS_LIMIT, GREATEST_INDEX, GREATEST_YIELD, MOST_LINES,
     MOST_NEED_DATES,
@@ -41,4 +42,5 @@ pub use price_text::read_price;
 pub use printed::{print_cents, print_rate, print_yield};
 pub use rounding::near;
 pub use security::{AskedRate, Flow, Slgs, SlgsKind, StepRule, Terms};
+pub use series::{SeriesDates, series_around};
 pub use settlement::is_settlement;

@@ -4,7 +4,7 @@ use Rattle.std.specs.Prelude.{ℕ, zero, suc, ◌+◌, ◌*◌, ◌==◌, Bool, 
 use Rattle.std.specs.Ordering.{int_eq}
 use Rattle.escrow_units.specs.Calendar.{date_of, half_back_of}
 use Rattle.escrow_units.specs.Rounding.{near}
-use Rattle.escrow_units.specs.Series.{days_between_of, series_dates}
+use Rattle.escrow_units.specs.Series.{days_between_of, series_from}
 use Rattle.escrow_units.specs.declared.security.Flow.{Flow}
 use Rattle.escrow_units.specs.declared.security.Slgs.{Slgs}
 use Rattle.escrow_units.specs.declared.security.SlgsKind.{SlgsKind}
@@ -25,7 +25,7 @@ basis_of settle maturity = if has_leap_day settle (days_between_of settle maturi
 
 -- a security pays on the dates of its series that are not before its first payment date
 unfoldable pub payment_dates : Slgs → List ℤ
-payment_dates slgs = filter (λ date. int_le slgs.first date) (series_dates slgs.maturity rule.SameDay 84)
+payment_dates slgs = filter (λ date. int_le slgs.first date) (series_from slgs.maturity rule.SameDay 84)
 
 -- the date of the series before the first payment, and the one before that
 abbrev pub before_first : Slgs → ℤ
