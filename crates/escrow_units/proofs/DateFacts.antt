@@ -6,7 +6,8 @@ use Rattle.jiff_core.specs.Calendar.{IsCivilDate, day_count}
 use Rattle.jiff_core.proofs.SignedLemmas.{signed_arith}
 use Rattle.jiff_core.proofs.MarchLemmas.{day_count-early, day_count-late, month_and_day, day_in_month, day_in_early_month, leap_day, leap_day-shift, march_days-suc}
 use Rattle.jiff_core.proofs.CalendarLemmas.{days_from_civil-day_count}
-use Rattle.escrow_units.specs.Calendar.{CivilDate, number_of, march_count, march_year, march_day, march_month, month_day, march_date, date_of}
+use Rattle.escrow_units.specs.CivilDates.{CivilDate, number_of}
+use Rattle.escrow_units.specs.ClosedForm.{march_count, march_year, march_day, march_month, month_day, march_date, date_of}
 use Rattle.escrow_units.specs.DayNumber.{IsDayNumber}
 
 march_parts : (k : ℕ) → k < 7_400_000 → (march_days (march_year k) + march_day k ≡ k) × (k < march_days (march_year k + 1)) × (march_day k < 366)

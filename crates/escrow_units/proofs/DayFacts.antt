@@ -15,7 +15,7 @@ use Rattle.jiff_core.proofs.CalendarLemmas.{days_from_civil-day_count, day_count
 use Rattle.jiff_core.proofs.DateLemmas.{civil, epoch_day_injective, epoch_day-lt, cases_date}
 use Rattle.jiff_span.proofs.MonthLemmas.{shifted_civil}
 use Rattle.jiff_span.proofs.DifferenceLemmas.{signed_zero}
-use Rattle.escrow_units.specs.Calendar.{CivilDate, number_of, date_of, IsBaseDay, months_later, month_end, is_month_end, e_of, e_of_date, years_after_of}
+use Rattle.escrow_units.specs.Calendar.{CivilDate, number_of, date_of, IsBaseDay, months_later, month_end, is_month_end, thirty_day_place_of, thirty_day_place_of_date, years_after_of}
 use Rattle.escrow_units.specs.DateText.{IsFieldDay}
 use Rattle.escrow_units.specs.DayNumber.{IsDayNumber}
 use Rattle.escrow_units.proofs.DateFacts.{date_of-stands, pos_abs}
@@ -132,12 +132,12 @@ pub add_months-later : (a : Date) (k : ℤ) → IsDayNumber (epoch_day a) → ad
 add_months-later a k h = rw (date_of-date a h) refl
 
 -- the place of a date in years of 360 days
-pub e_of-date : (d : Date) → IsDayNumber (epoch_day d) → e_of (epoch_day d) ≡ e_of_date (parts d)
-e_of-date d h = rw (date_of-date d h) refl
+pub thirty_day_place_of-date : (d : Date) → IsDayNumber (epoch_day d) → thirty_day_place_of (epoch_day d) ≡ thirty_day_place_of_date (parts d)
+thirty_day_place_of-date d h = rw (date_of-date d h) refl
 
 -- a later date has no smaller place
-e_of_date-mono : (a b : Date) → pos 0 ≤ℤ a.year → pos 0 ≤ℤ b.year → epoch_day a ≤ℤ epoch_day b → e_of_date (parts a) ≤ e_of_date (parts b)
-e_of_date-mono a b ya yb le =
+thirty_day_place_of_date-mono : (a b : Date) → pos 0 ≤ℤ a.year → pos 0 ≤ℤ b.year → epoch_day a ≤ℤ epoch_day b → thirty_day_place_of_date (parts a) ≤ thirty_day_place_of_date (parts b)
+thirty_day_place_of_date-mono a b ya yb le =
     let ua = pos_abs a.year ya in
     let ub = pos_abs b.year yb in
     elim (cases_date a b) [
@@ -155,22 +155,22 @@ date_at n h =
     (record { year = (date_of n).year; month = (date_of n).month; day = (date_of n).day; year_in = s.0.0; month_in = s.0.1; day_in = s.0.2 }, s.1)
 
 -- the same of day numbers
-pub e_of-mono : (a b : ℤ) → IsDayNumber a → IsDayNumber b → a ≤ℤ b → e_of a ≤ e_of b
-e_of-mono a b ha hb le =
+pub thirty_day_place_of-mono : (a b : ℤ) → IsDayNumber a → IsDayNumber b → a ≤ℤ b → thirty_day_place_of a ≤ thirty_day_place_of b
+thirty_day_place_of-mono a b ha hb le =
     let da = date_at a ha in
     let db = date_at b hb in
     let in_a : IsDayNumber (epoch_day da.0) = rw da.1 ha in
     let in_b : IsDayNumber (epoch_day db.0) = rw db.1 hb in
     let ya = year_in_days da.0 in_a in
     let yb = year_in_days db.0 in_b in
-    let later = e_of_date-mono da.0 db.0 (omega (arith, signed_arith, ya)) (omega (arith, signed_arith, yb)) (rw (da.1, db.1) le) in
-    let same_a : e_of a ≡ e_of_date (parts da.0) = rw da.1 at (e_of-date da.0 in_a) in
-    let same_b : e_of b ≡ e_of_date (parts db.0) = rw db.1 at (e_of-date db.0 in_b) in
+    let later = thirty_day_place_of_date-mono da.0 db.0 (omega (arith, signed_arith, ya)) (omega (arith, signed_arith, yb)) (rw (da.1, db.1) le) in
+    let same_a : thirty_day_place_of a ≡ thirty_day_place_of_date (parts da.0) = rw da.1 at (thirty_day_place_of-date da.0 in_a) in
+    let same_b : thirty_day_place_of b ≡ thirty_day_place_of_date (parts db.0) = rw db.1 at (thirty_day_place_of-date db.0 in_b) in
     rw (same_a, same_b) later
 
 -- a day up to 40 years later has a place that is at most 40 times 360 greater
-pub e_of-years : (s n : ℤ) → IsDayNumber s → IsDayNumber n → n ≤ℤ years_after_of s 40 → e_of n ≤ e_of s + 14_400
-e_of-years s n hs hn near =
+pub thirty_day_place_of-years : (s n : ℤ) → IsDayNumber s → IsDayNumber n → n ≤ℤ years_after_of s 40 → thirty_day_place_of n ≤ thirty_day_place_of s + 14_400
+thirty_day_place_of-years s n hs hn near =
     let from = date_at s hs in
     let to = date_at n hn in
     let in_from : IsDayNumber (epoch_day from.0) = rw from.1 hs in
@@ -183,13 +183,13 @@ e_of-years s n hs hn near =
     let year : end.year ≡ from.0.year +ℤ pos 40 = omega (arith, signed_arith, from.0.month_in) in
     let month : end.month ≡ from.0.month = omega (arith, signed_arith, from.0.month_in) in
     let at_end : epoch_day end ≡ years_after_of s 40 = rw from.1 at (add_months-later from.0 (pos 480) in_from) in
-    let later = e_of_date-mono to.0 end (omega (arith, signed_arith, yt)) (omega (arith, signed_arith, yf, year)) (rw (to.1, at_end) near) in
-    let same_from : e_of s ≡ e_of_date (parts from.0) = rw from.1 at (e_of-date from.0 in_from) in
-    let same_to : e_of n ≡ e_of_date (parts to.0) = rw to.1 at (e_of-date to.0 in_to) in
+    let later = thirty_day_place_of_date-mono to.0 end (omega (arith, signed_arith, yt)) (omega (arith, signed_arith, yf, year)) (rw (to.1, at_end) near) in
+    let same_from : thirty_day_place_of s ≡ thirty_day_place_of_date (parts from.0) = rw from.1 at (thirty_day_place_of-date from.0 in_from) in
+    let same_to : thirty_day_place_of n ≡ thirty_day_place_of_date (parts to.0) = rw to.1 at (thirty_day_place_of-date to.0 in_to) in
     let uf = pos_abs from.0.year (omega (arith, signed_arith, yf)) in
     let ue = pos_abs end.year (omega (arith, signed_arith, yf, year)) in
     let day : end.day ≤ from.0.day = omega arith in
-    let top : e_of_date (parts end) ≤ e_of_date (parts from.0) + 14_400 = omega (arith, signed_arith, uf, ue, year, month, day) in
+    let top : thirty_day_place_of_date (parts end) ≤ thirty_day_place_of_date (parts from.0) + 14_400 = omega (arith, signed_arith, uf, ue, year, month, day) in
     rw (same_from, same_to) (omega (arith, later, top))
 
 -- a date that a shift by months gave

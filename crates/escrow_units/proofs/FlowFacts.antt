@@ -5,7 +5,7 @@ use Rattle.std.proofs.lemmas.List.Elements.{All-map}
 use Rattle.std.proofs.lemmas.List.Kept.{AllPairs-cons}
 use Rattle.jiff_core.proofs.SignedLemmas.{signed_arith}
 use Rattle.escrow_units.specs.Flows.{Rise}
-use Rattle.escrow_units.specs.Series.{days_to}
+use Rattle.escrow_units.specs.Series.{days_between_of}
 use Rattle.escrow_units.specs.declared.security.Flow.{Flow}
 use Rattle.escrow_units.proofs.DateFacts.{pos_abs}
 
@@ -47,16 +47,16 @@ choice-false true a b h = absurd (h refl)
 choice-false false a b h = refl
 
 -- days between two days
-pub days_to-whole : (from to : ℤ) → from ≤ℤ to → from +ℤ pos (days_to from to) ≡ to
-days_to-whole from to order =
+pub days_between_of-whole : (from to : ℤ) → from ≤ℤ to → from +ℤ pos (days_between_of from to) ≡ to
+days_between_of-whole from to order =
     let e = pos_abs (to -ℤ from) (omega (arith, signed_arith, order)) in
     omega (arith, signed_arith, e)
 
-pub days_to-count : (from to : ℤ) (n : ℕ) → from +ℤ pos n ≡ to → days_to from to ≡ n
-days_to-count from to n e = let apart : to -ℤ from ≡ pos n = omega (arith, signed_arith, e) in ap unsigned_abs apart
+pub days_between_of-count : (from to : ℤ) (n : ℕ) → from +ℤ pos n ≡ to → days_between_of from to ≡ n
+days_between_of-count from to n e = let apart : to -ℤ from ≡ pos n = omega (arith, signed_arith, e) in ap unsigned_abs apart
 
-pub days_to-some : (from to : ℤ) → from <ℤ to → 0 < days_to from to
-days_to-some from to less = omega (arith, signed_arith, less, days_to-whole from to (omega (arith, signed_arith, less)))
+pub days_between_of-some : (from to : ℤ) → from <ℤ to → 0 < days_between_of from to
+days_between_of-some from to less = omega (arith, signed_arith, less, days_between_of-whole from to (omega (arith, signed_arith, less)))
 
 -- amounts on days that rise rise
 pub rise-map : (flow : ℤ → Flow) → ((day : ℤ) → (flow day).day ≡ day) → (dates : List ℤ) → AllPairs (λ a b. a <ℤ b) dates → Rise (map flow dates)

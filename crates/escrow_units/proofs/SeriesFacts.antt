@@ -3,7 +3,7 @@ use borrow.Author.Differences.{up, down}
 use Rattle.std.proofs.Common.{IsTrue, eq-eqb, ◌==◌, Bool, true, false, if◌then◌else◌, zero, suc, ◌≡◌, ◌∙◌, ℕ, ◌+◌, ◌-◌, ◌*◌, ◌<◌, ◌≤◌, min, refl, sym, ap, arith, ℤ, pos, neg_ℤ, ◌+ℤ◌, ◌*ℤ◌, ◌≤ℤ◌, ◌<ℤ◌, inl, inr}
 use Rattle.std.proofs.lemmas.Bool.{cases_lt}
 use Rattle.std.proofs.lemmas.Bool.Decides.{nat_tests}
-use Rattle.escrow_units.specs.Calendar.{CivilDate, number_of, date_of, later_year, later_month, months_later, month_end, is_month_end, half_years_back, half_back_of, years_after_of, e_of, e_of_date, IsBaseDay}
+use Rattle.escrow_units.specs.Calendar.{CivilDate, number_of, date_of, later_year, later_month, months_later, month_end, is_month_end, half_years_back, half_back_of, years_after_of, thirty_day_place_of, thirty_day_place_of_date, IsBaseDay}
 use Rattle.escrow_units.specs.DayNumber.{IsDayNumber}
 use Rattle.escrow_units.specs.declared.security.StepRule.{StepRule}
 use Rattle.escrow_units.specs.declared.security.StepRule.TheVariants as rule
@@ -246,7 +246,7 @@ half_back_of-month_end maturity k h few end =
     month_end_kept (half_back_of maturity k rule.MonthEnd) (is_month_end (date_of maturity)) _ _ (date_of maturity).day end (date_of-half_back_of maturity rule.MonthEnd k h few).1
 
 index_of_back : (date : CivilDate) (months : ℕ) (y : ℤ) (m : ℕ) → IsBaseDate date → IsBack date months y m → date.day ≤ 28
-    → e_of_date (clamped y m date.day) + 30 * months ≡ e_of_date date
+    → thirty_day_place_of_date (clamped y m date.day) + 30 * months ≡ thirty_day_place_of_date date
 index_of_back date months y m base to short =
     let long = days_in_month_bounds y m in
     let day : min date.day (days_in_month y m) ≡ date.day = omega arith in
@@ -255,11 +255,11 @@ index_of_back date months y m base to short =
     rw day (omega (arith, signed_arith, from, at, to.place))
 
 pub half_back_of-index : (maturity : ℤ) (k : ℕ) → IsBaseDay maturity → k ≤ 84 → (date_of maturity).day ≤ 28
-    → e_of (half_back_of maturity k rule.SameDay) + 180 * k ≡ e_of maturity
+    → thirty_day_place_of (half_back_of maturity k rule.SameDay) + 180 * k ≡ thirty_day_place_of maturity
 half_back_of-index maturity k h few short =
     let base = base_date maturity h in
     let to = back (date_of maturity) (6 * k) base (omega arith) in
-    let same = ap e_of_date (date_of-half_back_of maturity rule.SameDay k h few).1 in
+    let same = ap thirty_day_place_of_date (date_of-half_back_of maturity rule.SameDay k h few).1 in
     omega (arith, same, index_of_back (date_of maturity) (6 * k) _ _ base to short)
 
 -- a date no months later

@@ -1,10 +1,11 @@
 -- What the definitions of dates, series, years, indices and kinds mean.
 use Rattle.std.specs.Prelude.{◌≡◌, ◌↔◌, ℕ, ◌+◌, ◌*◌, ◌<◌, ◌≤◌, min, IsTrue, List, Some, ℤ, pos, ◌+ℤ◌, ◌≤ℤ◌, ◌<ℤ◌}
 use Rattle.jiff_core.specs.Calendar.{IsCivilDate, days_in_month}
-use Rattle.escrow_units.specs.Calendar.{CivilDate, number_of, date_of, half_back_of, years_after_of, is_month_end, e_of, IsBaseDay}
+use Rattle.escrow_units.specs.Calendar.{CivilDate, number_of, date_of, half_back_of, years_after_of, is_month_end, thirty_day_place_of, IsBaseDay}
 use Rattle.escrow_units.specs.DateText.{IsFieldDay, day_of, day_text}
 use Rattle.escrow_units.specs.DayNumber.{IsDayNumber}
 use Rattle.escrow_units.specs.SlgsTerms.{IsOfKind, IsSettlement}
+use Rattle.escrow_units.specs.declared.limits.TheConstants.{GREATEST_INDEX}
 use Rattle.escrow_units.specs.declared.security.SlgsKind.{SlgsKind}
 use Rattle.escrow_units.specs.declared.security.StepRule.{StepRule}
 use Rattle.escrow_units.specs.declared.security.StepRule.TheVariants as rule
@@ -72,7 +73,7 @@ MonthEndIsSameDayElsewhere =
 abbrev pub StepsCount180 : Type 0
 StepsCount180 =
     (maturity : ℤ) (k : ℕ) → IsBaseDay maturity → k ≤ 84 → (date_of maturity).day ≤ 28
-    → e_of (half_back_of maturity k rule.SameDay) + 180 * k ≡ e_of maturity
+    → thirty_day_place_of (half_back_of maturity k rule.SameDay) + 180 * k ≡ thirty_day_place_of maturity
 
 -- years have 365 or 366 days, so more years lead to a later day
 pub record IsYears (years : ℕ) (from to : ℤ) : Type 0 where
@@ -98,13 +99,13 @@ SettlementLeadsToBaseDays =
 
 -- a later day has no smaller index
 abbrev pub IndexRises : Type 0
-IndexRises = (a b : ℤ) → IsDayNumber a → IsDayNumber b → a ≤ℤ b → e_of a ≤ e_of b
+IndexRises = (a b : ℤ) → IsDayNumber a → IsDayNumber b → a ≤ℤ b → thirty_day_place_of a ≤ thirty_day_place_of b
 
 -- the index of a day up to 40 years later is at most 14,400
 abbrev pub IndexIsBounded : Type 0
 IndexIsBounded =
     (settle n : ℤ) → IsDayNumber settle → IsDayNumber n → n ≤ℤ years_after_of settle 40
-    → e_of n ≤ e_of settle + 14_400
+    → thirty_day_place_of n ≤ thirty_day_place_of settle + GREATEST_INDEX
 
 -- each maturity has one kind
 abbrev pub KindsAreExclusive : Type 0

@@ -1,6 +1,6 @@
--- Lists of amounts on days: their sum, their order, and their places in the day count of the yield.
-use Rattle.std.specs.Prelude.{◌≡◌, ℕ, ◌-◌, List, [], ◌∷◌, ◌++◌, map, AllPairs, sum_by, ℤ, ◌<ℤ◌}
-use Rattle.escrow_units.specs.Calendar.{e_of}
+-- Lists of amounts on days: their sum, their order, their span, and their places in the day count of the yield.
+use Rattle.std.specs.Prelude.{◌≡◌, ℕ, ◌-◌, List, [], ◌∷◌, ◌++◌, map, All, AllPairs, sum_by, ℤ, ◌<ℤ◌, ◌≤ℤ◌}
+use Rattle.escrow_units.specs.Calendar.{thirty_day_place_of, years_after_of}
 use Rattle.escrow_units.specs.PresentValue.{IndexedFlow}
 use Rattle.escrow_units.specs.declared.security.Flow.{Flow}
 
@@ -12,6 +12,14 @@ total flows = sum_by (λ flow. flow.cents.0) flows
 abbrev pub Rise : List Flow → Type 0
 Rise flows = AllPairs (λ earlier later. earlier.day <ℤ later.day) flows
 
+-- each amount falls from one day to another
+abbrev pub FallWithin : ℤ → ℤ → List Flow → Type 0
+FallWithin from to flows = All (λ flow. (from ≤ℤ flow.day) × (flow.day ≤ℤ to)) flows
+
+-- each amount falls from settlement to 40 years later
+abbrev pub FallWithinFortyYears : ℤ → List Flow → Type 0
+FallWithinFortyYears settle flows = FallWithin settle (years_after_of settle 40) flows
+
 -- the last amount falls on a day
 pub record EndsOn (day : ℤ) (flows : List Flow) : Type 0 where
   pub before : List Flow
@@ -19,10 +27,10 @@ pub record EndsOn (day : ℤ) (flows : List Flow) : Type 0 where
   pub order : flows ≡ before ++ last ∷ []
   pub falls : last.day ≡ day
 
--- the days from settlement to a day by years of twelve months of thirty days (30/360)
-abbrev pub index_of : ℤ → ℤ → ℕ
-index_of settle day = e_of day - e_of settle
+-- the days from settlement to a day by years of twelve months of thirty days (30E/360, where each 31st counts as the 30th)
+abbrev pub index360_of : ℤ → ℤ → ℕ
+index360_of settle day = thirty_day_place_of day - thirty_day_place_of settle
 
 -- amounts by their index, which counts from settlement
 abbrev pub indexed : ℤ → List Flow → List IndexedFlow
-indexed settle flows = map (λ flow. record { index = index_of settle flow.day; cents = flow.cents.0 }) flows
+indexed settle flows = map (λ flow. record { index = index360_of settle flow.day; cents = flow.cents.0 }) flows

@@ -1,10 +1,13 @@
 pub mod Calendar
 pub mod CalendarLaws
+pub mod CivilDates
+pub mod ClosedForm
 pub mod DateText
 pub mod DayNumber
 pub mod Denomination
 pub mod Digits
 pub mod Flows
+pub mod Interest
 pub mod NumberText
 pub mod PresentValue
 pub mod PriceText

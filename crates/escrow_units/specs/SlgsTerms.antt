@@ -2,6 +2,7 @@
 use Rattle.std.specs.Prelude.{◌≡◌, ℕ, ◌==◌, if◌then◌else◌, Bool, ◌&&◌, ℤ, pos, ◌+ℤ◌, ◌≤ℤ◌, ◌<ℤ◌, int_le}
 use Rattle.jiff_core.specs.Calendar.{IsBetween}
 use Rattle.escrow_units.specs.Calendar.{IsSeriesDate, years_after_of}
+use Rattle.escrow_units.specs.declared.limits.TheConstants.{FIRST_WAIT}
 use Rattle.escrow_units.specs.declared.security.Slgs.{Slgs}
 use Rattle.escrow_units.specs.declared.security.SlgsKind.{SlgsKind}
 use Rattle.escrow_units.specs.declared.security.SlgsKind.TheVariants as kind
@@ -31,7 +32,7 @@ IsOfKind kind.Bond settle maturity = years_after_of settle 10 <ℤ maturity
 -- (this project's own)
 pub record IsFirstInterest (settle maturity first : ℤ) : Type 0 where
   pub series : IsSeriesDate maturity rule.SameDay first
-  pub late : (settle +ℤ pos 30) ≤ℤ first
+  pub late : (settle +ℤ pos FIRST_WAIT) ≤ℤ first
   pub early : first ≤ℤ years_after_of settle 1
 
 -- a certificate pays once, at maturity; notes and bonds pay interest by the half-year (31 CFR part 344)

@@ -1,9 +1,10 @@
 ghost use Rattle.std.specs.Prelude.{◌≡◌, ◌<◌, ◌≤◌, ◌-◌, pos, ◌+ℤ◌, ◌≤ℤ◌, unsigned_abs};
 ghost use Rattle.jiff.specs.Words.{add_months, epoch_day};
-ghost use Rattle.escrow_units.specs.Calendar.{IsBaseDay, e_of, half_back_of, years_after_of};
+ghost use Rattle.escrow_units.specs.Calendar.{IsBaseDay, thirty_day_place_of, half_back_of, years_after_of};
 ghost use Rattle.escrow_units.specs.DayNumber.{IsDayNumber};
 
 use crate::day::Day;
+use crate::limits::GREATEST_INDEX;
 use crate::security::StepRule;
 use jiff::ToSpan;
 use jiff::civil::Date;
@@ -37,7 +38,7 @@ pub fn days_between(a: Day, b: Day) -> u32
 
 // The place of a day in years of twelve months of thirty days.
 fn thirty_day_place(day: Day) -> u32
-    ensures value { result ≡ e_of day }
+    ensures value { result ≡ thirty_day_place_of day }
     ensures bound { result < 1_000_000 }
     ensures years { IsDayNumber day }
 {
@@ -52,8 +53,8 @@ fn thirty_day_place(day: Day) -> u32
 pub fn index360(settle: Day, day: Day) -> u32
     requires order { settle ≤ℤ day }
     requires near { day ≤ℤ years_after_of settle 40 }
-    ensures value { result ≡ e_of day - e_of settle }
-    ensures bound { result ≤ 14_400 }
+    ensures value { result ≡ thirty_day_place_of day - thirty_day_place_of settle }
+    ensures bound { result ≤ GREATEST_INDEX }
 {
     thirty_day_place(day) - thirty_day_place(settle)
 }

@@ -1,4 +1,5 @@
-ghost use Rattle.std.specs.Prelude.{◌≡◌};
+//! A day of the calendar.
+ghost use Rattle.std.specs.Prelude.{◌≡◌, pos};
 ghost use Rattle.escrow_units.specs.DayNumber.{IsDayNumber};
 
 use std::default::Default;
@@ -27,7 +28,9 @@ impl Model for Day {
 
 impl Default for Day {
     /// 1970-01-01.
-    fn default() -> Day {
+    fn default() -> Day
+        ensures { result ≡ pos 0 }
+    {
         Day { number: 0 }
     }
 }

@@ -1,23 +1,36 @@
-ghost use Rattle.std.specs.Prelude.{◌≡◌, ◌*◌, ◌^◌, ◌<◌, ◌≤◌};
-ghost use Rattle.escrow_units.specs.Rounding.{near};
+//! The interest that a face earns.
+ghost use Rattle.std.specs.Prelude.{◌≡◌, ◌^◌, ◌<◌, ◌≤◌};
+ghost use Rattle.escrow_units.specs.Interest.{earned_of, half_coupon_of};
 
 use crate::amount::{Cents, Rate};
+use crate::limits::{AMOUNT_LIMIT, GREATEST_INDEX};
 use crate::rounding::near;
 
-/// What a face earns in so many parts of a whole, in cents: `face * rate * parts / whole`, to the cent, halves up.
+/// What a face earns in so many parts of a year that has `year` of them, to the cent, halves up.
 ///
-/// A rate counts 100,000 to the face and a year, so the whole is 200,000 for the interest of a half-year. The face is at
-/// most 10^11 cents, the rate at most 30 percent, and the parts are at most 1000.
-pub fn earned(face: Cents, rate: Rate, parts: u32, whole: u32) -> u64
-    requires face { face.0 ≤ 10 ^ 11 }
+/// A rate counts 100,000 to the face and a year: the interest is `face * rate * parts / (100,000 * year)`. The parts are
+/// days, of a year of 360, 365 or 366 days, or of twice a half-year.
+pub fn earned(face: Cents, rate: Rate, parts: u32, year: u32) -> Cents
+    requires face { face.0 ≤ AMOUNT_LIMIT }
     requires rate { rate.0 ≤ 30_000 }
-    requires parts { parts ≤ 1000 }
-    requires whole { 0 < whole }
-    ensures value { result ≡ near (face.0 * rate.0 * parts) whole }
-    ensures bound { result < 2 ^ 62 }
+    requires parts { parts ≤ GREATEST_INDEX }
+    requires year { 0 < year }
+    ensures value { result.0 ≡ earned_of face.0 rate.0 parts year }
+    ensures bound { result.0 < 2 ^ 62 }
 {
-    near(
+    let year_of_rate = 100_000 * year as u128;
+    Cents(near(
         face.0 as u128 * rate.0 as u128 * parts as u128,
-        whole as u128,
-    ) as u64
+        year_of_rate,
+    ) as u64)
+}
+
+/// Half a coupon: the interest of a half-year on a face, to the cent, halves up.
+pub fn half_coupon(face: Cents, rate: Rate) -> Cents
+    requires face { face.0 ≤ AMOUNT_LIMIT }
+    requires rate { rate.0 ≤ 30_000 }
+    ensures value { result.0 ≡ half_coupon_of face.0 rate.0 }
+    ensures bound { result.0 < 2 ^ 62 }
+{
+    Cents(near(face.0 as u128 * rate.0 as u128, 200_000) as u64)
 }

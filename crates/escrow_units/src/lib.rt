@@ -11,6 +11,7 @@ mod denomination;
 mod digits;
 mod fault;
 mod interest;
+mod limits;
 #[cfg(test)]
 mod number_tests;
 mod number_text;
@@ -18,6 +19,7 @@ mod price_text;
 mod printed;
 mod rounding;
 mod security;
+mod series;
 mod settlement;
 
 pub use amount::{Cents, Price8, Rate, YieldUnits};
@@ -28,7 +30,11 @@ pub use day::Day;
 pub use decimal::whole_number;
 pub use denomination::{read_cap, read_terms};
 pub use fault::NumberFault;
-pub use interest::earned;
+pub use interest::{earned, half_coupon};
+pub use limits::{
+    AMOUNT_LIMIT, FIRST_WAIT, FLOWS_LIMIT, GREATEST_INDEX, GREATEST_YIELD, MOST_LINES,
+    MOST_NEED_DATES,
+};
 pub use number_text::{
     decimal_spelling, read_cents, read_count, read_dollars, read_rate, read_yield,
 };
@@ -36,4 +42,5 @@ pub use price_text::read_price;
 pub use printed::{print_cents, print_rate, print_yield};
 pub use rounding::near;
 pub use security::{AskedRate, Flow, Slgs, SlgsKind, StepRule, Terms};
+pub use series::{SeriesDates, series_around};
 pub use settlement::is_settlement;

@@ -2,7 +2,7 @@
 use Rattle.std.specs.Prelude.{ℕ, zero, suc, ◌+◌, ◌-◌, ◌*◌, ◌^◌, ◌&&◌, if◌then◌else◌, int_lt, int_le, List, [], ◌∷◌, ◌++◌, map, filter, find, Option, Some, None, unwrap_or, ℤ}
 use Rattle.std.specs.List.{flat_map}
 use Rattle.std.specs.Ordering.{int_eq}
-use Rattle.escrow_units.specs.Calendar.{half_back_of, e_of}
+use Rattle.escrow_units.specs.Calendar.{half_back_of, thirty_day_place_of}
 use Rattle.escrow_units.specs.Rounding.{near}
 use Rattle.escrow_units.specs.declared.security.Flow.{Flow}
 use Rattle.escrow_units.specs.declared.security.StepRule.TheVariants as rule
@@ -36,7 +36,7 @@ period_start maturity day = unwrap_or (find (λ date. int_le date day) (series_o
 
 -- the interest that has accrued since a day, by years of twelve months of thirty days (30/360)
 abbrev pub accrued_since : Bond → ℤ → ℤ → ℕ
-accrued_since bond start day = near (bond.principal.0 * bond.coupon.0 * (e_of day - e_of start)) 36_000_000
+accrued_since bond start day = near (bond.principal.0 * bond.coupon.0 * (thirty_day_place_of day - thirty_day_place_of start)) 36_000_000
 
 -- accrued interest is due where the call is no date of the series
 abbrev pub accrued : Bond → ℤ → List Flow

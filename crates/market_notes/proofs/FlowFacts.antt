@@ -8,13 +8,13 @@ use Rattle.std.proofs.lemmas.List.{map-append, take_all, get_or-map, length-map}
 use Rattle.std.proofs.lemmas.List.Elements.{All-map, All-same}
 use Rattle.std.proofs.lemmas.List.Sums.{sum_by-cons}
 use Rattle.jiff_core.proofs.SignedLemmas.{signed_arith}
-use Rattle.escrow_units.proofs.FlowFacts.{choice-false, choice-true, days_to-count, days_to-some, rise-map}
+use Rattle.escrow_units.proofs.FlowFacts.{choice-false, choice-true, days_between_of-count, days_between_of-some, rise-map}
 use Rattle.escrow_units.proofs.RoundingFacts.{near-mono, near-zero}
-use Rattle.escrow_units.proofs.SeriesDates.{dates_after, dates_after-last, dates_after-rise, dates_before, half_back_of-reach, half_back_of-zero}
+use Rattle.escrow_units.proofs.LastDates.{last_dates, last_dates-last, last_dates-rise, dates_before, half_back_of-reach, half_back_of-zero}
 use Rattle.escrow_units.specs.Calendar.{half_back_of}
-use Rattle.escrow_units.specs.Flows.{EndsOn, Rise, index_of}
+use Rattle.escrow_units.specs.Flows.{EndsOn, Rise, index360_of}
 use Rattle.escrow_units.specs.Rounding.{near}
-use Rattle.escrow_units.specs.Series.{days_to}
+use Rattle.escrow_units.specs.Series.{days_between_of}
 use Rattle.escrow_units.specs.declared.security.Flow.{Flow}
 use Rattle.escrow_units.specs.declared.security.StepRule.{StepRule}
 use Rattle.escrow_units.specs.declared.security.StepRule.TheVariants as rule
@@ -22,12 +22,12 @@ use Rattle.market_notes.specs.NoteFlows.{payment_dates, payments_of, payment_on,
 use Rattle.market_notes.specs.NoteLaws.{IsCouponDate, SettlesIn, CostsPriceOnCouponDate, AreAfterSettlement, PayFaceOnce, AreAtMost, PayNoLessForMore}
 use Rattle.market_notes.specs.PriceForm.{has_matured}
 use Rattle.market_notes.specs.declared.note.Note.{Note}
-use Rattle.market_notes.proofs.SeriesFacts.{IsTerm, PaysOn, dates_after-late}
+use Rattle.market_notes.proofs.SeriesFacts.{IsTerm, PaysOn, last_dates-late}
 
 -- a maturity that is late enough
 pub record IsLater (settle maturity : ℤ) : Type 0 where
   pub after : settle <ℤ maturity
-  pub index : 1 ≤ index_of settle maturity
+  pub index : 1 ≤ index360_of settle maturity
 
 pub later : (settle maturity : ℤ) → has_matured settle maturity ≡ false → IsLater settle maturity
 later settle maturity h = record { after = grind (arith, ints); index = grind (arith, ints) }
@@ -38,15 +38,15 @@ pub accrued-is : (note : Note) (face : ℕ) (from to : ℤ) (elapsed whole : ℕ
     → near (face * note.coupon.0 * elapsed) (200_000 * whole) ≡ accrued_interest note face
 unfolding accrued_interest
 accrued-is note face from to elapsed whole e f g h =
-    rw (← e, ← f, days_to-count from note.settle elapsed g, days_to-count from to whole h) refl
+    rw (← e, ← f, days_between_of-count from note.settle elapsed g, days_between_of-count from to whole h) refl
 
 none-accrued : (note : Note) (face : ℕ) → SettlesIn note (previous_date note) (next_date note) → IsCouponDate note note.settle → accrued_interest note face ≡ 0
 unfolding accrued_interest
 none-accrued note face around on =
-    let some : 0 < days_to (previous_date note) (next_date note) = days_to-some (previous_date note) (next_date note) (omega (arith, signed_arith, around.begun, around.unpaid)) in
+    let some : 0 < days_between_of (previous_date note) (next_date note) = days_between_of-some (previous_date note) (next_date note) (omega (arith, signed_arith, around.begun, around.unpaid)) in
     elim (around.between note.settle on) [
       | inl by ↦
-          let none : days_to (previous_date note) note.settle ≡ 0 = days_to-count (previous_date note) note.settle 0 (omega (arith, signed_arith, by, around.begun)) in
+          let none : days_between_of (previous_date note) note.settle ≡ 0 = days_between_of-count (previous_date note) note.settle 0 (omega (arith, signed_arith, by, around.begun)) in
           near-zero _ _ (rw none (omega arith)) (omega arith)
       | inr past ↦ absurd (omega (arith, signed_arith, past, around.unpaid))
     ]
@@ -61,8 +61,8 @@ price-more note face more le = near-mono _ _ _ (omega arith) (mul-le-mul_right n
 accrued-more : (note : Note) (face more : ℕ) → SettlesIn note (previous_date note) (next_date note) → face ≤ more → accrued_interest note face ≤ accrued_interest note more
 unfolding accrued_interest
 accrued-more note face more around le =
-    let some : 0 < days_to (previous_date note) (next_date note) = days_to-some (previous_date note) (next_date note) (omega (arith, signed_arith, around.begun, around.unpaid)) in
-    near-mono _ _ _ (omega arith) (mul-le-mul_right (days_to (previous_date note) note.settle) (mul-le-mul_right note.coupon.0 le))
+    let some : 0 < days_between_of (previous_date note) (next_date note) = days_between_of-some (previous_date note) (next_date note) (omega (arith, signed_arith, around.begun, around.unpaid)) in
+    near-mono _ _ _ (omega arith) (mul-le-mul_right (days_between_of (previous_date note) note.settle) (mul-le-mul_right note.coupon.0 le))
 
 pub costs-more : (note : Note) (face more : ℕ) → SettlesIn note (previous_date note) (next_date note) → face ≤ more → cost_of note face ≤ cost_of note more
 costs-more note face more around le = omega (arith, price-more note face more le, accrued-more note face more around le)
@@ -73,27 +73,27 @@ pub payments-are : (note : Note) (face : ℕ) (flows : List Flow) (i : ℕ) (dat
 unfolding payments_of
 payments-are note face flows i dates e all f = e ∙ ap (map (payment_on note face)) (take_all i dates all ∙ f)
 
-payments-series : (note : Note) (face n : ℕ) → PaysOn note n → payments_of note face ≡ map (payment_on note face) (dates_after note.maturity rule.MonthEnd n)
+payments-series : (note : Note) (face n : ℕ) → PaysOn note n → payments_of note face ≡ map (payment_on note face) (last_dates note.maturity rule.MonthEnd n)
 unfolding payments_of
 payments-series note face n p = ap (map (payment_on note face)) p.dates
 
 pub payments-rise : (note : Note) (face n : ℕ) → IsTerm note → PaysOn note n → Rise (payments_of note face)
 payments-rise note face n t p =
     subst Rise (sym (payments-series note face n p))
-    (rise-map (payment_on note face) (λ day. refl) (dates_after note.maturity rule.MonthEnd n) (dates_after-rise note.maturity rule.MonthEnd n t.base (omega (arith, p.few))))
+    (rise-map (payment_on note face) (λ day. refl) (last_dates note.maturity rule.MonthEnd n) (last_dates-rise note.maturity rule.MonthEnd n t.base (omega (arith, p.few))))
 
 pub payments-after : (note : Note) (face n : ℕ) → IsTerm note → PaysOn note n → note.settle <ℤ next_date note → AreAfterSettlement note (payments_of note face)
 payments-after note face n t p late =
-    All-same (λ (flow : Flow). IsCouponDate note flow.day × (note.settle <ℤ flow.day)) (payments_of note face) (map (payment_on note face) (dates_after note.maturity rule.MonthEnd n)) (payments-series note face n p)
-    (All-map (λ (flow : Flow). IsCouponDate note flow.day × (note.settle <ℤ flow.day)) (payment_on note face) (dates_after note.maturity rule.MonthEnd n)
-    (dates_after-late note n t p late))
+    All-same (λ (flow : Flow). IsCouponDate note flow.day × (note.settle <ℤ flow.day)) (payments_of note face) (map (payment_on note face) (last_dates note.maturity rule.MonthEnd n)) (payments-series note face n p)
+    (All-map (λ (flow : Flow). IsCouponDate note flow.day × (note.settle <ℤ flow.day)) (payment_on note face) (last_dates note.maturity rule.MonthEnd n)
+    (last_dates-late note n t p late))
 
 pub payments-end : (note : Note) (face n : ℕ) → IsTerm note → PaysOn note n → EndsOn note.maturity (payments_of note face)
 payments-end note face n t p = record {
   before = map (payment_on note face) (dates_before note.maturity rule.MonthEnd (n - 1));
   last = payment_on note face note.maturity;
   order = payments-series note face n p
-      ∙ (ap (map (payment_on note face)) (dates_after-last note.maturity rule.MonthEnd n t.base p.some)
+      ∙ (ap (map (payment_on note face)) (last_dates-last note.maturity rule.MonthEnd n t.base p.some)
       ∙ map-append (payment_on note face) (dates_before note.maturity rule.MonthEnd (n - 1)) (note.maturity ∷ []));
   falls = refl;
 }
@@ -108,9 +108,9 @@ cents_of flow = flow.cents.0
 -- where the principal falls at maturity alone, it is paid once
 face-sum : (interest : ℕ) (principal : ℤ → ℕ) (face : ℕ) (maturity : ℤ) (r : StepRule) (k : ℕ) → principal (half_back_of maturity 0 r) ≡ face
     → ((j : ℕ) → 1 ≤ j → j ≤ k → principal (half_back_of maturity j r) ≡ 0)
-    → sum_by cents_of (map (flow_of interest principal) (dates_after maturity r (suc k)))
-    ≡ face + length (map (flow_of interest principal) (dates_after maturity r (suc k))) * interest
-unfolding dates_after flow_of cents_of
+    → sum_by cents_of (map (flow_of interest principal) (last_dates maturity r (suc k)))
+    ≡ face + length (map (flow_of interest principal) (last_dates maturity r (suc k))) * interest
+unfolding last_dates flow_of cents_of
 face-sum interest principal face maturity r zero last none =
     let day = half_back_of maturity 0 r in
     omega (arith, sum_by-cons cents_of (flow_of interest principal day) [], last)
@@ -119,7 +119,7 @@ face-sum interest principal face maturity r (suc k) last none =
     let rest = face-sum interest principal face maturity r k last (λ j some few. none j some (omega arith)) in
     omega (
       arith,
-      sum_by-cons cents_of (flow_of interest principal day) (map (flow_of interest principal) (dates_after maturity r (suc k))),
+      sum_by-cons cents_of (flow_of interest principal day) (map (flow_of interest principal) (last_dates maturity r (suc k))),
       rest,
       none (suc k) (omega arith) (omega arith),
     )
@@ -129,7 +129,7 @@ choice-mono true a b h = h
 choice-mono false a b h = omega arith
 
 face-once : (note : Note) (face k : ℕ) → IsTerm note → k ≤ 84
-    → PayFaceOnce note face (map (payment_on note face) (dates_after note.maturity rule.MonthEnd (suc k)))
+    → PayFaceOnce note face (map (payment_on note face) (last_dates note.maturity rule.MonthEnd (suc k)))
 unfolding flow_of cents_of
 face-once note face k t few =
     face-sum (half_year_interest note face) (principal_on note face) face note.maturity rule.MonthEnd k
@@ -142,7 +142,7 @@ face-once note face k t few =
 pub payments-face : (note : Note) (face n : ℕ) → IsTerm note → PaysOn note n → PayFaceOnce note face (payments_of note face)
 payments-face note face n t p =
     let more : n ≡ suc (n - 1) = omega (arith, p.some) in
-    subst (PayFaceOnce note face) (sym (payments-series note face n p ∙ ap (λ (m : ℕ). map (payment_on note face) (dates_after note.maturity rule.MonthEnd m)) more))
+    subst (PayFaceOnce note face) (sym (payments-series note face n p ∙ ap (λ (m : ℕ). map (payment_on note face) (last_dates note.maturity rule.MonthEnd m)) more))
     (face-once note face (n - 1) t (omega (arith, p.few)))
 
 -- a greater face

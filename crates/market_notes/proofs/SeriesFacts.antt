@@ -6,11 +6,11 @@ use Rattle.jiff_core.proofs.SignedLemmas.{signed_arith}
 use Rattle.escrow_units.specs.Calendar.{half_back_of, IsBaseDay, IsSeriesDate}
 use Rattle.escrow_units.specs.CalendarLaws.{IsHalfYear}
 use Rattle.escrow_units.specs.DayNumber.{IsDayNumber}
-use Rattle.escrow_units.specs.Series.{series_dates}
+use Rattle.escrow_units.specs.Series.{series_from}
 use Rattle.escrow_units.specs.declared.security.StepRule.TheVariants as rule
 use Rattle.escrow_units.proofs.SeriesFacts.{half_back_of-falls, years_after_of-none}
 use Rattle.escrow_units.proofs.FlowFacts.{int_lt-not, int_lt-test}
-use Rattle.escrow_units.proofs.SeriesDates.{dates_after, dates_after-all, dates_after-more, filter-dates, half_back_of-order, half_back_of-reach, half_back_of-zero, half_year-along, half_year-before, length-dates_after, series_dates-after}
+use Rattle.escrow_units.proofs.LastDates.{last_dates, last_dates-all, last_dates-more, filter-dates, half_back_of-order, half_back_of-reach, half_back_of-zero, half_year-along, half_year-before, length-last_dates, series_from-last}
 use Rattle.escrow_units.proofs.YearFacts.{years_after_of-passes, settlement-base}
 use Rattle.market_notes.specs.NoteFlows.{payment_dates, previous_date, next_date}
 use Rattle.market_notes.specs.NoteLaws.{SettlesIn}
@@ -42,7 +42,7 @@ few_steps note k t few late =
 pub record PaysOn (note : Note) (n : ℕ) : Type 0 where
   pub some : 0 < n
   pub few : n ≤ 81
-  pub dates : payment_dates note ≡ dates_after note.maturity rule.MonthEnd n
+  pub dates : payment_dates note ≡ last_dates note.maturity rule.MonthEnd n
   pub count : length (payment_dates note) ≡ n
   pub start : previous_date note ≡ half_back_of note.maturity n rule.MonthEnd
   pub next : next_date note ≡ half_back_of note.maturity (n - 1) rule.MonthEnd
@@ -52,12 +52,12 @@ pub pays_on : (note : Note) (n : ℕ) → IsTerm note → 0 < n → n ≤ 84 →
 unfolding payment_dates
 pays_on note n t some few late early =
     let steps = few_steps note (n - 1) t (omega arith) late in
-    let all : series_dates note.maturity rule.MonthEnd 84 ≡ dates_after note.maturity rule.MonthEnd 85 = series_dates-after note.maturity rule.MonthEnd 84 in
-    let dates : payment_dates note ≡ dates_after note.maturity rule.MonthEnd n =
+    let all : series_from note.maturity rule.MonthEnd 84 ≡ last_dates note.maturity rule.MonthEnd 85 = series_from-last note.maturity rule.MonthEnd 84 in
+    let dates : payment_dates note ≡ last_dates note.maturity rule.MonthEnd n =
     ap (filter (int_lt note.settle)) all ∙ filter-dates (int_lt note.settle) note.maturity rule.MonthEnd n 85 (omega arith)
     (λ j less. int_lt-test note.settle _ (omega (arith, signed_arith, late, half_back_of-order note.maturity rule.MonthEnd j (n - 1) t.base (omega arith) (omega arith))))
     (λ j from less. int_lt-not note.settle _ (omega (arith, signed_arith, early, half_back_of-order note.maturity rule.MonthEnd n j t.base from (omega arith)))) in
-    let count : length (payment_dates note) ≡ n = ap length dates ∙ length-dates_after note.maturity rule.MonthEnd n in
+    let count : length (payment_dates note) ≡ n = ap length dates ∙ length-last_dates note.maturity rule.MonthEnd n in
     record {
       some = some;
       few = omega arith;
@@ -87,11 +87,11 @@ pub record IsWalk (note : Note) (date next : ℤ) (dates : List ℤ) : Type 0 wh
   pub few : length dates ≤ 81
   pub at : date ≡ half_back_of note.maturity (length dates) rule.MonthEnd
   pub before : next ≡ half_back_of note.maturity (length dates - 1) rule.MonthEnd
-  pub walked : reverse dates ≡ dates_after note.maturity rule.MonthEnd (length dates)
+  pub walked : reverse dates ≡ last_dates note.maturity rule.MonthEnd (length dates)
   pub late : note.settle <ℤ next
 
 pub walk-start : (note : Note) (dates : List ℤ) → IsTerm note → note.settle <ℤ note.maturity → dates ≡ [] → IsWalk note note.maturity note.maturity dates
-unfolding dates_after
+unfolding last_dates
 walk-start note dates t after e = rw e (record {
   few = omega arith;
   at = sym (half_back_of-zero note.maturity rule.MonthEnd t.base);
@@ -113,8 +113,8 @@ walk-more note date next back dates more t walk late f g =
       walked = ap reverse g
           ∙ (reverse-append dates (date ∷ [])
           ∙ (ap (λ ds. date ∷ ds) walk.walked
-          ∙ (ap (λ d. d ∷ dates_after note.maturity rule.MonthEnd (length dates)) walk.at
-          ∙ dates_after-more note.maturity rule.MonthEnd (length dates) (length more) long)));
+          ∙ (ap (λ d. d ∷ last_dates note.maturity rule.MonthEnd (length dates)) walk.at
+          ∙ last_dates-more note.maturity rule.MonthEnd (length dates) (length more) long)));
       late = late;
     }
 
@@ -168,9 +168,9 @@ has_dates note start finish t around =
     record { count = k + 1; on = pays_on note (k + 1) t (omega arith) (omega arith) (rw less late) early }
 
 -- what the dates on which a note pays are: coupon dates after settlement
-pub dates_after-late : (note : Note) (n : ℕ) → IsTerm note → PaysOn note n → note.settle <ℤ next_date note
-    → All (λ date. IsSeriesDate note.maturity rule.MonthEnd date × (note.settle <ℤ date)) (dates_after note.maturity rule.MonthEnd n)
-dates_after-late note n t p late =
-    dates_after-all (λ date. IsSeriesDate note.maturity rule.MonthEnd date × (note.settle <ℤ date)) note.maturity rule.MonthEnd n (λ j less.
+pub last_dates-late : (note : Note) (n : ℕ) → IsTerm note → PaysOn note n → note.settle <ℤ next_date note
+    → All (λ date. IsSeriesDate note.maturity rule.MonthEnd date × (note.settle <ℤ date)) (last_dates note.maturity rule.MonthEnd n)
+last_dates-late note n t p late =
+    last_dates-all (λ date. IsSeriesDate note.maturity rule.MonthEnd date × (note.settle <ℤ date)) note.maturity rule.MonthEnd n (λ j less.
     let order = half_back_of-order note.maturity rule.MonthEnd j (n - 1) t.base (omega arith) (omega (arith, p.few)) in
     (record { steps = j; few = omega (arith, p.few); back = refl }, omega (arith, signed_arith, late, p.next, order)))

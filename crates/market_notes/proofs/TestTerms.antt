@@ -4,7 +4,7 @@ use Rattle.jiff_core.proofs.SignedLemmas.{signed_arith}
 use Rattle.escrow_units.specs.Calendar.{date_of, years_after_of}
 use Rattle.escrow_units.proofs.SeriesFacts.{years_after_of-none}
 use Rattle.escrow_units.proofs.YearFacts.{years_after_of-passes}
-use Rattle.escrow_units.specs.Flows.{index_of}
+use Rattle.escrow_units.specs.Flows.{index360_of}
 use Rattle.market_notes.specs.NoteTerms.{IsNote}
 
 -- a maturity up to 14,600 days after 2025-01-15
@@ -17,7 +17,7 @@ within n few =
 pub accruing : IsNote (record { settle = pos 20103; maturity = pos 22019; coupon = record { 0 = 4000 }; price = record { 0 = 9_951_562_500 }; cap = 200_000 })
 unfolding date_of
 accruing =
-    let index : index_of (pos 20103) (pos 22019) ≡ 1890 = refl in
+    let index : index360_of (pos 20103) (pos 22019) ≡ 1890 = refl in
     record {
       settle = (omega (arith, signed_arith), omega (arith, signed_arith));
       after = omega (arith, signed_arith);
@@ -31,7 +31,7 @@ accruing =
 pub fresh : IsNote (record { settle = pos 20103; maturity = pos 20284; coupon = record { 0 = 4000 }; price = record { 0 = 10_000_000_000 }; cap = 200_000 })
 unfolding date_of
 fresh =
-    let index : index_of (pos 20103) (pos 20284) ≡ 180 = refl in
+    let index : index360_of (pos 20103) (pos 20284) ≡ 180 = refl in
     record {
       settle = (omega (arith, signed_arith), omega (arith, signed_arith));
       after = omega (arith, signed_arith);
@@ -45,7 +45,7 @@ fresh =
 pub of_february : IsNote (record { settle = pos 20103; maturity = pos 21973; coupon = record { 0 = 4000 }; price = record { 0 = 10_000_000_000 }; cap = 200_000 })
 unfolding date_of
 of_february =
-    let index : index_of (pos 20103) (pos 21973) ≡ 1843 = refl in
+    let index : index360_of (pos 20103) (pos 21973) ≡ 1843 = refl in
     record {
       settle = (omega (arith, signed_arith), omega (arith, signed_arith));
       after = omega (arith, signed_arith);

@@ -4,14 +4,14 @@ use Rattle.std.specs.Prelude.{ℕ, ◌+◌, ◌-◌, ◌*◌, ◌^◌, if◌then
 use Rattle.std.specs.Ordering.{int_eq}
 use Rattle.escrow_units.specs.Calendar.{half_back_of}
 use Rattle.escrow_units.specs.Rounding.{near}
-use Rattle.escrow_units.specs.Series.{days_to, series_dates}
+use Rattle.escrow_units.specs.Series.{days_between_of, series_from}
 use Rattle.escrow_units.specs.declared.security.Flow.{Flow}
 use Rattle.escrow_units.specs.declared.security.StepRule.TheVariants as rule
 use Rattle.market_notes.specs.declared.note.Note.{Note}
 
 -- a note pays on the dates of its series after settlement
 unfoldable pub payment_dates : Note → List ℤ
-payment_dates note = filter (int_lt note.settle) (series_dates note.maturity rule.MonthEnd 84)
+payment_dates note = filter (int_lt note.settle) (series_from note.maturity rule.MonthEnd 84)
 
 -- the date of the series before its payments, which is the last up to settlement
 abbrev pub previous_date : Note → ℤ
@@ -28,8 +28,8 @@ price_part note face = near (face * note.price.0) (10 ^ 10)
 -- the interest that a face has earned by settlement
 unfoldable pub accrued_interest : Note → ℕ → ℕ
 accrued_interest note face =
-    near (face * note.coupon.0 * days_to (previous_date note) note.settle)
-    (200_000 * days_to (previous_date note) (next_date note))
+    near (face * note.coupon.0 * days_between_of (previous_date note) note.settle)
+    (200_000 * days_between_of (previous_date note) (next_date note))
 
 -- what a face of so many cents costs
 abbrev pub cost_of : Note → ℕ → ℕ

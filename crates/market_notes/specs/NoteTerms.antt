@@ -2,7 +2,7 @@
 use Rattle.std.specs.Prelude.{◌≡◌, ◌≤◌, ℤ, ◌≤ℤ◌, ◌<ℤ◌, All, IfSome, IsSomeAnd}
 use Rattle.escrow_units.specs.Calendar.{years_after_of}
 use Rattle.escrow_units.specs.Denomination.{AreTerms}
-use Rattle.escrow_units.specs.Flows.{index_of}
+use Rattle.escrow_units.specs.Flows.{index360_of}
 use Rattle.escrow_units.specs.SlgsTerms.{IsSettlement}
 use Rattle.escrow_units.specs.declared.security.Terms.{Terms}
 use Rattle.market_notes.specs.declared.note.Note.{Note}
@@ -13,7 +13,7 @@ use Rattle.market_notes.specs.declared.note.NoteFile.{NoteFile}
 pub record IsNote (note : Note) : Type 0 where
   pub settle : IsSettlement note.settle
   pub after : note.settle <ℤ note.maturity
-  pub index : 1 ≤ index_of note.settle note.maturity
+  pub index : 1 ≤ index360_of note.settle note.maturity
   pub term : note.maturity ≤ℤ years_after_of note.settle 40
   pub coupon : note.coupon.0 ≤ 30_000
   pub least_price : 1_000_000_000 ≤ note.price.0

@@ -13,12 +13,12 @@ use Rattle.market_notes.specs.declared.fields.RowKind.{RowKind}
 use Rattle.market_notes.specs.declared.fields.RowKind.TheVariants as row_kind
 use Rattle.market_notes.specs.declared.note.Note.{Note}
 use Rattle.market_notes.specs.declared.note.NoteFile.{NoteFile}
-use Rattle.escrow_units.specs.Flows.{index_of}
+use Rattle.escrow_units.specs.Flows.{index360_of}
 pub use Rattle.row_fields.specs.RowForm.{Row, field_of, is_word, ◌>>=◌, or_refused, day_by, of_width, repeated_terms, first_row, refusal_of, answer_of_row, Answers}
 
 -- a maturity at or before settlement; and one of the index 0, which is the 31st where settlement is on the 30th
 abbrev pub has_matured : ℤ → ℤ → Bool
-has_matured settle maturity = int_le maturity settle || (index_of settle maturity == 0)
+has_matured settle maturity = int_le maturity settle || (index360_of settle maturity == 0)
 
 abbrev pub unmatured : Note → Result Note RefusalKind
 unmatured note = if has_matured note.settle note.maturity then Err kind.Matured else Ok note

@@ -2,11 +2,11 @@
 use Rattle.std.proofs.Common.{◌≡◌, ℕ, ◌+◌, ◌*◌, ◌^◌, ◌<◌, ◌≤◌, sym, ap, arith, refl}
 use Rattle.std.proofs.Math.Nat.{mul-div-mul_right, mul-le-mul, mul-le-mul_right}
 use Rattle.std.specs.Prelude.{ℤ, pos, ◌+ℤ◌, ◌≤ℤ◌, ◌<ℤ◌, int_lt, Bool, true, false, if◌then◌else◌}
-use Rattle.escrow_units.proofs.FlowFacts.{days_to-count, days_to-some, int_lt-not, int_lt-test}
+use Rattle.escrow_units.proofs.FlowFacts.{days_between_of-count, days_between_of-some, int_lt-not, int_lt-test}
 use Rattle.escrow_units.proofs.RoundingFacts.{near-at-most, near-zero}
 use Rattle.jiff_core.proofs.SignedLemmas.{signed_arith}
 use Rattle.escrow_units.specs.Rounding.{near}
-use Rattle.escrow_units.specs.Series.{days_to}
+use Rattle.escrow_units.specs.Series.{days_between_of}
 use Rattle.slgs_interest.specs.Payments.{interest_to}
 
 -- the same part of a whole
@@ -21,20 +21,20 @@ near-scaled a b d h =
 pub long-period : (face rate : ℕ) (settle first before second : ℤ) (half days : ℕ) → settle <ℤ before → second +ℤ pos half ≡ before → settle +ℤ pos days ≡ before
     → near (face * rate * (half + days)) (200_000 * half) ≡ interest_to face rate settle first before second
 long-period face rate settle first before second half days less h d =
-    rw (int_lt-test settle before less, days_to-count second before half h, days_to-count settle before days d) refl
+    rw (int_lt-test settle before less, days_between_of-count second before half h, days_between_of-count settle before days d) refl
 
 pub short-period : (face rate : ℕ) (settle first before second : ℤ) (half days : ℕ) → before ≤ℤ settle → before +ℤ pos half ≡ first → settle +ℤ pos days ≡ first
     → near (face * rate * days) (200_000 * half) ≡ interest_to face rate settle first before second
 short-period face rate settle first before second half days less h d =
-    rw (int_lt-not settle before less, days_to-count before first half h, days_to-count settle first days d) refl
+    rw (int_lt-not settle before less, days_between_of-count before first half h, days_between_of-count settle first days d) refl
 
 -- a note or bond that settles on the date before its first payment earns half a year's interest
 pub whole-period : (face rate : ℕ) (settle first before second : ℤ) → settle ≡ before → settle <ℤ first → interest_to face rate settle first before second ≡ near (face * rate) 200_000
 whole-period face rate settle first before second e less =
     let least : before ≤ℤ settle = omega (arith, signed_arith, e) in
-    let some : 0 < days_to settle first = days_to-some settle first less in
-    let same : days_to before first ≡ days_to settle first = ap (λ day. days_to day first) (sym e) in
-    rw (int_lt-not settle before least, same) (near-scaled (face * rate) 200_000 (days_to settle first) some)
+    let some : 0 < days_between_of settle first = days_between_of-some settle first less in
+    let same : days_between_of before first ≡ days_between_of settle first = ap (λ day. days_between_of day first) (sym e) in
+    rw (int_lt-not settle before least, same) (near-scaled (face * rate) 200_000 (days_between_of settle first) some)
 
 -- without a rate there is no interest
 pub no-interest : (face rate : ℕ) (settle first before second : ℤ) → rate ≡ 0 → before <ℤ first → second <ℤ before → interest_to face rate settle first before second ≡ 0
@@ -44,10 +44,10 @@ no-interest face rate settle first before second e less second_less =
     nothing : (days : ℕ) → face * rate * days ≡ 0
     nothing days = rw e (omega arith)
 
-    at : (t : Bool) → (if t then near (face * rate * (days_to second before + days_to settle before)) (200_000 * days_to second before)
-        else near (face * rate * days_to settle first) (200_000 * days_to before first)) ≡ 0
-    at true = near-zero _ _ (nothing (days_to second before + days_to settle before)) (let some = days_to-some second before second_less in omega arith)
-    at false = near-zero _ _ (nothing (days_to settle first)) (let some = days_to-some before first less in omega arith)
+    at : (t : Bool) → (if t then near (face * rate * (days_between_of second before + days_between_of settle before)) (200_000 * days_between_of second before)
+        else near (face * rate * days_between_of settle first) (200_000 * days_between_of before first)) ≡ 0
+    at true = near-zero _ _ (nothing (days_between_of second before + days_between_of settle before)) (let some = days_between_of-some second before second_less in omega arith)
+    at false = near-zero _ _ (nothing (days_between_of settle first)) (let some = days_between_of-some before first less in omega arith)
 
 yearly : (face rate days : ℕ) → face ≤ 10 ^ 11 → rate ≤ 30_000 → face * rate * days ≤ 3_000_000_000_000_000 * days
 yearly face rate days f r =

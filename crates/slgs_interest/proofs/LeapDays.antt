@@ -7,14 +7,14 @@ use Rattle.jiff_core.specs.Date.{epoch_day}
 use Rattle.jiff_core.specs.declared.civil.date.Date.{Date}
 use Rattle.jiff_core.proofs.SignedLemmas.{signed_arith}
 use Rattle.jiff_core.proofs.CalendarLemmas.{days_in_month_bounds}
-use Rattle.escrow_units.specs.Calendar.{CivilDate, date_of, number_of, later_year, later_month, months_later, years_after_of, e_of_date, IsBaseDay}
+use Rattle.escrow_units.specs.Calendar.{CivilDate, date_of, number_of, later_year, later_month, months_later, years_after_of, thirty_day_place_of_date, IsBaseDay}
 use Rattle.escrow_units.specs.DayNumber.{IsDayNumber}
 use Rattle.escrow_units.specs.SlgsTerms.{IsSettlement}
 use Rattle.escrow_units.proofs.DateFacts.{date_of-stands, pos_abs}
-use Rattle.escrow_units.proofs.DayFacts.{date_of-number, e_of-mono}
+use Rattle.escrow_units.proofs.DayFacts.{date_of-number, thirty_day_place_of-mono}
 use Rattle.escrow_units.proofs.SeriesFacts.{base_date, IsBaseDate, leap_day_bound, february, years_after_of-none}
 use Rattle.escrow_units.proofs.YearFacts.{years_after_of-passes, years_after_of-day}
-use Rattle.escrow_units.specs.Series.{days_to}
+use Rattle.escrow_units.specs.Series.{days_between_of}
 use Rattle.slgs_interest.specs.LeapDay.{HasLeapDay}
 use Rattle.slgs_interest.specs.PaymentLaws.{IsLeapDayBetween}
 use Rattle.slgs_interest.specs.Payments.{is_leap_day, has_leap_day, basis_of}
@@ -91,7 +91,7 @@ next_year settle h =
     ap (λ (d : CivilDate). d.year) (date_of-number (years_after_of settle 1) (months_later (date_of settle) (pos 12)) own civil refl) ∙ year
 
 -- days in order have years in order
-index-years : (a b : CivilDate) → IsBaseDate a → IsBaseDate b → e_of_date a ≤ e_of_date b → a.year ≤ℤ b.year
+index-years : (a b : CivilDate) → IsBaseDate a → IsBaseDate b → thirty_day_place_of_date a ≤ thirty_day_place_of_date b → a.year ≤ℤ b.year
 index-years a b p q h =
     let from = pos_abs a.year (omega (arith, signed_arith, p.low_year)) in
     let to = pos_abs b.year (omega (arith, signed_arith, q.low_year)) in
@@ -107,22 +107,22 @@ two-years settle maturity h base term =
     let none = years_after_of-none settle own in
     let year = years_after_of-passes settle 0 1 from (omega arith) in
     let later : IsBaseDay (years_after_of settle 1) = (omega (arith, signed_arith, h.0, year.least, none), omega (arith, signed_arith, h.1, year.most, none)) in
-    let rise = e_of-mono maturity (years_after_of settle 1) to (years_after_of-day settle 1 from (omega arith)) term in
+    let rise = thirty_day_place_of-mono maturity (years_after_of settle 1) to (years_after_of-day settle 1 from (omega arith)) term in
     let order = index-years (date_of maturity) (date_of (years_after_of settle 1)) (base_date maturity base) (base_date (years_after_of settle 1) later) rise in
     omega (arith, signed_arith, order, next_year settle h)
 
 -- a 29 February of one of the two years is found among the days
 leap-found : (settle maturity year : ℤ) → IsSettlement settle → IsBaseDay maturity → IsYear year → HasLeapDay year settle maturity
-    → has_leap_day settle (days_to settle maturity) ≡ true
+    → has_leap_day settle (days_between_of settle maturity) ≡ true
 leap-found settle maturity year h base in_range leap =
     let own : IsDayNumber (days_from_civil year 2 29) = (omega (arith, signed_arith, h.0, leap.late), omega (arith, signed_arith, base.1, leap.early)) in
     let whole = count settle maturity (omega (arith, signed_arith, leap.late, leap.early)) in
     let part = count settle (days_from_civil year 2 29) (omega (arith, signed_arith, leap.late)) in
     let test = leap_day-test year in_range leap.leap own in
-    has_leap_day-at settle (days_to settle maturity) (days_to settle (days_from_civil year 2 29))
+    has_leap_day-at settle (days_between_of settle maturity) (days_between_of settle (days_from_civil year 2 29))
     (omega (arith, signed_arith, part, leap.late)) (omega (arith, signed_arith, part, whole, leap.early)) (rw part test)
   where
-    count : (from to : ℤ) → from ≤ℤ to → from +ℤ pos (days_to from to) ≡ to
+    count : (from to : ℤ) → from ≤ℤ to → from +ℤ pos (days_between_of from to) ≡ to
     count from to order =
         let e = pos_abs (to -ℤ from) (omega (arith, signed_arith, order)) in
         omega (arith, signed_arith, e)
@@ -156,8 +156,8 @@ leap-year settle maturity day h base term late early leap =
       late = omega (arith, signed_arith, at, late);
       early = omega (arith, signed_arith, at, early);
     } in
-    let after = index-years (date_of settle) date (base_date settle from) (base_date day here) (e_of-mono settle day (number settle from) (number day here) (omega (arith, signed_arith, late))) in
-    let before = index-years date (date_of maturity) (base_date day here) (base_date maturity base) (e_of-mono day maturity (number day here) (number maturity base) early) in
+    let after = index-years (date_of settle) date (base_date settle from) (base_date day here) (thirty_day_place_of-mono settle day (number settle from) (number day here) (omega (arith, signed_arith, late))) in
+    let before = index-years date (date_of maturity) (base_date day here) (base_date maturity base) (thirty_day_place_of-mono day maturity (number day here) (number maturity base) early) in
     let two = two-years settle maturity h base term in
     by_lt_z (date_of settle).year date.year
     (λ later. inr (along_year _ _ settle maturity (omega (arith, signed_arith, later, before, two)) has))
@@ -181,7 +181,7 @@ pub basis-leap : (settle maturity : ℤ) → IsSettlement settle → IsBaseDay m
     → 366 ≡ basis_of settle maturity
 basis-leap settle maturity h base leap =
     let from : IsBaseDay settle = (h.0, omega (arith, signed_arith, h.1)) in
-    let found : has_leap_day settle (days_to settle maturity) ≡ true = elim leap [
+    let found : has_leap_day settle (days_between_of settle maturity) ≡ true = elim leap [
       | inl first ↦ leap-found settle maturity (date_of settle).year h base (year_range settle from) first
       | inr last ↦ leap-found settle maturity (date_of maturity).year h base (year_range maturity base) last
     ] in
@@ -193,12 +193,12 @@ basis-leap settle maturity h base leap =
 pub basis-common : (settle maturity : ℤ) → IsSettlement settle → IsBaseDay maturity → settle ≤ℤ maturity → maturity ≤ℤ years_after_of settle 1
     → ¬ (HasLeapDay (date_of settle).year settle maturity ⊎ HasLeapDay (date_of maturity).year settle maturity)
     → 365 ≡ basis_of settle maturity
-basis-common settle maturity h base order term none = at (has_leap_day settle (days_to settle maturity)) refl
+basis-common settle maturity h base order term none = at (has_leap_day settle (days_between_of settle maturity)) refl
   where
-    at : (t : Bool) → has_leap_day settle (days_to settle maturity) ≡ t → ◌≡◌ {A = ℕ} 365 (if t then 366 else 365)
+    at : (t : Bool) → has_leap_day settle (days_between_of settle maturity) ≡ t → ◌≡◌ {A = ℕ} 365 (if t then 366 else 365)
     at false e = refl
     at true e =
-        let found = has_leap_day-found settle (days_to settle maturity) e in
+        let found = has_leap_day-found settle (days_between_of settle maturity) e in
         let whole = pos_abs (maturity -ℤ settle) (omega (arith, signed_arith, order)) in
         absurd (none (leap-year settle maturity (settle +ℤ pos found.place) h base term
         (omega (arith, signed_arith, found.some)) (omega (arith, signed_arith, found.few, whole)) found.leap))
@@ -226,16 +226,16 @@ pub basis-counts : (settle maturity : ℤ) → settle ≤ℤ maturity
     → ((basis_of settle maturity ≡ 366) → ((day : ℤ) × IsLeapDayBetween settle maturity day))
     × (((day : ℤ) × IsLeapDayBetween settle maturity day) → basis_of settle maturity ≡ 366)
 basis-counts settle maturity order =
-    (λ e. found (has_leap_day settle (days_to settle maturity)) refl e, λ leap. counted leap.0 leap.1)
+    (λ e. found (has_leap_day settle (days_between_of settle maturity)) refl e, λ leap. counted leap.0 leap.1)
   where
-    whole : maturity -ℤ settle ≡ pos (days_to settle maturity)
+    whole : maturity -ℤ settle ≡ pos (days_between_of settle maturity)
     whole = pos_abs (maturity -ℤ settle) (omega (arith, signed_arith, order))
 
-    found : (t : Bool) → has_leap_day settle (days_to settle maturity) ≡ t → ◌≡◌ {A = ℕ} (if t then 366 else 365) 366
+    found : (t : Bool) → has_leap_day settle (days_between_of settle maturity) ≡ t → ◌≡◌ {A = ℕ} (if t then 366 else 365) 366
         → (day : ℤ) × IsLeapDayBetween settle maturity day
     found false e f = absurd (omega arith)
     found true e f =
-        let leap = has_leap_day-found settle (days_to settle maturity) e in (
+        let leap = has_leap_day-found settle (days_between_of settle maturity) e in (
           settle +ℤ pos leap.place,
           record {
             late = omega (arith, signed_arith, leap.some);
@@ -250,7 +250,7 @@ basis-counts settle maturity order =
     counted : (day : ℤ) → IsLeapDayBetween settle maturity day → basis_of settle maturity ≡ 366
     counted day leap =
         let part = pos_abs (day -ℤ settle) (omega (arith, signed_arith, leap.late)) in
-        let at : settle +ℤ pos (days_to settle day) ≡ day = omega (arith, signed_arith, part) in
-        let has = has_leap_day-at settle (days_to settle maturity) (days_to settle day)
+        let at : settle +ℤ pos (days_between_of settle day) ≡ day = omega (arith, signed_arith, part) in
+        let has = has_leap_day-at settle (days_between_of settle maturity) (days_between_of settle day)
         (omega (arith, signed_arith, part, leap.late)) (omega (arith, signed_arith, part, whole, leap.early)) (rw at leap.leap) in
-        choice-366 (has_leap_day settle (days_to settle maturity)) has
+        choice-366 (has_leap_day settle (days_between_of settle maturity)) has

@@ -2,12 +2,12 @@
 use Rattle.std.proofs.Common.{◌≡◌, ◌∙◌, ℕ, ◌+◌, ◌*◌, ◌<◌, ◌≤◌, zero, suc, refl, sym, ap, subst, arith, ℤ, ◌≤ℤ◌, ◌<ℤ◌, Bool, true, false, if◌then◌else◌, List, [], ◌∷◌, ◌++◌, ◌-◌, map, length, take, sum_by, get_or, pos, ◌+ℤ◌, ◌^◌, int_lt}
 use Rattle.std.proofs.Math.Nat.{mul-le-mul}
 use Rattle.std.proofs.lemmas.Int.{ints}
-use Rattle.escrow_units.proofs.FlowFacts.{choice-false, choice-true, days_to-whole, rise-map}
+use Rattle.escrow_units.proofs.FlowFacts.{choice-false, choice-true, days_between_of-whole, rise-map}
 use Rattle.escrow_units.proofs.RoundingFacts.{near-at-most, near-zero}
-use Rattle.escrow_units.proofs.SeriesDates.{dates_after, dates_after-all, dates_after-last, dates_after-rise, dates_before, half_back_of-order, half_back_of-reach, half_back_of-zero}
+use Rattle.escrow_units.proofs.LastDates.{last_dates, last_dates-all, last_dates-last, last_dates-rise, dates_before, half_back_of-order, half_back_of-reach, half_back_of-zero}
 use Rattle.escrow_units.specs.Flows.{EndsOn, Rise}
 use Rattle.escrow_units.specs.Rounding.{near}
-use Rattle.escrow_units.specs.Series.{days_to}
+use Rattle.escrow_units.specs.Series.{days_between_of}
 use Rattle.std.specs.Ordering.{int_eq}
 use Rattle.std.proofs.lemmas.Bool.Decides.{Decides-int_eq}
 use Rattle.std.proofs.lemmas.List.{map-append, take_all}
@@ -30,19 +30,19 @@ pub payments-are : (slgs : Slgs) (face : ℕ) (flows : List Flow) (i : ℕ) (dat
 unfolding payments_of
 payments-are slgs face flows i dates e all f = e ∙ ap (map (payment_on slgs face)) (take_all i dates all ∙ f)
 
-payments-series : (slgs : Slgs) (face : ℕ) (p : IsPaid slgs) → payments_of slgs face ≡ map (payment_on slgs face) (dates_after slgs.maturity rule.SameDay (p.steps + 1))
+payments-series : (slgs : Slgs) (face : ℕ) (p : IsPaid slgs) → payments_of slgs face ≡ map (payment_on slgs face) (last_dates slgs.maturity rule.SameDay (p.steps + 1))
 unfolding payments_of
 payments-series slgs face p = ap (map (payment_on slgs face)) p.dates
 
 pub payments-rise : (slgs : Slgs) (face : ℕ) → IsPaid slgs → Rise (payments_of slgs face)
 payments-rise slgs face p =
-    subst Rise (sym (payments-series slgs face p)) (rise-map (payment_on slgs face) (λ day. refl) (dates_after slgs.maturity rule.SameDay (p.steps + 1)) (dates_after-rise slgs.maturity rule.SameDay (p.steps + 1) p.base (omega (arith, p.few))))
+    subst Rise (sym (payments-series slgs face p)) (rise-map (payment_on slgs face) (λ day. refl) (last_dates slgs.maturity rule.SameDay (p.steps + 1)) (last_dates-rise slgs.maturity rule.SameDay (p.steps + 1) p.base (omega (arith, p.few))))
 
 pub payments-end : (slgs : Slgs) (face : ℕ) → IsPaid slgs → EndsOn slgs.maturity (payments_of slgs face)
 payments-end slgs face p =
     let less : p.steps + 1 - 1 ≡ p.steps = omega arith in
-    let last : dates_after slgs.maturity rule.SameDay (p.steps + 1) ≡ dates_before slgs.maturity rule.SameDay p.steps ++ slgs.maturity ∷ [] =
-    rw less at (dates_after-last slgs.maturity rule.SameDay (p.steps + 1) p.base (omega arith)) in
+    let last : last_dates slgs.maturity rule.SameDay (p.steps + 1) ≡ dates_before slgs.maturity rule.SameDay p.steps ++ slgs.maturity ∷ [] =
+    rw less at (last_dates-last slgs.maturity rule.SameDay (p.steps + 1) p.base (omega arith)) in
     record {
       before = map (payment_on slgs face) (dates_before slgs.maturity rule.SameDay p.steps);
       last = payment_on slgs face slgs.maturity;
@@ -53,9 +53,9 @@ payments-end slgs face p =
 
 pub payments-within : (slgs : Slgs) (face : ℕ) → IsPaid slgs → AreWithinTerm slgs (payments_of slgs face)
 payments-within slgs face p =
-    All-same (λ (flow : Flow). (slgs.settle <ℤ flow.day) × (flow.day ≤ℤ slgs.maturity)) (payments_of slgs face) (map (payment_on slgs face) (dates_after slgs.maturity rule.SameDay (p.steps + 1))) (payments-series slgs face p)
-    (All-map (λ (flow : Flow). (slgs.settle <ℤ flow.day) × (flow.day ≤ℤ slgs.maturity)) (payment_on slgs face) (dates_after slgs.maturity rule.SameDay (p.steps + 1))
-    (dates_after-all (λ date. (slgs.settle <ℤ date) × (date ≤ℤ slgs.maturity)) slgs.maturity rule.SameDay (p.steps + 1) (λ j less.
+    All-same (λ (flow : Flow). (slgs.settle <ℤ flow.day) × (flow.day ≤ℤ slgs.maturity)) (payments_of slgs face) (map (payment_on slgs face) (last_dates slgs.maturity rule.SameDay (p.steps + 1))) (payments-series slgs face p)
+    (All-map (λ (flow : Flow). (slgs.settle <ℤ flow.day) × (flow.day ≤ℤ slgs.maturity)) (payment_on slgs face) (last_dates slgs.maturity rule.SameDay (p.steps + 1))
+    (last_dates-all (λ date. (slgs.settle <ℤ date) × (date ≤ℤ slgs.maturity)) slgs.maturity rule.SameDay (p.steps + 1) (λ j less.
     let late = half_back_of-order slgs.maturity rule.SameDay j p.steps p.base (omega arith) (omega (arith, p.few)) in
     let reach = half_back_of-reach slgs.maturity rule.SameDay j p.base (omega (arith, p.few)) in
     (omega (arith, signed_arith, p.late, p.first, late), omega (arith, signed_arith, reach)))))
@@ -70,9 +70,9 @@ cents_of flow = flow.cents.0
 -- where the principal falls at maturity alone, it is paid once
 principal-sum : (interest principal : ℤ → ℕ) (face : ℕ) (maturity : ℤ) (k : ℕ) → principal (half_back_of maturity 0 rule.SameDay) ≡ face
     → ((j : ℕ) → 1 ≤ j → j ≤ k → principal (half_back_of maturity j rule.SameDay) ≡ 0)
-    → sum_by cents_of (map (flow_of interest principal) (dates_after maturity rule.SameDay (suc k)))
-    ≡ face + sum_by (λ flow. interest flow.day) (map (flow_of interest principal) (dates_after maturity rule.SameDay (suc k)))
-unfolding dates_after flow_of cents_of
+    → sum_by cents_of (map (flow_of interest principal) (last_dates maturity rule.SameDay (suc k)))
+    ≡ face + sum_by (λ flow. interest flow.day) (map (flow_of interest principal) (last_dates maturity rule.SameDay (suc k)))
+unfolding last_dates flow_of cents_of
 principal-sum interest principal face maturity zero last none =
     let day = half_back_of maturity 0 rule.SameDay in
     omega (arith, sum_by-cons cents_of (flow_of interest principal day) [], sum_by-cons (λ (flow : Flow). interest flow.day) (flow_of interest principal day) [], last)
@@ -81,8 +81,8 @@ principal-sum interest principal face maturity (suc k) last none =
     let rest = principal-sum interest principal face maturity k last (λ j some few. none j some (omega arith)) in
     omega (
       arith,
-      sum_by-cons cents_of (flow_of interest principal day) (map (flow_of interest principal) (dates_after maturity rule.SameDay (suc k))),
-      sum_by-cons (λ (flow : Flow). interest flow.day) (flow_of interest principal day) (map (flow_of interest principal) (dates_after maturity rule.SameDay (suc k))),
+      sum_by-cons cents_of (flow_of interest principal day) (map (flow_of interest principal) (last_dates maturity rule.SameDay (suc k))),
+      sum_by-cons (λ (flow : Flow). interest flow.day) (flow_of interest principal day) (map (flow_of interest principal) (last_dates maturity rule.SameDay (suc k))),
       rest,
       none (suc k) (omega arith) (omega arith),
     )
@@ -95,7 +95,7 @@ pub payments-principal : (slgs : Slgs) (face : ℕ) → IsPaid slgs → PayPrinc
 unfolding flow_of cents_of
 payments-principal slgs face p =
     let more : p.steps + 1 ≡ suc p.steps = omega arith in
-    subst (PayPrincipalOnce slgs face) (sym (payments-series slgs face p ∙ ap (λ (n : ℕ). map (payment_on slgs face) (dates_after slgs.maturity rule.SameDay n)) more))
+    subst (PayPrincipalOnce slgs face) (sym (payments-series slgs face p ∙ ap (λ (n : ℕ). map (payment_on slgs face) (last_dates slgs.maturity rule.SameDay n)) more))
     (principal-sum (interest_on slgs face) (principal_on slgs face) face slgs.maturity p.steps
     (choice-true (int_eq (half_back_of slgs.maturity 0 rule.SameDay) slgs.maturity) face 0 ((Decides-int_eq (half_back_of slgs.maturity 0 rule.SameDay) slgs.maturity).1 (half_back_of-zero slgs.maturity rule.SameDay p.base)))
     (λ j some few.
@@ -105,7 +105,7 @@ payments-principal slgs face p =
 
 -- no interest without a rate
 basis-some : (settle maturity : ℤ) → 0 < basis_of settle maturity
-basis-some settle maturity = at (has_leap_day settle (days_to settle maturity))
+basis-some settle maturity = at (has_leap_day settle (days_between_of settle maturity))
   where
     at : (t : Bool) → 0 < (if t then 366 else 365)
     at true = omega arith
@@ -124,7 +124,7 @@ first-none slgs face p none = at slgs.kind
 
     at : (k : SlgsKind) → first_interest_of_kind k slgs face ≡ 0
     at kind.Certificate =
-        near-zero (face * slgs.rate.0 * days_to slgs.settle slgs.maturity) (100_000 * basis_of slgs.settle slgs.maturity) (nothing (days_to slgs.settle slgs.maturity))
+        near-zero (face * slgs.rate.0 * days_between_of slgs.settle slgs.maturity) (100_000 * basis_of slgs.settle slgs.maturity) (nothing (days_between_of slgs.settle slgs.maturity))
         (let some = basis-some slgs.settle slgs.maturity in omega arith)
     at kind.Note = of_period
     at kind.Bond = of_period
@@ -175,7 +175,7 @@ payments-equal slgs face p = λ other e.
 
 -- no interest is above 400 million dollars
 basis-least : (settle maturity : ℤ) → 365 ≤ basis_of settle maturity
-basis-least settle maturity = at (has_leap_day settle (days_to settle maturity))
+basis-least settle maturity = at (has_leap_day settle (days_between_of settle maturity))
   where
     at : (t : Bool) → 365 ≤ (if t then 366 else 365)
     at true = omega arith
@@ -190,34 +190,34 @@ first-small : (slgs : Slgs) (face : ℕ) → IsPaid slgs → (slgs.kind ≡ kind
 unfolding first_interest
 first-small slgs face p same f r = at slgs.kind same
   where
-    before : before_first slgs +ℤ pos (days_to (before_first slgs) slgs.first) ≡ slgs.first
-    before = days_to-whole (before_first slgs) slgs.first (omega (arith, signed_arith, p.before.least))
+    before : before_first slgs +ℤ pos (days_between_of (before_first slgs) slgs.first) ≡ slgs.first
+    before = days_between_of-whole (before_first slgs) slgs.first (omega (arith, signed_arith, p.before.least))
 
-    second : second_before_first slgs +ℤ pos (days_to (second_before_first slgs) (before_first slgs)) ≡ before_first slgs
-    second = days_to-whole (second_before_first slgs) (before_first slgs) (omega (arith, signed_arith, p.second_before.least))
+    second : second_before_first slgs +ℤ pos (days_between_of (second_before_first slgs) (before_first slgs)) ≡ before_first slgs
+    second = days_between_of-whole (second_before_first slgs) (before_first slgs) (omega (arith, signed_arith, p.second_before.least))
 
-    term : slgs.settle +ℤ pos (days_to slgs.settle slgs.first) ≡ slgs.first
-    term = days_to-whole slgs.settle slgs.first (omega (arith, signed_arith, p.late))
+    term : slgs.settle +ℤ pos (days_between_of slgs.settle slgs.first) ≡ slgs.first
+    term = days_between_of-whole slgs.settle slgs.first (omega (arith, signed_arith, p.late))
 
     long : (t : Bool) → int_lt slgs.settle (before_first slgs) ≡ t
         → (if t
-        then near (face * slgs.rate.0 * (days_to (second_before_first slgs) (before_first slgs) + days_to slgs.settle (before_first slgs)))
-        (200_000 * days_to (second_before_first slgs) (before_first slgs))
-        else near (face * slgs.rate.0 * days_to slgs.settle slgs.first) (200_000 * days_to (before_first slgs) slgs.first)) ≤ 4 * 10 ^ 10
+        then near (face * slgs.rate.0 * (days_between_of (second_before_first slgs) (before_first slgs) + days_between_of slgs.settle (before_first slgs)))
+        (200_000 * days_between_of (second_before_first slgs) (before_first slgs))
+        else near (face * slgs.rate.0 * days_between_of slgs.settle slgs.first) (200_000 * days_between_of (before_first slgs) slgs.first)) ≤ 4 * 10 ^ 10
     long true e =
         let less : slgs.settle <ℤ before_first slgs = omega (arith, ints) in
-        let days = days_to-whole slgs.settle (before_first slgs) (omega (arith, signed_arith, less)) in
-        interest-at-most face slgs.rate.0 _ (days_to (second_before_first slgs) (before_first slgs)) 200_000 f r
+        let days = days_between_of-whole slgs.settle (before_first slgs) (omega (arith, signed_arith, less)) in
+        interest-at-most face slgs.rate.0 _ (days_between_of (second_before_first slgs) (before_first slgs)) 200_000 f r
         (omega (arith, signed_arith, second, p.second_before.least))
         (omega (arith, signed_arith, second, days, p.second_before.least, p.second_before.most, p.before.least, p.early)) (omega arith)
     long false e =
-        interest-at-most face slgs.rate.0 (days_to slgs.settle slgs.first) (days_to (before_first slgs) slgs.first) 200_000 f r
+        interest-at-most face slgs.rate.0 (days_between_of slgs.settle slgs.first) (days_between_of (before_first slgs) slgs.first) 200_000 f r
         (omega (arith, signed_arith, before, p.before.least)) (omega (arith, signed_arith, before, term, p.before.least, p.early)) (omega arith)
 
     at : (k : SlgsKind) → (k ≡ kind.Certificate → slgs.first ≡ slgs.maturity) → first_interest_of_kind k slgs face ≤ 4 * 10 ^ 10
     at kind.Certificate same =
-        let e : days_to slgs.settle slgs.maturity ≡ days_to slgs.settle slgs.first = ap (λ (day : ℤ). days_to slgs.settle day) (sym (same refl)) in
-        interest-at-most face slgs.rate.0 (days_to slgs.settle slgs.maturity) (basis_of slgs.settle slgs.maturity) 100_000 f r
+        let e : days_between_of slgs.settle slgs.maturity ≡ days_between_of slgs.settle slgs.first = ap (λ (day : ℤ). days_between_of slgs.settle day) (sym (same refl)) in
+        interest-at-most face slgs.rate.0 (days_between_of slgs.settle slgs.maturity) (basis_of slgs.settle slgs.maturity) 100_000 f r
         (basis-some slgs.settle slgs.maturity) (omega (arith, signed_arith, e, term, p.early, basis-least slgs.settle slgs.maturity)) (omega arith)
     at kind.Note same = long (int_lt slgs.settle (before_first slgs)) refl
     at kind.Bond same = long (int_lt slgs.settle (before_first slgs)) refl

@@ -12,16 +12,16 @@ use Rattle.escrow_units.specs.declared.security.SlgsKind.TheVariants as kind
 use Rattle.escrow_units.specs.declared.security.StepRule.TheVariants as rule
 use Rattle.escrow_units.proofs.SeriesFacts.{half_back_of-falls, half_back_of-steps, years_after_of-none}
 use Rattle.escrow_units.proofs.FlowFacts.{int_le-not, int_le-test}
-use Rattle.escrow_units.proofs.SeriesDates.{dates_after, dates_after-more, fewer-steps, filter-dates, half_back_of-order, half_back_of-reach, half_back_of-zero, half_year-along, length-dates_after, series_dates-after}
+use Rattle.escrow_units.proofs.LastDates.{last_dates, last_dates-more, fewer-steps, filter-dates, half_back_of-order, half_back_of-reach, half_back_of-zero, half_year-along, length-last_dates, series_from-last}
 use Rattle.escrow_units.proofs.YearFacts.{years_after_of-passes, settlement-base}
 use Rattle.slgs_interest.specs.PaymentLaws.{IsLatestBefore}
 use Rattle.slgs_interest.specs.Payments.{payment_dates, before_first, second_before_first}
 
 pub payment_dates-series : (slgs : Slgs) (s : ℕ) → IsBaseDay slgs.maturity → s ≤ 84 → slgs.first ≡ half_back_of slgs.maturity s rule.SameDay
-    → payment_dates slgs ≡ dates_after slgs.maturity rule.SameDay (s + 1)
+    → payment_dates slgs ≡ last_dates slgs.maturity rule.SameDay (s + 1)
 unfolding payment_dates
 payment_dates-series slgs s h few e =
-    ap (filter (int_le slgs.first)) (series_dates-after slgs.maturity rule.SameDay 84)
+    ap (filter (int_le slgs.first)) (series_from-last slgs.maturity rule.SameDay 84)
     ∙ filter-dates (int_le slgs.first) slgs.maturity rule.SameDay (s + 1) 85 (omega arith)
     (λ j less. int_le-test slgs.first _ (omega (arith, signed_arith, e, half_back_of-order slgs.maturity rule.SameDay j s h (omega arith) few)))
     (λ j from less. int_le-not slgs.first _ (omega (arith, signed_arith, e, half_back_of-falls slgs.maturity rule.SameDay s j h (omega arith) (omega arith))))
@@ -33,7 +33,7 @@ pub record IsPaid (slgs : Slgs) : Type 0 where
   pub steps : ℕ
   pub few : steps ≤ 80
   pub first : slgs.first ≡ half_back_of slgs.maturity steps rule.SameDay
-  pub dates : payment_dates slgs ≡ dates_after slgs.maturity rule.SameDay (steps + 1)
+  pub dates : payment_dates slgs ≡ last_dates slgs.maturity rule.SameDay (steps + 1)
   pub count : length (payment_dates slgs) ≡ steps + 1
   pub late : (slgs.settle +ℤ pos 15) ≤ℤ slgs.first
   pub early : slgs.first ≤ℤ (slgs.settle +ℤ pos 366)
@@ -94,7 +94,7 @@ paid slgs h terms =
     let reach = half_back_of-reach slgs.maturity rule.SameDay step.steps base step.few in
     let few : step.steps ≤ 80 = omega (arith, signed_arith, reach, step.first, step.late, terms.most, forty.most, none) in
     let dates = payment_dates-series slgs step.steps base step.few step.first in
-    let count = ap length dates ∙ length-dates_after slgs.maturity rule.SameDay (step.steps + 1) in
+    let count = ap length dates ∙ length-last_dates slgs.maturity rule.SameDay (step.steps + 1) in
     let at = λ (n : ℕ). half_back_of slgs.maturity n rule.SameDay in
     let before = half_back_of-steps slgs.maturity rule.SameDay step.steps base (omega arith) in
     let second_before = half_back_of-steps slgs.maturity rule.SameDay (step.steps + 1) base (omega arith) in
@@ -117,11 +117,11 @@ pub record IsWalk (maturity first date : ℤ) (dates : List ℤ) : Type 0 where
   pub some : 1 ≤ length dates
   pub few : length dates ≤ 82
   pub at : date ≡ half_back_of maturity (length dates - 1) rule.SameDay
-  pub walked : reverse dates ≡ dates_after maturity rule.SameDay (length dates)
+  pub walked : reverse dates ≡ last_dates maturity rule.SameDay (length dates)
   pub late : first ≤ℤ date
 
 pub walk-start : (maturity first : ℤ) (dates : List ℤ) → IsBaseDay maturity → first ≤ℤ maturity → dates ≡ maturity ∷ [] → IsWalk maturity first maturity dates
-unfolding dates_after
+unfolding last_dates
 walk-start maturity first dates h order e = rw e (record {
   some = omega arith;
   few = omega arith;
@@ -144,7 +144,7 @@ walk-more maturity first date next dates more s h few e walk less f g =
       at = rw back f;
       walked = ap reverse g
           ∙ (reverse-append dates (next ∷ [])
-          ∙ (rw (f, walk.walked) (dates_after-more maturity rule.SameDay (length dates) (length more) long)));
+          ∙ (rw (f, walk.walked) (last_dates-more maturity rule.SameDay (length dates) (length more) long)));
       late = omega (arith, signed_arith, e, f, last);
     }
 
@@ -153,7 +153,7 @@ pub walk-end : (slgs : Slgs) (date : ℤ) (dates : List ℤ) → IsBaseDay slgs.
 walk-end slgs date dates h walk e =
     let same : slgs.first ≡ half_back_of slgs.maturity (length dates - 1) rule.SameDay = omega (arith, signed_arith, e, walk.late, walk.at) in
     let more : length dates ≡ length dates - 1 + 1 = omega (arith, walk.some) in
-    walk.walked ∙ (ap (dates_after slgs.maturity rule.SameDay) more ∙ sym (payment_dates-series slgs (length dates - 1) h (omega (arith, walk.few)) same))
+    walk.walked ∙ (ap (last_dates slgs.maturity rule.SameDay) more ∙ sym (payment_dates-series slgs (length dates - 1) h (omega (arith, walk.few)) same))
 
 -- a certificate matures on a day from which half-years are counted
 pub certificate-base : (settle maturity : ℤ) → IsSettlement settle → settle ≤ℤ maturity → maturity ≤ℤ years_after_of settle 1 → IsBaseDay maturity

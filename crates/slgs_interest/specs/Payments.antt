@@ -4,7 +4,7 @@ use Rattle.std.specs.Prelude.{ℕ, zero, suc, ◌+◌, ◌*◌, ◌==◌, Bool, 
 use Rattle.std.specs.Ordering.{int_eq}
 use Rattle.escrow_units.specs.Calendar.{date_of, half_back_of}
 use Rattle.escrow_units.specs.Rounding.{near}
-use Rattle.escrow_units.specs.Series.{days_to, series_dates}
+use Rattle.escrow_units.specs.Series.{days_between_of, series_from}
 use Rattle.escrow_units.specs.declared.security.Flow.{Flow}
 use Rattle.escrow_units.specs.declared.security.Slgs.{Slgs}
 use Rattle.escrow_units.specs.declared.security.SlgsKind.{SlgsKind}
@@ -21,11 +21,11 @@ has_leap_day day (suc n) = is_leap_day (day +ℤ pos (n + 1)) || has_leap_day da
 
 -- the days of a certificate's year: 366 where a 29 February lies after settlement and not after maturity
 abbrev pub basis_of : ℤ → ℤ → ℕ
-basis_of settle maturity = if has_leap_day settle (days_to settle maturity) then 366 else 365
+basis_of settle maturity = if has_leap_day settle (days_between_of settle maturity) then 366 else 365
 
 -- a security pays on the dates of its series that are not before its first payment date
 unfoldable pub payment_dates : Slgs → List ℤ
-payment_dates slgs = filter (λ date. int_le slgs.first date) (series_dates slgs.maturity rule.SameDay 84)
+payment_dates slgs = filter (λ date. int_le slgs.first date) (series_from slgs.maturity rule.SameDay 84)
 
 -- the date of the series before the first payment, and the one before that
 abbrev pub before_first : Slgs → ℤ
@@ -37,15 +37,15 @@ second_before_first slgs = half_back_of slgs.maturity (length (payment_dates slg
 -- a certificate's interest, by days of a year of 365 or 366 days
 abbrev pub certificate_interest : Slgs → ℕ → ℕ
 certificate_interest slgs face =
-    near (face * slgs.rate.0 * days_to slgs.settle slgs.maturity) (100_000 * basis_of slgs.settle slgs.maturity)
+    near (face * slgs.rate.0 * days_between_of slgs.settle slgs.maturity) (100_000 * basis_of slgs.settle slgs.maturity)
 
 -- the interest to a first payment date, where `before` is the date of the series before it and `second` the one before that:
 -- a short period earns its days of a half-year, and a long one a half-year and its days of the half-year before that
 abbrev pub interest_to : ℕ → ℕ → ℤ → ℤ → ℤ → ℤ → ℕ
 interest_to face rate settle first before second =
     if int_lt settle before
-    then near (face * rate * (days_to second before + days_to settle before)) (200_000 * days_to second before)
-    else near (face * rate * days_to settle first) (200_000 * days_to before first)
+    then near (face * rate * (days_between_of second before + days_between_of settle before)) (200_000 * days_between_of second before)
+    else near (face * rate * days_between_of settle first) (200_000 * days_between_of before first)
 
 -- the first interest of a note or bond
 abbrev pub first_period_interest : Slgs → ℕ → ℕ

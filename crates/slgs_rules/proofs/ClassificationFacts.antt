@@ -8,7 +8,7 @@ use Rattle.std.specs.List.{list_any}
 use Rattle.std.specs.Ordering.{int_eq}
 use Rattle.jiff_core.proofs.SignedLemmas.{signed_arith}
 use Rattle.escrow_units.specs.Calendar.{half_back_of, years_after_of, IsBaseDay, IsSeriesDate}
-use Rattle.escrow_units.specs.Series.{series_dates}
+use Rattle.escrow_units.specs.Series.{series_from}
 use Rattle.escrow_units.specs.SlgsTerms.{IsSettlement, IsOfKind, IsFirstInterest, shortest_term}
 use Rattle.escrow_units.specs.declared.amount.Rate.{Rate}
 use Rattle.escrow_units.specs.declared.security.AskedRate.{AskedRate}
@@ -17,7 +17,7 @@ use Rattle.escrow_units.specs.declared.security.Slgs.{Slgs}
 use Rattle.escrow_units.specs.declared.security.SlgsKind.{SlgsKind}
 use Rattle.escrow_units.specs.declared.security.SlgsKind.TheVariants as kind
 use Rattle.escrow_units.specs.declared.security.StepRule.TheVariants as rule
-use Rattle.escrow_units.proofs.SeriesDates.{half_back_of-order, half_back_of-zero}
+use Rattle.escrow_units.proofs.LastDates.{half_back_of-order, half_back_of-zero}
 use Rattle.slgs_rules.specs.Classification.{classified, earliest_from, faults, first_fault, first_of_kind, has_rate, is_first_interest, is_series_date, is_within_table, keeps, kind_of, may_name, security_of, sold_unless}
 use Rattle.slgs_rules.specs.TermRules.{Request, HasRate, IsAnswer, IsEarliestFrom, IsFirstOfKind, IsNameable, IsNamedOrEarliest, IsWithinTable, Keeps, place, rate_of}
 use Rattle.slgs_rules.specs.declared.fault.RuleFault.{RuleFault}
@@ -36,8 +36,8 @@ record IsAmong (maturity : ℤ) (most : ℕ) (day : ℤ) : Type 0 where
   few : steps ≤ most
   back : day ≡ half_back_of maturity steps rule.SameDay
 
-among : (maturity day : ℤ) (k : ℕ) → list_any (int_eq day) (series_dates maturity rule.SameDay k) ≡ true → IsAmong maturity k day
-unfolding series_dates
+among : (maturity day : ℤ) (k : ℕ) → list_any (int_eq day) (series_from maturity rule.SameDay k) ≡ true → IsAmong maturity k day
+unfolding series_from
 among maturity day zero test =
     elim (cases_Bool (int_eq day (half_back_of maturity 0 rule.SameDay))) [
       | inl same ↦ record { steps = 0; few = omega arith; back = (Decides-int_eq day (half_back_of maturity 0 rule.SameDay)).0 same }
@@ -51,8 +51,8 @@ among maturity day (suc k) test =
           record { steps = later.steps; few = omega (arith, later.few); back = later.back }
     ]
 
-listed : (maturity day : ℤ) (k : ℕ) → IsAmong maturity k day → list_any (int_eq day) (series_dates maturity rule.SameDay k) ≡ true
-unfolding series_dates
+listed : (maturity day : ℤ) (k : ℕ) → IsAmong maturity k day → list_any (int_eq day) (series_from maturity rule.SameDay k) ≡ true
+unfolding series_from
 listed maturity day zero is =
     let none : is.steps ≡ 0 = omega (arith, is.few) in
     rw ((Decides-int_eq day (half_back_of maturity 0 rule.SameDay)).1 (rw none at is.back)) refl
@@ -80,8 +80,8 @@ record IsEarliestAmong (maturity from : ℤ) (most : ℕ) (date : ℤ) : Type 0 
   earliest : (steps : ℕ) → steps ≤ most → from ≤ℤ half_back_of maturity steps rule.SameDay → date ≤ℤ half_back_of maturity steps rule.SameDay
 
 found : (maturity from : ℤ) (k : ℕ) → IsBaseDay maturity → k ≤ 84 → from ≤ℤ maturity
-    → IsEarliestAmong maturity from k (unwrap_or (find (int_le from) (series_dates maturity rule.SameDay k)) maturity)
-unfolding series_dates
+    → IsEarliestAmong maturity from k (unwrap_or (find (int_le from) (series_from maturity rule.SameDay k)) maturity)
+unfolding series_from
 found maturity from zero base few late =
     let start = half_back_of-zero maturity rule.SameDay base in
     rw (start, (int_le-tells from maturity).1 late) (record {

@@ -10,7 +10,7 @@ use Rattle.escrow_units.specs.declared.security.Slgs.{Slgs}
 use Rattle.escrow_units.specs.declared.security.SlgsKind.{SlgsKind}
 use Rattle.escrow_units.specs.declared.security.SlgsKind.TheVariants as kind
 use Rattle.escrow_units.specs.declared.security.StepRule.TheVariants as rule
-use Rattle.escrow_units.proofs.SeriesDates.{base-day, half_back_of-order, half_back_of-reach}
+use Rattle.escrow_units.proofs.LastDates.{base-day, half_back_of-order, half_back_of-reach}
 use Rattle.escrow_units.proofs.SeriesFacts.{half_back_of-steps, years_after_of-none}
 use Rattle.escrow_units.proofs.YearFacts.{years_after_of-passes, settlement-base, kinds-exclusive}
 use Rattle.slgs_rules.specs.TermRules.{Request, IsAnswer, IsSubscription, IsFirstFault, IsEarliestFrom, IsNamedOrEarliest, IsFirstOfKind, IsNameable, place}

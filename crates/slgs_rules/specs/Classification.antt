@@ -4,7 +4,7 @@ use Rattle.std.specs.Prelude.{◌==◌, nat_le, Bool, true, false, not, ◌&&◌
 use Rattle.std.specs.List.{list_any}
 use Rattle.std.specs.Ordering.{int_eq}
 use Rattle.escrow_units.specs.Calendar.{years_after_of}
-use Rattle.escrow_units.specs.Series.{series_dates}
+use Rattle.escrow_units.specs.Series.{series_from}
 use Rattle.escrow_units.specs.SlgsTerms.{shortest_term}
 use Rattle.escrow_units.specs.declared.amount.Rate.{Rate}
 use Rattle.escrow_units.specs.declared.security.AskedRate.{AskedRate}
@@ -30,7 +30,7 @@ is_within_table asked (Some most) = nat_le (rate_of asked (Some most)).0 most.0
 
 -- whether a day is a date of the series that ends at maturity
 abbrev pub is_series_date : ℤ → ℤ → Bool
-is_series_date maturity day = list_any (int_eq day) (series_dates maturity rule.SameDay 84)
+is_series_date maturity day = list_any (int_eq day) (series_from maturity rule.SameDay 84)
 
 -- whether interest may first be paid on a day: a date of the series, at least 30 days and at most one year after settlement
 abbrev pub is_first_interest : ℤ → ℤ → ℤ → Bool
@@ -66,7 +66,7 @@ kind_of settle maturity =
 
 -- the earliest date of the series that ends at maturity which is not before a day
 abbrev pub earliest_from : ℤ → ℤ → ℤ
-earliest_from maturity from = unwrap_or (find (int_le from) (series_dates maturity rule.SameDay 84)) maturity
+earliest_from maturity from = unwrap_or (find (int_le from) (series_from maturity rule.SameDay 84)) maturity
 
 -- the first payment date: a certificate's is its maturity; a note or bond has the one that is named, or else the earliest
 -- that is at least 30 days after settlement

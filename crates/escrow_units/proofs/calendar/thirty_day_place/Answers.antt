@@ -2,7 +2,7 @@ use Rattle.std.proofs.Common.{refl, arith, rules, ◌≡◌, FitsSigned, w16, to
 use Rattle.std.proofs.lemmas.Int.{to_z-of_z}
 use Rattle.jiff_core.proofs.SignedLemmas.{signed_arith}
 use Rattle.escrow_units.proofs.DateFacts.{pos_abs}
-use Rattle.escrow_units.proofs.DayFacts.{e_of-date, year_in_days}
+use Rattle.escrow_units.proofs.DayFacts.{thirty_day_place_of-date, year_in_days}
 use Rattle.escrow_units.proofs.calendar.thirty_day_place.Goals as goal
 
 pub overflow_cast-result : goal.overflow_cast-result
@@ -17,7 +17,7 @@ pub returns-clause-value : goal.returns-clause-value
 returns-clause-value c =
     let fits : FitsSigned w16 c.plain_date-date.result.year = search rules in
     let same : to_z w16 (of_z w16 c.plain_date-date.result.year) ≡ c.plain_date-date.result.year = to_z-of_z w16 c.plain_date-date.result.year fits in
-    let e = rw c.plain_date-date.ensures.number at (e_of-date c.plain_date-date.result (rw c.plain_date-date.ensures.number c.plain_date-date.ensures.years)) in
+    let e = rw c.plain_date-date.ensures.number at (thirty_day_place_of-date c.plain_date-date.result (rw c.plain_date-date.ensures.number c.plain_date-date.ensures.years)) in
     rw (same, e, c.min.ensures) refl
 
 pub returns-clause-bound : goal.returns-clause-bound

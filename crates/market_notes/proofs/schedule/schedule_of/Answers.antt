@@ -1,7 +1,7 @@
 use Rattle.std.proofs.Common.{rules, ◌∙◌, ◌<ℤ◌, ◌≤ℤ◌, ap, refl, reverse}
 use Rattle.escrow_units.specs.Calendar.{half_back_of}
 use Rattle.escrow_units.specs.declared.security.StepRule.TheVariants as rule
-use Rattle.escrow_units.proofs.SeriesDates.{refill-reverse}
+use Rattle.escrow_units.proofs.LastDates.{refill-reverse}
 use Rattle.market_notes.proofs.SeriesFacts.{term, walk-start, walk-more, walk-end}
 use Rattle.market_notes.proofs.schedule.schedule_of.Goals as goal
 

@@ -2,7 +2,7 @@ use Rattle.std.proofs.Common.{arith, rules, ◌∙◌, ◌<ℤ◌, ◌≤ℤ◌,
 use Rattle.jiff_core.proofs.SignedLemmas.{signed_arith}
 use Rattle.escrow_units.specs.Calendar.{half_back_of}
 use Rattle.escrow_units.specs.declared.security.StepRule.TheVariants as rule
-use Rattle.escrow_units.proofs.SeriesDates.{half_back_of-reach, refill-reverse}
+use Rattle.escrow_units.proofs.LastDates.{half_back_of-reach, refill-reverse}
 use Rattle.slgs_interest.proofs.Series.{paid, walk-start, walk-more, walk-end}
 use Rattle.slgs_interest.proofs.flows.dates_of.Goals as goal
 

@@ -1,6 +1,6 @@
 use Rattle.std.proofs.Common.{arith, rules, ◌≡◌, ◌+◌, ◌-◌, sym, ◌<ℤ◌, ◌≤ℤ◌}
 use Rattle.escrow_units.specs.declared.security.StepRule.TheVariants as rule
-use Rattle.escrow_units.proofs.SeriesDates.{half_back_of-zero}
+use Rattle.escrow_units.proofs.LastDates.{half_back_of-zero}
 use Rattle.slgs_rules.proofs.RuleFacts.{earliest-before, earliest-last}
 use Rattle.slgs_rules.proofs.rules.earliest_date.Goals as goal
 

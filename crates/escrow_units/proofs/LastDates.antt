@@ -8,7 +8,7 @@ use Rattle.jiff_core.proofs.SignedLemmas.{signed_arith}
 use Rattle.escrow_units.specs.Calendar.{half_back_of, IsBaseDay}
 use Rattle.escrow_units.specs.CalendarLaws.{IsHalfYear}
 use Rattle.escrow_units.specs.DayNumber.{IsDayNumber}
-use Rattle.escrow_units.specs.Series.{series_dates}
+use Rattle.escrow_units.specs.Series.{series_from}
 use Rattle.escrow_units.specs.declared.security.StepRule.{StepRule}
 use Rattle.escrow_units.proofs.SeriesFacts.{half_back_of-start, half_back_of-falls, half_back_of-steps}
 
@@ -57,56 +57,56 @@ pub half_year-along : (a b c d : ℤ) → a ≡ c → b ≡ d → IsHalfYear c d
 half_year-along a b c d e f h = rw (e, f) h
 
 -- the last so many dates of a series, in order
-unfoldable pub dates_after : ℤ → StepRule → ℕ → List ℤ
-dates_after maturity r zero = []
-dates_after maturity r (suc k) = half_back_of maturity k r ∷ dates_after maturity r k
+unfoldable pub last_dates : ℤ → StepRule → ℕ → List ℤ
+last_dates maturity r zero = []
+last_dates maturity r (suc k) = half_back_of maturity k r ∷ last_dates maturity r k
 
-pub series_dates-after : (maturity : ℤ) (r : StepRule) (k : ℕ) → series_dates maturity r k ≡ dates_after maturity r (suc k)
-unfolding series_dates dates_after
-series_dates-after maturity r zero = refl
-series_dates-after maturity r (suc k) =
+pub series_from-last : (maturity : ℤ) (r : StepRule) (k : ℕ) → series_from maturity r k ≡ last_dates maturity r (suc k)
+unfolding series_from last_dates
+series_from-last maturity r zero = refl
+series_from-last maturity r (suc k) =
     let more : k + 1 ≡ suc k = omega arith in
-    rw more (ap (λ dates. half_back_of maturity (suc k) r ∷ dates) (series_dates-after maturity r k))
+    rw more (ap (λ dates. half_back_of maturity (suc k) r ∷ dates) (series_from-last maturity r k))
 
-pub dates_after-more : (maturity : ℤ) (r : StepRule) (n m : ℕ) → m ≡ n + 1 → half_back_of maturity n r ∷ dates_after maturity r n ≡ dates_after maturity r m
-unfolding dates_after
-dates_after-more maturity r n m e = let more : m ≡ suc n = omega arith in rw more refl
+pub last_dates-more : (maturity : ℤ) (r : StepRule) (n m : ℕ) → m ≡ n + 1 → half_back_of maturity n r ∷ last_dates maturity r n ≡ last_dates maturity r m
+unfolding last_dates
+last_dates-more maturity r n m e = let more : m ≡ suc n = omega arith in rw more refl
 
-pub length-dates_after : (maturity : ℤ) (r : StepRule) (n : ℕ) → length (dates_after maturity r n) ≡ n
-unfolding dates_after
-length-dates_after maturity r zero = refl
-length-dates_after maturity r (suc k) = omega (arith, length-dates_after maturity r k)
+pub length-last_dates : (maturity : ℤ) (r : StepRule) (n : ℕ) → length (last_dates maturity r n) ≡ n
+unfolding last_dates
+length-last_dates maturity r zero = refl
+length-last_dates maturity r (suc k) = omega (arith, length-last_dates maturity r k)
 
 -- what holds of each of them
-pub dates_after-all : (P : ℤ → Type 0) (maturity : ℤ) (r : StepRule) (n : ℕ) → ((j : ℕ) → j < n → P (half_back_of maturity j r)) → All P (dates_after maturity r n)
-unfolding dates_after
-dates_after-all P maturity r zero each = All-nil P
-dates_after-all P maturity r (suc k) each =
-    All-cons P (half_back_of maturity k r) (dates_after maturity r k) (each k (omega arith)) (dates_after-all P maturity r k (λ j less. each j (omega arith)))
+pub last_dates-all : (P : ℤ → Type 0) (maturity : ℤ) (r : StepRule) (n : ℕ) → ((j : ℕ) → j < n → P (half_back_of maturity j r)) → All P (last_dates maturity r n)
+unfolding last_dates
+last_dates-all P maturity r zero each = All-nil P
+last_dates-all P maturity r (suc k) each =
+    All-cons P (half_back_of maturity k r) (last_dates maturity r k) (each k (omega arith)) (last_dates-all P maturity r k (λ j less. each j (omega arith)))
 
 -- they rise
-pub dates_after-rise : (maturity : ℤ) (r : StepRule) (n : ℕ) → IsBaseDay maturity → n ≤ 85 → AllPairs (λ a b. a <ℤ b) (dates_after maturity r n)
-unfolding dates_after
-dates_after-rise maturity r zero h few = λ i j d lt within. absurd (omega arith)
-dates_after-rise maturity r (suc k) h few =
-    AllPairs-cons (λ a b. a <ℤ b) (half_back_of maturity k r) (dates_after maturity r k)
-    (dates_after-all (λ date. half_back_of maturity k r <ℤ date) maturity r k (λ j less. half_back_of-falls maturity r j k h less (omega arith)))
-    (dates_after-rise maturity r k h (omega arith))
+pub last_dates-rise : (maturity : ℤ) (r : StepRule) (n : ℕ) → IsBaseDay maturity → n ≤ 85 → AllPairs (λ a b. a <ℤ b) (last_dates maturity r n)
+unfolding last_dates
+last_dates-rise maturity r zero h few = λ i j d lt within. absurd (omega arith)
+last_dates-rise maturity r (suc k) h few =
+    AllPairs-cons (λ a b. a <ℤ b) (half_back_of maturity k r) (last_dates maturity r k)
+    (last_dates-all (λ date. half_back_of maturity k r <ℤ date) maturity r k (λ j less. half_back_of-falls maturity r j k h less (omega arith)))
+    (last_dates-rise maturity r k h (omega arith))
 
 -- the dates before maturity
 unfoldable pub dates_before : ℤ → StepRule → ℕ → List ℤ
 dates_before maturity r zero = []
 dates_before maturity r (suc k) = half_back_of maturity (suc k) r ∷ dates_before maturity r k
 
-dates_after-last_of : (maturity : ℤ) (r : StepRule) (k : ℕ) → IsBaseDay maturity → dates_after maturity r (suc k) ≡ dates_before maturity r k ++ maturity ∷ []
-unfolding dates_after dates_before
-dates_after-last_of maturity r zero h = ap (λ d. d ∷ []) (half_back_of-zero maturity r h)
-dates_after-last_of maturity r (suc k) h = ap (λ ds. half_back_of maturity (suc k) r ∷ ds) (dates_after-last_of maturity r k h)
+last_dates-last_of : (maturity : ℤ) (r : StepRule) (k : ℕ) → IsBaseDay maturity → last_dates maturity r (suc k) ≡ dates_before maturity r k ++ maturity ∷ []
+unfolding last_dates dates_before
+last_dates-last_of maturity r zero h = ap (λ d. d ∷ []) (half_back_of-zero maturity r h)
+last_dates-last_of maturity r (suc k) h = ap (λ ds. half_back_of maturity (suc k) r ∷ ds) (last_dates-last_of maturity r k h)
 
-pub dates_after-last : (maturity : ℤ) (r : StepRule) (n : ℕ) → IsBaseDay maturity → 0 < n → dates_after maturity r n ≡ dates_before maturity r (n - 1) ++ maturity ∷ []
-dates_after-last maturity r n h some =
+pub last_dates-last : (maturity : ℤ) (r : StepRule) (n : ℕ) → IsBaseDay maturity → 0 < n → last_dates maturity r n ≡ dates_before maturity r (n - 1) ++ maturity ∷ []
+last_dates-last maturity r n h some =
     let more : n ≡ suc (n - 1) = omega arith in
-    ap (dates_after maturity r) more ∙ dates_after-last_of maturity r (n - 1) h
+    ap (last_dates maturity r) more ∙ last_dates-last_of maturity r (n - 1) h
 
 cons_cond : (t : Bool) (d : ℤ) (ds es : List ℤ) → t ≡ true → ds ≡ es → cond t (d ∷ ds) ds ≡ d ∷ es
 cons_cond t d ds es e f = rw (e, f) refl
@@ -116,8 +116,8 @@ skip_cond t d ds es e f = rw (e, f) refl
 
 -- a test that the last n dates of a series meet, and no date before them, keeps those
 pub filter-dates : (test : ℤ → Bool) (maturity : ℤ) (r : StepRule) (n m : ℕ) → n ≤ m → ((j : ℕ) → j < n → test (half_back_of maturity j r) ≡ true)
-    → ((j : ℕ) → n ≤ j → j < m → test (half_back_of maturity j r) ≡ false) → filter test (dates_after maturity r m) ≡ dates_after maturity r n
-unfolding dates_after
+    → ((j : ℕ) → n ≤ j → j < m → test (half_back_of maturity j r) ≡ false) → filter test (last_dates maturity r m) ≡ last_dates maturity r n
+unfolding last_dates
 filter-dates test maturity r n zero le kept dropped = let none : n ≡ 0 = omega arith in rw none refl
 filter-dates test maturity r n (suc k) le kept dropped =
     elim (cases_lt n (suc k)) [
@@ -128,7 +128,7 @@ filter-dates test maturity r n (suc k) le kept dropped =
           let e : n ≡ suc k = omega arith in
           cons_cond (test (half_back_of maturity k r)) _ _ _ (kept k (omega arith))
           (filter-dates test maturity r k k (omega arith) (λ j less. kept j (omega arith)) (λ j from less. absurd (omega arith)))
-          ∙ sym (ap (dates_after maturity r) e)
+          ∙ sym (ap (last_dates maturity r) e)
     ]
 
 -- what is left of a list that was filled with its items in the other order

@@ -1,0 +1,131 @@
+-- The dates of a series around a day.
+use Rattle.std.proofs.Common.{◌≡◌, ◌∙◌, ℕ, ◌+◌, ◌-◌, ◌<◌, ◌≤◌, zero, suc, refl, sym, ap, arith, ℤ, pos, ◌+ℤ◌, ◌≤ℤ◌, ◌<ℤ◌, int_lt, inl, inr, List, [], ◌∷◌, ◌++◌, length, reverse, All, filter}
+use Rattle.std.proofs.lemmas.Bool.{cases_lt}
+use Rattle.std.proofs.lemmas.List.{reverse-append, length-append}
+use Rattle.jiff_core.proofs.SignedLemmas.{signed_arith}
+use Rattle.escrow_units.specs.Calendar.{half_back_of, IsBaseDay, IsSeriesDate}
+use Rattle.escrow_units.specs.CalendarLaws.{IsHalfYear}
+use Rattle.escrow_units.specs.Series.{IsLastBy, dates_after_of, next_date_of, previous_date_of, series_of}
+use Rattle.escrow_units.specs.declared.security.StepRule.{StepRule}
+use Rattle.escrow_units.proofs.SeriesFacts.{half_back_of-falls}
+use Rattle.escrow_units.proofs.FlowFacts.{int_lt-not, int_lt-test}
+use Rattle.escrow_units.proofs.LastDates.{last_dates, last_dates-all, last_dates-more, filter-dates, half_back_of-order, half_back_of-reach, half_back_of-zero, half_year-along, half_year-before, length-last_dates, series_from-last}
+
+-- a series that ends at most 40 years after a day
+pub record IsNear (maturity day : ℤ) : Type 0 where
+  pub base : IsBaseDay maturity
+  pub most : maturity ≤ℤ (day +ℤ pos 14_640)
+
+-- at most 81 of its dates come after the day
+pub few_steps : (maturity : ℤ) (r : StepRule) (day : ℤ) (k : ℕ) → IsNear maturity day → k ≤ 84 → day <ℤ half_back_of maturity k r → k ≤ 80
+few_steps maturity r day k near few late =
+    omega (arith, signed_arith, near.most, late, half_back_of-reach maturity r k near.base few)
+
+-- so many dates come after the day
+pub record HasDates (maturity : ℤ) (r : StepRule) (day : ℤ) (n : ℕ) : Type 0 where
+  pub some : 0 < n
+  pub few : n ≤ 81
+  pub dates : dates_after_of maturity r day ≡ last_dates maturity r n
+  pub count : length (dates_after_of maturity r day) ≡ n
+  pub previous : previous_date_of maturity r day ≡ half_back_of maturity n r
+  pub next : next_date_of maturity r day ≡ half_back_of maturity (n - 1) r
+
+pub has_dates : (maturity : ℤ) (r : StepRule) (day : ℤ) (n : ℕ) → IsNear maturity day → 0 < n → n ≤ 84
+    → day <ℤ half_back_of maturity (n - 1) r → half_back_of maturity n r ≤ℤ day → HasDates maturity r day n
+unfolding dates_after_of
+has_dates maturity r day n near some few late early =
+    let steps = few_steps maturity r day (n - 1) near (omega arith) late in
+    let dates : dates_after_of maturity r day ≡ last_dates maturity r n =
+    ap (filter (int_lt day)) (series_from-last maturity r 84) ∙ filter-dates (int_lt day) maturity r n 85 (omega arith)
+    (λ j less. int_lt-test day _ (omega (arith, signed_arith, late, half_back_of-order maturity r j (n - 1) near.base (omega arith) (omega arith))))
+    (λ j from less. int_lt-not day _ (omega (arith, signed_arith, early, half_back_of-order maturity r n j near.base from (omega arith)))) in
+    let count : length (dates_after_of maturity r day) ≡ n = ap length dates ∙ length-last_dates maturity r n in
+    record {
+      some = some;
+      few = omega arith;
+      dates = dates;
+      count = count;
+      previous = ap (λ (k : ℕ). half_back_of maturity k r) count;
+      next = ap (λ (k : ℕ). half_back_of maturity (k - 1) r) count;
+    }
+
+-- the date before them is the last up to the day
+pub last-by : (maturity : ℤ) (r : StepRule) (day : ℤ) (n : ℕ) → IsNear maturity day → 0 < n → n ≤ 84
+    → day <ℤ half_back_of maturity (n - 1) r → half_back_of maturity n r ≤ℤ day → IsLastBy maturity r day (half_back_of maturity n r)
+last-by maturity r day n near some few late early = record {
+  series = record { steps = n; few = few; back = refl };
+  by = early;
+  last = λ other on by. elim (cases_lt on.steps n) [
+    | inl sooner ↦
+        let order = half_back_of-order maturity r on.steps (n - 1) near.base (omega arith) (omega arith) in
+        absurd (omega (arith, signed_arith, on.back, order, late, by))
+    | inr later ↦ rw on.back (half_back_of-order maturity r n on.steps near.base later on.few)
+  ];
+}
+
+-- the walk from maturity back to the last date up to the day
+pub record IsWalk (maturity : ℤ) (r : StepRule) (day date next : ℤ) (dates : List ℤ) : Type 0 where
+  pub few : length dates ≤ 81
+  pub at : date ≡ half_back_of maturity (length dates) r
+  pub before : next ≡ half_back_of maturity (length dates - 1) r
+  pub walked : reverse dates ≡ last_dates maturity r (length dates)
+  pub late : day <ℤ next
+
+pub walk-start : (maturity : ℤ) (r : StepRule) (day : ℤ) (dates : List ℤ) → IsNear maturity day → day <ℤ maturity → dates ≡ [] → IsWalk maturity r day maturity maturity dates
+unfolding last_dates
+walk-start maturity r day dates near before e = rw e (record {
+  few = omega arith;
+  at = sym (half_back_of-zero maturity r near.base);
+  before = sym (half_back_of-zero maturity r near.base);
+  walked = refl;
+  late = before;
+})
+
+pub walk-more : (maturity : ℤ) (r : StepRule) (day date next back : ℤ) (dates more : List ℤ) → IsNear maturity day → IsWalk maturity r day date next dates → day <ℤ date
+    → back ≡ half_back_of maturity (length more) r → more ≡ dates ++ date ∷ [] → IsWalk maturity r day back date more
+walk-more maturity r day date next back dates more near walk late f g =
+    let steps = few_steps maturity r day (length dates) near (omega (arith, walk.few)) (omega (arith, signed_arith, late, walk.at)) in
+    let long : length more ≡ length dates + 1 = rw g (simp length-append (omega arith)) in
+    let less : length more - 1 ≡ length dates = omega arith in
+    record {
+      few = omega arith;
+      at = f;
+      before = rw less walk.at;
+      walked = ap reverse g
+          ∙ (reverse-append dates (date ∷ [])
+          ∙ (ap (λ ds. date ∷ ds) walk.walked
+          ∙ (ap (λ d. d ∷ last_dates maturity r (length dates)) walk.at
+          ∙ last_dates-more maturity r (length dates) (length more) long)));
+      late = late;
+    }
+
+-- where it ends, all dates were found
+pub record IsWalked (maturity : ℤ) (r : StepRule) (day date next : ℤ) (dates : List ℤ) : Type 0 where
+  pub previous : date ≡ previous_date_of maturity r day
+  pub following : next ≡ next_date_of maturity r day
+  pub all : reverse dates ≡ dates_after_of maturity r day
+  pub last : IsLastBy maturity r day date
+  pub half_year : IsHalfYear date next
+
+last-along : (maturity : ℤ) (r : StepRule) (day a b : ℤ) → a ≡ b → IsLastBy maturity r day b → IsLastBy maturity r day a
+last-along maturity r day a b e h = rw e h
+
+some-date : (maturity : ℤ) (r : StepRule) (day date next : ℤ) (n : ℕ) → date ≡ half_back_of maturity n r → next ≡ half_back_of maturity (n - 1) r
+    → day <ℤ next → date ≤ℤ day → 0 < n
+some-date maturity r day date next zero e f late early = let same : date ≡ next = e ∙ sym f in absurd (omega (arith, signed_arith, same, late, early))
+some-date maturity r day date next (suc k) e f late early = omega arith
+
+pub walk-end : (maturity : ℤ) (r : StepRule) (day date next : ℤ) (dates : List ℤ) → IsNear maturity day → IsWalk maturity r day date next dates → date ≤ℤ day
+    → IsWalked maturity r day date next dates
+walk-end maturity r day date next dates near walk early =
+    let some = some-date maturity r day date next (length dates) walk.at walk.before walk.late early in
+    let late : day <ℤ half_back_of maturity (length dates - 1) r = omega (arith, signed_arith, walk.late, walk.before) in
+    let by : half_back_of maturity (length dates) r ≤ℤ day = omega (arith, signed_arith, early, walk.at) in
+    let p = has_dates maturity r day (length dates) near some (omega (arith, walk.few)) late by in
+    record {
+      previous = walk.at ∙ sym p.previous;
+      following = walk.before ∙ sym p.next;
+      all = walk.walked ∙ sym p.dates;
+      last = last-along maturity r day date _ walk.at (last-by maturity r day (length dates) near some (omega (arith, walk.few)) late by);
+      half_year = half_year-along date next _ _ walk.at walk.before (half_year-before maturity r (length dates) near.base some (omega (arith, walk.few)));
+    }
