@@ -1,5 +1,5 @@
 -- Rows of an input file: their fields, and how a fault of a field or a row is answered. The rows are this project's own.
-use Rattle.std.specs.Prelude.{◌≡◌, ℕ, Bool, ◌==◌, nat_eq, int_lt, if◌then◌else◌, List, [], length, slice_index_or, Option, Some, None, ok_or, Result, Ok, Err, codes, ℤ, ⊤}
+use Rattle.std.specs.Prelude.{◌≡◌, ℕ, Bool, ◌==◌, nat_eq, int_lt, if◌then◌else◌, List, [], length, slice_index_or, ok_or, Result, Ok, Err, codes, ℤ, ⊤}
 use lib.Pointwise.{pointwise}
 use Rattle.escrow_desk.specs.declared.refusal.CaseError.{CaseError}
 use Rattle.escrow_desk.specs.declared.refusal.CaseError.TheVariants as error
@@ -12,6 +12,8 @@ use Rattle.escrow_units.specs.Denomination.{terms_of}
 use Rattle.escrow_units.specs.declared.fault.NumberFault.{NumberFault}
 use Rattle.escrow_units.specs.declared.fault.NumberFault.TheVariants as fault
 use Rattle.escrow_units.specs.declared.security.Terms.{Terms}
+use Rattle.row_fields.specs.declared.fault.RowFault.{RowFault}
+use Rattle.row_fields.specs.declared.fault.RowFault.TheVariants as row_fault
 
 -- a record of fields
 abbrev pub Row : Type 0
@@ -32,24 +34,24 @@ Ok value >>= next = next value
 Err refusal >>= next = Err refusal
 
 -- a field is refused by the name of its fault
-abbrev pub kind_of : NumberFault → RefusalKind
-kind_of fault.BadNumber = kind.BadNumber
-kind_of fault.BadDate = kind.BadDate
-kind_of fault.OutOfRange = kind.OutOfRange
-kind_of fault.PriceRange = kind.PriceRange
+abbrev pub refusal_kind_of : NumberFault → RefusalKind
+refusal_kind_of fault.BadNumber = kind.BadNumber
+refusal_kind_of fault.BadDate = kind.BadDate
+refusal_kind_of fault.OutOfRange = kind.OutOfRange
+refusal_kind_of fault.PriceRange = kind.PriceRange
 
 abbrev pub or_refused : {T : Type 0} → Result T NumberFault → Result T RefusalKind
 or_refused (Ok value) = Ok value
-or_refused (Err fault) = Err (kind_of fault)
+or_refused (Err fault) = Err (refusal_kind_of fault)
 
 -- a date
-abbrev pub day_field : List ℕ → Result ℤ RefusalKind
-day_field bytes = ok_or (day_of bytes) kind.BadDate
+abbrev pub day_field_of : List ℕ → Result ℤ RefusalKind
+day_field_of bytes = ok_or (day_of bytes) kind.BadDate
 
 -- a date up to a last day
-abbrev pub day_by : ℤ → List ℕ → Result ℤ RefusalKind
-day_by last bytes = do
-  day ← day_field bytes
+abbrev pub day_by_of : ℤ → List ℕ → Result ℤ RefusalKind
+day_by_of last bytes = do
+  day ← day_field_of bytes
   if int_lt last day then Err kind.OutOfRange else Ok day
 
 -- a row of so many fields
@@ -57,21 +59,12 @@ abbrev pub of_width : {T : Type 0} → ℕ → Row → Result T RefusalKind → 
 of_width width row answer = if length row == width then answer else Err kind.WrongFields
 
 -- `terms,MINIMUM,STEP`: the denominations of each security of the file
-abbrev pub terms_row : Row → Result Terms RefusalKind
-terms_row row = of_width 3 row (or_refused (terms_of (field_of row 1) (field_of row 2)))
-
--- the fault of an answer, or else another
-abbrev pub fault_or : {T : Type 0} → RefusalKind → Result T RefusalKind → RefusalKind
-fault_or other (Ok value) = other
-fault_or other (Err fault) = fault
-
--- a second `terms` row is refused by the fault of its fields, or else because it is repeated
-abbrev pub repeated_terms : Row → RefusalKind
-repeated_terms row = fault_or kind.Repeated (terms_row row)
+abbrev pub terms_row_of : Row → Result Terms RefusalKind
+terms_row_of row = of_width 3 row (or_refused (terms_of (field_of row 1) (field_of row 2)))
 
 -- row 1 is `terms`
-abbrev pub first_row : Row → Result Terms RefusalKind
-first_row row = if is_word (codes "terms") (field_of row 0) then terms_row row else Err kind.Missing
+abbrev pub first_terms_of : Row → Result Terms RefusalKind
+first_terms_of row = if is_word (codes "terms") (field_of row 0) then terms_row_of row else Err kind.Missing
 
 -- a refusal of a file at the row with this number, from 1; 0 stands for the file as a whole
 abbrev pub refusal_of : FileKind → ℕ → RefusalKind → Refusal
@@ -87,3 +80,15 @@ abbrev pub Answers : {T : Type 0} → Result T CaseError → Result T Refusal �
 Answers (Ok value) answer = answer ≡ Ok value
 Answers (Err (error.Refused refusal)) answer = answer ≡ Err refusal
 Answers (Err error.NoMemory) answer = ⊤
+
+-- a row answers what is defined, or want of memory
+abbrev pub RowAnswers : {T : Type 0} → Result T RowFault → Result T RefusalKind → Type 0
+RowAnswers (Ok value) answer = answer ≡ Ok value
+RowAnswers (Err (row_fault.Refused refused)) answer = answer ≡ Err refused
+RowAnswers (Err row_fault.NoMemory) answer = ⊤
+
+-- what a row answers, or want of memory, as an answer of a call
+abbrev pub row_answer_of : {T : Type 0} → FileKind → ℕ → Result T RowFault → Result T CaseError
+row_answer_of file number (Ok value) = Ok value
+row_answer_of file number (Err (row_fault.Refused refused)) = Err (error.Refused (refusal_of file number refused))
+row_answer_of file number (Err row_fault.NoMemory) = Err error.NoMemory
