@@ -22,6 +22,7 @@ use Rattle.case_file.specs.declared.fault.CaseFault.{CaseFault}
 use Rattle.case_file.specs.declared.fault.CaseFault.TheVariants as fault
 use Rattle.case_file.specs.declared.fault.NoCase.{NoCase}
 use Rattle.case_file.specs.declared.fault.NoCase.TheVariants.{Refused, Unbuilt}
+use Rattle.escrow_units.specs.declared.limits.TheConstants.{GREATEST_YIELD}
 
 -- a case: its book; its limit on the yield, which is the restricted yield plus one thousandth of a percentage point
 -- (26 CFR 1.148-2(d)(2)), in units of 10^-10; the greatest gap that is allowed, in cents; and the greatest number of nodes
@@ -102,7 +103,7 @@ pub record IsKept (rate_rows : List Row) (case : CaseContents) : Type 0 where
   pub rules : AreLinesOf case.book.settle rates (drop 1 case.book.lines)
   pub interest : AreWithoutInterest case.book.lines
   pub least_limit : 100_000 ≤ case.limit
-  pub most_limit : case.limit ≤ 3_000_000_000
+  pub most_limit : case.limit ≤ GREATEST_YIELD
 
 -- a case as contracts see it
 abbrev pub case_view : Case → CaseContents

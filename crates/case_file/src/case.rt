@@ -13,7 +13,7 @@ ghost use Rattle.case_file.specs.Case.{Answers, IsKept, bears_interest as bears_
 
 use crate::fault::{CaseFault, NoCase};
 use escrow_desk::{FileKind, NoMemory, Refusal, RefusalKind, read_rows};
-use escrow_units::{Cents, Day, YieldUnits};
+use escrow_units::{Cents, Day, GREATEST_YIELD, MOST_LINES, YieldUnits};
 use issue_schedule::{Issue, Restricted, needs, read_issue};
 use offer_book::{Book, Line, LineKind, slgs_lines};
 use rate_table::{RateFile, read_rates};
@@ -130,7 +130,7 @@ fn lines_with_cash(alloc: Global, most: Cents, offers: &[Line]) -> Result<Vec<Li
 fn book_of_issue(alloc: Global, issue: &Issue, offers: &[Line]) -> Result<Book, NoMemory>
     requires issue { IsIssue issue.now }
     requires offers { All (IsSecurityLine issue.now.settle) offers.now }
-    requires few { length offers.now ≤ 256 }
+    requires few { length offers.now ≤ MOST_LINES }
     ensures book { IfOk result (λ book. book ≡ book_of issue.now offers.now) }
     ensures limits { IfOk result IsBook }
 {
@@ -146,7 +146,7 @@ fn case_of_issue(alloc: Global, issue: &Issue, offers: &[Line]) -> Result<Case, 
     ensures case { Answers case_view result (case_with issue.now offers.now) }
     ensures book { IfOk result (λ case. case.book ≡ book_of issue.now offers.now) }
     ensures limits { IfOk result (λ case. IsBook case.book) }
-    ensures limit { IfOk result (λ case. (100_000 ≤ case.limit.0) × (case.limit.0 ≤ 3_000_000_000)) }
+    ensures limit { IfOk result (λ case. (100_000 ≤ case.limit.0) × (case.limit.0 ≤ GREATEST_YIELD)) }
     ensures interest { IfOk result (λ case. AreWithoutInterest case.book.lines) }
 {
     if offers.len() > MOST_OFFERS {

@@ -10,16 +10,16 @@ use Rattle.std.proofs.lemmas.Int.{ints}
 use Rattle.std.proofs.lemmas.List.Sums.{sum_by-le}
 use Rattle.escrow_units.specs.Calendar.{years_after_of}
 use Rattle.escrow_units.specs.DayNumber.{IsDayNumber}
-use Rattle.escrow_units.specs.Flows.{index_of, total}
+use Rattle.escrow_units.specs.Flows.{index360_of, total, FallWithinFortyYears}
 use Rattle.escrow_units.specs.SlgsTerms.{IsSettlement}
 use Rattle.escrow_units.specs.declared.security.Flow.{Flow}
-use Rattle.escrow_units.proofs.IndexFacts.{e_of-apart}
+use Rattle.escrow_units.proofs.IndexFacts.{thirty_day_place_of-apart}
 use Rattle.escrow_units.proofs.YearFacts.{settlement-base}
 use Rattle.day_sums.specs.Summed.{summed}
 use Rattle.day_sums.proofs.SumFacts.{count, counted, counted-zero, count-append, days-summed}
 use Rattle.day_sums.proofs.Uniqueness.{keep-total, same-sums, in-steps}
 use Rattle.offer_book.specs.declared.line.Line.{Line}
-use Rattle.offer_book.specs.Book.{AreLines, AreWithinFortyYears, BookContents, IsBook, IsSecurityLine}
+use Rattle.offer_book.specs.Book.{AreLines, BookContents, IsBook, IsSecurityLine}
 use Rattle.offer_book.specs.Portfolio.{IsPermitted, security_flows}
 use Rattle.offer_book.proofs.LineFacts.{line_payments-little, line_payments-none, line_payments-within, line_payments-late}
 use Rattle.cash_table.proofs.CostFacts.{PairIsPermitted, permitted_few}
@@ -84,23 +84,23 @@ flows_late book plan limits =
     of_lines settle (cash ∷ securities) (units ∷ plan) h lines = lines_late settle securities plan h lines.1
 
 -- they are within 40 years
-pub flows_within : (book : BookContents) (plan : List ℕ) → IsBook book → AreWithinFortyYears book.settle (security_flows book plan)
+pub flows_within : (book : BookContents) (plan : List ℕ) → IsBook book → FallWithinFortyYears book.settle (security_flows book plan)
 flows_within book plan limits =
     All-weaker (λ (flow : Flow). FallsLate book.settle flow.day) (λ flow. (book.settle ≤ℤ flow.day) × (flow.day ≤ℤ years_after_of book.settle 40))
     (λ flow late. (omega (arith, ints, late.0), late.1)) (security_flows book plan) (flows_late book plan limits)
 
 -- and discounted by at least a day
-pub flows_later : (book : BookContents) (plan : List ℕ) → IsBook book → All (λ flow. 1 ≤ index_of book.settle flow.day) (security_flows book plan)
+pub flows_later : (book : BookContents) (plan : List ℕ) → IsBook book → All (λ flow. 1 ≤ index360_of book.settle flow.day) (security_flows book plan)
 flows_later book plan limits =
-    All-weaker (λ (flow : Flow). FallsLate book.settle flow.day) (λ flow. 1 ≤ index_of book.settle flow.day)
+    All-weaker (λ (flow : Flow). FallsLate book.settle flow.day) (λ flow. 1 ≤ index360_of book.settle flow.day)
     (λ flow late. later book.settle flow.day limits.settlement late) (security_flows book plan) (flows_late book plan limits)
   where
-    later : (settle day : ℤ) → IsSettlement settle → FallsLate settle day → 1 ≤ index_of settle day
+    later : (settle day : ℤ) → IsSettlement settle → FallsLate settle day → 1 ≤ index360_of settle day
     later settle day h late =
         let own : IsDayNumber settle = (omega (arith, ints, h.0), omega (arith, ints, h.1)) in
         let base = settlement-base settle day h (omega (arith, ints, late.0)) late.1 in
         let is_day : IsDayNumber day = (omega (arith, ints, base.0), omega (arith, ints, base.1)) in
-        omega (arith, e_of-apart settle day own is_day (omega (arith, ints, late.0)))
+        omega (arith, thirty_day_place_of-apart settle day own is_day (omega (arith, ints, late.0)))
 
 -- parts of a permitted portfolio: its securities
 pub securities_permitted : (lines : List Line) (plan : List ℕ) → All PairIsPermitted (zip lines plan) → All PairIsPermitted (drop 1 (zip lines plan))

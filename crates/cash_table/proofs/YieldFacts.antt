@@ -1,7 +1,7 @@
 -- Flows that sum to their cost have the yield 0.
 use Rattle.std.proofs.Common.{◌≡◌, ◌∙◌, ◌+◌, List, [], ◌∷◌, refl, sym, ap, arith, ℤ}
 use Rattle.std.proofs.lemmas.List.Sums.{sum_by-cons}
-use Rattle.escrow_units.specs.Flows.{index_of, indexed, total}
+use Rattle.escrow_units.specs.Flows.{index360_of, indexed, total}
 use Rattle.escrow_units.specs.PresentValue.{IndexedFlow, YieldLiesIn}
 use Rattle.escrow_units.specs.declared.security.Flow.{Flow}
 use Rattle.fixed_powers.specs.PresentValues.{total_cents}
@@ -17,5 +17,5 @@ yields_nothing flows = record {
 pub total_cents-indexed : (settle : ℤ) (flows : List Flow) → total_cents (indexed settle flows) ≡ total flows
 total_cents-indexed settle [] = refl
 total_cents-indexed settle (flow ∷ flows) =
-    let first : IndexedFlow = record { index = index_of settle flow.day; cents = flow.cents.0 } in
+    let first : IndexedFlow = record { index = index360_of settle flow.day; cents = flow.cents.0 } in
     sum_by-cons (λ f. f.cents) first (indexed settle flows) ∙ ap (λ n. flow.cents.0 + n) (total_cents-indexed settle flows) ∙ sym (sum_by-cons (λ f. f.cents.0) flow flows)

@@ -1,8 +1,8 @@
 ghost use Rattle.std.specs.Prelude.{◌≡◌, ℕ, ◌+◌, ◌*◌, ◌^◌, ◌≤◌, ◌↔◌, List, [], drop, slice_index};
 ghost use Rattle.std.specs.List.{All};
-ghost use Rattle.escrow_units.specs.Flows.{index_of, indexed, total};
+ghost use Rattle.escrow_units.specs.Flows.{index360_of, indexed, total, FallWithinFortyYears};
 ghost use Rattle.escrow_units.specs.PresentValue.{YieldLiesIn};
-ghost use Rattle.offer_book.specs.Book.{AreWithinFortyYears, AreWithoutInterest, BookContents, IsBook};
+ghost use Rattle.offer_book.specs.Book.{AreWithoutInterest, BookContents, IsBook};
 ghost use Rattle.offer_book.specs.Portfolio.{IsPermitted, Meets, cost, security_cost, security_flows, total_needs};
 
 /// A law: every permitted portfolio of securities without interest that meets the needs costs at least the sum of the
@@ -39,10 +39,10 @@ pub fn zero_interest_total()
 pub fn flow_days()
     ensures within { (book : BookContents) (plan : List ℕ)
         → IsBook book
-        → AreWithinFortyYears book.settle (security_flows book plan) }
+        → FallWithinFortyYears book.settle (security_flows book plan) }
     ensures later { (book : BookContents) (plan : List ℕ)
         → IsBook book
-        → All (λ flow. 1 ≤ index_of book.settle flow.day) (security_flows book plan) }
+        → All (λ flow. 1 ≤ index360_of book.settle flow.day) (security_flows book plan) }
 {}
 
 /// A law: a permitted portfolio costs at most 360 billion dollars, and its securities pay at most 8,900 billion.

@@ -1,16 +1,17 @@
-ghost use Rattle.std.specs.Prelude.{◌≡◌, ◌*◌, ◌^◌, ◌<◌, ◌≤◌, [], IfOk, OnOk};
+ghost use Rattle.std.specs.Prelude.{◌≡◌, ◌*◌, ◌^◌, ◌<◌, ◌≤◌, [], IfOk};
 ghost use Rattle.std.specs.List.{All, flat_map, zip};
-ghost use Rattle.escrow_units.specs.Flows.{Rise, index_of, total};
+ghost use Rattle.escrow_units.specs.Calendar.{years_after_of};
+ghost use Rattle.escrow_units.specs.Flows.{Rise, index360_of, total, FallWithinFortyYears};
 ghost use Rattle.escrow_units.specs.SlgsTerms.{IsSettlement};
 ghost use Rattle.day_sums.specs.Summed.{summed};
 ghost use Rattle.day_sums.specs.SummedLaws.{AreAboveZero};
-ghost use Rattle.offer_book.specs.Book.{AreWithinFortyYears, IsSecurityLine};
+ghost use Rattle.offer_book.specs.Book.{IsSecurityLine};
 ghost use Rattle.offer_book.specs.Portfolio.{IsPermitted, IsPermittedUnits, line_payments, security_flows};
 
 use crate::plan::Plan;
 use day_sums::DaySums;
 use escrow_desk::NoMemory;
-use escrow_units::{Day, Flow};
+use escrow_units::{Day, Flow, years_after};
 use offer_book::{Book, Line};
 use std::alloc::Global;
 
@@ -24,33 +25,33 @@ pub fn flows(alloc: Global, book: &Book, plan: &Plan) -> Result<Vec<Flow>, NoMem
     ensures value { IfOk result (λ flows. flows.items ≡ security_flows book.now plan.now) }
     ensures rise { IfOk result (λ flows. Rise flows.items) }
     ensures above { IfOk result (λ flows. AreAboveZero flows.items) }
-    ensures within { IfOk result (λ flows. AreWithinFortyYears book.now.settle flows.items) }
-    ensures later { IfOk result (λ flows. All (λ flow. 1 ≤ index_of book.now.settle flow.day) flows.items) }
+    ensures within { IfOk result (λ flows. FallWithinFortyYears book.now.settle flows.items) }
+    ensures later { IfOk result (λ flows. All (λ flow. 1 ≤ index360_of book.now.settle flow.day) flows.items) }
     ensures bound { IfOk result (λ flows. total flows.items ≤ 89 * 10 ^ 13) }
 {
-    let mut sums = DaySums::none(alloc);
+    let settle = book.settle();
+    let mut sums = DaySums::between(alloc, settle, years_after(settle, 40))?;
     add_bought(
         &mut sums,
-        book.settle(),
+        settle,
         &book.lines()[1..],
         &plan.units()[1..],
-    )?;
+    );
     sums.into_flows(alloc)
 }
 
 // Adds what the bought lines pay. A line without units pays nothing, so its dates aren't looked for.
-fn add_bought(sums: &mut DaySums, settle: Day, lines: &[Line], plan: &[u64]) -> Result<(), NoMemory>
-    requires none { sums.old ≡ [] }
+fn add_bought(sums: &mut DaySums, settle: Day, lines: &[Line], plan: &[u64])
+    requires none { sums.old ≡ record { from = settle; to = years_after_of settle 40; sums = [] } }
     requires settlement { IsSettlement settle }
     requires lines { All (λ line. IsSecurityLine settle line) lines.now }
     requires permitted { All (λ p. IsPermittedUnits p.0 p.1) (zip lines.now plan.now) }
     requires room { total (flat_map (λ p. line_payments settle p.0 p.1) (zip lines.now plan.now)) < 2 ^ 64 }
-    ensures { OnOk result (sums.new ≡ summed (flat_map (λ p. line_payments settle p.0 p.1) (zip lines.now plan.now))) }
+    ensures { sums.new ≡ record sums.old { sums = summed (flat_map (λ p. line_payments settle p.0 p.1) (zip lines.now plan.now)) } }
 {
     for (line, units) in lines.iter().zip(plan) {
         if *units > 0 {
-            sums.add(line.payments(settle, *units).as_slice())?;
+            sums.add(line.payments(settle, *units).as_slice());
         }
     }
-    Ok(())
 }

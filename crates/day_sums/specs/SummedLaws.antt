@@ -1,6 +1,6 @@
 -- What the sums of amounts by day are.
 use Rattle.std.specs.Prelude.{◌≡◌, ◌≤◌, List, [], ◌++◌, All, ℤ, ◌≤ℤ◌}
-use Rattle.escrow_units.specs.Flows.{total, Rise}
+use Rattle.escrow_units.specs.Flows.{FallWithin, Rise, total}
 use Rattle.escrow_units.specs.declared.security.Flow.{Flow}
 use Rattle.day_sums.specs.Summed.{summed, cents_on, total_by}
 
@@ -30,11 +30,7 @@ SummedKeepTotal = (flows : List Flow) → total (summed flows) ≡ total flows
 abbrev pub SummedKeepTotalBy : Type 0
 SummedKeepTotalBy = (day : ℤ) (flows : List Flow) → total_by day (summed flows) ≡ total_by day flows
 
--- the amounts fall on days from one to another
-abbrev pub FallWithin : ℤ → ℤ → List Flow → Type 0
-FallWithin from to flows = All (λ flow. (from ≤ℤ flow.day) × (flow.day ≤ℤ to)) flows
-
--- then so do the sums
+-- amounts that fall within a span of days have sums within it
 abbrev pub SummedFallWithin : Type 0
 SummedFallWithin = (from to : ℤ) (flows : List Flow) → FallWithin from to flows → FallWithin from to (summed flows)
 

@@ -1,8 +1,8 @@
 //! Sums of amounts by day, to which amounts are added.
 ghost use Rattle.std.specs.Prelude.{◌≡◌, ◌<◌, ◌≤ℤ◌, ◌+◌, ◌^◌, [], ◌∷◌, ◌++◌, All, IfOk};
-ghost use Rattle.escrow_units.specs.Flows.{Rise, total};
+ghost use Rattle.escrow_units.specs.Flows.{Rise, total, FallWithin};
 ghost use Rattle.day_sums.specs.Summed.{summed};
-ghost use Rattle.day_sums.specs.SummedLaws.{AreAboveZero, FallWithin};
+ghost use Rattle.day_sums.specs.SummedLaws.{AreAboveZero};
 ghost use Rattle.day_sums.specs.Table.{HasPlace, sums_of};
 
 use escrow_desk::NoMemory;

@@ -6,16 +6,16 @@ use Rattle.std.proofs.lemmas.Int.{ints}
 use Rattle.std.proofs.lemmas.List.Elements.{All-map}
 use Rattle.escrow_units.specs.Calendar.{IsBaseDay, years_after_of}
 use Rattle.escrow_units.specs.DayNumber.{IsDayNumber}
-use Rattle.escrow_units.specs.Flows.{index_of, indexed}
+use Rattle.escrow_units.specs.Flows.{index360_of, indexed, FallWithinFortyYears}
 use Rattle.escrow_units.specs.PresentValue.{IndexedFlow, YieldLiesIn}
 use Rattle.escrow_units.specs.SlgsTerms.{IsSettlement}
 use Rattle.escrow_units.specs.declared.security.Flow.{Flow}
-use Rattle.escrow_units.proofs.DayFacts.{e_of-years}
+use Rattle.escrow_units.proofs.DayFacts.{thirty_day_place_of-years}
 use Rattle.escrow_units.proofs.YearFacts.{settlement-base}
 use Rattle.day_sums.specs.SummedLaws.{AreAboveZero}
 use Rattle.day_sums.proofs.SumFacts.{above-summed}
 use Rattle.fixed_powers.specs.PresentValues.{HasLaterAmount}
-use Rattle.offer_book.specs.Book.{AreWithinFortyYears, AreWithoutInterest, BookContents, IsBook}
+use Rattle.offer_book.specs.Book.{AreWithoutInterest, BookContents, IsBook}
 use Rattle.offer_book.specs.Portfolio.{IsPermitted, line_payments, security_cost, security_flows}
 use Rattle.cash_table.proofs.FlowFacts.{flows_later, flows_within}
 use Rattle.cash_table.proofs.PortfolioLaws.{empty_at_no_cost, zero_interest_total}
@@ -26,22 +26,22 @@ use Rattle.yield_enclosure.proofs.ZeroYield.{zero_yield}
 use Rattle.escrow_top.specs.Accepted.{LiesInEnds, yield_without_interest}
 use Rattle.escrow_top.specs.Answer.{portfolio_yield}
 
-index-near : (settle day : ℤ) → IsSettlement settle → settle ≤ℤ day → day ≤ℤ years_after_of settle 40 → index_of settle day ≤ 14_400
+index-near : (settle day : ℤ) → IsSettlement settle → settle ≤ℤ day → day ≤ℤ years_after_of settle 40 → index360_of settle day ≤ 14_400
 index-near settle day is from by =
     let own : IsDayNumber settle = (omega (arith, ints, is.0), omega (arith, ints, is.1)) in
     let base : IsBaseDay day = settlement-base settle day is from by in
     let due : IsDayNumber day = (omega (arith, ints, base.0), omega (arith, ints, base.1)) in
-    omega (arith, e_of-years settle day own due by)
+    omega (arith, thirty_day_place_of-years settle day own due by)
 
-indexes-near : (settle : ℤ) (flows : List Flow) → IsSettlement settle → AreWithinFortyYears settle flows → All (λ (flow : IndexedFlow). flow.index ≤ 14_400) (indexed settle flows)
+indexes-near : (settle : ℤ) (flows : List Flow) → IsSettlement settle → FallWithinFortyYears settle flows → All (λ (flow : IndexedFlow). flow.index ≤ 14_400) (indexed settle flows)
 indexes-near settle flows is within =
-    All-map (λ (flow : IndexedFlow). flow.index ≤ 14_400) (λ (flow : Flow). record { index = index_of settle flow.day; cents = flow.cents.0 }) flows
+    All-map (λ (flow : IndexedFlow). flow.index ≤ 14_400) (λ (flow : Flow). record { index = index360_of settle flow.day; cents = flow.cents.0 }) flows
     (λ k d short. let falls = within k d short in index-near settle _ is falls.0 falls.1)
 
-later-amount : (settle : ℤ) (flows : List Flow) → AreAboveZero flows → All (λ (flow : Flow). 1 ≤ index_of settle flow.day) flows → (flows ≡ [] → ⊥) → HasLaterAmount (indexed settle flows)
+later-amount : (settle : ℤ) (flows : List Flow) → AreAboveZero flows → All (λ (flow : Flow). 1 ≤ index360_of settle flow.day) flows → (flows ≡ [] → ⊥) → HasLaterAmount (indexed settle flows)
 later-amount settle [] above later some = absurd (some refl)
 later-amount settle (flow ∷ flows) above later some =
-    (0, record { index = index_of settle flow.day; cents = flow.cents.0 }, omega arith, refl, (above 0 flow (omega arith), later 0 flow (omega arith)))
+    (0, record { index = index360_of settle flow.day; cents = flow.cents.0 }, omega arith, refl, (above 0 flow (omega arith), later 0 flow (omega arith)))
 
 yields-none : (book : BookContents) (plan : List ℕ) → security_flows book plan ≡ [] → security_cost book plan ≡ 0 → portfolio_yield book plan ≡ Empty
 yields-none book plan none free = rw (none, free) refl

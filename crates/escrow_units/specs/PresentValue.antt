@@ -15,20 +15,21 @@ last_index (flow ∷ flows) = max flow.index (last_index flows)
 abbrev pub discounted : ℕ → ℕ → List IndexedFlow → ℕ
 discounted a b flows = sum_by (λ flow. flow.cents * a ^ flow.index * b ^ (last_index flows - flow.index)) flows
 
--- a yield of n units of 10^-10 discounts a half-year, which is 180 index days, by 2M / (2M + n), with M = 10^10
+-- a half-year is 180 index days
 abbrev pub half_year : ℕ
 half_year = 180
 
-abbrev pub two_m : ℕ
-two_m = 2 * 10 ^ 10
+-- 200 percent of a yield, in units of 10^-10: a yield of n units discounts a half-year by 200 percent / (200 percent + n)
+abbrev pub two_hundred_percent : ℕ
+two_hundred_percent = 2 * 10 ^ 10
 
 -- the fraction a / b is at least the discount factor of one index day at the yield n
 abbrev pub AtLeastDayFactor : ℕ → ℕ → ℕ → Type 0
-AtLeastDayFactor n a b = b ^ half_year * two_m ≤ a ^ half_year * (two_m + n)
+AtLeastDayFactor n a b = b ^ half_year * two_hundred_percent ≤ a ^ half_year * (two_hundred_percent + n)
 
 -- the fraction a / b is at most the discount factor of one index day at the yield n
 abbrev pub AtMostDayFactor : ℕ → ℕ → ℕ → Type 0
-AtMostDayFactor n a b = a ^ half_year * (two_m + n) ≤ b ^ half_year * two_m
+AtMostDayFactor n a b = a ^ half_year * (two_hundred_percent + n) ≤ b ^ half_year * two_hundred_percent
 
 -- the exact present value of the flows at the yield n is at least the cost: semiannual compounding on a
 -- 30/360 index (26 CFR 1.148-4(a) permits both), said of every fraction that is at least the day's factor

@@ -5,7 +5,7 @@ use Rattle.std.proofs.lemmas.Bool.{cases_lt}
 use Rattle.std.proofs.lemmas.List.Sums.{sum_by-cons}
 use Rattle.std.proofs.lemmas.Nat.{pow-add}
 use Rattle.std.proofs.Math.Nat.{mul-le-mul_left, mul-le-mul_right, pow-suc, pow-zero}
-use Rattle.escrow_units.specs.PresentValue.{IndexedFlow, half_year, two_m, last_index, AtLeastDayFactor, AtMostDayFactor}
+use Rattle.escrow_units.specs.PresentValue.{IndexedFlow, half_year, two_hundred_percent, last_index, AtLeastDayFactor, AtMostDayFactor}
 use Rattle.fixed_powers.specs.DiscountPowers.{one, down, up, root_low, power_of}
 use Rattle.fixed_powers.specs.PresentValues.{total_cents, present_value, LowValueEncloses, HighValueEncloses, ValueFallsWithYield, LowValueAtMostHigh, ValueFits, ValueIsTotalAtZero, ValueIsSharp, LowValueExcludes}
 use Rattle.fixed_powers.specs.declared.side.Side.{Side}
@@ -187,7 +187,7 @@ down-exact q k = down-below q q one k (omega arith)
 root_low-factor : (n : ℕ) → AtMostDayFactor n (root_low n) one
 root_low-factor n =
     let exact = up-exact (root_low n) half_year in
-    power_below one (root_low n) (up (root_low n) half_year) two_m (two_m + n) half_year (omega arith) exact (root_low-is n).enough
+    power_below one (root_low n) (up (root_low n) half_year) two_hundred_percent (two_hundred_percent + n) half_year (omega arith) exact (root_low-is n).enough
 
 -- the low worth is at most what the flow is worth by that fraction
 low_flow-root : (n D : ℕ) (flow : IndexedFlow) → flow.index ≤ D → worth Low n flow * one ^ D ≤ one * discounted_to (root_low n) one D flow

@@ -2,7 +2,7 @@
 use Rattle.std.proofs.Common.{◌≡◌, ◌≢◌, inl, inr, ℕ, ◌+◌, ◌*◌, ◌^◌, ◌<◌, ◌≤◌, arith}
 use Rattle.std.proofs.Math.Nat.{mul-le-mul_left, mul-le-mul_right}
 use Rattle.std.proofs.lemmas.Bool.{cases_lt, le-leb, leb-true}
-use Rattle.escrow_units.specs.PresentValue.{half_year, two_m}
+use Rattle.escrow_units.specs.PresentValue.{half_year, two_hundred_percent}
 use Rattle.fixed_powers.specs.DiscountPowers.{one, down, up, is_low_enough, is_high_enough, root_low, root_high, IsRootLow, IsRootHigh}
 use Rattle.escrow_units.specs.PresentValue.{AtLeastDayFactor, AtMostDayFactor}
 use Rattle.fixed_powers.proofs.WholeNumbers.{cancel-le, cross-le, mul-le-mul-pow}
@@ -10,17 +10,17 @@ use Rattle.fixed_powers.proofs.SearchFacts.{greatest-within, greatest-passes, gr
 use Rattle.fixed_powers.proofs.ChainFacts.{down-one, up-nothing, down-mono, up-mono, down-below, up-above}
 
 -- nothing is low enough, and one is high enough
-pub nothing_low : (n : ℕ) → up 0 half_year * (two_m + n) ≤ one * two_m
+pub nothing_low : (n : ℕ) → up 0 half_year * (two_hundred_percent + n) ≤ one * two_hundred_percent
 nothing_low n = rw (up-nothing 179) (omega arith)
 
-pub one_high : (n : ℕ) → one * two_m ≤ down one half_year * (two_m + n)
+pub one_high : (n : ℕ) → one * two_hundred_percent ≤ down one half_year * (two_hundred_percent + n)
 one_high n = rw (down-one 180) (omega arith)
 
 pub root_low-is : (n : ℕ) → IsRootLow n (root_low n)
 unfolding root_low
 root_low-is n =
     let test = is_low_enough n in
-    let some = le-leb (up 0 half_year * (two_m + n)) (one * two_m) (nothing_low n) in
+    let some = le-leb (up 0 half_year * (two_hundred_percent + n)) (one * two_hundred_percent) (nothing_low n) in
     record {
       within = greatest-within test one;
       enough = leb-true _ _ (greatest-passes test one 0 (omega arith) some);
@@ -31,7 +31,7 @@ pub root_high-is : (n : ℕ) → IsRootHigh n (root_high n)
 unfolding root_high
 root_high-is n =
     let test = is_high_enough n in
-    let some = le-leb (one * two_m) (down one half_year * (two_m + n)) (one_high n) in
+    let some = le-leb (one * two_hundred_percent) (down one half_year * (two_hundred_percent + n)) (one_high n) in
     record {
       within = least-within test one;
       enough = leb-true _ _ (least-passes test one one (omega arith) some);
@@ -53,21 +53,21 @@ root_high-only n q is =
     omega (arith, is.least (root_high n) other.enough, other.least q is.enough)
 
 -- the two tests are monotone: this is what lets bisection find the greatest and the least
-pub low_enough-below : (n p q : ℕ) → p ≤ q → up q half_year * (two_m + n) ≤ one * two_m → up p half_year * (two_m + n) ≤ one * two_m
-low_enough-below n p q le enough = omega (arith, enough, mul-le-mul_right (two_m + n) (up-mono p q 180 le))
+pub low_enough-below : (n p q : ℕ) → p ≤ q → up q half_year * (two_hundred_percent + n) ≤ one * two_hundred_percent → up p half_year * (two_hundred_percent + n) ≤ one * two_hundred_percent
+low_enough-below n p q le enough = omega (arith, enough, mul-le-mul_right (two_hundred_percent + n) (up-mono p q 180 le))
 
-pub high_enough-above : (n p q : ℕ) → p ≤ q → one * two_m ≤ down p half_year * (two_m + n) → one * two_m ≤ down q half_year * (two_m + n)
-high_enough-above n p q le enough = omega (arith, enough, mul-le-mul_right (two_m + n) (down-mono p q 180 le))
+pub high_enough-above : (n p q : ℕ) → p ≤ q → one * two_hundred_percent ≤ down p half_year * (two_hundred_percent + n) → one * two_hundred_percent ≤ down q half_year * (two_hundred_percent + n)
+high_enough-above n p q le enough = omega (arith, enough, mul-le-mul_right (two_hundred_percent + n) (down-mono p q 180 le))
 
 -- what is low enough lies below what isn't, and what is high enough above
-pub low_enough-lt : (n p q : ℕ) → one * two_m < up q half_year * (two_m + n) → up p half_year * (two_m + n) ≤ one * two_m → p < q
+pub low_enough-lt : (n p q : ℕ) → one * two_hundred_percent < up q half_year * (two_hundred_percent + n) → up p half_year * (two_hundred_percent + n) ≤ one * two_hundred_percent → p < q
 low_enough-lt n p q fails enough =
     elim (cases_lt p q) [
       | inl lt ↦ lt
       | inr le ↦ absurd (omega (arith, fails, low_enough-below n q p le enough))
     ]
 
-pub high_enough-lt : (n p q : ℕ) → down q half_year * (two_m + n) < one * two_m → one * two_m ≤ down p half_year * (two_m + n) → q < p
+pub high_enough-lt : (n p q : ℕ) → down q half_year * (two_hundred_percent + n) < one * two_hundred_percent → one * two_hundred_percent ≤ down p half_year * (two_hundred_percent + n) → q < p
 high_enough-lt n p q fails enough =
     elim (cases_lt q p) [
       | inl lt ↦ lt
@@ -95,13 +95,13 @@ base_above o q a b v m t k one_pos t_pos some exact enough factor =
     let second = cross-le (a ^ k) (b ^ k) v o (q ^ k) (o ^ k) one_pos first exact in
     omega (arith, mul-le-mul-pow a o q b k some second)
 
-pub root_low-below : (n q a b : ℕ) → up q half_year * (two_m + n) ≤ one * two_m → AtLeastDayFactor n a b → q * b ≤ one * a
+pub root_low-below : (n q a b : ℕ) → up q half_year * (two_hundred_percent + n) ≤ one * two_hundred_percent → AtLeastDayFactor n a b → q * b ≤ one * a
 root_low-below n q a b enough factor =
-    base_below one q a b (up q 180) two_m (two_m + n) 180 (omega arith) (omega arith) (omega arith) (up-exact q 180) enough factor
+    base_below one q a b (up q 180) two_hundred_percent (two_hundred_percent + n) 180 (omega arith) (omega arith) (omega arith) (up-exact q 180) enough factor
 
-pub root_high-above : (n q a b : ℕ) → one * two_m ≤ down q half_year * (two_m + n) → AtMostDayFactor n a b → one * a ≤ q * b
+pub root_high-above : (n q a b : ℕ) → one * two_hundred_percent ≤ down q half_year * (two_hundred_percent + n) → AtMostDayFactor n a b → one * a ≤ q * b
 root_high-above n q a b enough factor =
-    base_above one q a b (down q 180) two_m (two_m + n) 180 (omega arith) (omega arith) (omega arith) (down-exact q 180) enough factor
+    base_above one q a b (down q 180) two_hundred_percent (two_hundred_percent + n) 180 (omega arith) (omega arith) (omega arith) (down-exact q 180) enough factor
 
 -- o * m ≤ v * t and v / o ≤ q ^ k / o ^ k
 root_power_above : (o q v m t k : ℕ) → 0 < o → v * o ^ k ≤ q ^ k * o → o * m ≤ v * t → o ^ k * m ≤ q ^ k * t
@@ -113,5 +113,5 @@ pub root_low-le-root_high : (n : ℕ) → root_low n ≤ root_high n
 root_low-le-root_high n =
     let below = root_low-below n (root_low n) (root_high n) one (root_low-is n).enough in
     let at_least : AtLeastDayFactor n (root_high n) one =
-    root_power_above one (root_high n) (down (root_high n) 180) two_m (two_m + n) 180 (omega arith) (down-exact (root_high n) 180) (root_high-is n).enough in
+    root_power_above one (root_high n) (down (root_high n) 180) two_hundred_percent (two_hundred_percent + n) 180 (omega arith) (down-exact (root_high n) 180) (root_high-is n).enough in
     cancel-le (root_low n) (root_high n) one (omega arith) (omega (arith, below at_least))

@@ -3,7 +3,7 @@ use Rattle.std.proofs.Common.{◌≡◌, inl, inr, ℕ, zero, suc, ◌+◌, ◌-
 use Rattle.std.proofs.Math.Nat.{mul-le-mul, mul-le-mul_left, mul-le-mul_right}
 use Rattle.std.proofs.lemmas.Bool.{cases_lt}
 use Rattle.std.specs.Int.{div_ceil}
-use Rattle.escrow_units.specs.PresentValue.{half_year, two_m}
+use Rattle.escrow_units.specs.PresentValue.{half_year, two_hundred_percent}
 use Rattle.fixed_powers.specs.DiscountPowers.{one, down, up, root_low, root_high, low, high}
 use Rattle.fixed_powers.specs.PowerLaws.{IsSharp}
 use Rattle.fixed_powers.specs.declared.side.Side.TheVariants.{Low}
@@ -15,16 +15,16 @@ use Rattle.fixed_powers.proofs.RootFacts.{root_low-is, root_high-is}
 use Rattle.fixed_powers.proofs.PowerFacts.{root_low-antitone, falls_with_days}
 
 -- what is a little above the root rounded down has a half-year's power that is large enough
-above_root : (n t : ℕ) → t ≤ one → root_low n < t → one * two_m < up t half_year * (two_m + n)
+above_root : (n t : ℕ) → t ≤ one → root_low n < t → one * two_hundred_percent < up t half_year * (two_hundred_percent + n)
 above_root n t within above =
-    elim (cases_lt (one * two_m) (up t half_year * (two_m + n))) [
+    elim (cases_lt (one * two_hundred_percent) (up t half_year * (two_hundred_percent + n))) [
       | inl lt ↦ lt
       | inr le ↦ absurd (omega (arith, (root_low-is n).greatest t within le))
     ]
 
-below_root : (n t : ℕ) → t < root_high n → down t half_year * (two_m + n) < one * two_m
+below_root : (n t : ℕ) → t < root_high n → down t half_year * (two_hundred_percent + n) < one * two_hundred_percent
 below_root n t below =
-    elim (cases_lt (down t half_year * (two_m + n)) (one * two_m)) [
+    elim (cases_lt (down t half_year * (two_hundred_percent + n)) (one * two_hundred_percent)) [
       | inl lt ↦ lt
       | inr le ↦ absurd (omega (arith, (root_high-is n).least t le))
     ]
@@ -38,20 +38,20 @@ too_near a u v t e large small near little =
     omega (arith, first, second, third, little)
 
 -- what the widening of a half-year's chains comes to, at yields up to 30 percent
-little_enough : (n : ℕ) → n ≤ 3_000_000_000 → 180 * (2 ^ 19 + 1 + 1) * ((two_m + n) * (two_m + n + 1)) < one * two_m
+little_enough : (n : ℕ) → n ≤ 3_000_000_000 → 180 * (2 ^ 19 + 1 + 1) * ((two_hundred_percent + n) * (two_hundred_percent + n + 1)) < one * two_hundred_percent
 little_enough n le =
-    let first : two_m + n ≤ 23_000_000_000 = omega arith in
-    let second : two_m + n + 1 ≤ 23_000_000_001 = omega arith in
+    let first : two_hundred_percent + n ≤ 23_000_000_000 = omega arith in
+    let second : two_hundred_percent + n + 1 ≤ 23_000_000_001 = omega arith in
     let wide = mul-le-mul first second in
     omega (arith, wide)
 
 -- a factor t at or above the root, and one below the next yield's root, aren't within 2 ^ 19 + 1 of each other
-apart : (n t x : ℕ) → n ≤ 3_000_000_000 → t ≤ one → x ≤ one → one * two_m ≤ up t half_year * (two_m + n) → down x half_year * (two_m + (n + 1)) < one * two_m → x + (2 ^ 19 + 1) < t
+apart : (n t x : ℕ) → n ≤ 3_000_000_000 → t ≤ one → x ≤ one → one * two_hundred_percent ≤ up t half_year * (two_hundred_percent + n) → down x half_year * (two_hundred_percent + (n + 1)) < one * two_hundred_percent → x + (2 ^ 19 + 1) < t
 apart n t x le within low large small =
     elim (cases_lt (x + (2 ^ 19 + 1)) t) [
       | inl lt ↦ lt
       | inr near ↦
-          absurd (too_near (one * two_m) (up t half_year) (down x half_year) (two_m + n) (180 * (2 ^ 19 + 1 + 1)) large (omega (arith, small)) (up-near-down x t (2 ^ 19 + 1) 180 low within near) (little_enough n le))
+          absurd (too_near (one * two_hundred_percent) (up t half_year) (down x half_year) (two_hundred_percent + n) (180 * (2 ^ 19 + 1 + 1)) large (omega (arith, small)) (up-near-down x t (2 ^ 19 + 1) 180 low within near) (little_enough n le))
     ]
 
 -- the next yield's root rounded up isn't 0
@@ -85,7 +85,7 @@ root_gap n le =
     ]
 
 -- a factor that is low enough at 30 percent, and its power of 40 years
-known_factor : up 4_608_000_000_000_000_000 180 * 23_000_000_000 ≤ one * two_m
+known_factor : up 4_608_000_000_000_000_000 180 * 23_000_000_000 ≤ one * two_hundred_percent
 unfolding up
 known_factor = omega arith
 

@@ -1,8 +1,8 @@
 -- Powers of one index day's discount factor in fixed point of 62 fraction bits, rounded outward: this project's own.
--- A yield of n units of 10^-10 discounts a half-year of 180 index days by 2M / (2M + n), with M = 10^10.
+-- A yield of n units of 10^-10 discounts a half-year of 180 index days by 200 percent / (200 percent + n).
 use Rattle.std.specs.Prelude.{◌≡◌, ℕ, zero, suc, ◌+◌, ◌*◌, ◌/◌, ◌^◌, ◌<◌, ◌≤◌, Bool, nat_le, List, length, slice_index}
 use Rattle.std.specs.Int.{div_ceil}
-use Rattle.escrow_units.specs.PresentValue.{half_year, two_m, AtLeastDayFactor, AtMostDayFactor}
+use Rattle.escrow_units.specs.PresentValue.{half_year, two_hundred_percent, AtLeastDayFactor, AtMostDayFactor}
 use Rattle.fixed_powers.specs.Searches.{greatest_passing, least_passing}
 use Rattle.fixed_powers.specs.declared.side.Side.{Side}
 use Rattle.fixed_powers.specs.declared.side.Side.TheVariants.{Low, High}
@@ -23,11 +23,11 @@ up q (suc d) = div_ceil (up q d * q) one
 
 -- the half-year's power of q, rounded up, is at most the half-year's discount factor at the yield n
 abbrev pub is_low_enough : ℕ → ℕ → Bool
-is_low_enough n q = nat_le (up q half_year * (two_m + n)) (one * two_m)
+is_low_enough n q = nat_le (up q half_year * (two_hundred_percent + n)) (one * two_hundred_percent)
 
 -- the half-year's power of q, rounded down, is at least the half-year's discount factor at the yield n
 abbrev pub is_high_enough : ℕ → ℕ → Bool
-is_high_enough n q = nat_le (one * two_m) (down q half_year * (two_m + n))
+is_high_enough n q = nat_le (one * two_hundred_percent) (down q half_year * (two_hundred_percent + n))
 
 -- the factor of one index day at the yield n, rounded down: the greatest that is low enough
 unfoldable pub root_low : ℕ → ℕ
@@ -73,14 +73,14 @@ pub record PowerTable : Type 0 where
 -- q is the greatest factor that is low enough: this says what root_low is, without its search
 pub record IsRootLow (n q : ℕ) : Type 0 where
   pub within : q ≤ one
-  pub enough : up q half_year * (two_m + n) ≤ one * two_m
-  pub greatest : (p : ℕ) → p ≤ one → up p half_year * (two_m + n) ≤ one * two_m → p ≤ q
+  pub enough : up q half_year * (two_hundred_percent + n) ≤ one * two_hundred_percent
+  pub greatest : (p : ℕ) → p ≤ one → up p half_year * (two_hundred_percent + n) ≤ one * two_hundred_percent → p ≤ q
 
 -- q is the least factor that is high enough: this says what root_high is, without its search
 pub record IsRootHigh (n q : ℕ) : Type 0 where
   pub within : q ≤ one
-  pub enough : one * two_m ≤ down q half_year * (two_m + n)
-  pub least : (p : ℕ) → one * two_m ≤ down p half_year * (two_m + n) → q ≤ p
+  pub enough : one * two_hundred_percent ≤ down q half_year * (two_hundred_percent + n)
+  pub least : (p : ℕ) → one * two_hundred_percent ≤ down p half_year * (two_hundred_percent + n) → q ≤ p
 
 -- the value is at most the exact power d, in units of 1 / one, of the day's factor at the yield n: said without a root
 -- and without a division, of each fraction a / b that is at least that factor

@@ -2,6 +2,7 @@
 use Rattle.std.specs.Prelude.{◌≡◌, ℕ, ◌+◌, ◌*◌, ◌^◌, ◌<◌, ◌≤◌}
 use Rattle.fixed_powers.specs.DiscountPowers.{one, chain, root_of, power_of, low, high, LiesOutward}
 use Rattle.fixed_powers.specs.declared.side.Side.{Side}
+use Rattle.escrow_units.specs.declared.limits.TheConstants.{GREATEST_INDEX, GREATEST_YIELD}
 
 -- each power lies on its side of the exact one
 abbrev pub PowersEnclose : Type 0
@@ -42,4 +43,4 @@ pub record SeparatesYields (n d : ℕ) : Type 0 where
 
 -- rounding never hides a step of one unit of yield, up to 30 percent and 40 years of 360 days
 abbrev pub IsSharp : Type 0
-IsSharp = (n d : ℕ) → n ≤ 3_000_000_000 → d ≤ 14_400 → SeparatesYields n d
+IsSharp = (n d : ℕ) → n ≤ GREATEST_YIELD → d ≤ GREATEST_INDEX → SeparatesYields n d

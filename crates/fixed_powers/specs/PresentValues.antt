@@ -5,6 +5,7 @@ use Rattle.escrow_units.specs.PresentValue.{IndexedFlow, last_index, PresentValu
 use Rattle.fixed_powers.specs.DiscountPowers.{one, power_of}
 use Rattle.fixed_powers.specs.declared.side.Side.{Side}
 use Rattle.fixed_powers.specs.declared.side.Side.TheVariants.{Low, High}
+use Rattle.escrow_units.specs.declared.limits.TheConstants.{FLOWS_LIMIT, GREATEST_INDEX, GREATEST_YIELD}
 
 -- the sum of the flows, not discounted
 abbrev pub total_cents : List IndexedFlow → ℕ
@@ -46,7 +47,7 @@ ValueIsTotalAtZero = (side : Side) (flows : List IndexedFlow) → present_value 
 
 -- flows of at most 10^15 cents together are worth less than 2^113 units, on either side
 abbrev pub ValueFits : Type 0
-ValueFits = (side : Side) (n : ℕ) (flows : List IndexedFlow) → total_cents flows ≤ 10 ^ 15 → present_value side n flows < 2 ^ 113
+ValueFits = (side : Side) (n : ℕ) (flows : List IndexedFlow) → total_cents flows ≤ FLOWS_LIMIT → present_value side n flows < 2 ^ 113
 
 -- the present values of a yield, rounded down, lie above those of the next yield, rounded up
 pub record SeparatesValues (n : ℕ) (flows : List IndexedFlow) : Type 0 where
@@ -56,8 +57,8 @@ pub record SeparatesValues (n : ℕ) (flows : List IndexedFlow) : Type 0 where
 -- rounding never hides a step of one unit of yield, up to 30 percent and 40 years of 360 days
 abbrev pub ValueIsSharp : Type 0
 ValueIsSharp = (n : ℕ) (flows : List IndexedFlow)
-    → n ≤ 3_000_000_000
-    → last_index flows ≤ 14_400
+    → n ≤ GREATEST_YIELD
+    → last_index flows ≤ GREATEST_INDEX
     → SeparatesValues n flows
 
 -- where the low present value is more than the cost, so is the exact one

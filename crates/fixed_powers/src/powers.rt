@@ -7,7 +7,7 @@ use crate::chain::{ONE, step_down, step_up};
 use crate::root::{root_high, root_low};
 use crate::side::Side;
 use escrow_desk::NoMemory;
-use escrow_units::YieldUnits;
+use escrow_units::{GREATEST_INDEX, GREATEST_YIELD, YieldUnits};
 use std::alloc::{AllocError, Global};
 use std::marker::Model;
 
@@ -29,7 +29,7 @@ impl Model for Powers {
 
 // The factor of one index day.
 fn root(n: YieldUnits, side: Side) -> u64
-    requires { n.0 ≤ 3_000_000_001 }
+    requires { n.0 ≤ GREATEST_YIELD + 1 }
     ensures value { result ≡ root_of side n.0 }
     ensures within { result ≤ one }
 {
@@ -79,8 +79,8 @@ impl Powers {
     /// `NoMemory` where there is no room for the table.
     #[tactic(auto, using(crate::proofs::PowerFacts::chain_facts))]
     pub fn make(alloc: Global, n: YieldUnits, side: Side, longest: u32) -> Result<Powers, NoMemory>
-        requires yield_units { n.0 ≤ 3_000_000_001 }
-        requires longest { longest ≤ 14_400 }
+        requires yield_units { n.0 ≤ GREATEST_YIELD + 1 }
+        requires longest { longest ≤ GREATEST_INDEX }
         ensures table { IfOk result (λ powers. powers ≡ record { yield_units = n.0; side = side; longest = longest }) }
         // Each power that the table has encloses the exact one.
         ensures encloses { IfOk result (λ powers. (d : ℕ) → d ≤ powers.longest → LiesOutward side n.0 d (power_of side n.0 d)) }

@@ -9,7 +9,7 @@ use Rattle.std.proofs.lemmas.List.Sums.{sum_by-le}
 use Rattle.std.proofs.lemmas.Int.{ints}
 use Rattle.escrow_units.specs.Calendar.{IsBaseDay, years_after_of}
 use Rattle.escrow_units.specs.DayNumber.{IsDayNumber}
-use Rattle.escrow_units.specs.Flows.{total}
+use Rattle.escrow_units.specs.Flows.{total, FallWithinFortyYears}
 use Rattle.escrow_units.specs.Rounding.{near}
 use Rattle.escrow_units.specs.SlgsTerms.{IsSettlement}
 use Rattle.escrow_units.specs.declared.security.Flow.{Flow}
@@ -19,7 +19,7 @@ use Rattle.escrow_units.specs.declared.security.SlgsKind.TheVariants as kind
 use Rattle.escrow_units.proofs.SeriesFacts.{years_after_of-none}
 use Rattle.escrow_units.proofs.YearFacts.{years_after_of-passes}
 use Rattle.slgs_interest.specs.Payments.{payment_dates, payments_of, payment_on, interest_on, principal_on, first_interest, first_interest_of_kind, first_period_interest, half_year_interest, before_first, second_before_first}
-use Rattle.escrow_units.specs.Series.{days_to}
+use Rattle.escrow_units.specs.Series.{days_between_of}
 use Rattle.slgs_interest.specs.PaymentLaws.{AreSmall, AreWithinTerm}
 use Rattle.escrow_units.proofs.RoundingFacts.{near-zero}
 use Rattle.slgs_interest.proofs.PaymentFacts.{payments-face, payments-interest, payments-principal, payments-small, payments-within}
@@ -27,7 +27,7 @@ use Rattle.slgs_interest.proofs.Series.{IsPaid, paid, certificate-first}
 use Rattle.offer_book.specs.declared.line.LineKind.{LineKind}
 use Rattle.offer_book.specs.declared.line.LineKind.TheVariants.{Cash, Security}
 use Rattle.offer_book.specs.declared.line.Line.{Line}
-use Rattle.offer_book.specs.Book.{AreWithinFortyYears, IsCashLine, IsSecurity, IsSecurityLine, IsLine, IsKindWithoutInterest, IsWithoutInterest}
+use Rattle.offer_book.specs.Book.{IsCashLine, IsSecurity, IsSecurityLine, IsLine, IsKindWithoutInterest, IsWithoutInterest}
 use Rattle.offer_book.specs.Portfolio.{line_cost, kind_payments, line_payments}
 
 -- 40 years from a settlement have at least 365 days each
@@ -49,7 +49,7 @@ pub security-at_most : (settle : ℤ) (line : Line) (units : ℕ) → IsSecurity
 security-at_most settle line units security few = omega (arith, mul-le-mul_left line.step few, security.cap)
 
 -- the payments of a security of a book
-within : (settle : ℤ) (slgs : Slgs) (flows : List Flow) → IsSecurity settle (Security slgs) → AreWithinTerm slgs flows → AreWithinFortyYears settle flows
+within : (settle : ℤ) (slgs : Slgs) (flows : List Flow) → IsSecurity settle (Security slgs) → AreWithinTerm slgs flows → FallWithinFortyYears settle flows
 within settle slgs flows security h =
     All-weaker (λ (flow : Flow). (slgs.settle <ℤ flow.day) × (flow.day ≤ℤ slgs.maturity)) (λ flow. (settle ≤ℤ flow.day) × (flow.day ≤ℤ years_after_of settle 40))
     (λ flow w.
@@ -92,11 +92,11 @@ first_interest-none slgs face none = at slgs.kind
     of_period : first_period_interest slgs face ≡ 0
     of_period =
         choice-none (int_lt slgs.settle (before_first slgs)) _ _
-        (near-nothing _ _ (no-face face slgs.rate.0 (days_to (second_before_first slgs) (before_first slgs) + days_to slgs.settle (before_first slgs)) none))
-        (near-nothing _ _ (no-face face slgs.rate.0 (days_to slgs.settle slgs.first) none))
+        (near-nothing _ _ (no-face face slgs.rate.0 (days_between_of (second_before_first slgs) (before_first slgs) + days_between_of slgs.settle (before_first slgs)) none))
+        (near-nothing _ _ (no-face face slgs.rate.0 (days_between_of slgs.settle slgs.first) none))
 
     at : (k : SlgsKind) → first_interest_of_kind k slgs face ≡ 0
-    at kind.Certificate = near-nothing _ _ (no-face face slgs.rate.0 (days_to slgs.settle slgs.maturity) none)
+    at kind.Certificate = near-nothing _ _ (no-face face slgs.rate.0 (days_between_of slgs.settle slgs.maturity) none)
     at kind.Note = of_period
     at kind.Bond = of_period
 
@@ -117,7 +117,7 @@ payments_of-none slgs face none =
     All-map (λ (flow : Flow). flow.cents.0 ≡ 0) (payment_on slgs face) (payment_dates slgs) (λ k d lt. payment-none slgs face none (get_or (payment_dates slgs) k d))
 
 -- what a kind pays
-kind-within : (settle : ℤ) (kind : LineKind) (amount : ℕ) → IsSettlement settle → IsSecurity settle kind → AreWithinFortyYears settle (kind_payments settle kind amount)
+kind-within : (settle : ℤ) (kind : LineKind) (amount : ℕ) → IsSettlement settle → IsSecurity settle kind → FallWithinFortyYears settle (kind_payments settle kind amount)
 kind-within settle Cash amount h security = absurd security
 kind-within settle (Security slgs) amount h security =
     within settle slgs (payments_of slgs amount) security (payments-within slgs amount (is_paid settle slgs h security))
@@ -164,9 +164,9 @@ pub cash-payments : (settle : ℤ) (line : Line) (units : ℕ) → IsCashLine li
 cash-payments settle line units cash = ap (λ kind. kind_payments settle kind (line_cost line units)) cash.kind
 
 -- what units of a line pay
-pub line_payments-within : (settle : ℤ) (line : Line) (units : ℕ) → IsSettlement settle → IsLine settle line → AreWithinFortyYears settle (line_payments settle line units)
+pub line_payments-within : (settle : ℤ) (line : Line) (units : ℕ) → IsSettlement settle → IsLine settle line → FallWithinFortyYears settle (line_payments settle line units)
 line_payments-within settle line units h is_line = elim is_line [
-  | inl cash ↦ subst (AreWithinFortyYears settle) (sym (cash-payments settle line units cash))
+  | inl cash ↦ subst (FallWithinFortyYears settle) (sym (cash-payments settle line units cash))
       (All-cons (λ (flow : Flow). (settle ≤ℤ flow.day) × (flow.day ≤ℤ years_after_of settle 40)) _ [] (omega (arith, ints), omega (arith, ints, forty-years settle h))
       (All-nil (λ (flow : Flow). (settle ≤ℤ flow.day) × (flow.day ≤ℤ years_after_of settle 40))))
   | inr security ↦ kind-within settle line.kind (line_cost line units) h security.security

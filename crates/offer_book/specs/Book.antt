@@ -1,14 +1,15 @@
 -- Needs, the lines of an escrow, and what a book holds.
 use Rattle.std.specs.Prelude.{◌≡◌, ◌*◌, ◌%◌, ◌^◌, ◌≤◌, ◌⊎◌, List, [], ◌∷◌, length, ℤ}
 use Rattle.std.specs.List.{All}
-use Rattle.day_sums.specs.SummedLaws.{AreAboveZero, FallWithin}
+use Rattle.day_sums.specs.SummedLaws.{AreAboveZero}
 use Rattle.escrow_units.specs.Calendar.{years_after_of}
-use Rattle.escrow_units.specs.Flows.{Rise, total}
+use Rattle.escrow_units.specs.Flows.{FallWithinFortyYears, Rise, total}
 use Rattle.escrow_units.specs.SlgsTerms.{IsSettlement, IsSlgs}
 use Rattle.escrow_units.specs.declared.security.Flow.{Flow}
 use Rattle.offer_book.specs.declared.line.LineKind.{LineKind}
 use Rattle.offer_book.specs.declared.line.LineKind.TheVariants.{Cash, Security}
 use Rattle.offer_book.specs.declared.line.Line.{Line}
+use Rattle.escrow_units.specs.declared.limits.TheConstants.{AMOUNT_LIMIT, MOST_LINES, MOST_NEED_DATES}
 
 -- what a book holds: the settlement day, the needs in order of day, and the lines, opening cash first
 pub record BookContents : Type 0 where
@@ -16,25 +17,21 @@ pub record BookContents : Type 0 where
   pub needs : List Flow
   pub lines : List Line
 
--- no amount falls before settlement, and none after the 40 years from it that a security may run
-abbrev pub AreWithinFortyYears : ℤ → List Flow → Type 0
-AreWithinFortyYears settle flows = FallWithin settle (years_after_of settle 40) flows
-
 -- needs as this project bounds them: at most 480 days that strictly rise, from settlement to 40 years later,
 -- each of at least one cent, and at most 10^13 cents together
 pub record IsNeeds (settle : ℤ) (needs : List Flow) : Type 0 where
-  pub few : length needs ≤ 480
+  pub few : length needs ≤ MOST_NEED_DATES
   pub rising : Rise needs
-  pub within : AreWithinFortyYears settle needs
+  pub within : FallWithinFortyYears settle needs
   pub positive : AreAboveZero needs
-  pub small : total needs ≤ 10 ^ 13
+  pub small : total needs ≤ AMOUNT_LIMIT
 
 -- opening cash: one unit is one cent, and at most 10^13 cents
 pub record IsCashLine (line : Line) : Type 0 where
   pub kind : line.kind ≡ Cash
   pub step : line.step ≡ 1
   pub least : line.least ≡ 1
-  pub most : line.most ≤ 10 ^ 13
+  pub most : line.most ≤ AMOUNT_LIMIT
 
 -- what is bought is a SLGS security that keeps its terms (31 CFR part 344) and is issued on the settlement day, at a
 -- rate of at most 30 percent (this project's own)
@@ -62,7 +59,7 @@ IsLine settle line = IsCashLine line ⊎ IsSecurityLine settle line
 abbrev pub AreLines : ℤ → List Line → Type 0
 AreLines settle [] = ⊥
 AreLines settle (cash ∷ securities) =
-    IsCashLine cash × All (IsSecurityLine settle) securities × (length securities ≤ 256)
+    IsCashLine cash × All (IsSecurityLine settle) securities × (length securities ≤ MOST_LINES)
 
 -- a book that keeps every limit
 pub record IsBook (book : BookContents) : Type 0 where

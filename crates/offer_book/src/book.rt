@@ -1,6 +1,6 @@
 ghost use Rattle.std.specs.Prelude.{◌≡◌, ◌*◌, ◌^◌, ◌<◌, ◌≤◌, length, slice_index_or};
-ghost use Rattle.escrow_units.specs.Flows.{total};
-ghost use Rattle.offer_book.specs.Book.{AreWithinFortyYears, IsBook};
+ghost use Rattle.escrow_units.specs.Flows.{total, FallWithinFortyYears};
+ghost use Rattle.offer_book.specs.Book.{IsBook};
 ghost use Rattle.offer_book.specs.Portfolio.{line_cost as line_cost_of, line_payments as line_payments_of};
 ghost use Rattle.offer_book.specs.declared.line.Line.{Line};
 
@@ -114,7 +114,7 @@ impl Book {
         requires line { line < length self.now.lines }
         requires units { (d : Line) → units ≤ (slice_index_or self.now.lines line d).most }
         ensures value { (d : Line) → result.items ≡ line_payments_of self.now.settle (slice_index_or self.now.lines line d) units }
-        ensures within { AreWithinFortyYears self.now.settle result.items }
+        ensures within { FallWithinFortyYears self.now.settle result.items }
         ensures bound { total result.items ≤ 2 * 10 ^ 13 }
     {
         self.lines[line as usize].payments(self.settle, units)

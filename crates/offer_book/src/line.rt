@@ -28,9 +28,9 @@ pub struct Line {
 }
 
 impl Line {
-    ghost use Rattle.escrow_units.specs.Flows.{total};
+    ghost use Rattle.escrow_units.specs.Flows.{total, FallWithinFortyYears};
     ghost use Rattle.escrow_units.specs.SlgsTerms.{IsSettlement};
-    ghost use Rattle.offer_book.specs.Book.{AreWithinFortyYears, IsLine};
+    ghost use Rattle.offer_book.specs.Book.{IsLine};
     ghost use Rattle.offer_book.specs.Portfolio.{line_cost, line_payments, permits as permits_of};
 
     /// Whether a number of units of the line is permitted: 0, or from `least` to `most`.
@@ -39,6 +39,7 @@ impl Line {
     {
         units == 0 || (self.least <= units && units <= self.most)
     }
+
     /// What units of the line cost, in cents: opening cash its amount, and a SLGS security its face.
     pub fn cost(&self, units: u64) -> Cents
         requires { line_cost self.now units < 2 ^ 64 }
@@ -57,7 +58,7 @@ impl Line {
         requires line { IsLine settle self.now }
         requires units { units ≤ self.now.most }
         ensures value { result.items ≡ line_payments settle self.now units }
-        ensures within { AreWithinFortyYears settle result.items }
+        ensures within { FallWithinFortyYears settle result.items }
         ensures bound { total result.items ≤ 2 * 10 ^ 13 }
     {
         let amount = self.cost(units);

@@ -3,19 +3,19 @@ use Rattle.std.proofs.Common.{◌≡◌, ◌∙◌, ℕ, suc, ◌+◌, ◌-◌, 
 use Rattle.std.specs.List.{All}
 use Rattle.std.proofs.lemmas.List.{map-append, take_more}
 use Rattle.std.proofs.lemmas.List.Elements.{All-push}
-use Rattle.escrow_units.specs.Calendar.{e_of, years_after_of}
+use Rattle.escrow_units.specs.Calendar.{thirty_day_place_of, years_after_of}
 use Rattle.escrow_units.specs.declared.security.Flow.{Flow}
 use Rattle.std.proofs.lemmas.Bool.{cases_lt, le-leb, leb-true, leb-false, lt-leb}
 use Rattle.std.proofs.lemmas.List.Sums.{sum_by-cons, sum_by_more}
 use Rattle.fixed_powers.specs.DiscountPowers.{one}
-use Rattle.escrow_units.specs.Flows.{indexed, total}
+use Rattle.escrow_units.specs.Flows.{indexed, total, FallWithinFortyYears}
 use Rattle.fixed_powers.specs.PresentValues.{HasLaterAmount, total_cents, present_value}
 use Rattle.fixed_powers.specs.declared.side.Side.TheVariants.{Low, High}
 use Rattle.fixed_powers.proofs.PresentValueFacts.{value_falls, low_value-le-high, value-at_zero, value-ordered, value-lt, low_value-encloses, high_value-encloses, value_sharp, low_value-excludes}
 use Rattle.fixed_powers.proofs.SearchFacts.{greatest-passes, greatest-most, least-within, least-passes, least-most}
 use Rattle.escrow_units.specs.declared.amount.YieldUnits.{YieldUnits}
 use Rattle.yield_enclosure.specs.declared.answer.YieldAnswer.TheVariants.{Between, Above}
-use Rattle.yield_enclosure.specs.YieldAnswers.{FallWithin40Years, answer_of_covered, is_worth, is_within, AreDearerBelow, is_no_dearer, lower_end, upper_end, IsLowerEnd, IsUpperEnd, AreYieldEnds}
+use Rattle.yield_enclosure.specs.YieldAnswers.{answer_of_covered, is_worth, is_within, AreDearerBelow, is_no_dearer, lower_end, upper_end, IsLowerEnd, IsUpperEnd, AreYieldEnds}
 use Rattle.escrow_units.specs.PresentValue.{IndexedFlow, last_index}
 
 -- the greatest index is at most what each index is at most
@@ -27,9 +27,9 @@ last_index-le m (flow ∷ flows) all =
     omega (arith, first, rest)
 
 -- one flow more
-pub indexed-more : (settle : ℤ) (flows : List Flow) (i : ℕ) (flow : Flow) → i < length flows → get_or flows i flow ≡ flow → indexed settle (take (i + 1) flows) ≡ indexed settle (take i flows) ++ (record { index = e_of flow.day - e_of settle; cents = flow.cents.0 }) ∷ []
+pub indexed-more : (settle : ℤ) (flows : List Flow) (i : ℕ) (flow : Flow) → i < length flows → get_or flows i flow ≡ flow → indexed settle (take (i + 1) flows) ≡ indexed settle (take i flows) ++ (record { index = thirty_day_place_of flow.day - thirty_day_place_of settle; cents = flow.cents.0 }) ∷ []
 indexed-more settle flows i flow within here =
-    let counted : Flow → IndexedFlow = λ f. record { index = e_of f.day - e_of settle; cents = f.cents.0 } in
+    let counted : Flow → IndexedFlow = λ f. record { index = thirty_day_place_of f.day - thirty_day_place_of settle; cents = f.cents.0 } in
     ap (indexed settle) (take_more flows i flow within) ∙ map-append counted (take i flows) (get_or flows i flow ∷ []) ∙ ap (λ f. indexed settle (take i flows) ++ counted f ∷ []) here
 
 pub index-push : (old new : ℕ) (flows : List IndexedFlow) (flow : IndexedFlow) → All (λ f. f.index ≤ old) flows → old ≤ new → flow.index ≤ new → All (λ f. f.index ≤ new) (flows ++ flow ∷ [])
@@ -40,7 +40,7 @@ index-push old new flows flow all rises here =
 pub total-indexed : (settle : ℤ) (flows : List Flow) → total_cents (indexed settle flows) ≡ total flows
 total-indexed settle [] = refl
 total-indexed settle (flow ∷ flows) =
-    let first : IndexedFlow = record { index = e_of flow.day - e_of settle; cents = flow.cents.0 } in
+    let first : IndexedFlow = record { index = thirty_day_place_of flow.day - thirty_day_place_of settle; cents = flow.cents.0 } in
     omega (arith, sum_by-cons (λ f. f.cents) first (indexed settle flows), sum_by-cons (λ (f : Flow). f.cents.0) flow flows, total-indexed settle flows)
 
 -- the lower end passes its test, and nothing above it does
@@ -210,10 +210,10 @@ if_ok (Ok x) step holds = step x holds
 if_ok (Err e) step holds = tt
 
 -- one flow more within the 40 years
-pub near-more : (settle : ℤ) (flows : List Flow) (i : ℕ) (flow : Flow) → i < length flows → get_or flows i flow ≡ flow → settle ≤ℤ flow.day → flow.day ≤ℤ years_after_of settle 40 → FallWithin40Years settle (take i flows) → FallWithin40Years settle (take (i + 1) flows)
+pub near-more : (settle : ℤ) (flows : List Flow) (i : ℕ) (flow : Flow) → i < length flows → get_or flows i flow ≡ flow → settle ≤ℤ flow.day → flow.day ≤ℤ years_after_of settle 40 → FallWithinFortyYears settle (take i flows) → FallWithinFortyYears settle (take (i + 1) flows)
 near-more settle flows i flow within here from to near =
     let more : take (i + 1) flows ≡ take i flows ++ flow ∷ [] = take_more flows i flow within ∙ ap (λ f. take i flows ++ f ∷ []) here in
-    subst (FallWithin40Years settle) (sym more) (All-push (λ f. (settle ≤ℤ f.day) × (f.day ≤ℤ years_after_of settle 40)) (take i flows) flow near (from, to))
+    subst (FallWithinFortyYears settle) (sym more) (All-push (λ f. (settle ≤ℤ f.day) × (f.day ≤ℤ years_after_of settle 40)) (take i flows) flow near (from, to))
 
 -- and its cents
 pub total-more : (flows : List Flow) (i : ℕ) (flow : Flow) → i < length flows → get_or flows i flow ≡ flow → total (take (i + 1) flows) ≡ total (take i flows) + flow.cents.0

@@ -10,11 +10,7 @@ use Rattle.fixed_powers.specs.Searches.{greatest_passing, least_passing}
 use Rattle.fixed_powers.specs.declared.side.Side.TheVariants.{Low, High}
 use Rattle.yield_enclosure.specs.declared.answer.YieldAnswer.{YieldAnswer}
 use Rattle.yield_enclosure.specs.declared.answer.YieldAnswer.TheVariants.{Empty, Negative, Between, Above}
-
--- the flows fall from settlement to 40 years after it
-abbrev pub FallWithin40Years : ℤ → List Flow → Type 0
-FallWithin40Years settle flows =
-    All (λ flow. (settle ≤ℤ flow.day) × (flow.day ≤ℤ years_after_of settle 40)) flows
+use Rattle.escrow_units.specs.declared.limits.TheConstants.{GREATEST_YIELD}
 
 -- at the yield n the flows are worth the cost, rounded down
 abbrev pub is_worth : List IndexedFlow → ℕ → ℕ → Bool
@@ -26,16 +22,16 @@ is_no_dearer flows cost n = nat_le (present_value High n flows) (one * cost)
 
 -- the greatest yield at which the low present value is at least the cost
 abbrev pub lower_end : List IndexedFlow → ℕ → ℕ
-lower_end flows cost = greatest_passing (is_worth flows cost) 3_000_000_000
+lower_end flows cost = greatest_passing (is_worth flows cost) GREATEST_YIELD
 
 -- the least yield at which the high present value is at most the cost
 abbrev pub upper_end : List IndexedFlow → ℕ → ℕ
-upper_end flows cost = least_passing (is_no_dearer flows cost) 3_000_000_001
+upper_end flows cost = least_passing (is_no_dearer flows cost) (GREATEST_YIELD + 1)
 
 -- the answer where the flows sum to the cost or more
 abbrev pub answer_of_covered : List IndexedFlow → ℕ → YieldAnswer
 answer_of_covered flows cost =
-    if is_worth flows cost 3_000_000_000 then Above
+    if is_worth flows cost GREATEST_YIELD then Above
     else Between (record { 0 = lower_end flows cost }) (record { 0 = upper_end flows cost })
 
 -- the answer of flows and a cost: the first that holds
@@ -61,7 +57,7 @@ pub record AreYieldEnds (flows : List IndexedFlow) (cost lo hi : ℕ) : Type 0 w
   pub upper : IsUpperEnd flows cost hi
   pub ordered : lo ≤ hi
   pub narrow : hi ≤ lo + 2
-  pub below : lo < 3_000_000_000
+  pub below : lo < GREATEST_YIELD
   pub exact : YieldLiesIn flows cost lo hi
 
 -- what an answer says of the flows and the cost
@@ -69,7 +65,7 @@ abbrev pub IsYieldAnswer : List IndexedFlow → ℕ → YieldAnswer → Type 0
 IsYieldAnswer flows cost Empty = (flows ≡ []) × (cost ≡ 0)
 IsYieldAnswer flows cost Negative = total_cents flows < cost
 IsYieldAnswer flows cost (Between lo hi) = AreYieldEnds flows cost lo.0 hi.0
-IsYieldAnswer flows cost Above = PresentValueAtLeast 3_000_000_000 flows cost
+IsYieldAnswer flows cost Above = PresentValueAtLeast GREATEST_YIELD flows cost
 
 -- a yield is within the limit: there is none, or it is below 0, or the upper end is at most the limit
 abbrev pub is_within : ℕ → YieldAnswer → Bool

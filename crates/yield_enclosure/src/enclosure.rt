@@ -3,20 +3,20 @@
 ghost use Rattle.std.specs.Prelude.{◌≡◌, false, ◌+◌, ◌*◌, ◌<◌, ◌≤◌, ◌^◌, IfOk};
 ghost use Rattle.escrow_units.specs.PresentValue.{last_index};
 ghost use Rattle.fixed_powers.specs.DiscountPowers.{one};
-ghost use Rattle.escrow_units.specs.Flows.{indexed, total};
+ghost use Rattle.escrow_units.specs.Flows.{indexed, total, FallWithinFortyYears};
 ghost use Rattle.fixed_powers.specs.PresentValues.{HasLaterAmount, total_cents, present_value};
 ghost use Rattle.fixed_powers.specs.declared.side.Side.TheVariants.{Low};
-ghost use Rattle.yield_enclosure.specs.YieldAnswers.{FallWithin40Years, AreDearerBelow, is_within, is_worth, is_no_dearer, IsLowerEnd, IsUpperEnd, IsYieldAnswer, answer_of_covered, yield_answer_of};
+ghost use Rattle.yield_enclosure.specs.YieldAnswers.{AreDearerBelow, is_within, is_worth, is_no_dearer, IsLowerEnd, IsUpperEnd, IsYieldAnswer, answer_of_covered, yield_answer_of};
 
 use crate::answer::YieldAnswer;
 use crate::timeline::Timeline;
 use escrow_desk::NoMemory;
-use escrow_units::{Cents, Day, Flow, YieldUnits};
+use escrow_units::{Cents, Day, FLOWS_LIMIT, Flow, GREATEST_INDEX, GREATEST_YIELD, YieldUnits};
 use fixed_powers::{ONE, Side};
 use std::alloc::Global;
 
 // 30 percent: a yield that reaches it is above the interval's bounds.
-const MOST: YieldUnits = YieldUnits(3_000_000_000);
+const MOST: YieldUnits = YieldUnits(GREATEST_YIELD);
 
 // The sum of the flows, in cents.
 fn sum_of(flows: &[Flow]) -> u64
@@ -32,8 +32,8 @@ fn sum_of(flows: &[Flow]) -> u64
 
 // Whether the flows are worth the cost at a yield, rounded down.
 fn is_worth(alloc: Global, flows: &Timeline, cost: Cents, n: YieldUnits) -> Result<bool, NoMemory>
-    requires yield_units { n.0 ≤ 3_000_000_001 }
-    requires cents { total_cents flows.now + cost.0 ≤ 10 ^ 15 }
+    requires yield_units { n.0 ≤ GREATEST_YIELD + 1 }
+    requires cents { total_cents flows.now + cost.0 ≤ FLOWS_LIMIT }
     ensures { IfOk result (λ yes. yes ≡ is_worth flows.now cost.0 n.0) }
 {
     let value = flows.present_value(alloc, n, Side::Low)?;
@@ -47,8 +47,8 @@ fn is_no_dearer(
     cost: Cents,
     n: YieldUnits,
 ) -> Result<bool, NoMemory>
-    requires yield_units { n.0 ≤ 3_000_000_001 }
-    requires cents { total_cents flows.now + cost.0 ≤ 10 ^ 15 }
+    requires yield_units { n.0 ≤ GREATEST_YIELD + 1 }
+    requires cents { total_cents flows.now + cost.0 ≤ FLOWS_LIMIT }
     ensures { IfOk result (λ yes. yes ≡ is_no_dearer flows.now cost.0 n.0) }
 {
     let value = flows.present_value(alloc, n, Side::High)?;
@@ -57,9 +57,9 @@ fn is_no_dearer(
 
 // The greatest yield at which the flows are worth the cost: from 0 to just below 30 percent.
 fn lower_end(alloc: Global, flows: &Timeline, cost: Cents) -> Result<YieldUnits, NoMemory>
-    requires cents { total_cents flows.now + cost.0 ≤ 10 ^ 15 }
+    requires cents { total_cents flows.now + cost.0 ≤ FLOWS_LIMIT }
     requires covered { cost.0 ≤ total_cents flows.now }
-    requires less { present_value Low 3_000_000_000 flows.now < one * cost.0 }
+    requires less { present_value Low GREATEST_YIELD flows.now < one * cost.0 }
     ensures { IfOk result (λ lo. IsLowerEnd flows.now cost.0 lo.0) }
 {
     // Present values fall with the yield, so the flows are worth the cost at each yield up to the greatest.
@@ -84,12 +84,12 @@ fn upper_end(
     cost: Cents,
     lo: YieldUnits,
 ) -> Result<YieldUnits, NoMemory>
-    requires near { last_index flows.now ≤ 14_400 }
-    requires cents { total_cents flows.now + cost.0 ≤ 10 ^ 15 }
+    requires near { last_index flows.now ≤ GREATEST_INDEX }
+    requires cents { total_cents flows.now + cost.0 ≤ FLOWS_LIMIT }
     requires covered { cost.0 ≤ total_cents flows.now }
-    requires less { present_value Low 3_000_000_000 flows.now < one * cost.0 }
+    requires less { present_value Low GREATEST_YIELD flows.now < one * cost.0 }
     requires lower { IsLowerEnd flows.now cost.0 lo.0 }
-    requires below { lo.0 < 3_000_000_000 }
+    requires below { lo.0 < GREATEST_YIELD }
     ensures { IfOk result (λ hi. IsUpperEnd flows.now cost.0 hi.0) }
 {
     if is_no_dearer(alloc, flows, cost, lo)? {
@@ -104,8 +104,8 @@ fn upper_end(
 
 // The answer where the flows sum to the cost or more.
 fn answer_of_covered(alloc: Global, flows: &Timeline, cost: Cents) -> Result<YieldAnswer, NoMemory>
-    requires near { last_index flows.now ≤ 14_400 }
-    requires cents { total_cents flows.now + cost.0 ≤ 10 ^ 15 }
+    requires near { last_index flows.now ≤ GREATEST_INDEX }
+    requires cents { total_cents flows.now + cost.0 ≤ FLOWS_LIMIT }
     requires covered { cost.0 ≤ total_cents flows.now }
     ensures value { IfOk result (λ answer. answer ≡ answer_of_covered flows.now cost.0) }
     ensures meaning { IfOk result (λ answer. IsYieldAnswer flows.now cost.0 answer) }
@@ -133,8 +133,8 @@ pub fn interval(
     flows: &[Flow],
     cost: Cents,
 ) -> Result<YieldAnswer, NoMemory>
-    requires days { FallWithin40Years settle flows.now }
-    requires cents { total flows.now + cost.0 ≤ 10 ^ 15 }
+    requires days { FallWithinFortyYears settle flows.now }
+    requires cents { total flows.now + cost.0 ≤ FLOWS_LIMIT }
     ensures value { IfOk result (λ answer. answer ≡ yield_answer_of (indexed settle flows.now) cost.0) }
     ensures meaning { IfOk result (λ answer. IsYieldAnswer (indexed settle flows.now) cost.0 answer) }
 {
@@ -155,13 +155,13 @@ fn is_covered_within(
     cost: Cents,
     limit: YieldUnits,
 ) -> Result<bool, NoMemory>
-    requires near { last_index flows.now ≤ 14_400 }
-    requires cents { total_cents flows.now + cost.0 ≤ 10 ^ 15 }
+    requires near { last_index flows.now ≤ GREATEST_INDEX }
+    requires cents { total_cents flows.now + cost.0 ≤ FLOWS_LIMIT }
     requires covered { cost.0 ≤ total_cents flows.now }
     ensures value { IfOk result (λ yes. yes ≡ is_within limit.0 (answer_of_covered flows.now cost.0)) }
     ensures refusal { IfOk result (λ yes. yes ≡ false
         → 1 ≤ limit.0
-        → limit.0 ≤ 3_000_000_000
+        → limit.0 ≤ GREATEST_YIELD
         → HasLaterAmount flows.now
         → AreDearerBelow flows.now cost.0 limit.0) }
 {
@@ -192,12 +192,12 @@ pub fn within(
     cost: Cents,
     limit: YieldUnits,
 ) -> Result<bool, NoMemory>
-    requires days { FallWithin40Years settle flows.now }
-    requires cents { total flows.now + cost.0 ≤ 10 ^ 15 }
+    requires days { FallWithinFortyYears settle flows.now }
+    requires cents { total flows.now + cost.0 ≤ FLOWS_LIMIT }
     ensures value { IfOk result (λ yes. yes ≡ is_within limit.0 (yield_answer_of (indexed settle flows.now) cost.0)) }
     ensures refusal { IfOk result (λ yes. yes ≡ false
         → 1 ≤ limit.0
-        → limit.0 ≤ 3_000_000_000
+        → limit.0 ≤ GREATEST_YIELD
         → HasLaterAmount (indexed settle flows.now)
         → AreDearerBelow (indexed settle flows.now) cost.0 limit.0) }
 {

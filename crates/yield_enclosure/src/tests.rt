@@ -1,8 +1,7 @@
 ghost use Rattle.std.specs.Prelude.{◌≡◌, ◌+◌, ◌≤◌, ◌^◌, true};
 ghost use Rattle.escrow_units.specs.Calendar.{IsBaseDay};
 ghost use Rattle.escrow_units.specs.DayNumber.{IsDayNumber};
-ghost use Rattle.escrow_units.specs.Flows.{total};
-ghost use Rattle.yield_enclosure.specs.YieldAnswers.{FallWithin40Years};
+ghost use Rattle.escrow_units.specs.Flows.{total, FallWithinFortyYears};
 
 use super::*;
 use escrow_units::{Cents, Day, Flow, YieldUnits, years_after};
@@ -39,7 +38,7 @@ fn half_year() -> Flow {
 // Whether a call may be made with these.
 fn are_allowed(settle: Day, flows: &[Flow], cost: Cents) -> bool
     requires { IsBaseDay settle }
-    ensures days { result ≡ true → FallWithin40Years settle flows.now }
+    ensures days { result ≡ true → FallWithinFortyYears settle flows.now }
     ensures cents { result ≡ true → total flows.now + cost.0 ≤ 10 ^ 15 }
 {
     let last = years_after(settle, 40);

@@ -3,12 +3,13 @@
 ghost use Rattle.std.specs.Prelude.{◌≡◌, ◌+◌, ◌<◌, ◌≤◌, ◌^◌, IfOk};
 ghost use Rattle.std.specs.List.{All};
 ghost use Rattle.escrow_units.specs.PresentValue.{IndexedFlow, last_index};
-ghost use Rattle.escrow_units.specs.Flows.{indexed};
+ghost use Rattle.escrow_units.specs.Flows.{indexed, FallWithinFortyYears};
 ghost use Rattle.fixed_powers.specs.PresentValues.{total_cents, present_value};
-ghost use Rattle.yield_enclosure.specs.YieldAnswers.{FallWithin40Years};
 
 use escrow_desk::NoMemory;
-use escrow_units::{Cents, Day, Flow, YieldUnits, index360};
+use escrow_units::{
+    Cents, Day, FLOWS_LIMIT, Flow, GREATEST_INDEX, GREATEST_YIELD, YieldUnits, index360,
+};
 use fixed_powers::{Powers, Side};
 use std::alloc::{AllocError, Global};
 use std::marker::Model;
@@ -39,6 +40,7 @@ pub(crate) struct Timeline {
 }
 
 impl Model for Timeline {
+    ghost use Rattle.escrow_units.specs.declared.limits.TheConstants.{GREATEST_INDEX};
     ghost use Rattle.std.specs.Prelude.{◌≤◌, List};
     ghost use Rattle.std.specs.List.{All};
     ghost use Rattle.escrow_units.specs.PresentValue.{IndexedFlow};
@@ -47,7 +49,7 @@ impl Model for Timeline {
 
     ghost view = { λ t. t.amounts.items };
 
-    ghost invariant = { λ t. All (λ flow. flow.index ≤ t.longest) t.amounts.items × (t.longest ≤ 14_400) };
+    ghost invariant = { λ t. All (λ flow. flow.index ≤ t.longest) t.amounts.items × (t.longest ≤ GREATEST_INDEX) };
 }
 
 // What amounts are worth by a table of powers.
@@ -66,9 +68,9 @@ fn worth(amounts: &[IndexedAmount], powers: &Powers) -> u128
 impl Timeline {
     // Flows by their index: it takes memory for one amount a flow.
     pub(crate) fn make(alloc: Global, settle: Day, flows: &[Flow]) -> Result<Timeline, NoMemory>
-        requires { FallWithin40Years settle flows.now }
+        requires { FallWithinFortyYears settle flows.now }
         ensures value { IfOk result (λ timeline. timeline ≡ indexed settle flows.now) }
-        ensures near { IfOk result (λ timeline. last_index timeline ≤ 14_400) }
+        ensures near { IfOk result (λ timeline. last_index timeline ≤ GREATEST_INDEX) }
     {
         let mut amounts = Vec::with_capacity(alloc, flows.len())?;
         let mut longest = 0;
@@ -90,8 +92,8 @@ impl Timeline {
         n: YieldUnits,
         side: Side,
     ) -> Result<u128, NoMemory>
-        requires yield_units { n.0 ≤ 3_000_000_001 }
-        requires cents { total_cents self.now ≤ 10 ^ 15 }
+        requires yield_units { n.0 ≤ GREATEST_YIELD + 1 }
+        requires cents { total_cents self.now ≤ FLOWS_LIMIT }
         ensures { IfOk result (λ value. value ≡ present_value side n.0 self.now) }
     {
         let powers = Powers::make(alloc, n, side, self.longest)?;

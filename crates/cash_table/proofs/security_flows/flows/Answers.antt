@@ -2,16 +2,15 @@ use Rattle.std.proofs.Common.{◌≡◌, ◌≤◌, ◌*◌, ◌^◌, List, ℤ,
 use Rattle.std.specs.List.{All}
 use Rattle.std.proofs.lemmas.List.{take_rest}
 use Rattle.std.proofs.lemmas.Result.{IfOk-weaker}
-use Rattle.escrow_units.specs.Flows.{index_of, total}
+use Rattle.escrow_units.specs.Flows.{index360_of, total, FallWithinFortyYears}
 use Rattle.escrow_units.specs.declared.security.Flow.{Flow}
-use Rattle.offer_book.specs.Book.{AreWithinFortyYears}
 use Rattle.offer_book.specs.Portfolio.{security_flows}
 use Rattle.cash_table.proofs.CostFacts.{drop-zip}
 use Rattle.cash_table.proofs.FlowFacts.{flows_within, flows_later, flows_at_most, securities_permitted, securities_at_most}
 use Rattle.cash_table.proofs.security_flows.flows.Goals as goal
 
 abbrev AreLater : ℤ → List Flow → Type 0
-AreLater settle flows = All (λ flow. 1 ≤ index_of settle flow.day) flows
+AreLater settle flows = All (λ flow. 1 ≤ index360_of settle flow.day) flows
 
 abbrev IsBounded : List Flow → Type 0
 IsBounded flows = total flows ≤ 89 * 10 ^ 13
@@ -26,9 +25,9 @@ add_bought-requires-clause-room c =
 
 pub returns-clause-within : goal.returns-clause-within
 returns-clause-within c =
-    IfOk-weaker c.into_flows.result (λ flows. flows.items ≡ c.add_bought.new.sums) (λ flows. AreWithinFortyYears c.args.book.now.settle flows.items)
+    IfOk-weaker c.into_flows.result (λ flows. flows.items ≡ c.add_bought.new.sums) (λ flows. FallWithinFortyYears c.args.book.now.settle flows.items)
     (λ flows same. let sums : c.add_bought.new.sums ≡ security_flows c.args.book.now c.args.plan.now = simp (take_rest, drop-zip, c.settle.ensures, c.lines.ensures.value, c.units.ensures) at (c.in_ok-add_bought.ensures) in
-    subst (AreWithinFortyYears c.args.book.now.settle) (sym (same ∙ sums)) (flows_within c.args.book.now c.args.plan.now c.lines.ensures.limits)) c.into_flows.ensures.value
+    subst (FallWithinFortyYears c.args.book.now.settle) (sym (same ∙ sums)) (flows_within c.args.book.now c.args.plan.now c.lines.ensures.limits)) c.into_flows.ensures.value
 
 pub returns-clause-later : goal.returns-clause-later
 returns-clause-later c =

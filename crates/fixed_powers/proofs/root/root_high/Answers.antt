@@ -1,6 +1,6 @@
 use Rattle.std.proofs.Common.{◌<◌, ◌≤◌, ◌+◌, ◌*◌, ◌-◌, ◌/◌, ℕ, arith}
 use Rattle.fixed_powers.proofs.WholeNumbers.{pow-one}
-use Rattle.escrow_units.specs.PresentValue.{half_year, two_m}
+use Rattle.escrow_units.specs.PresentValue.{half_year, two_hundred_percent}
 use Rattle.fixed_powers.specs.DiscountPowers.{one, down}
 use Rattle.fixed_powers.proofs.RootFacts.{one_high, high_enough-lt, root_high-only, root_high-above}
 use Rattle.fixed_powers.proofs.root.root_high.Goals as goal
@@ -16,8 +16,8 @@ loop-least-init c = record {
 pub loop-least-preserved : goal.loop-least-preserved
 loop-least-preserved c =
     let middle : ℕ = c.loop-least.least + (c.loop-least.enough - c.loop-least.least) / 2 in
-    let no : one * two_m ≤ down middle half_year * (two_m + c.args.n.0) → ⊥ = λ enough. cc (c.if-is_high_enough.ensures.1 enough) in
-    let fails : down middle half_year * (two_m + c.args.n.0) < one * two_m = omega arith in
+    let no : one * two_hundred_percent ≤ down middle half_year * (two_hundred_percent + c.args.n.0) → ⊥ = λ enough. cc (c.if-is_high_enough.ensures.1 enough) in
+    let fails : down middle half_year * (two_hundred_percent + c.args.n.0) < one * two_hundred_percent = omega arith in
     record {
       order = omega arith;
       within = omega arith;

@@ -1,5 +1,5 @@
 use Rattle.std.proofs.Common.{◌≤◌, ◌+◌, ◌-◌, ◌*◌, ℕ}
-use Rattle.escrow_units.specs.PresentValue.{half_year, two_m}
+use Rattle.escrow_units.specs.PresentValue.{half_year, two_hundred_percent}
 use Rattle.fixed_powers.specs.DiscountPowers.{one, up}
 use Rattle.fixed_powers.proofs.root.root_low.Given as goal
 
@@ -8,8 +8,8 @@ abbrev pub invariant-loop-enough : goal.invariant-loop-enough
 invariant-loop-enough l = record {
   order : l.enough ≤ l.most;
   within : l.most ≤ one;
-  enough : up l.enough half_year * (two_m + l.n.0) ≤ one * two_m;
-  greatest : (p : ℕ) → p ≤ one → up p half_year * (two_m + l.n.0) ≤ one * two_m → p ≤ l.most;
+  enough : up l.enough half_year * (two_hundred_percent + l.n.0) ≤ one * two_hundred_percent;
+  greatest : (p : ℕ) → p ≤ one → up p half_year * (two_hundred_percent + l.n.0) ≤ one * two_hundred_percent → p ≤ l.most;
 }
 
 abbrev pub decreases-loop-enough : goal.decreases-loop-enough

@@ -1,6 +1,5 @@
 use Rattle.std.proofs.Common.{◌≡◌, ◌+◌, ◌≤◌, ◌^◌, take}
-use Rattle.escrow_units.specs.Flows.{total}
-use Rattle.yield_enclosure.specs.YieldAnswers.{FallWithin40Years}
+use Rattle.escrow_units.specs.Flows.{total, FallWithinFortyYears}
 use Rattle.yield_enclosure.proofs.tests.are_allowed.Given as goal
 
 -- the flows before the counter are in the sum, and none of them is out of range
@@ -8,5 +7,5 @@ abbrev pub invariant-loop-flow : goal.invariant-loop-flow
 invariant-loop-flow l = record {
   sum : l.sum ≡ total (take l.flow-index l.flows) + l.fn.cost.0;
   within : l.sum ≤ 10 ^ 15;
-  days : FallWithin40Years l.settle (take l.flow-index l.flows);
+  days : FallWithinFortyYears l.settle (take l.flow-index l.flows);
 }
