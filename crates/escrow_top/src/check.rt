@@ -1,11 +1,11 @@
 ghost use Rattle.std.specs.Prelude.{◌≡◌, ◌≤◌, IfOk, IsErrOf, IsTrue, length};
-ghost use Rattle.escrow_top.specs.Answer.{certificate_answer, certificate_limit, claim_answer, refused as refused_answer};
+ghost use Rattle.escrow_top.specs.Answer.{certificate_answer, certificate_limit, weigh_of, refused as refused_answer};
 ghost use Rattle.row_fields.specs.RowForm.{refusal_of};
 ghost use Rattle.case_file.specs.Case.{case_view};
-ghost use Rattle.escrow_top.specs.CertificateForm.{claim_of};
-ghost use Rattle.escrow_top.specs.Reading.{AreRead, AreWithin, CertificateAnswers, FilesAnswer, LacksCertificate, LacksNamed, input_names, input_texts};
-ghost use Rattle.escrow_top.specs.Ending.{HoldsWhereTold, is_checked};
-ghost use Rattle.escrow_top.specs.Accepted.{Accepted};
+ghost use Rattle.escrow_top.specs.CertificateForm.{certificate_of};
+ghost use Rattle.escrow_top.specs.Reading.{AreRead, AreWithin, CertificateAnswers, FilesAnswer, LacksCertificate, LacksNamed, names_view, files_view};
+ghost use Rattle.escrow_top.specs.Ending.{HoldsWhereTold, OfNamedFiles, is_checked};
+ghost use Rattle.escrow_top.specs.Accepted.{Accepted, YesExactly};
 ghost use Rattle.escrow_top.specs.NotAccepted.{NotAccepted};
 ghost use Rattle.escrow_top.specs.Stopping.{CountsStep};
 ghost use Rattle.escrow_top.specs.Reply.{answer};
@@ -38,7 +38,7 @@ fn too_long(alloc: Global, file: FileKind) -> Result<Reply, NoMemory>
 
 // The reply to the bytes of a certificate within its limit.
 fn reply_to_bytes(alloc: Global, case: &Case, bytes: &[u8]) -> Result<Reply, NoMemory>
-    ensures answer { IfOk result (λ reply. answer reply ≡ claim_answer (case_view case.now) (claim_of (length case.now.book.needs) bytes.now)) }
+    ensures answer { IfOk result (λ reply. answer reply ≡ weigh_of (case_view case.now) (certificate_of (length case.now.book.needs) bytes.now)) }
     ensures status { IfOk result (λ reply. IsTrue (is_checked reply.status)) }
 {
     match read_certificate(alloc, bytes, case.book.need_count())? {
@@ -73,13 +73,14 @@ fn reply_to_files<D: Desk>(
     names: &FileNames<'_>,
     files: &InputFiles,
 ) -> Result<Reply, Stop>
-    requires read { AreRead (D.told desk.old) (input_names names.now) (input_texts files.now) }
-    requires within { AreWithin (input_texts files.now) }
-    ensures answer { IfOk result (λ reply. FilesAnswer (D.told desk.old) (input_names names.now) (answer reply)) }
+    requires read { AreRead (D.told desk.old) (names_view names.now) (files_view files.now) }
+    requires within { AreWithin (files_view files.now) }
+    ensures answer { IfOk result (λ reply. FilesAnswer (D.told desk.old) (names_view names.now) (answer reply)) }
     ensures status { IfOk result (λ reply. IsTrue (is_checked reply.status)) }
-    ensures yes { IfOk result (λ reply. reply.status ≡ Status.Done → HoldsWhereTold Accepted (D.told desk.old) (input_names names.now)) }
-    ensures no { IfOk result (λ reply. reply.status ≡ Status.No → HoldsWhereTold NotAccepted (D.told desk.old) (input_names names.now)) }
-    ensures absent { IsErrOf result Stop.NoFile → LacksNamed (D.told desk.old) (input_names names.now) }
+    ensures yes { IfOk result (λ reply. reply.status ≡ Status.Done → HoldsWhereTold Accepted (D.told desk.old) (names_view names.now)) }
+    ensures no { IfOk result (λ reply. reply.status ≡ Status.No → HoldsWhereTold NotAccepted (D.told desk.old) (names_view names.now)) }
+    ensures exactly { IfOk result (λ reply. OfNamedFiles (YesExactly reply.status) (D.told desk.old) (names_view names.now)) }
+    ensures absent { IsErrOf result Stop.NoFile → LacksNamed (D.told desk.old) (names_view names.now) }
     ensures told { D.told desk.new ≡ D.told desk.old }
     ensures counts { CountsStep result (D.counts desk.old) (D.counts desk.new) }
 {
@@ -102,11 +103,12 @@ pub(crate) fn check<D: Desk>(
     desk: &mut D,
     names: &FileNames<'_>,
 ) -> Result<Reply, Stop>
-    ensures answer { IfOk result (λ reply. FilesAnswer (D.told desk.old) (input_names names.now) (answer reply)) }
+    ensures answer { IfOk result (λ reply. FilesAnswer (D.told desk.old) (names_view names.now) (answer reply)) }
     ensures status { IfOk result (λ reply. IsTrue (is_checked reply.status)) }
-    ensures yes { IfOk result (λ reply. reply.status ≡ Status.Done → HoldsWhereTold Accepted (D.told desk.old) (input_names names.now)) }
-    ensures no { IfOk result (λ reply. reply.status ≡ Status.No → HoldsWhereTold NotAccepted (D.told desk.old) (input_names names.now)) }
-    ensures absent { IsErrOf result Stop.NoFile → LacksNamed (D.told desk.old) (input_names names.now) }
+    ensures yes { IfOk result (λ reply. reply.status ≡ Status.Done → HoldsWhereTold Accepted (D.told desk.old) (names_view names.now)) }
+    ensures no { IfOk result (λ reply. reply.status ≡ Status.No → HoldsWhereTold NotAccepted (D.told desk.old) (names_view names.now)) }
+    ensures exactly { IfOk result (λ reply. OfNamedFiles (YesExactly reply.status) (D.told desk.old) (names_view names.now)) }
+    ensures absent { IsErrOf result Stop.NoFile → LacksNamed (D.told desk.old) (names_view names.now) }
     ensures told { D.told desk.new ≡ D.told desk.old }
     ensures counts { CountsStep result (D.counts desk.old) (D.counts desk.new) }
 {

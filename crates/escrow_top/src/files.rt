@@ -1,6 +1,6 @@
 ghost use Rattle.std.specs.Prelude.{◌≡◌, ◌≤◌, IfOk, IfSome, IsErrOf, MatchResult, length};
 ghost use Rattle.escrow_desk.specs.Content.{IsAbsent};
-ghost use Rattle.escrow_top.specs.Reading.{AreRead, AreWithin, IsRead, IsTooLong, LacksInput, input_names, input_texts};
+ghost use Rattle.escrow_top.specs.Reading.{AreRead, AreWithin, IsRead, IsTooLong, LacksInput, names_view, files_view};
 ghost use Rattle.escrow_top.specs.Stopping.{CountsStep};
 
 use crate::stop::Stop;
@@ -57,10 +57,10 @@ pub(crate) fn read_inputs<D: Desk>(
     names: &FileNames<'_>,
 ) -> Result<Result<InputFiles, FileKind>, Stop>
     ensures read { IfOk result (λ found. MatchResult found
-        (λ files. AreRead (D.told desk.old) (input_names names.now) (input_texts files))
-        (IsTooLong (D.told desk.old) (input_names names.now))) }
-    ensures within { IfOk result (λ found. IfOk found (λ files. AreWithin (input_texts files))) }
-    ensures absent { IsErrOf result Stop.NoFile → LacksInput (D.told desk.old) (input_names names.now) }
+        (λ files. AreRead (D.told desk.old) (names_view names.now) (files_view files))
+        (IsTooLong (D.told desk.old) (names_view names.now))) }
+    ensures within { IfOk result (λ found. IfOk found (λ files. AreWithin (files_view files))) }
+    ensures absent { IsErrOf result Stop.NoFile → LacksInput (D.told desk.old) (names_view names.now) }
     ensures told { D.told desk.new ≡ D.told desk.old }
     ensures counts { CountsStep result (D.counts desk.old) (D.counts desk.new) }
 {

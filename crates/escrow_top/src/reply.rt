@@ -1,5 +1,5 @@
 ghost use Rattle.std.specs.Prelude.{◌≡◌, ◌++◌, IfOk, IsTrue, OnOk};
-ghost use Rattle.escrow_top.specs.Answer.{text_line, reason_text, portfolio_yield as portfolio_yield_of, yes_text as yes_text_of, yield_words as yield_words_of, file_word as file_word_of, kind_word as kind_word_of, unbuilt as unbuilt_answer, refused as refused_answer, no_case_answer, refused_text, accepted, not_accepted};
+ghost use Rattle.escrow_top.specs.Answer.{text_line, reason_text, plan_yield as plan_yield_of, yes_text as yes_text_of, yield_words as yield_words_of, file_word as file_word_of, kind_word as kind_word_of, unbuilt as unbuilt_answer, refused as refused_answer, no_case_answer, refused_text, accepted, not_accepted};
 ghost use Rattle.case_file.specs.Case.{case_view};
 ghost use Rattle.escrow_top.specs.Ending.{is_checked, is_stopped};
 ghost use Rattle.escrow_top.specs.Reply.{answer};
@@ -148,9 +148,9 @@ pub(crate) fn without_case(alloc: Global, why: NoCase) -> Result<Reply, NoMemory
 }
 
 // The yield of a portfolio's securities, as an interval.
-fn portfolio_yield(alloc: Global, book: &Book, plan: &Plan) -> Result<YieldAnswer, NoMemory>
+fn plan_yield(alloc: Global, book: &Book, plan: &Plan) -> Result<YieldAnswer, NoMemory>
     requires { IsPermitted book.now plan.now }
-    ensures { IfOk result (λ answer. answer ≡ portfolio_yield_of book.now plan.now) }
+    ensures { IfOk result (λ answer. answer ≡ plan_yield_of book.now plan.now) }
 {
     let flows = flows(alloc, book, plan)?;
     interval(
@@ -190,7 +190,7 @@ fn yes_text(alloc: Global, case: &Case, plan: &Plan, gap: u64) -> Result<Vec<u8>
         b"cost ",
         print_cents(cost(&case.book, plan)).as_bytes(),
     )?;
-    let words = yield_words(alloc, portfolio_yield(alloc, &case.book, plan)?)?;
+    let words = yield_words(alloc, plan_yield(alloc, &case.book, plan)?)?;
     push_line(&mut text, b"yield ", words.as_slice())?;
     push_line(&mut text, b"limit ", print_yield(case.limit).as_bytes())?;
     push_line(&mut text, b"gap ", print_cents(Cents(gap)).as_bytes())?;
@@ -210,7 +210,7 @@ pub(crate) fn yes(alloc: Global, case: &Case, plan: &Plan, gap: u64) -> Result<R
 }
 
 /// The reply that doesn't accept a certificate, for a reason.
-pub(crate) fn refusal(alloc: Global, reason: Reason) -> Result<Reply, NoMemory>
+pub(crate) fn no(alloc: Global, reason: Reason) -> Result<Reply, NoMemory>
     ensures answer { IfOk result (λ reply. answer reply ≡ not_accepted reason) }
     ensures status { IfOk result (λ reply. IsTrue (is_checked reply.status)) }
 {

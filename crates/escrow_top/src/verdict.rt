@@ -1,14 +1,14 @@
 ghost use Rattle.std.specs.Prelude.{◌≡◌, ◌≤◌, ◌^◌, length, IfOk, IsTrue, MatchResult, Some, None, option_map};
 ghost use Rattle.offer_book.specs.Portfolio.{IsPermitted};
-ghost use Rattle.escrow_top.specs.Answer.{is_offered as is_offered_of, first_not_offered, portfolio_of, reason_against as reason_against_of, weighed, claim_answer};
-ghost use Rattle.escrow_top.specs.CertificateForm.{claim};
+ghost use Rattle.escrow_top.specs.Answer.{is_offered as is_offered_of, first_not_offered, plan_of, reason_against as reason_against_of, weighed, weigh_of};
+ghost use Rattle.escrow_top.specs.CertificateForm.{certificate_view};
 ghost use Rattle.case_file.specs.Case.{case_view};
 ghost use Rattle.escrow_top.specs.Ending.{is_checked};
 ghost use Rattle.escrow_top.specs.Reply.{answer};
 
 use crate::certificate::{Certificate, Purchase};
 use crate::needs::needs_total;
-use crate::reply::{Reply, refusal, yes};
+use crate::reply::{Reply, no, yes};
 use case_file::Case;
 use cash_table::{Plan, cost, first_short};
 use escrow_desk::NoMemory;
@@ -37,7 +37,7 @@ fn is_offered(book: &Book, purchase: Purchase) -> bool
 }
 
 // The portfolio of purchases, which is permitted; or the line of the first purchase that isn't offered.
-#[tactic(auto, using(crate::proofs::ClaimLaws::put_permitted, crate::proofs::ClaimLaws::zero_permitted))]
+#[tactic(auto, using(crate::proofs::PurchaseLaws::put_permitted, crate::proofs::PurchaseLaws::zero_permitted))]
 fn plan_of(
     alloc: Global,
     book: &Book,
@@ -45,7 +45,7 @@ fn plan_of(
 ) -> Result<Result<Plan, u16>, NoMemory>
     ensures { IfOk result (λ found. MatchResult found
         (λ plan. (first_not_offered book.now.lines purchases.now ≡ None)
-        × (plan ≡ portfolio_of (length book.now.lines) purchases.now)
+        × (plan ≡ plan_of book.now purchases.now)
         × IsPermitted book.now plan)
         (λ line. option_map (λ purchase. purchase.line) (first_not_offered book.now.lines purchases.now) ≡ Some line)) }
 {
@@ -85,7 +85,7 @@ fn weigh_plan(alloc: Global, case: &Case, plan: &Plan, gap: u64) -> Result<Reply
     ensures status { IfOk result (λ reply. IsTrue (is_checked reply.status)) }
 {
     match reason_against(case, plan, gap) {
-        Some(reason) => refusal(alloc, reason),
+        Some(reason) => no(alloc, reason),
         None => yes(alloc, case, plan, gap),
     }
 }
@@ -98,11 +98,11 @@ pub(crate) fn weigh(
     case: &Case,
     certificate: &Certificate,
 ) -> Result<Reply, NoMemory>
-    ensures answer { IfOk result (λ reply. answer reply ≡ claim_answer (case_view case.now) (Some (claim certificate.now))) }
+    ensures answer { IfOk result (λ reply. answer reply ≡ weigh_of (case_view case.now) (Some (certificate_view certificate.now))) }
     ensures status { IfOk result (λ reply. IsTrue (is_checked reply.status)) }
 {
     match plan_of(alloc, &case.book, certificate.purchases.as_slice())? {
         Ok(plan) => weigh_plan(alloc, case, &plan, certificate.gap),
-        Err(line) => refusal(alloc, Reason::NotPermitted(line)),
+        Err(line) => no(alloc, Reason::NotPermitted(line)),
     }
 }
