@@ -172,13 +172,15 @@ unopposed_where_done case cert certificate limits is done =
     let none : reason_of case certificate ≡ None = subst (λ (found : CertificateContents). reason_of case found ≡ None) same yes.none in
     let unopposed = is_unopposed case certificate none in
     let tests = unopposed.tests in
-    let plan = plan_of case.book certificate.purchases in
-    (plan, record {
-      buys = plan-buys case.book certificate.purchases (purchases-rise (length case.book.needs) cert certificate is) unopposed.offered;
-      covered = meets_from_none case.book plan limits tests.covered;
-      borne = let costs = ltb-false (total_needs case.book) (cost case.book plan - certificate.gap) tests.borne in omega (arith, costs);
-      allowed = ltb-false case.allowance certificate.gap tests.allowed;
-    })
+    let plan = plan_of case.book certificate.purchases in (
+      plan,
+      record {
+        buys = plan-buys case.book certificate.purchases (purchases-rise (length case.book.needs) cert certificate is) unopposed.offered;
+        covered = meets_from_none case.book plan limits tests.covered;
+        borne = let costs = ltb-false (total_needs case.book) (cost case.book plan - certificate.gap) tests.borne in omega (arith, costs);
+        allowed = ltb-false case.allowance certificate.gap tests.allowed;
+      },
+    )
 
 -- `yes` exactly where no reason stands, of files that give a case
 pub yes_exactly : (files : InputFiles) (cert : List ℕ) → ((case : CaseContents) → case_of files ≡ Ok case → IsBook case.book) → YesExactly (check_answer files cert).status files cert

@@ -19,8 +19,6 @@ use Rattle.escrow_top.specs.declared.status.Status.{Status}
 use Rattle.escrow_top.specs.declared.status.Status.TheVariants as status
 use Rattle.escrow_top.proofs.AcceptedLaws.{accepted}
 use Rattle.escrow_top.proofs.NotAcceptedLaws.{not_accepted}
-use Rattle.escrow_top.specs.Reply.{answer}
-use Rattle.escrow_top.specs.declared.reply.Reply.{Reply}
 use Rattle.escrow_top.specs.declared.stop.Stop.{Stop}
 use Rattle.escrow_top.proofs.InputFacts.{read-all, rows_alone}
 
@@ -78,18 +76,18 @@ certificate_means Holds (Some content) names texts case answer reached read mean
     rw (issue, rates, prices) (found_means (Holds texts) case answer reached (file_of content names.cert) means said is)
 
 -- the same of a reply
-reply_means : (Holds : InputFiles → List ℕ → Type 0) (told : Told) (names : FileNames) (texts : InputFiles) (case : CaseContents) (result : Result Reply Stop) (reached : Status) → AreRead told names texts → ((cert : List ℕ) → (certificate_answer case cert).status ≡ reached → Holds texts cert) → IfOk result (λ reply. CertificateAnswers told names.cert case (answer reply)) → IfOk result (λ reply. reply.status ≡ reached → HoldsWhereTold Holds told names)
-reply_means Holds told names texts case (Err stop) reached read means said = said
-reply_means Holds told names texts case (Ok reply) reached read means said =
-    λ is. certificate_means Holds told names texts case (answer reply) reached read means said is
+answer_means : (Holds : InputFiles → List ℕ → Type 0) (told : Told) (names : FileNames) (texts : InputFiles) (case : CaseContents) (result : Result Answer Stop) (reached : Status) → AreRead told names texts → ((cert : List ℕ) → (certificate_answer case cert).status ≡ reached → Holds texts cert) → IfOk result (λ reply. CertificateAnswers told names.cert case (reply)) → IfOk result (λ reply. reply.status ≡ reached → HoldsWhereTold Holds told names)
+answer_means Holds told names texts case (Err stop) reached read means said = said
+answer_means Holds told names texts case (Ok reply) reached read means said =
+    λ is. certificate_means Holds told names texts case (reply) reached read means said is
 
-pub reply_accepted : (told : Told) (names : FileNames) (texts : InputFiles) (case : CaseContents) (result : Result Reply Stop) → AreRead told names texts → AreWithin texts → rows_case (rows_of texts.issue) (rows_of texts.rates) (rows_of texts.prices) ≡ Ok case → IsKept (rows_of texts.rates) case → IfOk result (λ reply. CertificateAnswers told names.cert case (answer reply)) → IfOk result (λ reply. reply.status ≡ status.Done → HoldsWhereTold Accepted told names)
-reply_accepted told names texts case result read within is kept said =
-    reply_means Accepted told names texts case result status.Done read (λ cert done. accepted texts cert case (rows_alone texts within ∙ is) kept done) said
+pub answer_accepted : (told : Told) (names : FileNames) (texts : InputFiles) (case : CaseContents) (result : Result Answer Stop) → AreRead told names texts → AreWithin texts → rows_case (rows_of texts.issue) (rows_of texts.rates) (rows_of texts.prices) ≡ Ok case → IsKept (rows_of texts.rates) case → IfOk result (λ reply. CertificateAnswers told names.cert case (reply)) → IfOk result (λ reply. reply.status ≡ status.Done → HoldsWhereTold Accepted told names)
+answer_accepted told names texts case result read within is kept said =
+    answer_means Accepted told names texts case result status.Done read (λ cert done. accepted texts cert case (rows_alone texts within ∙ is) kept done) said
 
-pub reply_not_accepted : (told : Told) (names : FileNames) (texts : InputFiles) (case : CaseContents) (result : Result Reply Stop) → AreRead told names texts → AreWithin texts → rows_case (rows_of texts.issue) (rows_of texts.rates) (rows_of texts.prices) ≡ Ok case → IsKept (rows_of texts.rates) case → IfOk result (λ reply. CertificateAnswers told names.cert case (answer reply)) → IfOk result (λ reply. reply.status ≡ status.No → HoldsWhereTold NotAccepted told names)
-reply_not_accepted told names texts case result read within is kept said =
-    reply_means NotAccepted told names texts case result status.No read (λ cert denied. not_accepted texts cert case (rows_alone texts within ∙ is) kept.book denied) said
+pub answer_not_accepted : (told : Told) (names : FileNames) (texts : InputFiles) (case : CaseContents) (result : Result Answer Stop) → AreRead told names texts → AreWithin texts → rows_case (rows_of texts.issue) (rows_of texts.rates) (rows_of texts.prices) ≡ Ok case → IsKept (rows_of texts.rates) case → IfOk result (λ reply. CertificateAnswers told names.cert case (reply)) → IfOk result (λ reply. reply.status ≡ status.No → HoldsWhereTold NotAccepted told names)
+answer_not_accepted told names texts case result read within is kept said =
+    answer_means NotAccepted told names texts case result status.No read (λ cert denied. not_accepted texts cert case (rows_alone texts within ∙ is) kept.book denied) said
 
 no_command : (words : List (List ℕ)) (content : Content) → IsNoCommand words → answer_to words content ≡ Some usage
 no_command words content none =

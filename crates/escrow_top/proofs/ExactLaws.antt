@@ -20,9 +20,7 @@ use Rattle.escrow_top.specs.Answer.{Answer, case_answer, case_of, certificate_an
 use Rattle.escrow_top.specs.Accepted.{YesExactly}
 use Rattle.escrow_top.specs.Ending.{IsAnswerTo, IsNoCommand, NamedAnswers, OfFiles, OfNamedFiles, is_reached}
 use Rattle.escrow_top.specs.Reading.{AreRead, AreThere, AreWithin, CertificateAnswers, FilesAnswer, IsTooLong}
-use Rattle.escrow_top.specs.Reply.{answer}
 use Rattle.escrow_top.specs.Stopping.{EndedAs}
-use Rattle.escrow_top.specs.declared.reply.Reply.{Reply}
 use Rattle.escrow_top.specs.declared.stop.Stop.{Stop}
 use Rattle.escrow_top.specs.declared.status.Status.{Status}
 use Rattle.escrow_top.specs.declared.status.Status.TheVariants as status
@@ -102,9 +100,9 @@ books-read (Some found) names texts case read within is kept content files tells
     let one : case ≡ other = cc in
     subst (λ (x : CaseContents). IsBook x.book) one kept.book
 
-pub reply_exactly : (told : Told) (names : FileNames) (texts : InputFiles) (case : CaseContents) (result : Result Reply Stop) → AreRead told names texts → AreWithin texts → rows_case (rows_of texts.issue) (rows_of texts.rates) (rows_of texts.prices) ≡ Ok case → IsKept (rows_of texts.rates) case → IfOk result (λ reply. FilesAnswer told names (answer reply)) → IfOk result (λ reply. OfNamedFiles (YesExactly reply.status) told names)
-reply_exactly told names texts case (Err stop) read within is kept said = said
-reply_exactly told names texts case (Ok reply) read within is kept said = exactly-told told names (answer reply) said (books-read told names texts case read within is kept)
+pub answer_exactly : (told : Told) (names : FileNames) (texts : InputFiles) (case : CaseContents) (result : Result Answer Stop) → AreRead told names texts → AreWithin texts → rows_case (rows_of texts.issue) (rows_of texts.rates) (rows_of texts.prices) ≡ Ok case → IsKept (rows_of texts.rates) case → IfOk result (λ reply. FilesAnswer told names (reply)) → IfOk result (λ reply. OfNamedFiles (YesExactly reply.status) told names)
+answer_exactly told names texts case (Err stop) read within is kept said = said
+answer_exactly told names texts case (Ok reply) read within is kept said = exactly-told told names (reply) said (books-read told names texts case read within is kept)
 
 -- files that give no case
 
@@ -117,9 +115,9 @@ no-books (Some found) names texts why read is content files tells there case is_
     let both : Err why ≡ Ok case = sym is ∙ (ap case_of (sym files_same) ∙ is_case) in
     absurd (cc)
 
-pub no_case_exactly : (told : Told) (names : FileNames) (texts : InputFiles) (why : NoCase) (result : Result Reply Stop) → AreRead told names texts → AreWithin texts → rows_case (rows_of texts.issue) (rows_of texts.rates) (rows_of texts.prices) ≡ Err why → IfOk result (λ reply. FilesAnswer told names (answer reply)) → IfOk result (λ reply. OfNamedFiles (YesExactly reply.status) told names)
+pub no_case_exactly : (told : Told) (names : FileNames) (texts : InputFiles) (why : NoCase) (result : Result Answer Stop) → AreRead told names texts → AreWithin texts → rows_case (rows_of texts.issue) (rows_of texts.rates) (rows_of texts.prices) ≡ Err why → IfOk result (λ reply. FilesAnswer told names (reply)) → IfOk result (λ reply. OfNamedFiles (YesExactly reply.status) told names)
 no_case_exactly told names texts why (Err stop) read within is said = said
-no_case_exactly told names texts why (Ok reply) read within is said = exactly-told told names (answer reply) said (no-books told names texts why read (rows_alone texts within ∙ is))
+no_case_exactly told names texts why (Ok reply) read within is said = exactly-told told names (reply) said (no-books told names texts why read (rows_alone texts within ∙ is))
 
 -- a file over its limit gives no case: what is read up to it is the front of the files that are there
 
@@ -146,8 +144,8 @@ long-books content names files kind long there case is_case =
         let none = within-all files short in
         cc
 
-pub too_long_exactly : (told : Told) (names : FileNames) (kind : FileKind) (reply : Reply) → IsTooLong told names kind → FilesAnswer told names (answer reply) → OfNamedFiles (YesExactly reply.status) told names
-too_long_exactly told names kind reply long said = exactly-told told names (answer reply) said (books told long)
+pub too_long_exactly : (told : Told) (names : FileNames) (kind : FileKind) (reply : Answer) → IsTooLong told names kind → FilesAnswer told names (reply) → OfNamedFiles (YesExactly reply.status) told names
+too_long_exactly told names kind reply long said = exactly-told told names (reply) said (books told long)
   where
     books : (found : Told) → IsTooLong found names kind → (content : Content) (files : InputFiles) → found ≡ Some content → AreThere content names files → (case : CaseContents) → case_of files ≡ Ok case → IsBook case.book
     books None long content files tells there case is_case = absurd (cc)

@@ -1,10 +1,13 @@
 -- What was read of the files that a desk tells.
-use Rattle.std.specs.Prelude.{◌≡◌, ℕ, ◌≤◌, ◌<◌, List, length, Option, Some, None, Vec, MatchOption, IsSomeAnd}
-use Rattle.std.specs.declared.alloc.Global.{Global}
+use Rattle.std.specs.Prelude.{◌≡◌, ℕ, ◌≤◌, ◌<◌, List, length, Option, Some, None, MatchOption, IsSomeAnd}
 use Rattle.escrow_desk.specs.Content.{Content, Told, file_of}
 use Rattle.escrow_desk.specs.declared.refusal.FileKind.{FileKind}
 use Rattle.escrow_top.specs.declared.files.FileNames.{FileNames as CodeNames}
 use Rattle.escrow_top.specs.declared.files.InputFiles.{InputFiles as CodeFiles}
+use Rattle.escrow_top.specs.declared.files.FileText.{FileText}
+use Rattle.escrow_top.specs.declared.files.FileText.TheVariants as text
+use Rattle.escrow_top.specs.declared.files.Inputs.{Inputs}
+use Rattle.escrow_top.specs.declared.files.Inputs.TheVariants as inputs
 use Rattle.escrow_top.specs.InputFiles.{InputFiles, FileNames, file_limit, first_too_long, inputs_of}
 use Rattle.case_file.specs.Case.{CaseContents}
 use Rattle.escrow_top.specs.Answer.{Answer, certificate_answer, named_answer}
@@ -18,14 +21,19 @@ abbrev pub files_view : CodeFiles → InputFiles
 files_view files = record { issue = files.issue.items; rates = files.rates.items; prices = files.prices.items }
 
 -- the bytes of a file that has at most so many, or that it has more
-abbrev pub IsBounded : ℕ → List ℕ → Option (Vec ℕ Global) → Type 0
-IsBounded limit file None = limit < length file
-IsBounded limit file (Some bytes) = (file ≡ bytes.items) × (length bytes.items ≤ limit)
+abbrev pub IsBounded : ℕ → List ℕ → FileText → Type 0
+IsBounded limit file text.TooLong = limit < length file
+IsBounded limit file (text.Within bytes) = (file ≡ bytes.items) × (length bytes.items ≤ limit)
+
+-- what was read of a file has at most so many bytes
+abbrev pub KeepsTo : ℕ → FileText → Type 0
+KeepsTo limit text.TooLong = Unit {0}
+KeepsTo limit (text.Within bytes) = length bytes.items ≤ limit
 
 -- the same of the file of a name on a desk that tells
-abbrev pub IsRead : Told → List ℕ → ℕ → Option (Vec ℕ Global) → Type 0
-IsRead told name limit text =
-    MatchOption told (Unit {0}) (λ content. IsSomeAnd (file_of content name) (λ file. IsBounded limit file text))
+abbrev pub IsRead : Told → List ℕ → ℕ → FileText → Type 0
+IsRead told name limit found =
+    MatchOption told (Unit {0}) (λ content. IsSomeAnd (file_of content name) (λ file. IsBounded limit file found))
 
 -- each of the input files has at most as many bytes as its limit
 pub record AreWithin (texts : InputFiles) : Type 0 where
@@ -46,6 +54,16 @@ AreRead told names texts = MatchOption told (Unit {0}) (λ content. AreThere con
 abbrev pub IsTooLong : Told → FileNames → FileKind → Type 0
 IsTooLong told names kind =
     MatchOption told (Unit {0}) (λ content. IsSomeAnd (inputs_of content names) (λ texts. first_too_long texts ≡ Some kind))
+
+-- what was read of the input files: all of them, or the first that is over its limit
+abbrev pub AreFound : Told → FileNames → Inputs → Type 0
+AreFound told names (inputs.Within files) = AreRead told names (files_view files)
+AreFound told names (inputs.TooLong kind) = IsTooLong told names kind
+
+-- all that were read keep to their limit
+abbrev pub KeepToLimits : Inputs → Type 0
+KeepToLimits (inputs.Within files) = AreWithin (files_view files)
+KeepToLimits (inputs.TooLong kind) = Unit {0}
 
 -- one of the input files that are read isn't there
 abbrev pub LacksInput : Told → FileNames → Type 0

@@ -1,3 +1,5 @@
+//! The one call, from words to a status.
+
 ghost use Rattle.std.specs.Prelude.{◌≡◌, ◌≢◌, ◌↔◌, true, map, string_bytes, IfSome, IsTrue};
 ghost use Rattle.escrow_desk.specs.Content.{SaidAll, SaidPart};
 ghost use Rattle.escrow_desk.specs.Counts.{AllSteady};
@@ -46,7 +48,7 @@ fn run_check<D: Desk>(alloc: Global, names: &FileNames<'_>, desk: &mut D) -> Sta
     ensures counts { EndedAs result (D.counts desk.old) (D.counts desk.new) (D.told desk.old) (D.told desk.new) }
 {
     match check(alloc, desk, names) {
-        Ok(reply) => say_answer(desk, reply.status, reply.text.as_slice()),
+        Ok(answer) => say_answer(desk, answer.status, answer.text.as_slice()),
         Err(stop) => stop.status(),
     }
 }
