@@ -1,7 +1,8 @@
 -- What `yes` means, proved.
-use Rattle.std.proofs.Common.{◌≡◌, ℕ, ◌+◌, ◌-◌, ◌≤◌, Bool, true, false, nat_lt, ◌∙◌, Option, Some, None, MatchOption, Ok, List, length, refl, subst, arith}
+use Rattle.std.proofs.Common.{◌≡◌, ℕ, ◌+◌, ◌-◌, ◌≤◌, Bool, true, false, nat_lt, ◌∙◌, Option, Some, None, MatchOption, Ok, List, length, ℤ, refl, sym, subst, arith}
 use Rattle.std.specs.Prelude.{option_map}
 use Rattle.std.proofs.lemmas.Bool.{ltb-false}
+use Rattle.std.proofs.lemmas.Bool.Decides.{nat_tests}
 use Rattle.escrow_desk.specs.Rows.{rows_of}
 use Rattle.offer_book.specs.Book.{BookContents, IsBook}
 use Rattle.offer_book.specs.Portfolio.{Meets, IsFirstShort, cost, security_cost, security_flows, total_needs}
@@ -9,54 +10,57 @@ use Rattle.escrow_units.specs.Flows.{indexed}
 use Rattle.cash_table.specs.First.{first_short_of}
 use Rattle.cash_table.proofs.DayFacts.{first_short_is}
 use Rattle.cash_table.proofs.PortfolioLaws.{meets_cost, zero_yield}
-use Rattle.escrow_top.specs.CertificateForm.{Claim, claim_of}
-use Rattle.escrow_top.specs.InputFiles.{InputTexts}
+use Rattle.escrow_top.specs.CertificateForm.{CertificateContents, certificate_of}
+use Rattle.escrow_top.specs.InputFiles.{InputFiles}
 use Rattle.case_file.specs.Case.{CaseContents, IsKept}
-use Rattle.escrow_top.specs.Answer.{first_not_offered, portfolio, portfolio_yield, given, or_else, is_leaf_weak, reason_against, reason_of, yes_text, weighed, claim_answer, certificate_answer, certificate_limit, case_of}
-use Rattle.escrow_top.specs.Accepted.{Accepted}
+use Rattle.std.specs.Bool.{then_some}
+use Rattle.std.specs.Option.{option_or}
+use Rattle.escrow_top.specs.Answer.{first_not_offered, plan_of, plan_yield, is_leaf_weak, reason_against, reason_of, yes_text, weighed, weigh_of, certificate_answer, certificate_limit, case_of, check_answer}
+use Rattle.escrow_top.specs.Accepted.{Accepted, IsUnopposed, YesExactly}
 use Rattle.escrow_top.specs.declared.status.Status.TheVariants as status
 use Rattle.escrow_top.specs.declared.verdict.Reason.{Reason}
 use Rattle.escrow_top.specs.declared.verdict.Reason.TheVariants as reason
-use Rattle.escrow_top.proofs.ClaimLaws.{portfolio_permitted}
+use Rattle.escrow_top.proofs.PlanFacts.{RiseFrom, none-found, one-plan, plan-buys, purchases-rise}
+use Rattle.escrow_top.proofs.PurchaseLaws.{plan_permitted}
 use Rattle.escrow_top.proofs.YieldFacts.{ends_are_exact, printed_yield}
 
--- a claim is accepted: no reason stands against it, and this is said
-record IsClaimed (case : CaseContents) (found : Option Claim) : Type 0 where
-  claim : Claim
-  is_claim : found ≡ Some claim
-  none : reason_of case claim ≡ None
-  said : (claim_answer case found).text ≡ yes_text case (portfolio case.book claim) claim.gap
+-- a certificate is accepted: no reason stands against it, and this is said
+record IsTaken (case : CaseContents) (found : Option CertificateContents) : Type 0 where
+  certificate : CertificateContents
+  is_certificate : found ≡ Some certificate
+  none : reason_of case certificate ≡ None
+  said : (weigh_of case found).text ≡ yes_text case (plan_of case.book certificate.purchases) certificate.gap
 
-claimed : (case : CaseContents) (claim : Claim) (found : Option Reason) → reason_of case claim ≡ found → (weighed case (portfolio case.book claim) claim.gap found).status ≡ status.Done → (reason_of case claim ≡ None) × ((weighed case (portfolio case.book claim) claim.gap found).text ≡ yes_text case (portfolio case.book claim) claim.gap)
-claimed case claim None is done = (is, refl)
-claimed case claim (Some why) is done = absurd (cc)
+taken : (case : CaseContents) (certificate : CertificateContents) (found : Option Reason) → reason_of case certificate ≡ found → (weighed case (plan_of case.book certificate.purchases) certificate.gap found).status ≡ status.Done → (reason_of case certificate ≡ None) × ((weighed case (plan_of case.book certificate.purchases) certificate.gap found).text ≡ yes_text case (plan_of case.book certificate.purchases) certificate.gap)
+taken case certificate None is done = (is, refl)
+taken case certificate (Some why) is done = absurd (cc)
 
-is_claimed : (case : CaseContents) (found : Option Claim) → (claim_answer case found).status ≡ status.Done → IsClaimed case found
-is_claimed case None done = absurd (cc)
-is_claimed case (Some claim) done =
-    let both = claimed case claim (reason_of case claim) refl done in
-    record { claim = claim; is_claim = refl; none = both.0; said = both.1 }
+is_taken : (case : CaseContents) (found : Option CertificateContents) → (weigh_of case found).status ≡ status.Done → IsTaken case found
+is_taken case None done = absurd (cc)
+is_taken case (Some certificate) done =
+    let both = taken case certificate (reason_of case certificate) refl done in
+    record { certificate = certificate; is_certificate = refl; none = both.0; said = both.1 }
 
 -- the answer to a certificate is `yes` only where it is within its limit
-certificate_claimed : (case : CaseContents) (cert : List ℕ) (long : Bool) → nat_lt certificate_limit (length cert) ≡ long → (certificate_answer case cert).status ≡ status.Done → IsClaimed case (claim_of (length case.book.needs) cert) × ((certificate_answer case cert).text ≡ (claim_answer case (claim_of (length case.book.needs) cert)).text)
-certificate_claimed case cert true is done = let never : status.Refused ≡ status.Done = rw is at done in absurd (cc)
-certificate_claimed case cert false is done =
-    let claims : (claim_answer case (claim_of (length case.book.needs) cert)).status ≡ status.Done = rw is at done in
-    (is_claimed case (claim_of (length case.book.needs) cert) claims, rw is refl)
+certificate_taken : (case : CaseContents) (cert : List ℕ) (long : Bool) → nat_lt certificate_limit (length cert) ≡ long → (certificate_answer case cert).status ≡ status.Done → IsTaken case (certificate_of (length case.book.needs) cert) × ((certificate_answer case cert).text ≡ (weigh_of case (certificate_of (length case.book.needs) cert)).text)
+certificate_taken case cert true is done = let never : status.Refused ≡ status.Done = rw is at done in absurd (cc)
+certificate_taken case cert false is done =
+    let claims : (weigh_of case (certificate_of (length case.book.needs) cert)).status ≡ status.Done = rw is at done in
+    (is_taken case (certificate_of (length case.book.needs) cert) claims, rw is refl)
 
 -- where no reason stands, each test passes
 
-or_else-none : {A : Type 0} (first second : Option A) → or_else first second ≡ None → (first ≡ None) × (second ≡ None)
-or_else-none None second none = (refl, none)
-or_else-none (Some x) second none = absurd (cc)
+option_or-none : {A : Type 0} (first second : Option A) → option_or first second ≡ None → (first ≡ None) × (second ≡ None)
+option_or-none None second none = (refl, none)
+option_or-none (Some x) second none = absurd (cc)
 
 option_map-none : {A B : Type 0} (f : A → B) (o : Option A) → option_map f o ≡ None → o ≡ None
 option_map-none f None none = refl
 option_map-none f (Some x) none = absurd (cc)
 
-given-none : {A : Type 0} (test : Bool) (x : A) → given test x ≡ None → test ≡ false
-given-none true x none = absurd (cc)
-given-none false x none = refl
+then_some-none : {A : Type 0} (test : Bool) (x : A) → then_some test x ≡ None → test ≡ false
+then_some-none true x none = absurd (cc)
+then_some-none false x none = refl
 
 -- no reason stands against a portfolio with a gap
 record NoReason (case : CaseContents) (plan : List ℕ) (gap : ℕ) : Type 0 where
@@ -67,28 +71,28 @@ record NoReason (case : CaseContents) (plan : List ℕ) (gap : ℕ) : Type 0 whe
 no_reason : (case : CaseContents) (plan : List ℕ) (gap : ℕ) → reason_against case plan gap ≡ None → NoReason case plan gap
 no_reason case plan gap none =
     let short = option_map reason.ShortOn (first_short_of case.book plan) in
-    let weak = given (is_leaf_weak case.book plan gap) (reason.WeakLeaf 1) in
-    let above = given (nat_lt case.allowance gap) reason.GapAbove in
-    let first = or_else-none short (or_else weak above) none in
-    let second = or_else-none weak above first.1 in
+    let weak = then_some (is_leaf_weak case.book plan gap) (reason.WeakLeaf 1) in
+    let above = then_some (nat_lt case.allowance gap) reason.GapAbove in
+    let first = option_or-none short (option_or weak above) none in
+    let second = option_or-none weak above first.1 in
     record {
       covered = option_map-none reason.ShortOn (first_short_of case.book plan) first.0;
-      borne = given-none (is_leaf_weak case.book plan gap) (reason.WeakLeaf 1) second.0;
-      allowed = given-none (nat_lt case.allowance gap) reason.GapAbove second.1;
+      borne = then_some-none (is_leaf_weak case.book plan gap) (reason.WeakLeaf 1) second.0;
+      allowed = then_some-none (nat_lt case.allowance gap) reason.GapAbove second.1;
     }
 
--- nor against a claim
-record IsUnopposed (case : CaseContents) (claim : Claim) : Type 0 where
-  offered : first_not_offered case.book.lines claim.purchases ≡ None
-  tests : NoReason case (portfolio case.book claim) claim.gap
+-- nor against a certificate
+record PassesAll (case : CaseContents) (certificate : CertificateContents) : Type 0 where
+  offered : first_not_offered case.book.lines certificate.purchases ≡ None
+  tests : NoReason case (plan_of case.book certificate.purchases) certificate.gap
 
-is_unopposed : (case : CaseContents) (claim : Claim) → reason_of case claim ≡ None → IsUnopposed case claim
-is_unopposed case claim none =
-    let not_offered = option_map (λ purchase. reason.NotPermitted purchase.line) (first_not_offered case.book.lines claim.purchases) in
-    let both = or_else-none not_offered (reason_against case (portfolio case.book claim) claim.gap) none in
+is_unopposed : (case : CaseContents) (certificate : CertificateContents) → reason_of case certificate ≡ None → PassesAll case certificate
+is_unopposed case certificate none =
+    let not_offered = option_map (λ purchase. reason.NotPermitted purchase.line) (first_not_offered case.book.lines certificate.purchases) in
+    let both = option_or-none not_offered (reason_against case (plan_of case.book certificate.purchases) certificate.gap) none in
     record {
-      offered = option_map-none (λ purchase. reason.NotPermitted purchase.line) (first_not_offered case.book.lines claim.purchases) both.0;
-      tests = no_reason case (portfolio case.book claim) claim.gap both.1;
+      offered = option_map-none (λ purchase. reason.NotPermitted purchase.line) (first_not_offered case.book.lines certificate.purchases) both.0;
+      tests = no_reason case (plan_of case.book certificate.purchases) certificate.gap both.1;
     }
 
 meets_from_none : (book : BookContents) (plan : List ℕ) → IsBook book → first_short_of book plan ≡ None → Meets book plan
@@ -100,34 +104,86 @@ meets_from_none book plan limits none =
 least_by_gap : (whole gap needs rival : ℕ) → whole - gap ≤ needs → needs ≤ rival → whole ≤ rival + gap
 least_by_gap whole gap needs rival borne dear = omega arith
 
-pub accepted : (texts : InputTexts) (cert : List ℕ) (case : CaseContents) → case_of texts ≡ Ok case → IsKept (rows_of texts.rates) case → (certificate_answer case cert).status ≡ status.Done → Accepted texts cert
-accepted texts cert case is_case kept done =
-    let claimed = certificate_claimed case cert (nat_lt certificate_limit (length cert)) refl done in
-    let yes = claimed.0 in
+pub accepted : (files : InputFiles) (cert : List ℕ) (case : CaseContents) → case_of files ≡ Ok case → IsKept (rows_of files.rates) case → (certificate_answer case cert).status ≡ status.Done → Accepted files cert
+accepted files cert case is_case kept done =
+    let taken = certificate_taken case cert (nat_lt certificate_limit (length cert)) refl done in
+    let yes = taken.0 in
     let book = case.book in
-    let plan = portfolio book yes.claim in
-    let unopposed = is_unopposed case yes.claim yes.none in
+    let plan = plan_of book yes.certificate.purchases in
+    let unopposed = is_unopposed case yes.certificate yes.none in
     let tests = unopposed.tests in
-    let permitted = portfolio_permitted book yes.claim.purchases unopposed.offered in
+    let permitted = plan_permitted book yes.certificate.purchases unopposed.offered in
     let printed = printed_yield book plan kept.book kept.interest permitted in
     record {
       case = case;
-      claim = yes.claim;
       rates = kept.rates;
+      certificate = yes.certificate;
+      plan = plan;
       is_case = is_case;
-      is_claim = yes.is_claim;
-      said = rw is_case (claimed.1 ∙ yes.said);
-      limits = kept.book;
       is_rates = kept.is_rates;
-      rules = kept.rules;
-      interest = kept.interest;
-      permitted = permitted;
-      meets = meets_from_none book plan kept.book tests.covered;
-      yield = ends_are_exact (indexed book.settle (security_flows book plan)) (security_cost book plan) case.limit (portfolio_yield book plan) printed (zero_yield book plan kept.book kept.interest permitted);
-      printed = printed;
-      least = λ rival is_permitted is_met.
-          least_by_gap (cost book plan) yes.claim.gap (total_needs book) (cost book rival)
-          (ltb-false (total_needs book) (cost book plan - yes.claim.gap) tests.borne)
-          (meets_cost book rival kept.book kept.interest is_permitted is_met);
-      allowed = ltb-false case.allowance yes.claim.gap tests.allowed;
+      is_certificate = yes.is_certificate;
+      buys = plan-buys book yes.certificate.purchases (purchases-rise (length book.needs) cert yes.certificate yes.is_certificate) unopposed.offered;
+      right = record {
+        obeys = record { limits = kept.book; terms = kept.rules; interest = kept.interest; units = permitted };
+        covered = meets_from_none book plan kept.book tests.covered;
+        yields = record {
+          exact = ends_are_exact (indexed book.settle (security_flows book plan)) (security_cost book plan) case.limit (plan_yield book plan) printed (zero_yield book plan kept.book kept.interest permitted);
+          printed = printed;
+        };
+        cheapest = λ rival is_permitted is_met.
+            least_by_gap (cost book plan) yes.certificate.gap (total_needs book) (cost book rival)
+            (ltb-false (total_needs book) (cost book plan - yes.certificate.gap) tests.borne)
+            (meets_cost book rival kept.book kept.interest is_permitted is_met);
+        allowed = ltb-false case.allowance yes.certificate.gap tests.allowed;
+      };
+      said = rw is_case (taken.1 ∙ yes.said);
     }
+
+-- where no reason stands, each test passes, and `yes` is said
+
+no_first_short : (book : BookContents) (plan : List ℕ) → Meets book plan → (found : Option ℤ) → MatchOption found (Meets book plan) (IsFirstShort book plan) → found ≡ None
+no_first_short book plan meets None tells = refl
+no_first_short book plan meets (Some day) short = absurd (omega (arith, short.short, meets day))
+
+under-test : (a b : ℕ) → a ≤ b → nat_lt b a ≡ false
+under-test a b h = grind (arith, nat_tests)
+
+no_reason_stands : (case : CaseContents) (certificate : CertificateContents) (plan : List ℕ) → IsBook case.book → RiseFrom 0 certificate.purchases → IsUnopposed case certificate plan → reason_of case certificate ≡ None
+no_reason_stands case certificate plan limits rises unopposed =
+    let offered = none-found case.book.lines certificate.purchases unopposed.buys.offered in
+    let same : plan ≡ plan_of case.book certificate.purchases = one-plan case.book certificate.purchases plan (plan_of case.book certificate.purchases) unopposed.buys (plan-buys case.book certificate.purchases rises offered) in
+    let covered = no_first_short case.book plan unopposed.covered (first_short_of case.book plan) (first_short_is case.book plan limits.needs.rising) in
+    let borne : is_leaf_weak case.book plan certificate.gap ≡ false = under-test (cost case.book plan - certificate.gap) (total_needs case.book) (omega (arith, unopposed.borne)) in
+    let allowed : nat_lt case.allowance certificate.gap ≡ false = under-test certificate.gap case.allowance unopposed.allowed in
+    rw (offered, ← same, covered, borne, allowed) refl
+
+done_where_unopposed : (case : CaseContents) (cert : List ℕ) (certificate : CertificateContents) (plan : List ℕ) → IsBook case.book → length cert ≤ certificate_limit → certificate_of (length case.book.needs) cert ≡ Some certificate → IsUnopposed case certificate plan → (certificate_answer case cert).status ≡ status.Done
+done_where_unopposed case cert certificate plan limits within is unopposed =
+    let short = under-test (length cert) certificate_limit within in
+    let none = no_reason_stands case certificate plan limits (purchases-rise (length case.book.needs) cert certificate is) unopposed in
+    rw (short, is, none) refl
+
+unopposed_where_done : (case : CaseContents) (cert : List ℕ) (certificate : CertificateContents) → IsBook case.book → certificate_of (length case.book.needs) cert ≡ Some certificate → (certificate_answer case cert).status ≡ status.Done → (plan : List ℕ) × IsUnopposed case certificate plan
+unopposed_where_done case cert certificate limits is done =
+    let taken = certificate_taken case cert (nat_lt certificate_limit (length cert)) refl done in
+    let yes = taken.0 in
+    let some : Some yes.certificate ≡ Some certificate = sym yes.is_certificate ∙ is in
+    let same : yes.certificate ≡ certificate = cc in
+    let none : reason_of case certificate ≡ None = subst (λ (found : CertificateContents). reason_of case found ≡ None) same yes.none in
+    let unopposed = is_unopposed case certificate none in
+    let tests = unopposed.tests in
+    let plan = plan_of case.book certificate.purchases in (
+      plan,
+      record {
+        buys = plan-buys case.book certificate.purchases (purchases-rise (length case.book.needs) cert certificate is) unopposed.offered;
+        covered = meets_from_none case.book plan limits tests.covered;
+        borne = let costs = ltb-false (total_needs case.book) (cost case.book plan - certificate.gap) tests.borne in omega (arith, costs);
+        allowed = ltb-false case.allowance certificate.gap tests.allowed;
+      },
+    )
+
+-- `yes` exactly where no reason stands, of files that give a case
+pub yes_exactly : (files : InputFiles) (cert : List ℕ) → ((case : CaseContents) → case_of files ≡ Ok case → IsBook case.book) → YesExactly (check_answer files cert).status files cert
+yes_exactly files cert books case certificate is_case within is =
+    let limits = books case is_case in
+    rw is_case ((λ done. unopposed_where_done case cert certificate limits is done), (λ found. done_where_unopposed case cert certificate found.0 limits within is found.1))

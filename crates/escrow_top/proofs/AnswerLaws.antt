@@ -6,7 +6,7 @@ use Rattle.escrow_desk.specs.Rows.{rows_of}
 use Rattle.escrow_desk.specs.declared.refusal.FileKind.{FileKind}
 use Rattle.escrow_desk.specs.declared.refusal.RefusalKind.TheVariants as too_long
 use Rattle.row_fields.specs.RowForm.{refusal_of}
-use Rattle.escrow_top.specs.InputFiles.{InputTexts, Names, first_too_long, inputs_of}
+use Rattle.escrow_top.specs.InputFiles.{InputFiles, FileNames, first_too_long, inputs_of}
 use Rattle.case_file.specs.Case.{CaseContents, IsKept, rows_case}
 use Rattle.escrow_top.specs.Answer.{Answer, answer_to, case_answer, case_of, certificate_answer, check_names, is_structure, named_answer, no_case_answer, refused, unbuilt_structure, usage, usage_text}
 use Rattle.escrow_top.specs.Accepted.{Accepted}
@@ -19,8 +19,6 @@ use Rattle.escrow_top.specs.declared.status.Status.{Status}
 use Rattle.escrow_top.specs.declared.status.Status.TheVariants as status
 use Rattle.escrow_top.proofs.AcceptedLaws.{accepted}
 use Rattle.escrow_top.proofs.NotAcceptedLaws.{not_accepted}
-use Rattle.escrow_top.specs.Reply.{answer}
-use Rattle.escrow_top.specs.declared.reply.Reply.{Reply}
 use Rattle.escrow_top.specs.declared.stop.Stop.{Stop}
 use Rattle.escrow_top.proofs.InputFacts.{read-all, rows_alone}
 
@@ -29,38 +27,38 @@ answered None case answer said = absurd said
 answered (Some cert) case answer said = ap Some (sym said)
 
 -- where the input files were read, what is answered to them is what their names are answered
-named_by : (content : Content) (names : Names) (texts : InputTexts) (case : Result CaseContents NoCase) → inputs_of content names ≡ Some texts → case_of texts ≡ case → named_answer content names ≡ option_and_then (λ cert. Some (case_answer case cert)) (if is_ok case then file_of content names.cert else Some [])
+pub named_by : (content : Content) (names : FileNames) (texts : InputFiles) (case : Result CaseContents NoCase) → inputs_of content names ≡ Some texts → case_of texts ≡ case → named_answer content names ≡ option_and_then (λ cert. Some (case_answer case cert)) (if is_ok case then file_of content names.cert else Some [])
 named_by content names texts case inputs is = rw (inputs, is) refl
 
 -- the certificate was read
-pub certificate_said : (told : Told) (names : Names) (texts : InputTexts) (case : CaseContents) (answer : Answer) → AreRead told names texts → AreWithin texts → case_of texts ≡ Ok case → CertificateAnswers told names.cert case answer → FilesAnswer told names answer
+pub certificate_said : (told : Told) (names : FileNames) (texts : InputFiles) (case : CaseContents) (answer : Answer) → AreRead told names texts → AreWithin texts → case_of texts ≡ Ok case → CertificateAnswers told names.cert case answer → FilesAnswer told names answer
 certificate_said None names texts case answer read within is said = tt
 certificate_said (Some content) names texts case answer read within is said =
     named_by content names texts (Ok case) (read-all content names texts read within) is ∙ answered (file_of content names.cert) case answer said
 
-pub certificate_lacks : (told : Told) (names : Names) (texts : InputTexts) (case : CaseContents) → AreRead told names texts → AreWithin texts → case_of texts ≡ Ok case → LacksCertificate told names.cert → LacksNamed told names
+pub certificate_lacks : (told : Told) (names : FileNames) (texts : InputFiles) (case : CaseContents) → AreRead told names texts → AreWithin texts → case_of texts ≡ Ok case → LacksCertificate told names.cert → LacksNamed told names
 certificate_lacks None names texts case read within is none = tt
 certificate_lacks (Some content) names texts case read within is none =
     named_by content names texts (Ok case) (read-all content names texts read within) is ∙ (rw none refl)
 
 -- the input files give no case
-pub no_case_said : (told : Told) (names : Names) (texts : InputTexts) (why : NoCase) (answer : Answer) → AreRead told names texts → AreWithin texts → case_of texts ≡ Err why → answer ≡ no_case_answer why → FilesAnswer told names answer
+pub no_case_said : (told : Told) (names : FileNames) (texts : InputFiles) (why : NoCase) (answer : Answer) → AreRead told names texts → AreWithin texts → case_of texts ≡ Err why → answer ≡ no_case_answer why → FilesAnswer told names answer
 no_case_said None names texts why answer read within is said = tt
 no_case_said (Some content) names texts why answer read within is said =
     named_by content names texts (Err why) (read-all content names texts read within) is ∙ ap Some (sym said)
 
 -- an input file has more bytes than its limit
-long_named : (content : Content) (names : Names) (kind : FileKind) (found : Option InputTexts) → inputs_of content names ≡ found → IsSomeAnd found (λ texts. first_too_long texts ≡ Some kind) → named_answer content names ≡ Some (refused (refusal_of kind 0 too_long.TooLong))
+pub long_named : (content : Content) (names : FileNames) (kind : FileKind) (found : Option InputFiles) → inputs_of content names ≡ found → IsSomeAnd found (λ texts. first_too_long texts ≡ Some kind) → named_answer content names ≡ Some (refused (refusal_of kind 0 too_long.TooLong))
 long_named content names kind None is long = absurd long
 long_named content names kind (Some texts) is long =
     named_by content names texts (Err (Refused (refusal_of kind 0 too_long.TooLong))) is (rw long refl)
 
-pub too_long_said : (told : Told) (names : Names) (kind : FileKind) (answer : Answer) → IsTooLong told names kind → answer ≡ refused (refusal_of kind 0 too_long.TooLong) → FilesAnswer told names answer
+pub too_long_said : (told : Told) (names : FileNames) (kind : FileKind) (answer : Answer) → IsTooLong told names kind → answer ≡ refused (refusal_of kind 0 too_long.TooLong) → FilesAnswer told names answer
 too_long_said None names kind answer long said = tt
 too_long_said (Some content) names kind answer long said =
     long_named content names kind (inputs_of content names) refl long ∙ ap Some (sym said)
 
-pub inputs_lack : (told : Told) (names : Names) → LacksInput told names → LacksNamed told names
+pub inputs_lack : (told : Told) (names : FileNames) → LacksInput told names → LacksNamed told names
 inputs_lack None names none = tt
 inputs_lack (Some content) names none = rw none refl
 
@@ -69,7 +67,7 @@ found_means : (Holds : List ℕ → Type 0) (case : CaseContents) (answer : Answ
 found_means Holds case answer reached None means said is = said
 found_means Holds case answer reached (Some cert) means said is = means cert (rw said at is)
 
-certificate_means : (Holds : InputTexts → List ℕ → Type 0) (told : Told) (names : Names) (texts : InputTexts) (case : CaseContents) (answer : Answer) (reached : Status) → AreRead told names texts → ((cert : List ℕ) → (certificate_answer case cert).status ≡ reached → Holds texts cert) → CertificateAnswers told names.cert case answer → answer.status ≡ reached → HoldsWhereTold Holds told names
+certificate_means : (Holds : InputFiles → List ℕ → Type 0) (told : Told) (names : FileNames) (texts : InputFiles) (case : CaseContents) (answer : Answer) (reached : Status) → AreRead told names texts → ((cert : List ℕ) → (certificate_answer case cert).status ≡ reached → Holds texts cert) → CertificateAnswers told names.cert case answer → answer.status ≡ reached → HoldsWhereTold Holds told names
 certificate_means Holds None names texts case answer reached read means said is = tt
 certificate_means Holds (Some content) names texts case answer reached read means said is =
     let issue = read.issue in
@@ -78,18 +76,18 @@ certificate_means Holds (Some content) names texts case answer reached read mean
     rw (issue, rates, prices) (found_means (Holds texts) case answer reached (file_of content names.cert) means said is)
 
 -- the same of a reply
-reply_means : (Holds : InputTexts → List ℕ → Type 0) (told : Told) (names : Names) (texts : InputTexts) (case : CaseContents) (result : Result Reply Stop) (reached : Status) → AreRead told names texts → ((cert : List ℕ) → (certificate_answer case cert).status ≡ reached → Holds texts cert) → IfOk result (λ reply. CertificateAnswers told names.cert case (answer reply)) → IfOk result (λ reply. reply.status ≡ reached → HoldsWhereTold Holds told names)
-reply_means Holds told names texts case (Err stop) reached read means said = said
-reply_means Holds told names texts case (Ok reply) reached read means said =
-    λ is. certificate_means Holds told names texts case (answer reply) reached read means said is
+answer_means : (Holds : InputFiles → List ℕ → Type 0) (told : Told) (names : FileNames) (texts : InputFiles) (case : CaseContents) (result : Result Answer Stop) (reached : Status) → AreRead told names texts → ((cert : List ℕ) → (certificate_answer case cert).status ≡ reached → Holds texts cert) → IfOk result (λ reply. CertificateAnswers told names.cert case (reply)) → IfOk result (λ reply. reply.status ≡ reached → HoldsWhereTold Holds told names)
+answer_means Holds told names texts case (Err stop) reached read means said = said
+answer_means Holds told names texts case (Ok reply) reached read means said =
+    λ is. certificate_means Holds told names texts case (reply) reached read means said is
 
-pub reply_accepted : (told : Told) (names : Names) (texts : InputTexts) (case : CaseContents) (result : Result Reply Stop) → AreRead told names texts → AreWithin texts → rows_case (rows_of texts.issue) (rows_of texts.rates) (rows_of texts.prices) ≡ Ok case → IsKept (rows_of texts.rates) case → IfOk result (λ reply. CertificateAnswers told names.cert case (answer reply)) → IfOk result (λ reply. reply.status ≡ status.Done → HoldsWhereTold Accepted told names)
-reply_accepted told names texts case result read within is kept said =
-    reply_means Accepted told names texts case result status.Done read (λ cert done. accepted texts cert case (rows_alone texts within ∙ is) kept done) said
+pub answer_accepted : (told : Told) (names : FileNames) (texts : InputFiles) (case : CaseContents) (result : Result Answer Stop) → AreRead told names texts → AreWithin texts → rows_case (rows_of texts.issue) (rows_of texts.rates) (rows_of texts.prices) ≡ Ok case → IsKept (rows_of texts.rates) case → IfOk result (λ reply. CertificateAnswers told names.cert case (reply)) → IfOk result (λ reply. reply.status ≡ status.Done → HoldsWhereTold Accepted told names)
+answer_accepted told names texts case result read within is kept said =
+    answer_means Accepted told names texts case result status.Done read (λ cert done. accepted texts cert case (rows_alone texts within ∙ is) kept done) said
 
-pub reply_not_accepted : (told : Told) (names : Names) (texts : InputTexts) (case : CaseContents) (result : Result Reply Stop) → AreRead told names texts → AreWithin texts → rows_case (rows_of texts.issue) (rows_of texts.rates) (rows_of texts.prices) ≡ Ok case → IsKept (rows_of texts.rates) case → IfOk result (λ reply. CertificateAnswers told names.cert case (answer reply)) → IfOk result (λ reply. reply.status ≡ status.No → HoldsWhereTold NotAccepted told names)
-reply_not_accepted told names texts case result read within is kept said =
-    reply_means NotAccepted told names texts case result status.No read (λ cert denied. not_accepted texts cert case (rows_alone texts within ∙ is) kept.book denied) said
+pub answer_not_accepted : (told : Told) (names : FileNames) (texts : InputFiles) (case : CaseContents) (result : Result Answer Stop) → AreRead told names texts → AreWithin texts → rows_case (rows_of texts.issue) (rows_of texts.rates) (rows_of texts.prices) ≡ Ok case → IsKept (rows_of texts.rates) case → IfOk result (λ reply. CertificateAnswers told names.cert case (reply)) → IfOk result (λ reply. reply.status ≡ status.No → HoldsWhereTold NotAccepted told names)
+answer_not_accepted told names texts case result read within is kept said =
+    answer_means NotAccepted told names texts case result status.No read (λ cert denied. not_accepted texts cert case (rows_alone texts within ∙ is) kept.book denied) said
 
 no_command : (words : List (List ℕ)) (content : Content) → IsNoCommand words → answer_to words content ≡ Some usage
 no_command words content none =
@@ -116,20 +114,20 @@ structure_said_part None new words is part = part.said
 structure_said_part (Some content) new words is part = rw is part
 
 -- what was said of named files was said to the words of `check`
-pub check_said : (told new : Told) (words : List (List ℕ)) (names : Names) (status : Status) → is_structure words ≡ false → check_names words ≡ Some names → NamedAnswers told names status new → Answers told words status new
+pub check_said : (told new : Told) (words : List (List ℕ)) (names : FileNames) (status : Status) → is_structure words ≡ false → check_names words ≡ Some names → NamedAnswers told names status new → Answers told words status new
 check_said None new words names status other is said = said
 check_said (Some content) new words names status other is said = rw (other, is) said
 
-pub check_said_part : (told new : Told) (words : List (List ℕ)) (names : Names) → is_structure words ≡ false → check_names words ≡ Some names → NamedAnswersPart told names new → AnswersPart told words new
+pub check_said_part : (told new : Told) (words : List (List ℕ)) (names : FileNames) → is_structure words ≡ false → check_names words ≡ Some names → NamedAnswersPart told names new → AnswersPart told words new
 check_said_part None new words names other is part = part
 check_said_part (Some content) new words names other is part = rw (other, is) part
 
-pub check_lacks : (told : Told) (words : List (List ℕ)) (names : Names) → is_structure words ≡ false → check_names words ≡ Some names → LacksNamed told names → LacksFile told words
+pub check_lacks : (told : Told) (words : List (List ℕ)) (names : FileNames) → is_structure words ≡ false → check_names words ≡ Some names → LacksNamed told names → LacksFile told words
 check_lacks None words names other is lacks = tt
 check_lacks (Some content) words names other is lacks = rw (other, is) lacks
 
-pub check_accepted : (told : Told) (words : List (List ℕ)) (names : Names) → check_names words ≡ Some names → HoldsWhereTold Accepted told names → IsAccepted told words
+pub check_accepted : (told : Told) (words : List (List ℕ)) (names : FileNames) → check_names words ≡ Some names → HoldsWhereTold Accepted told names → IsAccepted told words
 check_accepted told words names is holds = rw is holds
 
-pub check_not_accepted : (told : Told) (words : List (List ℕ)) (names : Names) → check_names words ≡ Some names → HoldsWhereTold NotAccepted told names → IsNotAccepted told words
+pub check_not_accepted : (told : Told) (words : List (List ℕ)) (names : FileNames) → check_names words ≡ Some names → HoldsWhereTold NotAccepted told names → IsNotAccepted told words
 check_not_accepted told words names is holds = rw is holds

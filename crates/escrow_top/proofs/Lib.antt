@@ -1,8 +1,10 @@
 pub mod CertificateFacts
 pub mod PurchaseFacts
-pub mod ClaimLaws
+pub mod PurchaseLaws
+pub mod PlanFacts
 pub mod InputFacts
 pub mod YieldFacts
 pub mod AcceptedLaws
 pub mod NotAcceptedLaws
 pub mod AnswerLaws
+pub mod ExactLaws

@@ -1,9 +1,9 @@
 -- The first purchase that isn't offered, as far as a list was read.
 use Rattle.std.proofs.Common.{◌≡◌, ℕ, zero, suc, ◌<◌, ◌+◌, List, [], ◌∷◌, length, take, get_or, Option, Some, None, Bool, true, false, cond, refl, arith}
 use Rattle.std.specs.List.{find}
-use Rattle.escrow_top.specs.CertificateForm.{Claim}
+use Rattle.escrow_top.specs.CertificateForm.{CertificateContents}
 use Rattle.case_file.specs.Case.{CaseContents}
-use Rattle.escrow_top.specs.Answer.{first_not_offered, portfolio_of, claim_answer, weighed, reason_against}
+use Rattle.escrow_top.specs.Answer.{first_not_offered, plan_of, weigh_of, weighed, reason_against}
 
 cond_none : {X : Type 0} (b : Bool) (x : X) (o : Option X) → cond b (Some x) o ≡ None → (b ≡ false) × (o ≡ None)
 cond_none true x o none = cc
@@ -26,6 +26,6 @@ find-here test (x ∷ xs) (suc i) d short none passes =
     let parts = cond_none (test x) x (find test (take i xs)) none in
     rw parts.0 (find-here test xs i d (omega arith) parts.1 passes)
 
--- a claim whose purchases are all offered is weighed by its portfolio
-pub claim_answer-offered : (case : CaseContents) (claim : Claim) (plan : List ℕ) → first_not_offered case.book.lines claim.purchases ≡ None → plan ≡ portfolio_of (length case.book.lines) claim.purchases → claim_answer case (Some claim) ≡ weighed case plan claim.gap (reason_against case plan claim.gap)
-claim_answer-offered case claim plan offered is = rw (is, offered) refl
+-- a certificate whose purchases are all offered is weighed by its portfolio
+pub weigh_of-offered : (case : CaseContents) (certificate : CertificateContents) (plan : List ℕ) → first_not_offered case.book.lines certificate.purchases ≡ None → plan ≡ plan_of case.book certificate.purchases → weigh_of case (Some certificate) ≡ weighed case plan certificate.gap (reason_against case plan certificate.gap)
+weigh_of-offered case certificate plan offered is = rw (is, offered) refl

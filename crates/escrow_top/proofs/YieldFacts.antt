@@ -24,7 +24,7 @@ use Rattle.yield_enclosure.specs.declared.answer.YieldAnswer.{YieldAnswer}
 use Rattle.yield_enclosure.specs.declared.answer.YieldAnswer.TheVariants.{Empty, Between}
 use Rattle.yield_enclosure.proofs.ZeroYield.{zero_yield}
 use Rattle.escrow_top.specs.Accepted.{LiesInEnds, yield_without_interest}
-use Rattle.escrow_top.specs.Answer.{portfolio_yield}
+use Rattle.escrow_top.specs.Answer.{plan_yield}
 
 index-near : (settle day : ℤ) → IsSettlement settle → settle ≤ℤ day → day ≤ℤ years_after_of settle 40 → index360_of settle day ≤ 14_400
 index-near settle day is from by =
@@ -43,10 +43,10 @@ later-amount settle [] above later some = absurd (some refl)
 later-amount settle (flow ∷ flows) above later some =
     (0, record { index = index360_of settle flow.day; cents = flow.cents.0 }, omega arith, refl, (above 0 flow (omega arith), later 0 flow (omega arith)))
 
-yields-none : (book : BookContents) (plan : List ℕ) → security_flows book plan ≡ [] → security_cost book plan ≡ 0 → portfolio_yield book plan ≡ Empty
+yields-none : (book : BookContents) (plan : List ℕ) → security_flows book plan ≡ [] → security_cost book plan ≡ 0 → plan_yield book plan ≡ Empty
 yields-none book plan none free = rw (none, free) refl
 
-yields-zero : (book : BookContents) (plan : List ℕ) → IsBook book → AreWithoutInterest book.lines → IsPermitted book plan → (security_flows book plan ≡ [] → ⊥) → portfolio_yield book plan ≡ Between (record { 0 = 0 }) (record { 0 = 0 })
+yields-zero : (book : BookContents) (plan : List ℕ) → IsBook book → AreWithoutInterest book.lines → IsPermitted book plan → (security_flows book plan ≡ [] → ⊥) → plan_yield book plan ≡ Between (record { 0 = 0 }) (record { 0 = 0 })
 yields-zero book plan limits interest permitted some =
     let flows = security_flows book plan in
     zero_yield (indexed book.settle flows) (security_cost book plan)
@@ -58,7 +58,7 @@ yields-zero book plan limits interest permitted some =
 abbrev by_test : Bool → YieldAnswer
 by_test free = if free then Empty else Between (record { 0 = 0 }) (record { 0 = 0 })
 
-printed-at : (book : BookContents) (plan : List ℕ) (free : Bool) → (security_cost book plan == 0) ≡ free → IsBook book → AreWithoutInterest book.lines → IsPermitted book plan → portfolio_yield book plan ≡ by_test free
+printed-at : (book : BookContents) (plan : List ℕ) (free : Bool) → (security_cost book plan == 0) ≡ free → IsBook book → AreWithoutInterest book.lines → IsPermitted book plan → plan_yield book plan ≡ by_test free
 printed-at book plan true is limits interest permitted =
     let none : security_cost book plan ≡ 0 = grind arith in
     yields-none book plan ((empty_at_no_cost book plan limits permitted).1 none) none
@@ -67,7 +67,7 @@ printed-at book plan false is limits interest permitted =
     (λ empty. let none : security_cost book plan ≡ 0 = (empty_at_no_cost book plan limits permitted).0 empty in absurd (grind arith))
 
 -- the yield of securities without interest
-pub printed_yield : (book : BookContents) (plan : List ℕ) → IsBook book → AreWithoutInterest book.lines → IsPermitted book plan → portfolio_yield book plan ≡ yield_without_interest (security_cost book plan)
+pub printed_yield : (book : BookContents) (plan : List ℕ) → IsBook book → AreWithoutInterest book.lines → IsPermitted book plan → plan_yield book plan ≡ yield_without_interest (security_cost book plan)
 printed_yield book plan limits interest permitted = printed-at book plan (security_cost book plan == 0) refl limits interest permitted
 
 -- the exact yield lies between the ends that are printed

@@ -1,5 +1,5 @@
 -- What `yes` means.
-use Rattle.std.specs.Prelude.{◌≡◌, ℕ, ◌+◌, ◌≤◌, ◌==◌, if◌then◌else◌, List, length, drop, Some, Ok}
+use Rattle.std.specs.Prelude.{◌≡◌, ◌≢◌, ◌↔◌, ℕ, ◌+◌, ◌<◌, ◌≤◌, ◌==◌, if◌then◌else◌, List, length, drop, All, slice_get, Some, Ok}
 use Rattle.escrow_units.specs.Flows.{indexed}
 use Rattle.escrow_units.specs.PresentValue.{IndexedFlow, YieldLiesIn}
 use Rattle.yield_enclosure.specs.declared.answer.YieldAnswer.{YieldAnswer}
@@ -7,13 +7,40 @@ use Rattle.yield_enclosure.specs.declared.answer.YieldAnswer.TheVariants.{Empty,
 use Rattle.escrow_desk.specs.Rows.{rows_of}
 use Rattle.rate_table.specs.RateForm.{rate_file_of}
 use Rattle.rate_table.specs.declared.table.RateFile.{RateFile}
-use Rattle.offer_book.specs.Book.{IsBook, AreWithoutInterest}
+use Rattle.offer_book.specs.declared.line.Line.{Line}
+use Rattle.offer_book.specs.Book.{BookContents, IsBook, AreWithoutInterest}
 use Rattle.offer_book.specs.Offers.{AreLinesOf}
-use Rattle.offer_book.specs.Portfolio.{IsPermitted, Meets, cost, security_cost, security_flows}
-use Rattle.escrow_top.specs.CertificateForm.{Claim, claim_of}
-use Rattle.escrow_top.specs.InputFiles.{InputTexts}
+use Rattle.offer_book.specs.Portfolio.{IsPermitted, IsPermittedUnits, Meets, cost, security_cost, security_flows, total_needs}
+use Rattle.escrow_top.specs.CertificateForm.{CertificateContents, certificate_of}
+use Rattle.escrow_top.specs.InputFiles.{InputFiles}
 use Rattle.case_file.specs.Case.{CaseContents}
-use Rattle.escrow_top.specs.Answer.{case_of, check_answer, portfolio, portfolio_yield, yes_text}
+use Rattle.escrow_top.specs.Answer.{case_of, certificate_limit, check_answer, plan_yield, yes_text}
+use Rattle.escrow_top.specs.declared.certificate.Purchase.{Purchase}
+use Rattle.escrow_top.specs.declared.status.Status.{Status}
+use Rattle.escrow_top.specs.declared.status.Status.TheVariants as status
+
+-- a purchase is of a line on offer, in a permitted number of units
+pub record IsOffered (lines : List Line) (purchase : Purchase) : Type 0 where
+  pub line : Line
+  pub on_offer : slice_get lines purchase.line ≡ Some line
+  pub permitted : IsPermittedUnits line purchase.units
+
+-- a plan buys just these purchases: each is offered, the plan has its units at its line, and 0 of every other line
+pub record Buys (book : BookContents) (purchases : List Purchase) (plan : List ℕ) : Type 0 where
+  pub offered : All (IsOffered book.lines) purchases
+  pub lines : length plan ≡ length book.lines
+  pub bought : All (λ purchase. slice_get plan purchase.line ≡ Some purchase.units) purchases
+  pub nothing_else : (line : ℕ) → line < length plan → All (λ purchase. purchase.line ≢ line) purchases → slice_get plan line ≡ Some 0
+
+-- Of the escrow that a plan buys, each part of what a yes promises.
+
+-- it obeys every term and denomination rule: each line is that of its offer in the rate file, with every rule of term, rate
+-- and denomination, and its units are 0, or from the least to the most; so far no line bears interest
+pub record ObeysRules (book : BookContents) (rates : RateFile) (plan : List ℕ) : Type 0 where
+  pub limits : IsBook book
+  pub terms : AreLinesOf book.settle rates (drop 1 book.lines)
+  pub interest : AreWithoutInterest book.lines
+  pub units : IsPermitted book plan
 
 -- where a yield has two ends, the exact yield of the flows for the cost lies between them, and they are within the limit
 abbrev pub LiesInEnds : YieldAnswer → List IndexedFlow → ℕ → ℕ → Type 0
@@ -26,25 +53,53 @@ LiesInEnds Above flows cost limit = ⊥
 abbrev pub yield_without_interest : ℕ → YieldAnswer
 yield_without_interest cost = if cost == 0 then Empty else Between (record { 0 = 0 }) (record { 0 = 0 })
 
--- of the bytes of the four files: they give a case and a claim, of which this is said. The book keeps every limit, and its
--- lines on offer, which bear no interest, are those of the rate file, each with every rule of term, rate and
--- denomination. The portfolio is permitted, and its payments cover the needs on every day. Where two ends of its yield are
--- printed, the exact yield of its securities lies between them, and they are within the limit; without interest they are 0
--- and 0. No permitted portfolio that meets the needs costs less by more than the gap, and the gap is allowed
-pub record Accepted (texts : InputTexts) (cert : List ℕ) : Type 0 where
+-- its exact yield lies in the interval that is printed, and within the limit; without interest that is 0 to 0
+pub record YieldsWithin (limit : ℕ) (book : BookContents) (plan : List ℕ) : Type 0 where
+  pub exact : LiesInEnds (plan_yield book plan) (indexed book.settle (security_flows book plan)) (security_cost book plan) limit
+  pub printed : plan_yield book plan ≡ yield_without_interest (security_cost book plan)
+
+-- no rival costs less by more than the gap: so far every permitted plan that meets the needs is a rival
+abbrev pub NoRivalSaves : ℕ → BookContents → List ℕ → Type 0
+NoRivalSaves gap book plan =
+    (rival : List ℕ) → IsPermitted book rival → Meets book rival → cost book plan ≤ cost book rival + gap
+
+-- the escrow that a plan buys is right, with a gap: it obeys every term and denomination rule, its cash balance is negative
+-- on no date, its exact yield lies in the printed interval and within the limit, no rival costs less by more than the gap,
+-- and the issue allows the gap
+pub record IsRightEscrow (case : CaseContents) (rates : RateFile) (plan : List ℕ) (gap : ℕ) : Type 0 where
+  pub obeys : ObeysRules case.book rates plan
+  pub covered : Meets case.book plan
+  pub yields : YieldsWithin case.limit case.book plan
+  pub cheapest : NoRivalSaves gap case.book plan
+  pub allowed : gap ≤ case.allowance
+
+-- the bytes of the four files give a case and the rates that it was read with, and a certificate, whose purchases a plan
+-- buys; that escrow is right, and this is said of it
+pub record Accepted (files : InputFiles) (cert : List ℕ) : Type 0 where
   pub case : CaseContents
-  pub claim : Claim
   pub rates : RateFile
-  pub is_case : case_of texts ≡ Ok case
-  pub is_claim : claim_of (length case.book.needs) cert ≡ Some claim
-  pub said : (check_answer texts cert).text ≡ yes_text case (portfolio case.book claim) claim.gap
-  pub limits : IsBook case.book
-  pub is_rates : rate_file_of (rows_of texts.rates) ≡ Ok rates
-  pub rules : AreLinesOf case.book.settle rates (drop 1 case.book.lines)
-  pub interest : AreWithoutInterest case.book.lines
-  pub permitted : IsPermitted case.book (portfolio case.book claim)
-  pub meets : Meets case.book (portfolio case.book claim)
-  pub yield : LiesInEnds (portfolio_yield case.book (portfolio case.book claim)) (indexed case.book.settle (security_flows case.book (portfolio case.book claim))) (security_cost case.book (portfolio case.book claim)) case.limit
-  pub printed : portfolio_yield case.book (portfolio case.book claim) ≡ yield_without_interest (security_cost case.book (portfolio case.book claim))
-  pub least : (rival : List ℕ) → IsPermitted case.book rival → Meets case.book rival → cost case.book (portfolio case.book claim) ≤ cost case.book rival + claim.gap
-  pub allowed : claim.gap ≤ case.allowance
+  pub certificate : CertificateContents
+  pub plan : List ℕ
+  pub is_case : case_of files ≡ Ok case
+  pub is_rates : rate_file_of (rows_of files.rates) ≡ Ok rates
+  pub is_certificate : certificate_of (length case.book.needs) cert ≡ Some certificate
+  pub buys : Buys case.book certificate.purchases plan
+  pub right : IsRightEscrow case rates plan certificate.gap
+  pub said : (check_answer files cert).text ≡ yes_text case plan certificate.gap
+
+-- no reason stands against a certificate: a plan buys its purchases, each of which is offered, and covers the needs on every
+-- day; the needs come to at least its cost less the gap; and the issue allows the gap
+pub record IsUnopposed (case : CaseContents) (certificate : CertificateContents) (plan : List ℕ) : Type 0 where
+  pub buys : Buys case.book certificate.purchases plan
+  pub covered : Meets case.book plan
+  pub borne : cost case.book plan ≤ total_needs case.book + certificate.gap
+  pub allowed : certificate.gap ≤ case.allowance
+
+-- of bytes that give a case and a certificate within its limit, `Done` is answered where, and only where, no reason stands
+abbrev pub YesExactly : Status → InputFiles → List ℕ → Type 0
+YesExactly reached files cert =
+    (case : CaseContents) (certificate : CertificateContents)
+    → case_of files ≡ Ok case
+    → length cert ≤ certificate_limit
+    → certificate_of (length case.book.needs) cert ≡ Some certificate
+    → (reached ≡ status.Done) ↔ ((plan : List ℕ) × IsUnopposed case certificate plan)

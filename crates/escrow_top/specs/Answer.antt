@@ -1,6 +1,8 @@
 -- What `check` answers: a status and the text that is said. The texts are this project's own.
 use Rattle.std.specs.Prelude.{ℕ, ◌-◌, Bool, false, not, ◌&&◌, nat_lt, nat_eq, if◌then◌else◌, List, [], ◌∷◌, ◌++◌, length, replicate, slice_index_or, slice_set, Option, Some, None, option_map, Result, Ok, Err, is_ok, codes, decimal}
+use Rattle.std.specs.Bool.{then_some}
 use Rattle.std.specs.List.{find, fold}
+use Rattle.std.specs.Option.{option_or}
 use lib.Pointwise.{pointwise}
 use Rattle.escrow_desk.specs.Content.{Content, file_of}
 use Rattle.escrow_desk.specs.Rows.{rows_of}
@@ -20,8 +22,8 @@ use Rattle.cash_table.specs.First.{first_short_of}
 use Rattle.yield_enclosure.specs.YieldAnswers.{yield_answer_of}
 use Rattle.yield_enclosure.specs.declared.answer.YieldAnswer.{YieldAnswer}
 use Rattle.yield_enclosure.specs.declared.answer.YieldAnswer.TheVariants as yields
-use Rattle.escrow_top.specs.CertificateForm.{Claim, claim_of, ◌>>=◌}
-use Rattle.escrow_top.specs.InputFiles.{InputTexts, Names, first_too_long, inputs_of}
+use Rattle.escrow_top.specs.CertificateForm.{CertificateContents, certificate_of, ◌>>=◌}
+use Rattle.escrow_top.specs.InputFiles.{InputFiles, FileNames, first_too_long, inputs_of}
 use Rattle.case_file.specs.Case.{CaseContents, cash_line, rows_case}
 use Rattle.case_file.specs.declared.fault.NoCase.{NoCase}
 use Rattle.case_file.specs.declared.fault.NoCase.TheVariants.{Refused, Unbuilt}
@@ -49,23 +51,10 @@ is_offered lines purchase =
 abbrev pub first_not_offered : List Line → List Purchase → Option Purchase
 first_not_offered lines purchases = find (λ purchase. not (is_offered lines purchase)) purchases
 
--- the portfolio of purchases: 0 units of each line, but for those that are bought
-abbrev pub portfolio_of : ℕ → List Purchase → List ℕ
-portfolio_of lines purchases =
-    fold (λ plan purchase. slice_set plan purchase.line purchase.units) (replicate lines 0) purchases
-
--- the portfolio of a claim over a book
-abbrev pub portfolio : BookContents → Claim → List ℕ
-portfolio book claim = portfolio_of (length book.lines) claim.purchases
-
--- a value, where a test holds
-abbrev pub given : {A : Type 0} → Bool → A → Option A
-given test value = if test then Some value else None
-
--- the first of two values that is there
-abbrev pub or_else : {A : Type 0} → Option A → Option A → Option A
-or_else None second = second
-or_else (Some first) second = Some first
+-- the plan of purchases over a book: 0 units of each line, but for those that are bought
+abbrev pub plan_of : BookContents → List Purchase → List ℕ
+plan_of book purchases =
+    fold (λ plan purchase. slice_set plan purchase.line purchase.units) (replicate (length book.lines) 0) purchases
 
 -- the one leaf doesn't bear out the cost less the gap: at the price 1 the needs sum to less
 abbrev pub is_leaf_weak : BookContents → List ℕ → ℕ → Bool
@@ -74,15 +63,15 @@ is_leaf_weak book plan gap = nat_lt (total_needs book) (cost book plan - gap)
 -- why a permitted portfolio isn't accepted with a gap: the first reason that stands
 abbrev pub reason_against : CaseContents → List ℕ → ℕ → Option Reason
 reason_against case plan gap =
-    or_else (option_map reason.ShortOn (first_short_of case.book plan))
-    (or_else (given (is_leaf_weak case.book plan gap) (reason.WeakLeaf 1))
-    (given (nat_lt case.allowance gap) reason.GapAbove))
+    option_or (option_map reason.ShortOn (first_short_of case.book plan))
+    (option_or (then_some (is_leaf_weak case.book plan gap) (reason.WeakLeaf 1))
+    (then_some (nat_lt case.allowance gap) reason.GapAbove))
 
--- why a claim isn't accepted: the first reason that stands
-abbrev pub reason_of : CaseContents → Claim → Option Reason
-reason_of case claim =
-    or_else (option_map (λ purchase. reason.NotPermitted purchase.line) (first_not_offered case.book.lines claim.purchases))
-    (reason_against case (portfolio case.book claim) claim.gap)
+-- why a certificate isn't accepted: the first reason that stands
+abbrev pub reason_of : CaseContents → CertificateContents → Option Reason
+reason_of case certificate =
+    option_or (option_map (λ purchase. reason.NotPermitted purchase.line) (first_not_offered case.book.lines certificate.purchases))
+    (reason_against case (plan_of case.book certificate.purchases) certificate.gap)
 
 abbrev pub reason_text : Reason → List ℕ
 reason_text (reason.NotPermitted line) = text_line (codes "no NotPermitted ") (decimal line)
@@ -91,8 +80,8 @@ reason_text (reason.WeakLeaf node) = text_line (codes "no WeakLeaf ") (decimal n
 reason_text reason.GapAbove = text_line (codes "no GapAbove") []
 
 -- the yield of a portfolio's securities, as an interval
-abbrev pub portfolio_yield : BookContents → List ℕ → YieldAnswer
-portfolio_yield book plan = yield_answer_of (indexed book.settle (security_flows book plan)) (security_cost book plan)
+abbrev pub plan_yield : BookContents → List ℕ → YieldAnswer
+plan_yield book plan = yield_answer_of (indexed book.settle (security_flows book plan)) (security_cost book plan)
 
 -- both ends of a yield's interval, in percent, or a word for a yield without ends; no accepted portfolio yields above
 abbrev pub yield_words : YieldAnswer → List ℕ
@@ -105,7 +94,7 @@ yield_words yields.Above = codes "above"
 abbrev pub yes_text : CaseContents → List ℕ → ℕ → List ℕ
 yes_text case plan gap =
     text_line (codes "yes") [] ++ text_line (codes "cost ") (fixed 2 (cost case.book plan))
-    ++ text_line (codes "yield ") (yield_words (portfolio_yield case.book plan))
+    ++ text_line (codes "yield ") (yield_words (plan_yield case.book plan))
     ++ text_line (codes "limit ") (fixed 8 case.limit) ++ text_line (codes "gap ") (fixed 2 gap)
 
 -- a portfolio is accepted with a gap
@@ -162,9 +151,9 @@ abbrev pub unbuilt : FileKind → Answer
 unbuilt kind = record { status = status.Unbuilt; text = text_line (codes "unbuilt ") (file_word kind) }
 
 -- the answer to a certificate that may be read; other forms aren't built yet
-abbrev pub claim_answer : CaseContents → Option Claim → Answer
-claim_answer case None = unbuilt file.Cert
-claim_answer case (Some claim) = weighed case (portfolio case.book claim) claim.gap (reason_of case claim)
+abbrev pub weigh_of : CaseContents → Option CertificateContents → Answer
+weigh_of case None = unbuilt file.Cert
+weigh_of case (Some certificate) = weighed case (plan_of case.book certificate.purchases) certificate.gap (reason_of case certificate)
 
 -- the most bytes of a certificate
 abbrev pub certificate_limit : ℕ
@@ -174,7 +163,7 @@ certificate_limit = 67_108_864
 abbrev pub certificate_answer : CaseContents → List ℕ → Answer
 certificate_answer case cert =
     if nat_lt certificate_limit (length cert) then refused (refusal_of file.Cert 0 kind.TooLong)
-    else claim_answer case (claim_of (length case.book.needs) cert)
+    else weigh_of case (certificate_of (length case.book.needs) cert)
 
 -- the answer where the input files give no case
 abbrev pub no_case_answer : NoCase → Answer
@@ -182,11 +171,11 @@ no_case_answer (Refused refusal) = refused refusal
 no_case_answer (Unbuilt kind) = unbuilt kind
 
 -- the case of the bytes of the input files, or what is first to refuse it: their lengths are tried before their rows
-abbrev pub case_of_texts : Option FileKind → InputTexts → Result CaseContents NoCase
+abbrev pub case_of_texts : Option FileKind → InputFiles → Result CaseContents NoCase
 case_of_texts (Some too_long) texts = Err (Refused (refusal_of too_long 0 kind.TooLong))
 case_of_texts None texts = rows_case (rows_of texts.issue) (rows_of texts.rates) (rows_of texts.prices)
 
-abbrev pub case_of : InputTexts → Result CaseContents NoCase
+abbrev pub case_of : InputFiles → Result CaseContents NoCase
 case_of texts = case_of_texts (first_too_long texts) texts
 
 abbrev pub case_answer : Result CaseContents NoCase → List ℕ → Answer
@@ -194,11 +183,11 @@ case_answer (Err why) cert = no_case_answer why
 case_answer (Ok case) cert = certificate_answer case cert
 
 -- what `check` answers to the bytes of the four files
-abbrev pub check_answer : InputTexts → List ℕ → Answer
+abbrev pub check_answer : InputFiles → List ℕ → Answer
 check_answer texts cert = case_answer (case_of texts) cert
 
 -- what `check` answers where the files are there: the certificate is read last, and only where the others give a case
-abbrev pub named_answer : Content → Names → Option Answer
+abbrev pub named_answer : Content → FileNames → Option Answer
 named_answer content names = do
   texts ← inputs_of content names
   cert ← if is_ok (case_of texts) then file_of content names.cert else Some []
@@ -219,12 +208,12 @@ is_structure (word ∷ issue ∷ rates ∷ prices ∷ cert ∷ []) = pointwise n
 is_structure words = false
 
 -- the names that the words `check ISSUE RATES PRICES CERT` give
-abbrev pub check_names : List (List ℕ) → Option Names
+abbrev pub check_names : List (List ℕ) → Option FileNames
 check_names (word ∷ issue ∷ rates ∷ prices ∷ cert ∷ []) =
-    given (pointwise nat_eq word (codes "check")) (record { issue = issue; rates = rates; prices = prices; cert = cert })
+    then_some (pointwise nat_eq word (codes "check")) (record { issue = issue; rates = rates; prices = prices; cert = cert })
 check_names words = None
 
-abbrev pub answer_to_check : Content → Option Names → Option Answer
+abbrev pub answer_to_check : Content → Option FileNames → Option Answer
 answer_to_check content None = Some usage
 answer_to_check content (Some names) = named_answer content names
 

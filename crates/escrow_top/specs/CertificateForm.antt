@@ -62,7 +62,7 @@ purchases_at (suc n) from text = do
   Some (record { value = first.value ∷ others.value; rest = others.rest })
 
 -- what a certificate of this form says
-pub record Claim : Type 0 where
+pub record CertificateContents : Type 0 where
   pub purchases : List Purchase
   pub gap : ℕ
 
@@ -90,12 +90,12 @@ closing_gap dates text = do
   if length rest == 0 then Some gap.value else None
 
 -- the whole text of a certificate of this form, for so many need dates
-unfoldable pub claim_of : ℕ → List ℕ → Option Claim
-claim_of dates text = do
+unfoldable pub certificate_of : ℕ → List ℕ → Option CertificateContents
+certificate_of dates text = do
   head ← head_at text
   purchases ← purchases_at head.value 0 head.rest
   gap ← closing_gap dates purchases.rest
   Some (record { purchases = purchases.value; gap = gap })
 
-abbrev pub claim : Certificate → Claim
-claim certificate = record { purchases = certificate.purchases.items; gap = certificate.gap }
+abbrev pub certificate_view : Certificate → CertificateContents
+certificate_view certificate = record { purchases = certificate.purchases.items; gap = certificate.gap }

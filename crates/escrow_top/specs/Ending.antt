@@ -1,10 +1,11 @@
 -- How a run ends.
 use Rattle.std.specs.Prelude.{◌≡◌, ℕ, Bool, true, false, List, Option, Some, None, IsSomeAnd, MatchOption}
-use Rattle.escrow_desk.specs.Content.{Content, Told, file_of, with_said, SaidPart}
+use Rattle.escrow_desk.specs.Content.{Content, Told, file_of, with_said, SaidAll, SaidPart}
 use Rattle.escrow_top.specs.Accepted.{Accepted}
 use Rattle.escrow_top.specs.NotAccepted.{NotAccepted}
-use Rattle.escrow_top.specs.InputFiles.{InputTexts, Names}
-use Rattle.escrow_top.specs.Answer.{Answer, answer_to, check_names, is_structure, named_answer}
+use Rattle.escrow_top.specs.InputFiles.{InputFiles, FileNames}
+use Rattle.escrow_top.specs.Answer.{Answer, answer_to, check_answer, check_names, is_structure, named_answer}
+use Rattle.escrow_top.specs.Reading.{AreThere}
 use Rattle.escrow_top.specs.declared.status.Status.{Status}
 use Rattle.escrow_top.specs.declared.status.Status.TheVariants as status
 
@@ -55,11 +56,11 @@ abbrev pub IsSaidPart : Content → Option Answer → Told → Type 0
 IsSaidPart content found new = IsSomeAnd found (λ answer. SaidPart (Some content) answer.text new)
 
 -- the answer to the files of these names was said
-abbrev pub NamedAnswers : Told → Names → Status → Told → Type 0
+abbrev pub NamedAnswers : Told → FileNames → Status → Told → Type 0
 NamedAnswers None names status new = new ≡ None
 NamedAnswers (Some content) names status new = IsSaid content (named_answer content names) status new
 
-abbrev pub NamedAnswersPart : Told → Names → Told → Type 0
+abbrev pub NamedAnswersPart : Told → FileNames → Told → Type 0
 NamedAnswersPart None names new = new ≡ None
 NamedAnswersPart (Some content) names new = IsSaidPart content (named_answer content names) new
 
@@ -84,15 +85,30 @@ pub record IsNoCommand (words : List (List ℕ)) : Type 0 where
   pub no_check : check_names words ≡ None
 
 -- the four files of these names are there, and this holds of their bytes
-abbrev pub HoldsOfFiles : (InputTexts → List ℕ → Type 0) → Content → Names → Type 0
+abbrev pub HoldsOfFiles : (InputFiles → List ℕ → Type 0) → Content → FileNames → Type 0
 HoldsOfFiles Holds content names =
     IsSomeAnd (file_of content names.issue) (λ issue. IsSomeAnd (file_of content names.rates) (λ rates.
     IsSomeAnd (file_of content names.prices) (λ prices. IsSomeAnd (file_of content names.cert) (λ cert.
     Holds (record { issue = issue; rates = rates; prices = prices }) cert))))
 
 -- the same where the desk tells
-abbrev pub HoldsWhereTold : (InputTexts → List ℕ → Type 0) → Told → Names → Type 0
+abbrev pub HoldsWhereTold : (InputFiles → List ℕ → Type 0) → Told → FileNames → Type 0
 HoldsWhereTold Holds told names = MatchOption told (Unit {0}) (λ content. HoldsOfFiles Holds content names)
+
+-- where the desk tells and the four files of these names are there: what then holds of their bytes
+abbrev pub OfNamedFiles : (InputFiles → List ℕ → Type 0) → Told → FileNames → Type 0
+OfNamedFiles Holds told names =
+    (content : Content) (files : InputFiles) (cert : List ℕ)
+    → told ≡ Some content → AreThere content names files → file_of content names.cert ≡ Some cert → Holds files cert
+
+-- the same where the words are those of `check`
+abbrev pub OfFiles : (InputFiles → List ℕ → Type 0) → Told → List (List ℕ) → Type 0
+OfFiles Holds told words = (names : FileNames) → check_names words ≡ Some names → OfNamedFiles Holds told names
+
+-- the status and what was said are the answer of `check` to the bytes of the four files, and no file changed
+abbrev pub IsAnswerTo : Told → Status → Told → InputFiles → List ℕ → Type 0
+IsAnswerTo told reached told_new files cert =
+    (reached ≡ (check_answer files cert).status) × SaidAll told (check_answer files cert).text told_new
 
 -- the words are those of `check`, and where the desk tells, the four files that they name are there and accepted
 abbrev pub IsAccepted : Told → List (List ℕ) → Type 0

@@ -6,14 +6,14 @@ use Rattle.escrow_desk.specs.declared.refusal.FileKind.TheVariants as file
 use Rattle.escrow_top.specs.CertificateForm.{◌>>=◌}
 
 -- the names of the four files
-pub record Names : Type 0 where
+pub record FileNames : Type 0 where
   pub issue : List ℕ
   pub rates : List ℕ
   pub prices : List ℕ
   pub cert : List ℕ
 
 -- the bytes of the three input files
-pub record InputTexts : Type 0 where
+pub record InputFiles : Type 0 where
   pub issue : List ℕ
   pub rates : List ℕ
   pub prices : List ℕ
@@ -23,7 +23,7 @@ abbrev pub file_limit : ℕ
 file_limit = 1_048_576
 
 -- the first of the input files that has more bytes than its limit
-abbrev pub first_too_long : InputTexts → Option FileKind
+abbrev pub first_too_long : InputFiles → Option FileKind
 first_too_long texts =
     if nat_lt file_limit (length texts.issue) then Some file.Issue else
     (if nat_lt file_limit (length texts.rates) then Some file.Rates else
@@ -35,7 +35,7 @@ next_file content name None = file_of content name
 next_file content name (Some kind) = Some []
 
 -- what is read of the input files, in their order; None where one that is read isn't there
-abbrev pub inputs_of : Content → Names → Option InputTexts
+abbrev pub inputs_of : Content → FileNames → Option InputFiles
 inputs_of content names = do
   issue ← file_of content names.issue
   rates ← next_file content names.rates (first_too_long (record { issue = issue; rates = []; prices = [] }))

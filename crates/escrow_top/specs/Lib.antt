@@ -1,10 +1,10 @@
 pub mod CertificateForm
 pub mod InputFiles
 pub mod Answer
+pub mod Bought
 pub mod Ending
 pub mod Accepted
 pub mod NotAccepted
 pub mod Reading
-pub mod Reply
 pub mod Stopping
 pub mod Command

@@ -1,54 +1,72 @@
 -- What was read of the files that a desk tells.
-use Rattle.std.specs.Prelude.{◌≡◌, ℕ, ◌≤◌, ◌<◌, List, length, Option, Some, None, Vec, MatchOption, IsSomeAnd}
-use Rattle.std.specs.declared.alloc.Global.{Global}
+use Rattle.std.specs.Prelude.{◌≡◌, ℕ, ◌≤◌, ◌<◌, List, length, Option, Some, None, MatchOption, IsSomeAnd}
 use Rattle.escrow_desk.specs.Content.{Content, Told, file_of}
 use Rattle.escrow_desk.specs.declared.refusal.FileKind.{FileKind}
-use Rattle.escrow_top.specs.declared.files.FileNames.{FileNames}
-use Rattle.escrow_top.specs.declared.files.InputFiles.{InputFiles}
-use Rattle.escrow_top.specs.InputFiles.{InputTexts, Names, file_limit, first_too_long, inputs_of}
+use Rattle.escrow_top.specs.declared.files.FileNames.{FileNames as CodeNames}
+use Rattle.escrow_top.specs.declared.files.InputFiles.{InputFiles as CodeFiles}
+use Rattle.escrow_top.specs.declared.files.FileText.{FileText}
+use Rattle.escrow_top.specs.declared.files.FileText.TheVariants as text
+use Rattle.escrow_top.specs.declared.files.Inputs.{Inputs}
+use Rattle.escrow_top.specs.declared.files.Inputs.TheVariants as inputs
+use Rattle.escrow_top.specs.InputFiles.{InputFiles, FileNames, file_limit, first_too_long, inputs_of}
 use Rattle.case_file.specs.Case.{CaseContents}
 use Rattle.escrow_top.specs.Answer.{Answer, certificate_answer, named_answer}
 
 -- the names as bytes
-abbrev pub input_names : FileNames → Names
-input_names names = record { issue = names.issue.now; rates = names.rates.now; prices = names.prices.now; cert = names.cert.now }
+abbrev pub names_view : CodeNames → FileNames
+names_view names = record { issue = names.issue.now; rates = names.rates.now; prices = names.prices.now; cert = names.cert.now }
 
 -- the files as bytes
-abbrev pub input_texts : InputFiles → InputTexts
-input_texts files = record { issue = files.issue.items; rates = files.rates.items; prices = files.prices.items }
+abbrev pub files_view : CodeFiles → InputFiles
+files_view files = record { issue = files.issue.items; rates = files.rates.items; prices = files.prices.items }
 
 -- the bytes of a file that has at most so many, or that it has more
-abbrev pub IsBounded : ℕ → List ℕ → Option (Vec ℕ Global) → Type 0
-IsBounded limit file None = limit < length file
-IsBounded limit file (Some bytes) = (file ≡ bytes.items) × (length bytes.items ≤ limit)
+abbrev pub IsBounded : ℕ → List ℕ → FileText → Type 0
+IsBounded limit file text.TooLong = limit < length file
+IsBounded limit file (text.Within bytes) = (file ≡ bytes.items) × (length bytes.items ≤ limit)
+
+-- what was read of a file has at most so many bytes
+abbrev pub KeepsTo : ℕ → FileText → Type 0
+KeepsTo limit text.TooLong = Unit {0}
+KeepsTo limit (text.Within bytes) = length bytes.items ≤ limit
 
 -- the same of the file of a name on a desk that tells
-abbrev pub IsRead : Told → List ℕ → ℕ → Option (Vec ℕ Global) → Type 0
-IsRead told name limit text =
-    MatchOption told (Unit {0}) (λ content. IsSomeAnd (file_of content name) (λ file. IsBounded limit file text))
+abbrev pub IsRead : Told → List ℕ → ℕ → FileText → Type 0
+IsRead told name limit found =
+    MatchOption told (Unit {0}) (λ content. IsSomeAnd (file_of content name) (λ file. IsBounded limit file found))
 
 -- each of the input files has at most as many bytes as its limit
-pub record AreWithin (texts : InputTexts) : Type 0 where
+pub record AreWithin (texts : InputFiles) : Type 0 where
   pub issue : length texts.issue ≤ file_limit
   pub rates : length texts.rates ≤ file_limit
   pub prices : length texts.prices ≤ file_limit
 
 -- the three input files of these names are there, with these bytes
-pub record AreThere (content : Content) (names : Names) (texts : InputTexts) : Type 0 where
+pub record AreThere (content : Content) (names : FileNames) (texts : InputFiles) : Type 0 where
   pub issue : file_of content names.issue ≡ Some texts.issue
   pub rates : file_of content names.rates ≡ Some texts.rates
   pub prices : file_of content names.prices ≡ Some texts.prices
 
-abbrev pub AreRead : Told → Names → InputTexts → Type 0
+abbrev pub AreRead : Told → FileNames → InputFiles → Type 0
 AreRead told names texts = MatchOption told (Unit {0}) (λ content. AreThere content names texts)
 
 -- what is read of the input files ends with one that has more bytes than its limit
-abbrev pub IsTooLong : Told → Names → FileKind → Type 0
+abbrev pub IsTooLong : Told → FileNames → FileKind → Type 0
 IsTooLong told names kind =
     MatchOption told (Unit {0}) (λ content. IsSomeAnd (inputs_of content names) (λ texts. first_too_long texts ≡ Some kind))
 
+-- what was read of the input files: all of them, or the first that is over its limit
+abbrev pub AreFound : Told → FileNames → Inputs → Type 0
+AreFound told names (inputs.Within files) = AreRead told names (files_view files)
+AreFound told names (inputs.TooLong kind) = IsTooLong told names kind
+
+-- all that were read keep to their limit
+abbrev pub KeepToLimits : Inputs → Type 0
+KeepToLimits (inputs.Within files) = AreWithin (files_view files)
+KeepToLimits (inputs.TooLong kind) = Unit {0}
+
 -- one of the input files that are read isn't there
-abbrev pub LacksInput : Told → Names → Type 0
+abbrev pub LacksInput : Told → FileNames → Type 0
 LacksInput told names = MatchOption told (Unit {0}) (λ content. inputs_of content names ≡ None)
 
 -- the certificate of the name is there, and this is the answer to it
@@ -61,9 +79,9 @@ abbrev pub LacksCertificate : Told → List ℕ → Type 0
 LacksCertificate told name = MatchOption told (Unit {0}) (λ content. file_of content name ≡ None)
 
 -- the files that are read are there, and this is the answer to them
-abbrev pub FilesAnswer : Told → Names → Answer → Type 0
+abbrev pub FilesAnswer : Told → FileNames → Answer → Type 0
 FilesAnswer told names answer = MatchOption told (Unit {0}) (λ content. named_answer content names ≡ Some answer)
 
 -- a file that is read isn't there
-abbrev pub LacksNamed : Told → Names → Type 0
+abbrev pub LacksNamed : Told → FileNames → Type 0
 LacksNamed told names = MatchOption told (Unit {0}) (λ content. named_answer content names ≡ None)

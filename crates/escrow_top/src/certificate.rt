@@ -1,7 +1,9 @@
+//! Certificates of the form that is read so far.
+
 ghost use Rattle.std.specs.Prelude.{◌≡◌, ◌≤◌, ◌+◌, ◌^◌, ℕ, length, IfOk, IfSome, MatchOption, Some, None, option_map, true, if◌then◌else◌, nat_le};
 ghost use Rattle.std.specs.List.{prefix_len};
 ghost use Rattle.std.specs.Char.{is_ascii_digit};
-ghost use Rattle.escrow_top.specs.CertificateForm.{after, after_each, number_at, purchase_at, purchases_at, after_tree, head_at, closing_gap, claim, claim_of};
+ghost use Rattle.escrow_top.specs.CertificateForm.{after, after_each, number_at, purchase_at, purchases_at, after_tree, head_at, closing_gap, certificate_view, certificate_of};
 
 use escrow_desk::NoMemory;
 use escrow_units::whole_number;
@@ -172,13 +174,13 @@ fn purchases_at(
 /// What a certificate of the first form says, for so many need dates; None where the bytes are no text of it.
 ///
 /// `NoMemory` is the one error.
-#[tactic(auto, unfolding(crate::specs::CertificateForm::claim_of))]
+#[tactic(auto, unfolding(crate::specs::CertificateForm::certificate_of))]
 pub(crate) fn read_certificate(
     alloc: Global,
     bytes: &[u8],
     dates: u16,
 ) -> Result<Option<Certificate>, NoMemory>
-    ensures { IfOk result (λ found. option_map claim found ≡ claim_of dates bytes.now) }
+    ensures { IfOk result (λ found. option_map certificate_view found ≡ certificate_of dates bytes.now) }
 {
     let Some(head) = head_at(bytes) else {
         return Ok(None);

@@ -1,3 +1,5 @@
+//! The words of a command line.
+
 ghost use Rattle.std.specs.Prelude.{map, string_bytes, MatchOption};
 ghost use Rattle.escrow_top.specs.Command.{IsCommand};
 ghost use Rattle.escrow_top.specs.Ending.{IsNoCommand};

@@ -1,6 +1,8 @@
+//! The input files.
+
 ghost use Rattle.std.specs.Prelude.{◌≡◌, ◌≤◌, IfOk, IfSome, IsErrOf, MatchResult, length};
 ghost use Rattle.escrow_desk.specs.Content.{IsAbsent};
-ghost use Rattle.escrow_top.specs.Reading.{AreRead, AreWithin, IsRead, IsTooLong, LacksInput, input_names, input_texts};
+ghost use Rattle.escrow_top.specs.Reading.{AreFound, IsRead, KeepToLimits, KeepsTo, LacksInput, names_view};
 ghost use Rattle.escrow_top.specs.Stopping.{CountsStep};
 
 use crate::stop::Stop;
@@ -27,22 +29,40 @@ pub(crate) struct InputFiles {
     pub prices: Vec<u8>,
 }
 
-/// The bytes of a file; None where it has more than the limit. No content changes.
+/// What was read of a file.
+#[derive(Drop)]
+pub(crate) enum FileText {
+    /// All its bytes, at most as many as the limit.
+    Within(Vec<u8>),
+    /// It has more bytes than the limit.
+    TooLong,
+}
+
+/// What was read of the input files.
+#[derive(Drop)]
+pub(crate) enum Inputs {
+    /// All three.
+    Within(InputFiles),
+    /// This is the first that has more bytes than its limit.
+    TooLong(FileKind),
+}
+
+/// The bytes of a file within a limit. No content changes.
 pub(crate) fn read_file<D: Desk>(
     alloc: Global,
     desk: &mut D,
     name: &str,
     limit: u64,
-) -> Result<Option<Vec<u8>>, Stop>
+) -> Result<FileText, Stop>
     ensures read { IfOk result (λ text. IsRead (D.told desk.old) name.now limit text) }
-    ensures within { IfOk result (λ text. IfSome text (λ bytes. length bytes.items ≤ limit)) }
+    ensures within { IfOk result (KeepsTo limit) }
     ensures absent { IsErrOf result Stop.NoFile → IsAbsent (D.told desk.old) name.now }
     ensures told { D.told desk.new ≡ D.told desk.old }
     ensures counts { CountsStep result (D.counts desk.old) (D.counts desk.new) }
 {
     match read_all(alloc, desk, name, limit) {
-        Ok(bytes) => Ok(Some(bytes)),
-        Err(ReadRefusal::TooLong) => Ok(None),
+        Ok(bytes) => Ok(FileText::Within(bytes)),
+        Err(ReadRefusal::TooLong) => Ok(FileText::TooLong),
         Err(ReadRefusal::Fault) => Err(Stop::ReadFault),
         Err(ReadRefusal::NoFile) => Err(Stop::NoFile),
         Err(ReadRefusal::NoMemory) => Err(Stop::NoMemory),
@@ -55,25 +75,23 @@ pub(crate) fn read_inputs<D: Desk>(
     alloc: Global,
     desk: &mut D,
     names: &FileNames<'_>,
-) -> Result<Result<InputFiles, FileKind>, Stop>
-    ensures read { IfOk result (λ found. MatchResult found
-        (λ files. AreRead (D.told desk.old) (input_names names.now) (input_texts files))
-        (IsTooLong (D.told desk.old) (input_names names.now))) }
-    ensures within { IfOk result (λ found. IfOk found (λ files. AreWithin (input_texts files))) }
-    ensures absent { IsErrOf result Stop.NoFile → LacksInput (D.told desk.old) (input_names names.now) }
+) -> Result<Inputs, Stop>
+    ensures read { IfOk result (AreFound (D.told desk.old) (names_view names.now)) }
+    ensures within { IfOk result KeepToLimits }
+    ensures absent { IsErrOf result Stop.NoFile → LacksInput (D.told desk.old) (names_view names.now) }
     ensures told { D.told desk.new ≡ D.told desk.old }
     ensures counts { CountsStep result (D.counts desk.old) (D.counts desk.new) }
 {
-    let Some(issue) = read_file(alloc, desk, names.issue, FILE_LIMIT)? else {
-        return Ok(Err(FileKind::Issue));
+    let FileText::Within(issue) = read_file(alloc, desk, names.issue, FILE_LIMIT)? else {
+        return Ok(Inputs::TooLong(FileKind::Issue));
     };
-    let Some(rates) = read_file(alloc, desk, names.rates, FILE_LIMIT)? else {
-        return Ok(Err(FileKind::Rates));
+    let FileText::Within(rates) = read_file(alloc, desk, names.rates, FILE_LIMIT)? else {
+        return Ok(Inputs::TooLong(FileKind::Rates));
     };
-    let Some(prices) = read_file(alloc, desk, names.prices, FILE_LIMIT)? else {
-        return Ok(Err(FileKind::Prices));
+    let FileText::Within(prices) = read_file(alloc, desk, names.prices, FILE_LIMIT)? else {
+        return Ok(Inputs::TooLong(FileKind::Prices));
     };
-    Ok(Ok(InputFiles {
+    Ok(Inputs::Within(InputFiles {
         issue,
         rates,
         prices,

@@ -1,13 +1,13 @@
 //! The program's one call, from its words to its status.
 #![tactic(auto)]
 
+mod answer;
 mod certificate;
 mod check;
 mod command;
 mod files;
 mod needs;
 mod program;
-mod reply;
 mod status;
 mod stop;
 mod verdict;

@@ -1,3 +1,5 @@
+//! The sum of the needs.
+
 ghost use Rattle.std.specs.Prelude.{◌≡◌, ◌≤◌, length};
 ghost use Rattle.escrow_units.specs.Flows.{total};
 

@@ -1,10 +1,13 @@
-ghost use Rattle.std.specs.Prelude.{◌≡◌, ◌↔◌, true, map, string_bytes, IfSome, IsTrue};
+//! The one call, from words to a status.
+
+ghost use Rattle.std.specs.Prelude.{◌≡◌, ◌≢◌, ◌↔◌, true, map, string_bytes, IfSome, IsTrue};
 ghost use Rattle.escrow_desk.specs.Content.{SaidAll, SaidPart};
-ghost use Rattle.escrow_top.specs.Ending.{Answers, AnswersPart, HoldsWhereTold, IsAccepted, IsNoCommand, IsNotAccepted, LacksFile, NamedAnswers, NamedAnswersPart, is_checked, is_reached};
-ghost use Rattle.escrow_top.specs.Accepted.{Accepted};
+ghost use Rattle.escrow_desk.specs.Counts.{AllSteady};
+ghost use Rattle.escrow_top.specs.Ending.{Answers, AnswersPart, HoldsWhereTold, IsAccepted, IsAnswerTo, IsNoCommand, IsNotAccepted, LacksFile, NamedAnswers, NamedAnswersPart, OfFiles, OfNamedFiles, is_checked, is_reached};
+ghost use Rattle.escrow_top.specs.Accepted.{Accepted, YesExactly};
 ghost use Rattle.escrow_top.specs.NotAccepted.{NotAccepted};
 ghost use Rattle.escrow_top.specs.Answer.{check_names, is_structure};
-ghost use Rattle.escrow_top.specs.Reading.{LacksNamed, input_names};
+ghost use Rattle.escrow_top.specs.Reading.{LacksNamed, names_view};
 ghost use Rattle.escrow_top.specs.Stopping.{EndedAs};
 
 use crate::check::check;
@@ -17,7 +20,7 @@ use std::alloc::Global;
 const USAGE: &[u8] = b"usage: structure ISSUE RATES PRICES CERT | check ISSUE RATES PRICES CERT\n";
 
 // Says the text of a status that was reached, and answers the status; `WriteFault` where a call of the desk failed.
-fn conclude<D: Desk>(desk: &mut D, status: Status, text: &[u8]) -> Status
+fn say_answer<D: Desk>(desk: &mut D, status: Status, text: &[u8]) -> Status
     requires { IsTrue (is_reached status) }
     ensures status { IsTrue (is_reached result) → result ≡ status }
     ensures said { IsTrue (is_reached result) → SaidAll (D.told desk.old) text.now (D.told desk.new) }
@@ -33,17 +36,19 @@ fn conclude<D: Desk>(desk: &mut D, status: Status, text: &[u8]) -> Status
 
 // Carries `check` out on the files of these names.
 fn run_check<D: Desk>(alloc: Global, names: &FileNames<'_>, desk: &mut D) -> Status
-    ensures answers { IsTrue (is_reached result) → NamedAnswers (D.told desk.old) (input_names names.now) result (D.told desk.new) }
-    ensures part { result ≡ Status.WriteFault → NamedAnswersPart (D.told desk.old) (input_names names.now) (D.told desk.new) }
-    ensures lacks { result ≡ Status.NoFile → LacksNamed (D.told desk.old) (input_names names.now) }
+    ensures answers { IsTrue (is_reached result) → NamedAnswers (D.told desk.old) (names_view names.now) result (D.told desk.new) }
+    ensures part { result ≡ Status.WriteFault → NamedAnswersPart (D.told desk.old) (names_view names.now) (D.told desk.new) }
+    ensures lacks { result ≡ Status.NoFile → LacksNamed (D.told desk.old) (names_view names.now) }
     ensures checked { IsTrue (is_reached result) → IsTrue (is_checked result) }
-    ensures yes { result ≡ Status.Done → HoldsWhereTold Accepted (D.told desk.old) (input_names names.now) }
-    ensures no { result ≡ Status.No → HoldsWhereTold NotAccepted (D.told desk.old) (input_names names.now) }
+    ensures yes { result ≡ Status.Done → HoldsWhereTold Accepted (D.told desk.old) (names_view names.now) }
+    ensures no { result ≡ Status.No → HoldsWhereTold NotAccepted (D.told desk.old) (names_view names.now) }
+    ensures exactly { IsTrue (is_reached result) → OfNamedFiles (YesExactly result) (D.told desk.old) (names_view names.now) }
+    ensures bytes { AllSteady (D.counts desk.old) (D.counts desk.new) → result ≢ Status.NoMemory → OfNamedFiles (IsAnswerTo (D.told desk.old) result (D.told desk.new)) (D.told desk.old) (names_view names.now) }
 
     ensures counts { EndedAs result (D.counts desk.old) (D.counts desk.new) (D.told desk.old) (D.told desk.new) }
 {
     match check(alloc, desk, names) {
-        Ok(reply) => conclude(desk, reply.status, reply.text.as_slice()),
+        Ok(answer) => say_answer(desk, answer.status, answer.text.as_slice()),
         Err(stop) => stop.status(),
     }
 }
@@ -61,6 +66,10 @@ pub fn run<D: Desk>(alloc: Global, words: &[String], desk: &mut D) -> Status
     ensures yes { result ≡ Status.Done → IsAccepted (D.told desk.old) (map string_bytes words.now) }
     // What `no` means: which reason stands, and that no earlier one does.
     ensures no { result ≡ Status.No → IsNotAccepted (D.told desk.old) (map string_bytes words.now) }
+    // `yes` comes exactly where no reason stands.
+    ensures exactly { IsTrue (is_reached result) → OfFiles (YesExactly result) (D.told desk.old) (map string_bytes words.now) }
+    // Where no call of the desk failed and memory lasted, `check` of four files that are there says the answer to their bytes.
+    ensures bytes { AllSteady (D.counts desk.old) (D.counts desk.new) → result ≢ Status.NoMemory → OfFiles (IsAnswerTo (D.told desk.old) result (D.told desk.new)) (D.told desk.old) (map string_bytes words.now) }
     ensures part { result ≡ Status.WriteFault → AnswersPart (D.told desk.old) (map string_bytes words.now) (D.told desk.new) }
     ensures lacks { result ≡ Status.NoFile → LacksFile (D.told desk.old) (map string_bytes words.now) }
     ensures usage { IsTrue (is_reached result) → ((result ≡ Status.Usage) ↔ IsNoCommand (map string_bytes words.now)) }
@@ -72,8 +81,8 @@ pub fn run<D: Desk>(alloc: Global, words: &[String], desk: &mut D) -> Status
     ensures counts { EndedAs result (D.counts desk.old) (D.counts desk.new) (D.told desk.old) (D.told desk.new) }
 {
     match command_of(words) {
-        None => conclude(desk, Status::Usage, USAGE),
-        Some(Command::Structure) => conclude(desk, Status::Unbuilt, b"unbuilt structure\n"),
+        None => say_answer(desk, Status::Usage, USAGE),
+        Some(Command::Structure) => say_answer(desk, Status::Unbuilt, b"unbuilt structure\n"),
         Some(Command::Check(names)) => run_check(alloc, &names, desk),
     }
 }

@@ -1,3 +1,5 @@
+//! How a run ends.
+
 /// How a run ended.
 #[derive(Clone, Copy, Debug, PartialEq, Eq)]
 pub enum Status {

@@ -1,3 +1,5 @@
+//! Why a run stopped before it had an answer.
+
 ghost use Rattle.std.specs.Prelude.{◌≡◌};
 ghost use Rattle.escrow_top.specs.declared.stop.Stop.TheVariants.{NoMemory as OutOfMemory};
 

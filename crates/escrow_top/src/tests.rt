@@ -1,3 +1,5 @@
+//! Whole runs over a desk in memory.
+
 ghost use Rattle.std.specs.Prelude.{◌≡◌, IfOk, string_bytes};
 
 use crate::{Status, run};

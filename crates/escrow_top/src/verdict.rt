@@ -1,14 +1,16 @@
-ghost use Rattle.std.specs.Prelude.{◌≡◌, ◌≤◌, ◌^◌, length, IfOk, IsTrue, MatchResult, Some, None, option_map};
+//! What stands against a certificate.
+
+ghost use Rattle.std.specs.Prelude.{◌≡◌, ◌≤◌, ◌^◌, length, IfOk, IsTrue, Some};
 ghost use Rattle.offer_book.specs.Portfolio.{IsPermitted};
-ghost use Rattle.escrow_top.specs.Answer.{is_offered as is_offered_of, first_not_offered, portfolio_of, reason_against as reason_against_of, weighed, claim_answer};
-ghost use Rattle.escrow_top.specs.CertificateForm.{claim};
+ghost use Rattle.escrow_top.specs.Answer.{is_offered as is_offered_of, reason_against as reason_against_of, weighed, weigh_of};
+ghost use Rattle.escrow_top.specs.Bought.{AreBought};
+ghost use Rattle.escrow_top.specs.CertificateForm.{certificate_view};
 ghost use Rattle.case_file.specs.Case.{case_view};
 ghost use Rattle.escrow_top.specs.Ending.{is_checked};
-ghost use Rattle.escrow_top.specs.Reply.{answer};
 
+use crate::answer::{Answer, no, yes};
 use crate::certificate::{Certificate, Purchase};
 use crate::needs::needs_total;
-use crate::reply::{Reply, refusal, yes};
 use case_file::Case;
 use cash_table::{Plan, cost, first_short};
 use escrow_desk::NoMemory;
@@ -36,27 +38,28 @@ fn is_offered(book: &Book, purchase: Purchase) -> bool
     purchase.line < book.line_count() && book.line(purchase.line).permits(purchase.units)
 }
 
-// The portfolio of purchases, which is permitted; or the line of the first purchase that isn't offered.
-#[tactic(auto, using(crate::proofs::ClaimLaws::put_permitted, crate::proofs::ClaimLaws::zero_permitted))]
-fn plan_of(
-    alloc: Global,
-    book: &Book,
-    purchases: &[Purchase],
-) -> Result<Result<Plan, u16>, NoMemory>
-    ensures { IfOk result (λ found. MatchResult found
-        (λ plan. (first_not_offered book.now.lines purchases.now ≡ None)
-        × (plan ≡ portfolio_of (length book.now.lines) purchases.now)
-        × IsPermitted book.now plan)
-        (λ line. option_map (λ purchase. purchase.line) (first_not_offered book.now.lines purchases.now) ≡ Some line)) }
+// What the purchases of a certificate come to.
+#[derive(Drop)]
+enum Bought {
+    // The plan of all of them.
+    Whole(Plan),
+    // The line of the first that isn't offered.
+    NotOffered(u16),
+}
+
+// The plan of purchases, which is permitted; or the line of the first purchase that isn't offered.
+#[tactic(auto, using(crate::proofs::PurchaseLaws::put_permitted, crate::proofs::PurchaseLaws::zero_permitted))]
+fn plan_of(alloc: Global, book: &Book, purchases: &[Purchase]) -> Result<Bought, NoMemory>
+    ensures { IfOk result (AreBought book.now purchases.now) }
 {
     let mut plan = Plan::zero(alloc, book)?;
     for purchase in purchases {
         if !is_offered(book, *purchase) {
-            return Ok(Err(purchase.line));
+            return Ok(Bought::NotOffered(purchase.line));
         }
         plan.put(purchase.line, purchase.units);
     }
-    Ok(Ok(plan))
+    Ok(Bought::Whole(plan))
 }
 
 // Why a permitted portfolio isn't accepted with a gap.
@@ -77,32 +80,32 @@ fn reason_against(case: &Case, plan: &Plan, gap: u64) -> Option<Reason>
     None
 }
 
-// The reply to a permitted portfolio with a gap.
-fn weigh_plan(alloc: Global, case: &Case, plan: &Plan, gap: u64) -> Result<Reply, NoMemory>
+// The answer to a permitted portfolio with a gap.
+fn weigh_plan(alloc: Global, case: &Case, plan: &Plan, gap: u64) -> Result<Answer, NoMemory>
     requires { IsPermitted case.now.book plan.now }
-    ensures answer { IfOk result (λ reply. answer reply
+    ensures answer { IfOk result (λ answer. answer
         ≡ weighed (case_view case.now) plan.now gap (reason_against_of (case_view case.now) plan.now gap)) }
-    ensures status { IfOk result (λ reply. IsTrue (is_checked reply.status)) }
+    ensures status { IfOk result (λ answer. IsTrue (is_checked answer.status)) }
 {
     match reason_against(case, plan, gap) {
-        Some(reason) => refusal(alloc, reason),
+        Some(reason) => no(alloc, reason),
         None => yes(alloc, case, plan, gap),
     }
 }
 
-/// The reply to a certificate of the first form: `yes` with the summary, or the first reason against it.
+/// The answer to a certificate of the first form: `yes` with the summary, or the first reason against it.
 ///
 /// `NoMemory` is the one error.
 pub(crate) fn weigh(
     alloc: Global,
     case: &Case,
     certificate: &Certificate,
-) -> Result<Reply, NoMemory>
-    ensures answer { IfOk result (λ reply. answer reply ≡ claim_answer (case_view case.now) (Some (claim certificate.now))) }
-    ensures status { IfOk result (λ reply. IsTrue (is_checked reply.status)) }
+) -> Result<Answer, NoMemory>
+    ensures answer { IfOk result (λ answer. answer ≡ weigh_of (case_view case.now) (Some (certificate_view certificate.now))) }
+    ensures status { IfOk result (λ answer. IsTrue (is_checked answer.status)) }
 {
     match plan_of(alloc, &case.book, certificate.purchases.as_slice())? {
-        Ok(plan) => weigh_plan(alloc, case, &plan, certificate.gap),
-        Err(line) => refusal(alloc, Reason::NotPermitted(line)),
+        Bought::Whole(plan) => weigh_plan(alloc, case, &plan, certificate.gap),
+        Bought::NotOffered(line) => no(alloc, Reason::NotPermitted(line)),
     }
 }

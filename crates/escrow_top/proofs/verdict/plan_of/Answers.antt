@@ -4,7 +4,7 @@ use Rattle.std.proofs.lemmas.List.Sums.{fold_more}
 use Rattle.escrow_top.specs.declared.certificate.Purchase.{Purchase}
 use Rattle.escrow_top.specs.Answer.{is_offered}
 use Rattle.escrow_top.proofs.PurchaseFacts.{find_none-more, find-here}
-use Rattle.escrow_top.proofs.ClaimLaws.{put_permitted}
+use Rattle.escrow_top.proofs.PurchaseLaws.{put_permitted}
 use Rattle.escrow_top.proofs.verdict.plan_of.Goals as goal
 
 pub returns-then-not-is_offered : goal.returns-then-not-is_offered

@@ -1,8 +1,9 @@
+//! Answers: their status and their text.
+
 ghost use Rattle.std.specs.Prelude.{◌≡◌, ◌++◌, IfOk, IsTrue, OnOk};
-ghost use Rattle.escrow_top.specs.Answer.{text_line, reason_text, portfolio_yield as portfolio_yield_of, yes_text as yes_text_of, yield_words as yield_words_of, file_word as file_word_of, kind_word as kind_word_of, unbuilt as unbuilt_answer, refused as refused_answer, no_case_answer, refused_text, accepted, not_accepted};
+ghost use Rattle.escrow_top.specs.Answer.{text_line, reason_text, plan_yield as plan_yield_of, yes_text as yes_text_of, yield_words as yield_words_of, file_word as file_word_of, kind_word as kind_word_of, unbuilt as unbuilt_answer, refused as refused_answer, no_case_answer, refused_text, accepted, not_accepted};
 ghost use Rattle.case_file.specs.Case.{case_view};
 ghost use Rattle.escrow_top.specs.Ending.{is_checked, is_stopped};
-ghost use Rattle.escrow_top.specs.Reply.{answer};
 ghost use Rattle.offer_book.specs.Portfolio.{IsPermitted};
 
 use crate::status::Status;
@@ -13,13 +14,22 @@ use escrow_desk::{FileKind, NoMemory, Refusal, RefusalKind};
 use escrow_units::{Cents, print_cents, print_day, print_yield};
 use offer_book::Book;
 use std::alloc::Global;
+use std::marker::Model;
 use yield_enclosure::{YieldAnswer, interval};
 
 /// A status, and the text that is said with it.
 #[derive(Debug, Drop)]
-pub(crate) struct Reply {
+pub(crate) struct Answer {
     pub status: Status,
     pub text: Vec<u8>,
+}
+
+impl Model for Answer {
+    ghost use Rattle.escrow_top.specs.Answer.{Answer as AnswerContents};
+
+    ghost Value = { AnswerContents };
+
+    ghost view = { λ a. record { status = a.status; text = a.text.items } };
 }
 
 // Adds a line of words and a value.
@@ -114,32 +124,32 @@ fn refusal_line(alloc: Global, refusal: &Refusal) -> Result<Vec<u8>, NoMemory>
     Ok(text)
 }
 
-/// The reply that a file is refused.
-pub(crate) fn refused(alloc: Global, refusal: &Refusal) -> Result<Reply, NoMemory>
-    ensures answer { IfOk result (λ reply. answer reply ≡ refused_answer refusal.now) }
-    ensures status { IfOk result (λ reply. reply.status ≡ Status.Refused) }
+/// The answer that a file is refused.
+pub(crate) fn refused(alloc: Global, refusal: &Refusal) -> Result<Answer, NoMemory>
+    ensures answer { IfOk result (λ answer. answer ≡ refused_answer refusal.now) }
+    ensures status { IfOk result (λ answer. answer.status ≡ Status.Refused) }
 {
-    Ok(Reply {
+    Ok(Answer {
         status: Status::Refused,
         text: refusal_line(alloc, refusal)?,
     })
 }
 
-/// The reply that the form of a file isn't built yet.
-pub(crate) fn unbuilt(alloc: Global, kind: FileKind) -> Result<Reply, NoMemory>
-    ensures answer { IfOk result (λ reply. answer reply ≡ unbuilt_answer kind) }
-    ensures status { IfOk result (λ reply. reply.status ≡ Status.Unbuilt) }
+/// The answer that the form of a file isn't built yet.
+pub(crate) fn unbuilt(alloc: Global, kind: FileKind) -> Result<Answer, NoMemory>
+    ensures answer { IfOk result (λ answer. answer ≡ unbuilt_answer kind) }
+    ensures status { IfOk result (λ answer. answer.status ≡ Status.Unbuilt) }
 {
-    Ok(Reply {
+    Ok(Answer {
         status: Status::Unbuilt,
         text: one_line(alloc, b"unbuilt ", file_word(kind))?,
     })
 }
 
-/// The reply where the input files give no case.
-pub(crate) fn without_case(alloc: Global, why: NoCase) -> Result<Reply, NoMemory>
-    ensures answer { IfOk result (λ reply. answer reply ≡ no_case_answer why) }
-    ensures status { IfOk result (λ reply. IsTrue (is_stopped reply.status)) }
+/// The answer where the input files give no case.
+pub(crate) fn without_case(alloc: Global, why: NoCase) -> Result<Answer, NoMemory>
+    ensures answer { IfOk result (λ answer. answer ≡ no_case_answer why) }
+    ensures status { IfOk result (λ answer. IsTrue (is_stopped answer.status)) }
 {
     match why {
         NoCase::Refused(refusal) => refused(alloc, &refusal),
@@ -148,9 +158,9 @@ pub(crate) fn without_case(alloc: Global, why: NoCase) -> Result<Reply, NoMemory
 }
 
 // The yield of a portfolio's securities, as an interval.
-fn portfolio_yield(alloc: Global, book: &Book, plan: &Plan) -> Result<YieldAnswer, NoMemory>
+fn plan_yield(alloc: Global, book: &Book, plan: &Plan) -> Result<YieldAnswer, NoMemory>
     requires { IsPermitted book.now plan.now }
-    ensures { IfOk result (λ answer. answer ≡ portfolio_yield_of book.now plan.now) }
+    ensures { IfOk result (λ answer. answer ≡ plan_yield_of book.now plan.now) }
 {
     let flows = flows(alloc, book, plan)?;
     interval(
@@ -190,31 +200,31 @@ fn yes_text(alloc: Global, case: &Case, plan: &Plan, gap: u64) -> Result<Vec<u8>
         b"cost ",
         print_cents(cost(&case.book, plan)).as_bytes(),
     )?;
-    let words = yield_words(alloc, portfolio_yield(alloc, &case.book, plan)?)?;
+    let words = yield_words(alloc, plan_yield(alloc, &case.book, plan)?)?;
     push_line(&mut text, b"yield ", words.as_slice())?;
     push_line(&mut text, b"limit ", print_yield(case.limit).as_bytes())?;
     push_line(&mut text, b"gap ", print_cents(Cents(gap)).as_bytes())?;
     Ok(text)
 }
 
-/// The reply that accepts a portfolio with a gap.
-pub(crate) fn yes(alloc: Global, case: &Case, plan: &Plan, gap: u64) -> Result<Reply, NoMemory>
+/// The answer that accepts a portfolio with a gap.
+pub(crate) fn yes(alloc: Global, case: &Case, plan: &Plan, gap: u64) -> Result<Answer, NoMemory>
     requires { IsPermitted case.now.book plan.now }
-    ensures answer { IfOk result (λ reply. answer reply ≡ accepted (case_view case.now) plan.now gap) }
-    ensures status { IfOk result (λ reply. IsTrue (is_checked reply.status)) }
+    ensures answer { IfOk result (λ answer. answer ≡ accepted (case_view case.now) plan.now gap) }
+    ensures status { IfOk result (λ answer. IsTrue (is_checked answer.status)) }
 {
-    Ok(Reply {
+    Ok(Answer {
         status: Status::Done,
         text: yes_text(alloc, case, plan, gap)?,
     })
 }
 
-/// The reply that doesn't accept a certificate, for a reason.
-pub(crate) fn refusal(alloc: Global, reason: Reason) -> Result<Reply, NoMemory>
-    ensures answer { IfOk result (λ reply. answer reply ≡ not_accepted reason) }
-    ensures status { IfOk result (λ reply. IsTrue (is_checked reply.status)) }
+/// The answer that doesn't accept a certificate, for a reason.
+pub(crate) fn no(alloc: Global, reason: Reason) -> Result<Answer, NoMemory>
+    ensures answer { IfOk result (λ answer. answer ≡ not_accepted reason) }
+    ensures status { IfOk result (λ answer. IsTrue (is_checked answer.status)) }
 {
-    Ok(Reply {
+    Ok(Answer {
         status: Status::No,
         text: reason_line(alloc, reason)?,
     })

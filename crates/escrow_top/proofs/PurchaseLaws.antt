@@ -9,7 +9,7 @@ use Rattle.offer_book.specs.Book.{BookContents}
 use Rattle.offer_book.specs.Portfolio.{IsPermitted, permits}
 use Rattle.cash_table.proofs.PermitFacts.{PassBelow, permitted_from_tests, passes_from_permitted}
 use Rattle.case_file.specs.Case.{cash_line}
-use Rattle.escrow_top.specs.Answer.{is_offered, first_not_offered, portfolio_of}
+use Rattle.escrow_top.specs.Answer.{is_offered, first_not_offered, plan_of}
 use Rattle.escrow_top.specs.declared.certificate.Purchase.{Purchase}
 
 -- 0 units of every line
@@ -61,5 +61,5 @@ puts_permitted book plan (purchase ∷ purchases) permitted none =
     by_test false offered none rest = absurd (cc)
 
 -- the portfolio of purchases that are all offered
-pub portfolio_permitted : (book : BookContents) (purchases : List Purchase) → first_not_offered book.lines purchases ≡ None → IsPermitted book (portfolio_of (length book.lines) purchases)
-portfolio_permitted book purchases none = puts_permitted book (replicate (length book.lines) 0) purchases (zero_permitted book) none
+pub plan_permitted : (book : BookContents) (purchases : List Purchase) → first_not_offered book.lines purchases ≡ None → IsPermitted book (plan_of book purchases)
+plan_permitted book purchases none = puts_permitted book (replicate (length book.lines) 0) purchases (zero_permitted book) none

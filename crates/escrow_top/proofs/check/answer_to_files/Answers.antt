@@ -1,0 +1,43 @@
+use Rattle.std.proofs.Common.{◌∙◌}
+use Rattle.std.proofs.lemmas.Result.{IfOk-weaker}
+use Rattle.case_file.specs.Case.{case_view}
+use Rattle.escrow_top.specs.Reading.{CertificateAnswers, FilesAnswer, files_view, names_view}
+use Rattle.escrow_top.proofs.AnswerLaws.{certificate_said, answer_accepted, answer_not_accepted}
+use Rattle.escrow_top.proofs.ExactLaws.{answer_exactly}
+use Rattle.escrow_top.proofs.InputFacts.{rows_alone}
+use Rattle.escrow_top.proofs.check.answer_to_files.Goals as goal
+
+pub returns-in-Ok-clause-yes : goal.returns-in-Ok-clause-yes
+returns-in-Ok-clause-yes g c =
+    let issue = c.as_slice.ensures.value in
+    let rates = c.as_slice-2.ensures.value in
+    let prices = c.as_slice-3.ensures.value in
+    let is = rw (issue, rates, prices) at c.in-Ok.ensures.case in
+    let kept = rw rates at c.in-Ok.ensures.kept in
+    answer_accepted (g.D.Desk.told c.args.desk.now) (names_view c.args.names.now) (files_view c.args.files.now) (case_view c.in-Ok.case)
+    c.answer_to_certificate.result c.requires.read c.requires.within is kept c.answer_to_certificate.ensures.answer
+
+pub returns-in-Ok-clause-no : goal.returns-in-Ok-clause-no
+returns-in-Ok-clause-no g c =
+    let issue = c.as_slice.ensures.value in
+    let rates = c.as_slice-2.ensures.value in
+    let prices = c.as_slice-3.ensures.value in
+    let is = rw (issue, rates, prices) at c.in-Ok.ensures.case in
+    let kept = rw rates at c.in-Ok.ensures.kept in
+    answer_not_accepted (g.D.Desk.told c.args.desk.now) (names_view c.args.names.now) (files_view c.args.files.now) (case_view c.in-Ok.case)
+    c.answer_to_certificate.result c.requires.read c.requires.within is kept c.answer_to_certificate.ensures.answer
+
+pub returns-in-Ok-clause-exactly : goal.returns-in-Ok-clause-exactly
+returns-in-Ok-clause-exactly g c =
+    let issue = c.as_slice.ensures.value in
+    let rates = c.as_slice-2.ensures.value in
+    let prices = c.as_slice-3.ensures.value in
+    let is = rw (issue, rates, prices) at c.in-Ok.ensures.case in
+    let kept = rw rates at c.in-Ok.ensures.kept in
+    let told = g.D.Desk.told c.args.desk.now in
+    let names = names_view c.args.names.now in
+    let files = files_view c.args.files.now in
+    let case = case_view c.in-Ok.case in
+    answer_exactly told names files case c.answer_to_certificate.result c.requires.read c.requires.within is kept
+    (IfOk-weaker c.answer_to_certificate.result (λ reply. CertificateAnswers told names.cert case (reply)) (λ reply. FilesAnswer told names (reply))
+    (λ reply said. certificate_said told names files case (reply) c.requires.read c.requires.within (rows_alone files c.requires.within ∙ is) said) c.answer_to_certificate.ensures.answer)
