@@ -64,9 +64,12 @@ pub fn read_rows(alloc: Global, bytes: &[u8]) -> Result<Rows, NoMemory>
     ensures { IfOk result (λ rows. rows ≡ rows_of bytes.now) }
 {
     let mut reader = ReaderBuilder::new()
-        .has_headers(false)
         .flexible(true)
         .from_reader(alloc, bytes);
+    // With a header row that is set, none is read, and the reader keeps no copy of the first record.
+    let Ok(()) = reader.set_byte_headers(ByteRecord::new(alloc)) else {
+        return Err(NoMemory);
+    };
     let mut record = ByteRecord::new(alloc);
     let mut buffer = RowBuffer::new(alloc);
     'rows: loop {

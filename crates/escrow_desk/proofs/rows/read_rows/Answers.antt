@@ -11,17 +11,17 @@ pub rows-init : goal.rows-init
 unfolding Reached
 rows-init c =
     let fr = c.from_reader-reader.ensures in
-    let names = c.has_headers.ensures in
     let loose = c.flexible.ensures in
-    record {
-      plain = rw (loose, names) at fr.trim ∙ c.new.ensures.trim;
-      ready = inr (inr (rw (loose, names) at fr.has_headers, fr.headers));
-      config = rw (loose, names) at fr.config ∙ c.new.ensures.config;
+    let same = c.in-Ok.ensures.same in
+    rw same (record {
+      plain = rw loose at fr.trim ∙ c.new.ensures.trim;
+      ready = inr (inl (rw loose at fr.has_headers ∙ c.new.ensures.has_headers, c.in-Ok.ensures.set));
+      config = rw loose at fr.config ∙ c.new.ensures.config;
       kept = c.new-buffer.ensures.kept;
       rest = strip_bom c.args.bytes.now;
       source = fr.source;
       reached = rw c.new-buffer.ensures.rows (sym fr.state, refl);
-    }
+    })
 
 pub rows-smaller : goal.rows-smaller
 unfolding Reached
