@@ -1,8 +1,8 @@
 -- Facts about the records of a text.
 use Rattle.csv.specs.Reading.{is_bom}
-use Rattle.csv.specs.Records.{field_at}
 use Rattle.escrow_desk.specs.Sizes.{AreSmall}
-use Rattle.std.proofs.Common.{get_or, ◌≡◌, ◌<◌, ◌≤◌, ◌+◌, ℕ, zero, suc, List, [], ◌∷◌, ◌++◌, Option, Some, None, Bool, true, false, refl, ap, length, arith, length-append, cond}
+use Rattle.std.proofs.lemmas.Bool.{cases_Bool}
+use Rattle.std.proofs.Common.{get_or, ◌≡◌, ◌<◌, ◌≤◌, ◌+◌, ℕ, zero, suc, List, [], ◌∷◌, ◌++◌, Option, Some, None, Bool, true, false, refl, ap, length, arith, length-append, cond, inl, inr}
 use Rattle.csv.specs.Machine.{next_record, Read, step, is_end, fields_after, field_after, ends_at_end}
 use Rattle.csv.specs.Reading.{records_from, records_next, records, Reached, AreRecords, default_config, strip_bom}
 use Rattle.csv.specs.declared.parser.Config.{Config}
@@ -51,6 +51,28 @@ finishes-cond false p a b = tt
 finishes : (cfg : Config) (s : State) (fs : List (List ℕ)) (f : List ℕ) → Finishes (next_record cfg s fs f [])
 unfolding next_record
 finishes cfg s fs f = finishes-cond (ends_at_end s) (fs ++ (f ∷ []), st.StartRecord, []) refl refl
+
+-- a bound on how many records are still read: each takes a byte, but for one that the end of the text ends
+abbrev pub reads_left : State → Option (List ℕ) → ℕ
+reads_left s None = 0
+reads_left s (Some xs) = length xs + length xs + cond (ends_at_end s) 1 0
+
+fewer_left : (s : State) (n k : ℕ) → k ≤ n → k + k + cond (ends_at_end s) 1 0 < suc n + suc n
+fewer_left s n k le = elim (cases_Bool (ends_at_end s)) [
+  | inl t ↦ rw t (omega arith)
+  | inr f ↦ rw f (omega arith)
+]
+
+pub fewer_reads : (cfg : Config) (s : State) (xs : List ℕ) (p : Read) → next_record cfg s [] [] xs ≡ Some p → reads_left p.1 (Some p.2) < reads_left s (Some xs)
+unfolding next_record
+fewer_reads cfg s (c ∷ xs) p e =
+    let less = rw e at (leaves_less cfg s [] [] c xs) in
+    let few = fewer_left p.1 (length xs) (length p.2) less in
+    omega (arith, few)
+fewer_reads cfg s [] p e = elim (cases_Bool (ends_at_end s)) [
+  | inl t ↦ let end = rw e at (finishes cfg s [] []) in rw (end.0, end.1, t) (omega arith)
+  | inr f ↦ absurd (cc (rw f at e))
+]
 
 -- the records that reads gave in turn, up to a read that gave none, are the records of the text
 reached_end : (cfg : Config) (n : ℕ) (rows : List (List (List ℕ))) (s2 : State) (ys : List ℕ)
@@ -139,9 +161,3 @@ records-small xs h = record {
   count = omega (arith, strip_short xs, length-records_from default_config (length (strip_bom xs) + 1) st.StartRecord (strip_bom xs));
   widths = λ k. omega (arith, strip_short xs, widths default_config (length (strip_bom xs) + 1) st.StartRecord (strip_bom xs) k);
 }
-
-pub field-get : (fs : List (List ℕ)) (i : ℕ) → i < length fs → field_at fs i ≡ Some (get_or fs i [])
-unfolding field_at
-field-get [] i h = absurd (omega arith)
-field-get (f ∷ fs) zero h = refl
-field-get (f ∷ fs) (suc i) h = field-get fs i (omega arith)

@@ -1,8 +1,10 @@
+pub mod Buffer
 pub mod Codes
 pub mod Content
 pub mod Counts
 pub mod LentFiles
 pub mod Memory
 pub mod NamedFiles
+pub mod Parts
 pub mod Rows
 pub mod Sizes

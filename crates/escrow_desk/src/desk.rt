@@ -1,3 +1,5 @@
+//! The outside as a trait: files by name, a place to say text, and the counts of what failed.
+
 ghost use Rattle.std.specs.Prelude.{◌≡◌, ◌<◌, ◌≤◌, length, OnOk, OnErr, IfOk, IsErrOf};
 ghost use Rattle.escrow_desk.specs.Counts.{Counts, CountsRead, CountsWrite};
 ghost use Rattle.escrow_desk.specs.Content.{Told, Given, IsAbsent, Emptied, Appended, Said};

@@ -1,3 +1,5 @@
+//! Files in a list, by name.
+
 ghost use Rattle.std.specs.Prelude.{◌≡◌, ◌≢◌, ◌<◌, ◌≤◌, ◌++◌, [], ℕ, length, None, OnOk, OnErr, IfSome, IfNone, unwrap_or, option_map, string_bytes, slice_index_or};
 ghost use Rattle.std.specs.FinMap as fin;
 ghost use Rattle.escrow_desk.specs.Content.{PartOf};

@@ -4,6 +4,7 @@
 //! tells it; that a failure has a cause is known of each desk, by its three counts.
 #![tactic(auto)]
 
+mod buffer;
 mod desk;
 mod files;
 mod memory;

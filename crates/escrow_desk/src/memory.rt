@@ -1,3 +1,5 @@
+//! A desk in memory, of which some calls fail.
+
 ghost use Rattle.std.specs.Prelude.{◌≡◌, ◌<◌, ◌≤◌, ◌↔◌, Some, length, OnOk, OnErr, IsErr, IfOk, IsTrue, IsErrOf, option_map};
 ghost use Rattle.escrow_desk.specs.Counts.{CountsRead, CountsWrite};
 ghost use Rattle.escrow_desk.specs.Content.{file_of, Given, IsAbsent, Emptied, Appended, Said};

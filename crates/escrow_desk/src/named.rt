@@ -1,3 +1,5 @@
+//! Bytes with a name.
+
 /// A file's name and its bytes.
 #[derive(Debug, Drop)]
 pub struct NamedBytes {

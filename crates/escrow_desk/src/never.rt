@@ -1,3 +1,5 @@
+//! A desk over lent files, which never fails.
+
 ghost use Rattle.std.specs.Prelude.{◌≡◌, ◌<◌, ◌≤◌, [], length, IsOk, IfOk, OnOk, OnErr, unwrap_or};
 ghost use Rattle.std.specs.FinMap as fin;
 ghost use Rattle.escrow_desk.specs.Content.{PartOf, Given, Emptied, Appended, Said};

@@ -1,3 +1,8 @@
+//! Why a case, a file or a step wasn't carried out, and how want of memory becomes each.
+
+ghost use Rattle.std.specs.Prelude.{◌≡◌};
+ghost use Rattle.escrow_desk.specs.declared.refusal.ReadRefusal.TheVariants.{NoMemory as ReadNoMemory};
+
 use std::alloc::{AllocError, AllocFailed};
 
 /// Memory ran out.
@@ -105,5 +110,13 @@ impl<T: Drop> From<AllocFailed<T>> for NoMemory {
 impl From<AllocError> for NoMemory {
     fn from(_error: AllocError) -> NoMemory {
         NoMemory
+    }
+}
+
+impl From<AllocError> for ReadRefusal {
+    ghost from_gives = { λ _ refusal. refusal ≡ ReadNoMemory };
+
+    fn from(_error: AllocError) -> ReadRefusal {
+        ReadRefusal::NoMemory
     }
 }

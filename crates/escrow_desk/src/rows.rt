@@ -1,6 +1,9 @@
+//! The records of a text of comma-separated fields.
+
 ghost use Rattle.std.specs.Prelude.{◌≡◌, ◌<◌, ◌≤◌, [], length, IfOk, slice_index_or};
 ghost use Rattle.escrow_desk.specs.Rows.{rows_of};
 
+use crate::buffer::RowBuffer;
 use crate::refusal::NoMemory;
 use csv::{ByteRecord, ReaderBuilder};
 use std::alloc::Global;
@@ -9,19 +12,19 @@ use std::marker::Model;
 /// The records of a text of comma-separated fields, seen as a list of lists of byte lists.
 #[derive(Drop)]
 pub struct Rows {
-    records: Vec<ByteRecord>,
+    buffer: RowBuffer,
 }
 
 impl Model for Rows {
-    ghost use Rattle.std.specs.Prelude.{ℕ, List, map};
-    ghost use Rattle.csv.specs.Records.{fields_of};
+    ghost use Rattle.std.specs.Prelude.{ℕ, List};
+    ghost use Rattle.escrow_desk.specs.Buffer.{IsRowBuffer, rows_in};
     ghost use Rattle.escrow_desk.specs.Sizes.{AreSmall};
 
     ghost Value = { List (List (List ℕ)) };
 
-    ghost view = { λ rows. map fields_of rows.records.items };
+    ghost view = { λ rows. rows_in rows.buffer };
 
-    ghost invariant = { λ rows. AreSmall (map fields_of rows.records.items) };
+    ghost invariant = { λ rows. IsRowBuffer rows.buffer × AreSmall (rows_in rows.buffer) };
 }
 
 impl Rows {
@@ -29,7 +32,7 @@ impl Rows {
     pub fn count(&self) -> u32
         ensures { result ≡ length self.now }
     {
-        self.records.len() as u32
+        self.buffer.count() as u32
     }
 
     /// How many fields a record has. Records are counted from 0.
@@ -37,7 +40,7 @@ impl Rows {
         requires { row < length self.now }
         ensures { result ≡ length (slice_index_or self.now row []) }
     {
-        self.records[row as usize].len() as u32
+        self.buffer.width(row as usize)
     }
 
     /// The bytes of a field. Records and places are counted from 0.
@@ -46,10 +49,7 @@ impl Rows {
         requires place { place < length (slice_index_or self.now row []) }
         ensures { result.now ≡ slice_index_or (slice_index_or self.now row []) place [] }
     {
-        match self.records[row as usize].get(place as usize) {
-            Some(field) => field,
-            None => unreachable!(),
-        }
+        self.buffer.field(row as usize, place)
     }
 }
 
@@ -63,16 +63,20 @@ pub fn read_rows(alloc: Global, bytes: &[u8]) -> Result<Rows, NoMemory>
     requires { length bytes.now ≤ 1048576 }
     ensures { IfOk result (λ rows. rows ≡ rows_of bytes.now) }
 {
-    let reader = ReaderBuilder::new()
-        .has_headers(false)
+    let mut reader = ReaderBuilder::new()
         .flexible(true)
         .from_reader(alloc, bytes);
-    let mut records = Vec::new(alloc);
-    for record in reader.into_byte_records() {
-        let Ok(record) = record else {
-            return Err(NoMemory);
-        };
-        records.push(record)?;
+    // With a header row that is set, none is read, and the reader keeps no copy of the first record.
+    let Ok(()) = reader.set_byte_headers(ByteRecord::new(alloc)) else {
+        return Err(NoMemory);
+    };
+    let mut record = ByteRecord::new(alloc);
+    let mut buffer = RowBuffer::new(alloc);
+    'rows: loop {
+        match reader.read_byte_record(&mut record) {
+            Ok(true) => buffer.push(&record)?,
+            Ok(false) => return Ok(Rows { buffer }),
+            Err(_) => return Err(NoMemory),
+        }
     }
-    Ok(Rows { records })
 }

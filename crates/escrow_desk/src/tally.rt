@@ -1,3 +1,5 @@
+//! Which calls of a desk in memory fail, and how many did.
+
 ghost use Rattle.std.specs.Prelude.{◌≡◌, ◌≤◌, ◌+◌, [], if◌then◌else◌, min};
 ghost use Rattle.escrow_desk.specs.Counts.{last_count};
 ghost use Rattle.escrow_desk.specs.Memory.{is_next_listed, listed_below};

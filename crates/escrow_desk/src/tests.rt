@@ -1,3 +1,5 @@
+//! Worked calls of the desks, and records of texts.
+
 ghost use Rattle.std.specs.Prelude.{◌≡◌, ◌≤◌, length, IfOk, string_bytes};
 
 use crate::{

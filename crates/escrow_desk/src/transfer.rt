@@ -1,13 +1,22 @@
+//! Whole files read and written, and whole texts said.
+
 ghost use Rattle.std.specs.Prelude.{◌≡◌, ◌≤◌, length, OnOk, OnErr, IfOk, IsErrOf};
 ghost use Rattle.escrow_desk.specs.Counts.{CountsReadAll, CountsWrite};
 ghost use Rattle.escrow_desk.specs.Content.{IsFile, IsAbsent, IsLonger, SaidAll, SaidPart, WroteAll, WrotePart};
 
 use crate::desk::{Desk, DeskError, Failed};
 use crate::refusal::ReadRefusal;
-use std::alloc::Global;
+use std::alloc::{AllocError, Global};
 
-// The most bytes that one read takes: a page of memory.
-const PIECE: usize = 4096;
+// The most bytes that one read takes. They stand on the heap, so that a small stack is enough.
+const PIECE: usize = 65_536;
+
+// Room for a piece.
+fn new_piece(alloc: Global) -> Result<Vec<u8>, AllocError>
+    ensures { IfOk result (λ piece. length piece.items ≡ 65_536) }
+{
+    Ok(vec![in alloc; 0u8; PIECE]?)
+}
 
 /// Reads a whole file of at most `limit` bytes.
 ///
@@ -30,22 +39,19 @@ pub fn read_all<D: Desk>(
     ensures counts { CountsReadAll result (D.counts desk.old) (D.counts desk.new) }
 {
     let mut bytes = Vec::new(alloc);
-    let mut piece = [0u8; PIECE];
-    while bytes.len() as u64 <= limit {
+    let mut room = new_piece(alloc)?;
+    let piece = room.as_mut_slice();
+    'pieces: while bytes.len() as u64 <= limit {
         // At most one byte past the limit is read.
         let more = limit - bytes.len() as u64;
-        let room = if more < PIECE as u64 - 1 {
+        let most = if more < PIECE as u64 - 1 {
             more as usize + 1
         } else {
             PIECE
         };
-        match desk.read(name, bytes.len() as u64, &mut piece[..room]) {
+        match desk.read(name, bytes.len() as u64, &mut piece[..most]) {
             Ok(0) => return Ok(bytes),
-            Ok(count) => {
-                if bytes.extend_from_slice(&piece[..count]).is_err() {
-                    return Err(ReadRefusal::NoMemory);
-                }
-            }
+            Ok(count) => bytes.extend_from_slice(&piece[..count])?,
             Err(DeskError::Failed) => return Err(ReadRefusal::Fault),
             Err(DeskError::NoFile) => return Err(ReadRefusal::NoFile),
         }

@@ -1,50 +1,61 @@
-use Rattle.std.proofs.Common.{Bor, List, ℕ, ◌≡◌, ◌∙◌, sym, refl, rules, inl, inr, true, map, Some, ◌∷◌, []}
-use Rattle.std.specs.Result.{is_ok}
-use Rattle.std.proofs.lemmas.List.{map-append}
+use Rattle.std.proofs.Common.{Bor, List, ℕ, ◌∙◌, sym, refl, inl, inr, Some, []}
 use Rattle.csv.specs.Reading.{Reached, default_config, strip_bom}
 use Rattle.csv.specs.Records.{fields_of}
 use Rattle.csv.specs.declared.parser.State.TheVariants as st
 use Rattle.csv.proofs.ReadFacts.{rows-end, rows-more}
-use Rattle.escrow_desk.proofs.RecordFacts.{records-are, records-small}
+use Rattle.escrow_desk.specs.Buffer.{rows_in}
+use Rattle.escrow_desk.proofs.RecordFacts.{fewer_reads, records-are, records-small}
 use Rattle.escrow_desk.proofs.rows.read_rows.Goals as goal
 
-pub loop-record-init : goal.loop-record-init
+pub rows-init : goal.rows-init
 unfolding Reached
-loop-record-init c =
+rows-init c =
     let fr = c.from_reader-reader.ensures in
-    let names = c.has_headers.ensures in
     let loose = c.flexible.ensures in
-    let start = c.into_iter-record-iterator.ensures.into_iter_gives ∙ refl in
-    let rdr = c.into_byte_records-record-items.ensures.rdr in
-    let left = c.into_byte_records-record-items.ensures.left in
-    rw (start, rdr, c.new-records.ensures.items) (
-      rw (loose, names) at fr.trim ∙ c.new.ensures.trim,
-      inr (inr (rw (loose, names) at fr.has_headers, fr.headers)),
-      left,
-      rw (loose, names) at fr.config ∙ c.new.ensures.config,
-      strip_bom c.args.bytes.now,
-      fr.source,
-      (sym fr.state, refl),
-    )
+    let same = c.in-Ok.ensures.same in
+    rw same (record {
+      plain = rw loose at fr.trim ∙ c.new.ensures.trim;
+      ready = inr (inl (rw loose at fr.has_headers ∙ c.new.ensures.has_headers, c.in-Ok.ensures.set));
+      config = rw loose at fr.config ∙ c.new.ensures.config;
+      kept = c.new-buffer.ensures.kept;
+      rest = strip_bom c.args.bytes.now;
+      source = fr.source;
+      reached = rw c.new-buffer.ensures.rows (sym fr.state, refl);
+    })
 
-pub loop-record-preserved : goal.loop-record-preserved
-loop-record-preserved c =
-    let inv = c.loop-record.invariant in
-    let s = rw (c.in-Some.is, c.in-Ok.is) at ((c.next.ensures.steps inv.2 inv.0).0 inv.1) in
-    let good : is_ok c.push.result ≡ true = search rules in
-    let items = rw good at c.push.ensures.items in
-    let m = rows-more (λ (s : Bor (List ℕ)). Some s.now) c.loop-record.record-iterator.rdr c.next.new.self.rdr (fields_of c.in-Ok.record) default_config st.StartRecord (strip_bom c.args.bytes.now) inv.4 (map fields_of c.loop-record.records.items) inv.3 inv.5 inv.6 s.0 in
-    (s.0.3 ∙ inv.0, inl s.1, s.2, s.0.2 ∙ inv.3, m.0, m.1, rw (items, map-append fields_of c.loop-record.records.items (c.in-Ok.record ∷ [])) m.2)
+pub rows-smaller : goal.rows-smaller
+unfolding Reached
+rows-smaller c =
+    let inv = c.rows.invariant in
+    let read = rw c.in-Ok-true.field-0-test at (c.in-Ok-true.ensures.reads inv.plain inv.ready) in
+    let m = rows-more (λ (s : Bor (List ℕ)). Some s.now) c.rows.reader c.read_byte_record.new.self (fields_of c.read_byte_record.new.row) default_config c.rows.reader.state inv.rest inv.rest [] inv.config inv.source (refl, refl) read in
+    let fewer = fewer_reads default_config c.rows.reader.state inv.rest m.2.0 m.2.1 in
+    rw (inv.source, m.1) (rw (m.2.3.0, m.2.3.1) at fewer)
+
+pub rows-preserved : goal.rows-preserved
+rows-preserved c =
+    let inv = c.rows.invariant in
+    let read = rw c.in-Ok-true.field-0-test at (c.in-Ok-true.ensures.reads inv.plain inv.ready) in
+    let m = rows-more (λ (s : Bor (List ℕ)). Some s.now) c.rows.reader c.read_byte_record.new.self (fields_of c.read_byte_record.new.row) default_config st.StartRecord (strip_bom c.args.bytes.now) inv.rest (rows_in c.rows.buffer) inv.config inv.source inv.reached read in
+    record {
+      plain = read.3 ∙ inv.plain;
+      ready = inl (c.in-Ok-true.ensures.ready inv.plain);
+      config = read.2 ∙ inv.config;
+      kept = c.in_ok-push-in-Ok-true.ensures.kept;
+      rest = m.0;
+      source = m.1;
+      reached = rw c.in_ok-push-in-Ok-true.ensures.rows m.2;
+    }
 
 pub invariant_of-result : goal.invariant_of-result
 invariant_of-result c =
-    let inv = c.loop-record.invariant in
-    let s = rw c.in-None.is at ((c.next.ensures.steps inv.2 inv.0).0 inv.1) in
-    let e = records-are _ _ (c.loop-record.record-iterator.rdr.state, inv.4, inv.6, rows-end (λ (s : Bor (List ℕ)). Some s.now) c.loop-record.record-iterator.rdr c.next.new.self.rdr [] default_config inv.4 inv.3 inv.5 s) in
-    rw e at (records-small c.args.bytes.now c.requires)
+    let inv = c.rows.invariant in
+    let read = rw c.in-Ok-false.field-0-test at (c.in-Ok-false.ensures.reads inv.plain inv.ready) in
+    let e = records-are _ _ (c.rows.reader.state, inv.rest, inv.reached, rows-end (λ (s : Bor (List ℕ)). Some s.now) c.rows.reader c.read_byte_record.new.self (fields_of c.read_byte_record.new.row) default_config inv.rest inv.config inv.source read) in
+    (inv.kept, rw e at (records-small c.args.bytes.now c.requires))
 
-pub returns : goal.returns
-returns c =
-    let inv = c.loop-record.invariant in
-    let s = rw c.in-None.is at ((c.next.ensures.steps inv.2 inv.0).0 inv.1) in
-    sym (records-are _ _ (c.loop-record.record-iterator.rdr.state, inv.4, inv.6, rows-end (λ (s : Bor (List ℕ)). Some s.now) c.loop-record.record-iterator.rdr c.next.new.self.rdr [] default_config inv.4 inv.3 inv.5 s))
+pub returns-in-Ok-false : goal.returns-in-Ok-false
+returns-in-Ok-false c =
+    let inv = c.rows.invariant in
+    let read = rw c.in-Ok-false.field-0-test at (c.in-Ok-false.ensures.reads inv.plain inv.ready) in
+    sym (records-are _ _ (c.rows.reader.state, inv.rest, inv.reached, rows-end (λ (s : Bor (List ℕ)). Some s.now) c.rows.reader c.read_byte_record.new.self (fields_of c.read_byte_record.new.row) default_config inv.rest inv.config inv.source read))
