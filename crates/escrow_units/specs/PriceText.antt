@@ -5,6 +5,7 @@ use Rattle.std.specs.List.{list_any, before_first, after_first}
 use Rattle.escrow_units.specs.declared.amount.Price8.{Price8}
 use Rattle.escrow_units.specs.declared.fault.NumberFault.{NumberFault}
 use Rattle.escrow_units.specs.declared.fault.NumberFault.TheVariants.{PriceRange}
+use Rattle.escrow_units.specs.declared.limits.TheConstants.{GREATEST_PRICE, LEAST_PRICE}
 use Rattle.escrow_units.specs.NumberText.{whole_of, decimal_of, ranged}
 
 -- two digits, from 00 to 31
@@ -39,4 +40,4 @@ price_units_of bytes =
 
 -- from 10 to 300 percent of par
 unfoldable pub price_of : List ℕ → Result Price8 NumberFault
-price_of bytes = ranged (λ n. record { 0 = n }) 1_000_000_000 30_000_000_000 PriceRange (price_units_of bytes)
+price_of bytes = ranged (λ n. record { 0 = n }) LEAST_PRICE GREATEST_PRICE PriceRange (price_units_of bytes)

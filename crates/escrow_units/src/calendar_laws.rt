@@ -1,3 +1,4 @@
+//! What the definitions of dates, series, years, indices and kinds mean.
 ghost use Rattle.escrow_units.specs.CalendarLaws.{DatesAreUnique, EachDayIsDated, IndexIsBounded, IndexRises, KindsAreExclusive, KindsAreExhaustive, MonthEndIsSameDayElsewhere, MonthEndStays, NoYearsPass, SameDayKeepsDay, SeriesFalls, SeriesHasDays, SeriesStartsAtMaturity, SeriesStepsByHalfYears, SettlementLeadsToBaseDays, StepsCount180, TextsSpellDays, YearsLeadToDays, YearsPass};
 
 /// What the date of a day number is, the one date of the calendar that has that number, and which bytes spell it.
