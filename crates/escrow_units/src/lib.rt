@@ -38,7 +38,7 @@ pub use limits::{
 pub use number_text::{
     decimal_spelling, read_cents, read_count, read_dollars, read_rate, read_yield,
 };
-pub use price_text::read_price;
+pub use price_text::{price_spelling, read_price};
 pub use printed::{print_cents, print_rate, print_yield};
 pub use rounding::near;
 pub use security::{AskedRate, Flow, Slgs, SlgsKind, StepRule, Terms};

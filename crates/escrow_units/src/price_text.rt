@@ -1,6 +1,6 @@
 //! The field of a price: a decimal, or whole percents and thirty-seconds.
 ghost use Rattle.std.specs.Prelude.{◌≡◌, ◌+◌, ◌*◌, ◌≤◌, ◌<◌, IfSome, IfOk};
-ghost use Rattle.escrow_units.specs.PriceText.{thirty_seconds_of, eighths_of, fraction_of, quoted_of, price_units_of, price_of};
+ghost use Rattle.escrow_units.specs.PriceText.{PricesAreSpelled, thirty_seconds_of, eighths_of, fraction_of, quoted_of, price_units_of, price_of};
 
 use crate::amount::Price8;
 use crate::decimal::{decimal, in_range, place_of, whole_number};
@@ -88,3 +88,10 @@ pub fn read_price(bytes: &[u8]) -> Result<Price8, NumberFault>
         NumberFault::PriceRange,
     )?))
 }
+
+/// A law on the prices that are read, which does nothing when it is called: which texts a price has, and their value.
+///
+/// A price is a decimal, or whole percents, a hyphen and thirty-seconds of a percent, maybe with eighths of one.
+pub fn price_spelling()
+    ensures { PricesAreSpelled }
+{}
