@@ -8,7 +8,7 @@ use Rattle.std.proofs.lemmas.List.Kept.{AllPairs-filter}
 use Rattle.jiff_core.proofs.SignedLemmas.{signed_arith}
 use Rattle.escrow_units.specs.Calendar.{half_back_of, IsBaseDay, IsSeriesDate}
 use Rattle.escrow_units.specs.CalendarLaws.{IsHalfYear}
-use Rattle.escrow_units.specs.Series.{AreDatesAfter, IsLastBy, dates_after_of, next_date_of, previous_date_of, series_of}
+use Rattle.escrow_units.specs.Series.{AreDatesAfter, IsFirstAfter, IsLastBy, dates_after_of, next_date_of, previous_date_of, series_of}
 use Rattle.escrow_units.specs.declared.security.StepRule.{StepRule}
 use Rattle.escrow_units.proofs.SeriesFacts.{half_back_of-falls}
 use Rattle.escrow_units.proofs.FlowFacts.{cases_int_le, int_lt-is, int_lt-not, int_lt-test}
@@ -66,6 +66,20 @@ last-by maturity r day n near some few late early = record {
   ];
 }
 
+-- and the first of them is the first after the day
+pub first-after : (maturity : ℤ) (r : StepRule) (day : ℤ) (n : ℕ) → IsNear maturity day → 0 < n → n ≤ 84
+    → day <ℤ half_back_of maturity (n - 1) r → half_back_of maturity n r ≤ℤ day → IsFirstAfter maturity r day (half_back_of maturity (n - 1) r)
+first-after maturity r day n near some few late early = record {
+  series = record { steps = n - 1; few = omega arith; back = refl };
+  after = late;
+  first = λ other on after. elim (cases_lt on.steps n) [
+    | inl sooner ↦ rw on.back (half_back_of-order maturity r on.steps (n - 1) near.base (omega arith) (omega arith))
+    | inr later ↦
+        let order = half_back_of-order maturity r n on.steps near.base later on.few in
+        absurd (omega (arith, signed_arith, on.back, order, early, after))
+  ];
+}
+
 -- the walk from maturity back to the last date up to the day
 pub record IsWalk (maturity : ℤ) (r : StepRule) (day date next : ℤ) (dates : List ℤ) : Type 0 where
   pub few : length dates ≤ 81
@@ -108,10 +122,14 @@ pub record IsWalked (maturity : ℤ) (r : StepRule) (day date next : ℤ) (dates
   pub following : next ≡ next_date_of maturity r day
   pub all : reverse dates ≡ dates_after_of maturity r day
   pub last : IsLastBy maturity r day date
+  pub first : IsFirstAfter maturity r day next
   pub half_year : IsHalfYear date next
 
 last-along : (maturity : ℤ) (r : StepRule) (day a b : ℤ) → a ≡ b → IsLastBy maturity r day b → IsLastBy maturity r day a
 last-along maturity r day a b e h = rw e h
+
+first-along : (maturity : ℤ) (r : StepRule) (day a b : ℤ) → a ≡ b → IsFirstAfter maturity r day b → IsFirstAfter maturity r day a
+first-along maturity r day a b e h = rw e h
 
 some-date : (maturity : ℤ) (r : StepRule) (day date next : ℤ) (n : ℕ) → date ≡ half_back_of maturity n r → next ≡ half_back_of maturity (n - 1) r
     → day <ℤ next → date ≤ℤ day → 0 < n
@@ -130,6 +148,7 @@ walk-end maturity r day date next dates near walk early =
       following = walk.before ∙ sym p.next;
       all = walk.walked ∙ sym p.dates;
       last = last-along maturity r day date _ walk.at (last-by maturity r day (length dates) near some (omega (arith, walk.few)) late by);
+      first = first-along maturity r day next _ walk.before (first-after maturity r day (length dates) near some (omega (arith, walk.few)) late by);
       half_year = half_year-along date next _ _ walk.at walk.before (half_year-before maturity r (length dates) near.base some (omega (arith, walk.few)));
     }
 

@@ -34,6 +34,12 @@ pub record AreDatesAfter (maturity : ℤ) (rule : StepRule) (day : ℤ) (dates :
   pub all : (date : ℤ) → IsSeriesDate maturity rule date → day <ℤ date → Contains dates date
   pub rise : AllPairs (λ earlier later. earlier <ℤ later) dates
 
+-- the first date of the series after a day: none comes sooner
+pub record IsFirstAfter (maturity : ℤ) (rule : StepRule) (day date : ℤ) : Type 0 where
+  pub series : IsSeriesDate maturity rule date
+  pub after : day <ℤ date
+  pub first : (other : ℤ) → IsSeriesDate maturity rule other → day <ℤ other → date ≤ℤ other
+
 -- the last date of the series up to a day: none comes later
 pub record IsLastBy (maturity : ℤ) (rule : StepRule) (day date : ℤ) : Type 0 where
   pub series : IsSeriesDate maturity rule date
