@@ -152,26 +152,33 @@ walk-end maturity r day date next dates near walk early =
       half_year = half_year-along date next _ _ walk.at walk.before (half_year-before maturity r (length dates) near.base some (omega (arith, walk.few)));
     }
 
--- every series reaches back to a date up to the day
-pub found-dates : (maturity : ℤ) (r : StepRule) (day : ℤ) (k : ℕ) → IsNear maturity day → k ≤ 84 → half_back_of maturity k r ≤ℤ day → day <ℤ maturity
-    → IsLastBy maturity r day (previous_date_of maturity r day)
-found-dates maturity r day zero near few early before =
+-- how many dates come after a day
+pub record AreCounted (maturity : ℤ) (r : StepRule) (day : ℤ) : Type 0 where
+  pub count : ℕ
+  pub has : HasDates maturity r day count
+  pub last : IsLastBy maturity r day (previous_date_of maturity r day)
+
+counted-by : (maturity : ℤ) (r : StepRule) (day : ℤ) (k : ℕ) → IsNear maturity day → k ≤ 84 → half_back_of maturity k r ≤ℤ day → day <ℤ maturity
+    → AreCounted maturity r day
+counted-by maturity r day zero near few early before =
     absurd (omega (arith, signed_arith, half_back_of-zero maturity r near.base, early, before))
-found-dates maturity r day (suc k) near few early before =
+counted-by maturity r day (suc k) near few early before =
     let less : suc k - 1 ≡ k = omega arith in
     elim (cases_int_le (half_back_of maturity k r) day) [
-      | inl sooner ↦ found-dates maturity r day k near (omega arith) sooner before
+      | inl sooner ↦ counted-by maturity r day k near (omega arith) sooner before
       | inr late ↦
           let here : day <ℤ half_back_of maturity (suc k - 1) r = rw less late in
-          last-along maturity r day _ _ (has_dates maturity r day (suc k) near (omega arith) few here early).previous
-          (last-by maturity r day (suc k) near (omega arith) few here early)
+          let has = has_dates maturity r day (suc k) near (omega arith) few here early in
+          record { count = suc k; has = has; last = last-along maturity r day _ _ has.previous (last-by maturity r day (suc k) near (omega arith) few here early) }
     ]
+
+pub counted : (maturity : ℤ) (r : StepRule) (day : ℤ) → IsNear maturity day → day <ℤ maturity → AreCounted maturity r day
+counted maturity r day near before =
+    counted-by maturity r day 84 near (omega arith) (omega (arith, signed_arith, half_back_of-reach maturity r 84 near.base (omega arith), near.most)) before
 
 pub previous-is-last : (maturity : ℤ) (r : StepRule) (day : ℤ) → IsBaseDay maturity → day <ℤ maturity → maturity ≤ℤ (day +ℤ pos 14_640)
     → IsLastBy maturity r day (previous_date_of maturity r day)
-previous-is-last maturity r day base before most =
-    found-dates maturity r day 84 (record { base = base; most = most }) (omega arith)
-    (omega (arith, signed_arith, half_back_of-reach maturity r 84 base (omega arith), most)) before
+previous-is-last maturity r day base before most = (counted maturity r day (record { base = base; most = most }) before).last
 
 -- ---- the dates after a day, each once
 

@@ -1,9 +1,9 @@
-//! The interest that a face earns.
+//! The interest that a face earns, and what it costs at a price.
 ghost use Rattle.std.specs.Prelude.{◌≡◌, ◌^◌, ◌<◌, ◌≤◌};
-ghost use Rattle.escrow_units.specs.Interest.{earned_of, half_coupon_of};
+ghost use Rattle.escrow_units.specs.Interest.{earned_of, face_price_of, half_coupon_of};
 
-use crate::amount::{Cents, Rate};
-use crate::limits::{AMOUNT_LIMIT, GREATEST_INDEX, GREATEST_RATE};
+use crate::amount::{Cents, Price8, Rate};
+use crate::limits::{AMOUNT_LIMIT, GREATEST_INDEX, GREATEST_PRICE, GREATEST_RATE};
 use crate::rounding::near;
 
 /// What a face earns in so many parts of a year that has `year` of them, to the cent, halves up.
@@ -33,4 +33,14 @@ pub fn half_coupon(face: Cents, rate: Rate) -> Cents
     ensures bound { result.0 < 2 ^ 62 }
 {
     Cents(near(face.0 as u128 * rate.0 as u128, 200_000) as u64)
+}
+
+/// What a face costs at a price, without accrued interest, to the cent, halves up.
+pub fn face_price(face: Cents, price: Price8) -> Cents
+    requires face { face.0 ≤ AMOUNT_LIMIT }
+    requires price { price.0 ≤ GREATEST_PRICE }
+    ensures value { result.0 ≡ face_price_of face.0 price.0 }
+    ensures bound { result.0 < 2 ^ 62 }
+{
+    Cents(near(face.0 as u128 * price.0 as u128, 10_000_000_000) as u64)
 }
