@@ -1,5 +1,5 @@
 -- Days between, and amounts on days.
-use Rattle.std.proofs.Common.{◌≡◌, ℕ, ◌<◌, suc, refl, ap, arith, ℤ, pos, ◌+ℤ◌, ◌-ℤ◌, ◌≤ℤ◌, ◌<ℤ◌, int_le, int_lt, unsigned_abs, Bool, true, false, if◌then◌else◌, List, [], ◌∷◌, map, get_or, AllPairs}
+use Rattle.std.proofs.Common.{◌≡◌, ℕ, ◌<◌, suc, refl, ap, arith, ℤ, pos, ◌+ℤ◌, ◌-ℤ◌, ◌≤ℤ◌, ◌<ℤ◌, int_le, int_lt, unsigned_abs, Bool, true, false, if◌then◌else◌, List, [], ◌∷◌, map, get_or, AllPairs, ◌⊎◌, inl, inr}
 use Rattle.std.proofs.lemmas.Int.{ints}
 use Rattle.std.proofs.lemmas.List.Elements.{All-map}
 use Rattle.std.proofs.lemmas.List.Kept.{AllPairs-cons}
@@ -11,32 +11,26 @@ use Rattle.escrow_units.proofs.DateFacts.{pos_abs}
 
 -- tests of signed numbers
 pub int_le-test : (a b : ℤ) → a ≤ℤ b → int_le a b ≡ true
-int_le-test a b h = at (int_le a b) refl
-  where
-    at : (t : Bool) → int_le a b ≡ t → t ≡ true
-    at true e = refl
-    at false e = absurd (omega (arith, ints))
+int_le-test a b h = grind (arith, ints)
 
 pub int_le-not : (a b : ℤ) → b <ℤ a → int_le a b ≡ false
-int_le-not a b h = at (int_le a b) refl
-  where
-    at : (t : Bool) → int_le a b ≡ t → t ≡ false
-    at true e = absurd (omega (arith, ints))
-    at false e = refl
+int_le-not a b h = grind (arith, ints)
 
 pub int_lt-test : (a b : ℤ) → a <ℤ b → int_lt a b ≡ true
-int_lt-test a b h = at (int_lt a b) refl
-  where
-    at : (t : Bool) → int_lt a b ≡ t → t ≡ true
-    at true e = refl
-    at false e = absurd (omega (arith, ints))
+int_lt-test a b h = grind (arith, ints)
 
 pub int_lt-not : (a b : ℤ) → b ≤ℤ a → int_lt a b ≡ false
-int_lt-not a b h = at (int_lt a b) refl
+int_lt-not a b h = grind (arith, ints)
+
+pub int_lt-is : (a b : ℤ) → int_lt a b ≡ true → a <ℤ b
+int_lt-is a b h = grind (arith, ints)
+
+pub cases_int_le : (a b : ℤ) → (a ≤ℤ b) ⊎ (b <ℤ a)
+cases_int_le a b = at (int_le a b) refl
   where
-    at : (t : Bool) → int_lt a b ≡ t → t ≡ false
-    at true e = absurd (omega (arith, ints))
-    at false e = refl
+    at : (t : Bool) → int_le a b ≡ t → (a ≤ℤ b) ⊎ (b <ℤ a)
+    at true e = inl (grind (arith, ints))
+    at false e = inr (grind (arith, ints))
 
 -- what an amount is that is chosen by a test
 pub choice-true : (t : Bool) (a b : ℕ) → t ≡ true → (if t then a else b) ≡ a

@@ -47,20 +47,52 @@ pub and-true : (a b : Bool) → (a && b) ≡ true → (a ≡ true) × (b ≡ tru
 and-true true b p = (refl, p)
 and-true false b p = (p, cc)
 
-pub no_point : (d : ℕ) → is_ascii_digit d ≡ true → is_point d ≡ false
-no_point d digit = grind (arith, common_steps)
+-- a mark that is no digit, as a point or a hyphen
+pub record IsMark (mark : ℕ) (is_mark : ℕ → Bool) : Type 0 where
+  pub own : is_mark mark ≡ true
+  pub only : (byte : ℕ) → is_mark byte ≡ true → byte ≡ mark
+  pub none : (byte : ℕ) → is_ascii_digit byte ≡ true → is_mark byte ≡ false
 
--- the first point after digits is the one that follows them
-pub position_or_len-digits : (ds rest : List ℕ) → list_all is_ascii_digit ds ≡ true → position_or_len is_point (ds ++ 46 ∷ rest) ≡ length ds
-position_or_len-digits [] rest digits = refl
-position_or_len-digits (d ∷ ds) rest digits =
+pub point : IsMark 46 is_point
+point = record {
+  own = refl;
+  only = λ byte is. grind (arith, common_steps);
+  none = λ byte digit. grind (arith, common_steps);
+}
+
+-- the first mark after digits is the one that follows them
+pub position_or_len-digits : (mark : ℕ) (p : ℕ → Bool) → IsMark mark p → (ds rest : List ℕ) → list_all is_ascii_digit ds ≡ true → position_or_len p (ds ++ mark ∷ rest) ≡ length ds
+position_or_len-digits mark p m [] rest digits = rw m.own refl
+position_or_len-digits mark p m (d ∷ ds) rest digits =
     let parts = and-true (is_ascii_digit d) (list_all is_ascii_digit ds) digits in
-    rw (no_point d parts.0) (omega (arith, position_or_len-digits ds rest parts.1))
+    rw (m.none d parts.0) (omega (arith, position_or_len-digits mark p m ds rest parts.1))
 
-pub list_any-digits : (ds rest : List ℕ) → list_any is_point (ds ++ 46 ∷ rest) ≡ true
-list_any-digits [] rest = refl
-list_any-digits (d ∷ ds) rest =
-    elim (is_point d) as (λ b. (b || list_any is_point (ds ++ 46 ∷ rest)) ≡ true) [ true ↦ refl | false ↦ list_any-digits ds rest ]
+pub list_any-digits : (mark : ℕ) (p : ℕ → Bool) → IsMark mark p → (ds rest : List ℕ) → list_any p (ds ++ mark ∷ rest) ≡ true
+list_any-digits mark p m [] rest = rw m.own refl
+list_any-digits mark p m (d ∷ ds) rest =
+    elim (p d) as (λ b. (b || list_any p (ds ++ mark ∷ rest)) ≡ true) [ true ↦ refl | false ↦ list_any-digits mark p m ds rest ]
+
+-- digits have none
+pub list_any-none : (mark : ℕ) (p : ℕ → Bool) → IsMark mark p → (ds : List ℕ) → list_all is_ascii_digit ds ≡ true → list_any p ds ≡ false
+list_any-none mark p m [] digits = refl
+list_any-none mark p m (d ∷ ds) digits =
+    let parts = and-true (is_ascii_digit d) (list_all is_ascii_digit ds) digits in
+    rw (m.none d parts.0) (list_any-none mark p m ds parts.1)
+
+-- it parts a text into these digits and what follows it
+pub record ArePartedBy (p : ℕ → Bool) (front back bytes : List ℕ) : Type 0 where
+  pub found : list_any p bytes ≡ true
+  pub before : before_first p bytes ≡ front
+  pub after : after_first p bytes ≡ back
+
+pub parted-digits : (mark : ℕ) (p : ℕ → Bool) → IsMark mark p → (front back : List ℕ) → list_all is_ascii_digit front ≡ true → ArePartedBy p front back (front ++ mark ∷ back)
+parted-digits mark p m front back digits =
+    let at = position_or_len-digits mark p m front back digits in
+    record {
+      found = list_any-digits mark p m front back;
+      before = ap (λ i. take i (front ++ mark ∷ back)) at ∙ take-append_seam front (mark ∷ back);
+      after = ap (λ i. drop (i + 1) (front ++ mark ∷ back)) at ∙ drop-append-add front (mark ∷ back) 1;
+    }
 
 pub whole_of-digits : (most : ℕ) (ds : List ℕ) → 1 ≤ length ds → length ds ≤ most → list_all is_ascii_digit ds ≡ true →
     whole_of most ds ≡ Some (digits_value 10 ds)
@@ -75,12 +107,8 @@ pub decimal_of-digits : (most places : ℕ) (front back : List ℕ) →
     ≡ Some (digits_value 10 front * 10 ^ places + digits_value 10 back * 10 ^ (places - length back))
 unfolding decimal_of parted_of
 decimal_of-digits most places front back f1 f2 f3 b1 b2 b3 =
-    let point = position_or_len-digits front back f3 in
-    let before : before_first is_point (front ++ 46 ∷ back) ≡ front =
-    ap (λ i. take i (front ++ 46 ∷ back)) point ∙ take-append_seam front (46 ∷ back) in
-    let after : after_first is_point (front ++ 46 ∷ back) ≡ back =
-    ap (λ i. drop (i + 1) (front ++ 46 ∷ back)) point ∙ drop-append-add front (46 ∷ back) 1 in
-    rw (list_any-digits front back, before, after, whole_of-digits most front f1 f2 f3, whole_of-digits places back b1 b2 b3)
+    let parts = parted-digits 46 is_point point front back f3 in
+    rw (parts.found, parts.before, parts.after, whole_of-digits most front f1 f2 f3, whole_of-digits places back b1 b2 b3)
 
 pub decimal_of-fixed : (most places n : ℕ) → 1 ≤ most → 1 ≤ places → n < 10 ^ (most + places) → n < 2 ^ 64 →
     decimal_of most places (fixed places n) ≡ Some n

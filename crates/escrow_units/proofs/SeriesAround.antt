@@ -1,15 +1,18 @@
 -- The dates of a series around a day.
-use Rattle.std.proofs.Common.{◌≡◌, ◌∙◌, ℕ, ◌+◌, ◌-◌, ◌<◌, ◌≤◌, zero, suc, refl, sym, ap, arith, ℤ, pos, ◌+ℤ◌, ◌≤ℤ◌, ◌<ℤ◌, int_lt, inl, inr, List, [], ◌∷◌, ◌++◌, length, reverse, All, filter}
+use Rattle.std.proofs.Common.{◌≡◌, ◌∙◌, ℕ, ◌+◌, ◌-◌, ◌<◌, ◌≤◌, zero, suc, refl, sym, ap, arith, ℤ, pos, ◌+ℤ◌, ◌≤ℤ◌, ◌<ℤ◌, int_lt, inl, inr, ◌⊎◌, Bool, true, false, List, [], ◌∷◌, ◌++◌, length, reverse, All, filter, subst}
+use Rattle.std.specs.Prelude.{Contains}
 use Rattle.std.proofs.lemmas.Bool.{cases_lt}
 use Rattle.std.proofs.lemmas.List.{reverse-append, length-append}
+use Rattle.std.proofs.lemmas.List.Elements.{All-filter, filter_passes}
+use Rattle.std.proofs.lemmas.List.Kept.{AllPairs-filter}
 use Rattle.jiff_core.proofs.SignedLemmas.{signed_arith}
 use Rattle.escrow_units.specs.Calendar.{half_back_of, IsBaseDay, IsSeriesDate}
 use Rattle.escrow_units.specs.CalendarLaws.{IsHalfYear}
-use Rattle.escrow_units.specs.Series.{IsLastBy, dates_after_of, next_date_of, previous_date_of, series_of}
+use Rattle.escrow_units.specs.Series.{AreDatesAfter, IsFirstAfter, IsLastBy, dates_after_of, next_date_of, previous_date_of, series_of}
 use Rattle.escrow_units.specs.declared.security.StepRule.{StepRule}
 use Rattle.escrow_units.proofs.SeriesFacts.{half_back_of-falls}
-use Rattle.escrow_units.proofs.FlowFacts.{int_lt-not, int_lt-test}
-use Rattle.escrow_units.proofs.LastDates.{last_dates, last_dates-all, last_dates-more, filter-dates, half_back_of-order, half_back_of-reach, half_back_of-zero, half_year-along, half_year-before, length-last_dates, series_from-last}
+use Rattle.escrow_units.proofs.FlowFacts.{cases_int_le, int_lt-is, int_lt-not, int_lt-test}
+use Rattle.escrow_units.proofs.LastDates.{last_dates, last_dates-all, last_dates-more, last_dates-rise, filter-dates, half_back_of-order, half_back_of-reach, half_back_of-zero, half_year-along, half_year-before, length-last_dates, series_from-last}
 
 -- a series that ends at most 40 years after a day
 pub record IsNear (maturity day : ℤ) : Type 0 where
@@ -63,6 +66,20 @@ last-by maturity r day n near some few late early = record {
   ];
 }
 
+-- and the first of them is the first after the day
+pub first-after : (maturity : ℤ) (r : StepRule) (day : ℤ) (n : ℕ) → IsNear maturity day → 0 < n → n ≤ 84
+    → day <ℤ half_back_of maturity (n - 1) r → half_back_of maturity n r ≤ℤ day → IsFirstAfter maturity r day (half_back_of maturity (n - 1) r)
+first-after maturity r day n near some few late early = record {
+  series = record { steps = n - 1; few = omega arith; back = refl };
+  after = late;
+  first = λ other on after. elim (cases_lt on.steps n) [
+    | inl sooner ↦ rw on.back (half_back_of-order maturity r on.steps (n - 1) near.base (omega arith) (omega arith))
+    | inr later ↦
+        let order = half_back_of-order maturity r n on.steps near.base later on.few in
+        absurd (omega (arith, signed_arith, on.back, order, early, after))
+  ];
+}
+
 -- the walk from maturity back to the last date up to the day
 pub record IsWalk (maturity : ℤ) (r : StepRule) (day date next : ℤ) (dates : List ℤ) : Type 0 where
   pub few : length dates ≤ 81
@@ -105,10 +122,14 @@ pub record IsWalked (maturity : ℤ) (r : StepRule) (day date next : ℤ) (dates
   pub following : next ≡ next_date_of maturity r day
   pub all : reverse dates ≡ dates_after_of maturity r day
   pub last : IsLastBy maturity r day date
+  pub first : IsFirstAfter maturity r day next
   pub half_year : IsHalfYear date next
 
 last-along : (maturity : ℤ) (r : StepRule) (day a b : ℤ) → a ≡ b → IsLastBy maturity r day b → IsLastBy maturity r day a
 last-along maturity r day a b e h = rw e h
+
+first-along : (maturity : ℤ) (r : StepRule) (day a b : ℤ) → a ≡ b → IsFirstAfter maturity r day b → IsFirstAfter maturity r day a
+first-along maturity r day a b e h = rw e h
 
 some-date : (maturity : ℤ) (r : StepRule) (day date next : ℤ) (n : ℕ) → date ≡ half_back_of maturity n r → next ≡ half_back_of maturity (n - 1) r
     → day <ℤ next → date ≤ℤ day → 0 < n
@@ -127,5 +148,74 @@ walk-end maturity r day date next dates near walk early =
       following = walk.before ∙ sym p.next;
       all = walk.walked ∙ sym p.dates;
       last = last-along maturity r day date _ walk.at (last-by maturity r day (length dates) near some (omega (arith, walk.few)) late by);
+      first = first-along maturity r day next _ walk.before (first-after maturity r day (length dates) near some (omega (arith, walk.few)) late by);
       half_year = half_year-along date next _ _ walk.at walk.before (half_year-before maturity r (length dates) near.base some (omega (arith, walk.few)));
     }
+
+-- how many dates come after a day
+pub record AreCounted (maturity : ℤ) (r : StepRule) (day : ℤ) : Type 0 where
+  pub count : ℕ
+  pub has : HasDates maturity r day count
+  pub last : IsLastBy maturity r day (previous_date_of maturity r day)
+
+counted-by : (maturity : ℤ) (r : StepRule) (day : ℤ) (k : ℕ) → IsNear maturity day → k ≤ 84 → half_back_of maturity k r ≤ℤ day → day <ℤ maturity
+    → AreCounted maturity r day
+counted-by maturity r day zero near few early before =
+    absurd (omega (arith, signed_arith, half_back_of-zero maturity r near.base, early, before))
+counted-by maturity r day (suc k) near few early before =
+    let less : suc k - 1 ≡ k = omega arith in
+    elim (cases_int_le (half_back_of maturity k r) day) [
+      | inl sooner ↦ counted-by maturity r day k near (omega arith) sooner before
+      | inr late ↦
+          let here : day <ℤ half_back_of maturity (suc k - 1) r = rw less late in
+          let has = has_dates maturity r day (suc k) near (omega arith) few here early in
+          record { count = suc k; has = has; last = last-along maturity r day _ _ has.previous (last-by maturity r day (suc k) near (omega arith) few here early) }
+    ]
+
+pub counted : (maturity : ℤ) (r : StepRule) (day : ℤ) → IsNear maturity day → day <ℤ maturity → AreCounted maturity r day
+counted maturity r day near before =
+    counted-by maturity r day 84 near (omega arith) (omega (arith, signed_arith, half_back_of-reach maturity r 84 near.base (omega arith), near.most)) before
+
+pub previous-is-last : (maturity : ℤ) (r : StepRule) (day : ℤ) → IsBaseDay maturity → day <ℤ maturity → maturity ≤ℤ (day +ℤ pos 14_640)
+    → IsLastBy maturity r day (previous_date_of maturity r day)
+previous-is-last maturity r day base before most = (counted maturity r day (record { base = base; most = most }) before).last
+
+-- ---- the dates after a day, each once
+
+contains-later : (x y : ℤ) (xs : List ℤ) → Contains xs y → Contains (x ∷ xs) y
+contains-later x y xs c = (suc c.0, omega (arith, c.1), c.2)
+
+contains-kept : (p : ℤ → Bool) (x y : ℤ) (xs : List ℤ) (b : Bool) → p x ≡ b → Contains (filter p xs) y → Contains (filter p (x ∷ xs)) y
+contains-kept p x y xs true e c = rw e (contains-later x y (filter p xs) c)
+contains-kept p x y xs false e c = rw e c
+
+contains-first : (p : ℤ → Bool) (x : ℤ) (xs : List ℤ) → p x ≡ true → Contains (filter p (x ∷ xs)) x
+contains-first p x xs e = rw e (0, omega arith, refl)
+
+pub contains-date : (p : ℤ → Bool) (maturity : ℤ) (r : StepRule) (s n : ℕ) → s < n → p (half_back_of maturity s r) ≡ true
+    → Contains (filter p (last_dates maturity r n)) (half_back_of maturity s r)
+unfolding last_dates
+contains-date p maturity r s zero less is = absurd (omega arith)
+contains-date p maturity r s (suc k) less is =
+    elim (cases_lt s k) [
+      | inl sooner ↦ contains-kept p (half_back_of maturity k r) (half_back_of maturity s r) (last_dates maturity r k) (p (half_back_of maturity k r)) refl (contains-date p maturity r s k sooner is)
+      | inr same ↦
+          let e : s ≡ k = omega arith in
+          subst (λ (j : ℕ). Contains (filter p (half_back_of maturity k r ∷ last_dates maturity r k)) (half_back_of maturity j r)) (sym e)
+          (contains-first p (half_back_of maturity k r) (last_dates maturity r k) (rw e at is))
+    ]
+
+pub dates-after-are-later : (maturity : ℤ) (r : StepRule) (day : ℤ) → IsBaseDay maturity → AreDatesAfter maturity r day (dates_after_of maturity r day)
+unfolding dates_after_of
+dates-after-are-later maturity r day base =
+    let all : series_of maturity r ≡ last_dates maturity r 85 = series_from-last maturity r 84 in
+    let dated = All-filter (int_lt day) (IsSeriesDate maturity r) (last_dates maturity r 85)
+    (last_dates-all (IsSeriesDate maturity r) maturity r 85 (λ j less. record { steps = j; few = omega arith; back = refl })) in
+    let passes = filter_passes (int_lt day) (last_dates maturity r 85) in
+    rw all (record {
+      series = λ k d less. (dated k d less, int_lt-is day _ (passes k d less));
+      all = λ date on late.
+          subst (Contains (filter (int_lt day) (last_dates maturity r 85))) (sym on.back)
+          (contains-date (int_lt day) maturity r on.steps 85 (omega (arith, on.few)) (rw on.back at (int_lt-test day date late)));
+      rise = AllPairs-filter (λ a b. a <ℤ b) (int_lt day) (last_dates maturity r 85) (last_dates-rise maturity r 85 base (omega arith));
+    })

@@ -14,7 +14,7 @@ use Rattle.std.specs.Char.{is_ascii_digit, digit_value}
 use Rattle.std.specs.Str.Parse.{digits_value, digits_value_after}
 use Rattle.escrow_units.specs.NumberText.{whole_of, parted_of, decimal_of, is_point, decimal_text, SpellsDecimal}
 use Rattle.escrow_units.proofs.NumberFacts.{cond-Some, list_any-is, power-positive}
-use Rattle.escrow_units.proofs.PrintedFacts.{and-true, both, no_point, whole_of-digits, decimal_of-digits}
+use Rattle.escrow_units.proofs.PrintedFacts.{IsMark, and-true, both, point, list_any-none, whole_of-digits, decimal_of-digits}
 
 -- ---- the value of digits joined
 
@@ -34,13 +34,13 @@ digits_value-append xs ys = digits_value_after-append 0 xs ys ∙ digits_value_a
 
 -- ---- what an answer of the readers tells
 
-record IsWhole (most n : ℕ) (bytes : List ℕ) : Type 0 where
-  some : 1 ≤ length bytes
-  few : length bytes ≤ most
-  digits : list_all is_ascii_digit bytes ≡ true
-  value : digits_value 10 bytes ≡ n
+pub record IsWhole (most n : ℕ) (bytes : List ℕ) : Type 0 where
+  pub some : 1 ≤ length bytes
+  pub few : length bytes ≤ most
+  pub digits : list_all is_ascii_digit bytes ≡ true
+  pub value : digits_value 10 bytes ≡ n
 
-whole_of-Some : (most n : ℕ) (bytes : List ℕ) → whole_of most bytes ≡ Some n → IsWhole most n bytes
+pub whole_of-Some : (most n : ℕ) (bytes : List ℕ) → whole_of most bytes ≡ Some n → IsWhole most n bytes
 unfolding whole_of
 whole_of-Some most n bytes same =
     let test = cond-Some (leb 1 (length bytes) && leb (length bytes) most && list_all is_ascii_digit bytes) (digits_value 10 bytes) n same in
@@ -53,34 +53,27 @@ whole_of-Some most n bytes same =
       value = test.1;
     }
 
-option_map-Some : (f : ℕ → ℕ) (o : Option ℕ) (y : ℕ) → option_map f o ≡ Some y → (x : ℕ) × (o ≡ Some x) × (f x ≡ y)
+pub option_map-Some : (f : ℕ → ℕ) (o : Option ℕ) (y : ℕ) → option_map f o ≡ Some y → (x : ℕ) × (o ≡ Some x) × (f x ≡ y)
 option_map-Some f None y same = cc
 option_map-Some f (Some x) y same = (x, refl, cc)
 
-option_and_then-Some : (f : ℕ → Option ℕ) (o : Option ℕ) (y : ℕ) → option_and_then f o ≡ Some y → (x : ℕ) × (o ≡ Some x) × (f x ≡ Some y)
+pub option_and_then-Some : (f : ℕ → Option ℕ) (o : Option ℕ) (y : ℕ) → option_and_then f o ≡ Some y → (x : ℕ) × (o ≡ Some x) × (f x ≡ Some y)
 option_and_then-Some f None y same = cc
 option_and_then-Some f (Some x) y same = (x, refl, same)
 
 -- ---- a text with decimals has a point after digits
 
-decimal_text-some : (whole decimals : List ℕ) → 1 ≤ length decimals → decimal_text whole decimals ≡ whole ++ 46 ∷ decimals
+pub decimal_text-some : (whole decimals : List ℕ) → 1 ≤ length decimals → decimal_text whole decimals ≡ whole ++ 46 ∷ decimals
 decimal_text-some whole [] some = absurd (omega arith)
 decimal_text-some whole (d ∷ ds) some = refl
 
-list_any-none : (ds : List ℕ) → list_all is_ascii_digit ds ≡ true → list_any is_point ds ≡ false
-list_any-none [] digits = refl
-list_any-none (d ∷ ds) digits =
-    let parts = and-true (is_ascii_digit d) (list_all is_ascii_digit ds) digits in
-    rw (no_point d parts.0) (list_any-none ds parts.1)
-
--- the first point of a text parts it
-parted : (bytes : List ℕ) → list_any is_point bytes ≡ true → bytes ≡ before_first is_point bytes ++ 46 ∷ after_first is_point bytes
-parted bytes found =
-    let test : ltb (position_or_len is_point bytes) (length bytes) ≡ true = sym (list_any-is is_point bytes) ∙ found in
-    let place : position is_point bytes ≡ Some (position_or_len is_point bytes) = rw test in
-    let at = position-Some is_point bytes (position_or_len is_point bytes) 0 place in
-    let point : get_or bytes (position_or_len is_point bytes) 0 ≡ 46 = grind (arith, common_steps, at.1) in
-    split_at_first is_point bytes 0 at.0 ∙ ap (λ byte. before_first is_point bytes ++ byte ∷ after_first is_point bytes) point
+-- the first mark of a text parts it
+pub parted : (mark : ℕ) (p : ℕ → Bool) → IsMark mark p → (bytes : List ℕ) → list_any p bytes ≡ true → bytes ≡ before_first p bytes ++ mark ∷ after_first p bytes
+parted mark p m bytes found =
+    let test : ltb (position_or_len p bytes) (length bytes) ≡ true = sym (list_any-is p bytes) ∙ found in
+    let place : position p bytes ≡ Some (position_or_len p bytes) = rw test in
+    let at = position-Some p bytes (position_or_len p bytes) 0 place in
+    split_at_first p bytes 0 at.0 ∙ ap (λ byte. before_first p bytes ++ byte ∷ after_first p bytes) (m.only _ at.1)
 
 -- ---- the law
 
@@ -132,7 +125,7 @@ spelled_by : (most places units : ℕ) (bytes : List ℕ) (b : Bool) → list_an
     cond b (parted_of most places (before_first is_point bytes) (after_first is_point bytes)) (option_map (λ whole. whole * 10 ^ places) (whole_of most bytes)) ≡ Some units →
     SpellsDecimal most places units bytes
 spelled_by most places units bytes true found same =
-    subst (SpellsDecimal most places units) (sym (parted bytes found)) (spelled_parts most places units (before_first is_point bytes) (after_first is_point bytes) same)
+    subst (SpellsDecimal most places units) (sym (parted 46 is_point point bytes found)) (spelled_parts most places units (before_first is_point bytes) (after_first is_point bytes) same)
 spelled_by most places units bytes false missing same = spelled_whole most places units bytes same
 
 pub decimal_of-spelled : (most places units : ℕ) (bytes : List ℕ) → decimal_of most places bytes ≡ Some units → SpellsDecimal most places units bytes
@@ -143,7 +136,7 @@ read_whole : (most places units : ℕ) (whole : List ℕ) → list_all is_ascii_
     units ≡ digits_value 10 whole * 10 ^ places → decimal_of most places whole ≡ Some units
 unfolding decimal_of
 read_whole most places units whole digits some few value =
-    rw (list_any-none whole digits, whole_of-digits most whole some few digits) (ap Some (sym value))
+    rw (list_any-none 46 is_point point whole digits, whole_of-digits most whole some few digits) (ap Some (sym value))
 
 read_text : (most places units : ℕ) (whole decimals : List ℕ) → list_all is_ascii_digit (whole ++ decimals) ≡ true →
     1 ≤ length whole → length whole ≤ most → length decimals ≤ places →

@@ -3,7 +3,7 @@ use Rattle.std.specs.Prelude.{◌≡◌, ℕ, ◌+◌, ◌-◌, ◌*◌, ◌≤�
 use Rattle.std.specs.Int.{int_div_euclid, int_rem_euclid}
 use Rattle.jiff_core.specs.Calendar.{IsBetween, days_in_month}
 pub use Rattle.escrow_units.specs.CivilDates.{CivilDate, number_of}
-pub use Rattle.escrow_units.specs.ClosedForm.{date_of}
+unfoldable pub use Rattle.escrow_units.specs.ClosedForm.{date_of}
 use Rattle.escrow_units.specs.declared.security.StepRule.{StepRule}
 use Rattle.escrow_units.specs.declared.security.StepRule.TheVariants as rule
 

@@ -4,6 +4,7 @@ use Rattle.jiff_core.specs.Calendar.{IsCivilDate, days_in_month}
 use Rattle.escrow_units.specs.Calendar.{CivilDate, number_of, date_of, half_back_of, years_after_of, is_month_end, thirty_day_place_of, IsBaseDay}
 use Rattle.escrow_units.specs.DateText.{IsFieldDay, day_of, day_text}
 use Rattle.escrow_units.specs.DayNumber.{IsDayNumber}
+use Rattle.escrow_units.specs.Series.{AreDatesAfter, IsLastBy, dates_after_of, previous_date_of}
 use Rattle.escrow_units.specs.SlgsTerms.{IsOfKind, IsSettlement}
 use Rattle.escrow_units.specs.declared.limits.TheConstants.{GREATEST_INDEX}
 use Rattle.escrow_units.specs.declared.security.SlgsKind.{SlgsKind}
@@ -74,6 +75,18 @@ abbrev pub StepsCount180 : Type 0
 StepsCount180 =
     (maturity : ℤ) (k : ℕ) → IsBaseDay maturity → k ≤ 84 → (date_of maturity).day ≤ 28
     → thirty_day_place_of (half_back_of maturity k rule.SameDay) + 180 * k ≡ thirty_day_place_of maturity
+
+-- the dates after a day are the dates of the series that come after it
+abbrev pub DatesAfterAreLater : Type 0
+DatesAfterAreLater =
+    (maturity : ℤ) (rule : StepRule) (day : ℤ) → IsBaseDay maturity
+    → AreDatesAfter maturity rule day (dates_after_of maturity rule day)
+
+-- and the date before them is the last up to the day, which lies at most 40 years before maturity
+abbrev pub PreviousIsLast : Type 0
+PreviousIsLast =
+    (maturity : ℤ) (rule : StepRule) (day : ℤ) → IsBaseDay maturity → day <ℤ maturity → maturity ≤ℤ (day +ℤ pos 14_640)
+    → IsLastBy maturity rule day (previous_date_of maturity rule day)
 
 -- years have 365 or 366 days, so more years lead to a later day
 pub record IsYears (years : ℕ) (from to : ℤ) : Type 0 where

@@ -8,6 +8,7 @@ use Rattle.escrow_units.specs.declared.amount.Rate.{Rate}
 use Rattle.escrow_units.specs.declared.amount.YieldUnits.{YieldUnits}
 use Rattle.escrow_units.specs.declared.fault.NumberFault.{NumberFault}
 use Rattle.escrow_units.specs.declared.fault.NumberFault.TheVariants.{BadNumber, OutOfRange}
+use Rattle.escrow_units.specs.declared.limits.TheConstants.{AMOUNT_LIMIT, GREATEST_GIVEN_YIELD, GREATEST_RATE}
 
 -- the number that 1 to most digits write: leading zeros are allowed, and counted
 unfoldable pub whole_of : ℕ → List ℕ → Option ℕ
@@ -55,7 +56,7 @@ ranged make least most outside (Some n) = if nat_le least n && nat_le n most the
 
 -- 1 to 15 digits, then optionally a point and 1 or 2 digits: dollars and cents, at most 10^13 cents
 unfoldable pub cents_of : List ℕ → Result Cents NumberFault
-cents_of bytes = ranged (λ n. record { 0 = n }) 0 (10 ^ 13) OutOfRange (decimal_of 15 2 bytes)
+cents_of bytes = ranged (λ n. record { 0 = n }) 0 AMOUNT_LIMIT OutOfRange (decimal_of 15 2 bytes)
 
 -- 1 to 15 digits: whole dollars, from 1 to 1,000,000,000
 unfoldable pub dollars_of : List ℕ → Result ℕ NumberFault
@@ -63,11 +64,11 @@ dollars_of bytes = ranged (λ n. n) 1 1_000_000_000 OutOfRange (whole_of 15 byte
 
 -- 1 to 3 digits, then optionally a point and 1 to 3 digits: percent, at most 30.000
 unfoldable pub rate_of : List ℕ → Result Rate NumberFault
-rate_of bytes = ranged (λ n. record { 0 = n }) 0 30_000 OutOfRange (decimal_of 3 3 bytes)
+rate_of bytes = ranged (λ n. record { 0 = n }) 0 GREATEST_RATE OutOfRange (decimal_of 3 3 bytes)
 
 -- 1 to 3 digits, then optionally a point and 1 to 8 digits: percent, at most 29.99
 unfoldable pub yield_of : List ℕ → Result YieldUnits NumberFault
-yield_of bytes = ranged (λ n. record { 0 = n }) 0 2_999_000_000 OutOfRange (decimal_of 3 8 bytes)
+yield_of bytes = ranged (λ n. record { 0 = n }) 0 GREATEST_GIVEN_YIELD OutOfRange (decimal_of 3 8 bytes)
 
 -- 1 to 6 digits: a number from 1 to 10,000
 unfoldable pub count_of : List ℕ → Result ℕ NumberFault

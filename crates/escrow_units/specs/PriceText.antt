@@ -1,11 +1,15 @@
 -- The prices that fields spell, in percent of par: a decimal, or whole percents and thirty-seconds of one.
 -- The spellings and the limits are this project's own.
-use Rattle.std.specs.Prelude.{ℕ, ◌+◌, ◌-◌, ◌*◌, List, [], ◌∷◌, Bool, nat_le, ◌&&◌, ◌==◌, if◌then◌else◌, Option, Some, None, Result, option_map, option_and_then}
-use Rattle.std.specs.List.{list_any, before_first, after_first}
+use Rattle.std.specs.Prelude.{◌≡◌, ◌↔◌, ◌⊎◌, ℕ, ◌+◌, ◌-◌, ◌*◌, ◌^◌, ◌≤◌, List, [], ◌∷◌, ◌++◌, length, codes, Bool, true, nat_le, ◌&&◌, ◌==◌, if◌then◌else◌, Option, Some, None, Result, option_map, option_and_then}
+use Rattle.std.specs.List.{list_all, list_any, before_first, after_first}
+use Rattle.std.specs.Char.{is_ascii_digit}
+use Rattle.std.specs.Str.Parse.{digits_value}
+use Rattle.escrow_units.specs.Digits.{last_digits}
 use Rattle.escrow_units.specs.declared.amount.Price8.{Price8}
 use Rattle.escrow_units.specs.declared.fault.NumberFault.{NumberFault}
 use Rattle.escrow_units.specs.declared.fault.NumberFault.TheVariants.{PriceRange}
-use Rattle.escrow_units.specs.NumberText.{whole_of, decimal_of, ranged}
+use Rattle.escrow_units.specs.declared.limits.TheConstants.{GREATEST_PRICE, LEAST_PRICE}
+use Rattle.escrow_units.specs.NumberText.{whole_of, decimal_of, ranged, SpellsDecimal}
 
 -- two digits, from 00 to 31
 abbrev pub thirty_seconds_of : ℕ → ℕ → Option ℕ
@@ -37,6 +41,32 @@ price_units_of bytes =
     then quoted_of (before_first is_hyphen bytes) (after_first is_hyphen bytes)
     else decimal_of 3 8 bytes
 
+-- what may follow the digits of thirty-seconds: nothing, or `+` for four eighths of one, or a digit from 0 to 7 of eighths
+abbrev pub SpellsEighths : ℕ → List ℕ → Type 0
+SpellsEighths eighths text =
+    ((text ≡ []) × (eighths ≡ 0)) ⊎ (((text ≡ codes "+") × (eighths ≡ 4)) ⊎ ((text ≡ (48 + eighths) ∷ []) × (eighths ≤ 7)))
+
+-- bytes spell units of 10^-8 percent in thirty-seconds: 1 to 3 digits of whole percents, a hyphen, two digits from 00 to 31,
+-- and then the eighths. An eighth of a thirty-second is a 256th of a percent
+pub record SpellsThirtySeconds (units : ℕ) (bytes : List ℕ) : Type 0 where
+  pub percents : List ℕ
+  pub thirty_seconds : ℕ
+  pub eighths : ℕ
+  pub last : List ℕ
+  pub text : bytes ≡ percents ++ 45 ∷ (last_digits 2 thirty_seconds ++ last)
+  pub digits : list_all is_ascii_digit percents ≡ true
+  pub some : 1 ≤ length percents
+  pub most_digits : length percents ≤ 3
+  pub within : thirty_seconds ≤ 31
+  pub follows : SpellsEighths eighths last
+  pub value : 256 * units ≡ 10 ^ 8 * (256 * digits_value 10 percents + 8 * thirty_seconds + eighths)
+
+-- the units that bytes give are just those that they spell, as a decimal with at most 8 decimals or in thirty-seconds
+abbrev pub PricesAreSpelled : Type 0
+PricesAreSpelled =
+    (units : ℕ) (bytes : List ℕ)
+    → (price_units_of bytes ≡ Some units) ↔ (SpellsDecimal 3 8 units bytes ⊎ SpellsThirtySeconds units bytes)
+
 -- from 10 to 300 percent of par
 unfoldable pub price_of : List ℕ → Result Price8 NumberFault
-price_of bytes = ranged (λ n. record { 0 = n }) 1_000_000_000 30_000_000_000 PriceRange (price_units_of bytes)
+price_of bytes = ranged (λ n. record { 0 = n }) LEAST_PRICE GREATEST_PRICE PriceRange (price_units_of bytes)

@@ -1,5 +1,5 @@
 -- The dates on which a security with semiannual interest pays.
-use Rattle.std.specs.Prelude.{ℕ, zero, suc, ◌+◌, ◌-◌, List, [], ◌∷◌, filter, length, ℤ, ◌-ℤ◌, ◌≤ℤ◌, int_lt, unsigned_abs}
+use Rattle.std.specs.Prelude.{ℕ, zero, suc, ◌+◌, ◌-◌, List, [], ◌∷◌, All, AllPairs, Contains, filter, length, ℤ, ◌-ℤ◌, ◌≤ℤ◌, ◌<ℤ◌, int_lt, unsigned_abs}
 use Rattle.escrow_units.specs.Calendar.{half_back_of, IsSeriesDate}
 use Rattle.escrow_units.specs.declared.security.StepRule.{StepRule}
 
@@ -27,6 +27,18 @@ previous_date_of maturity rule day = half_back_of maturity (length (dates_after_
 -- and the first of them
 abbrev pub next_date_of : ℤ → StepRule → ℤ → ℤ
 next_date_of maturity rule day = half_back_of maturity (length (dates_after_of maturity rule day) - 1) rule
+
+-- these are just the dates of the series that come after the day, each once and in order
+pub record AreDatesAfter (maturity : ℤ) (rule : StepRule) (day : ℤ) (dates : List ℤ) : Type 0 where
+  pub series : All (λ date. IsSeriesDate maturity rule date × (day <ℤ date)) dates
+  pub all : (date : ℤ) → IsSeriesDate maturity rule date → day <ℤ date → Contains dates date
+  pub rise : AllPairs (λ earlier later. earlier <ℤ later) dates
+
+-- the first date of the series after a day: none comes sooner
+pub record IsFirstAfter (maturity : ℤ) (rule : StepRule) (day date : ℤ) : Type 0 where
+  pub series : IsSeriesDate maturity rule date
+  pub after : day <ℤ date
+  pub first : (other : ℤ) → IsSeriesDate maturity rule other → day <ℤ other → date ≤ℤ other
 
 -- the last date of the series up to a day: none comes later
 pub record IsLastBy (maturity : ℤ) (rule : StepRule) (day date : ℤ) : Type 0 where

@@ -1,3 +1,4 @@
+//! Amounts, rates, prices and yields.
 /// An amount of money in cents.
 #[derive(Clone, Copy, Debug, Default, PartialEq, Eq, PartialOrd, Ord)]
 pub struct Cents(pub u64);

@@ -1,3 +1,4 @@
+//! Dates of the calendar, and the days that are counted from them.
 ghost use Rattle.std.specs.Prelude.{◌≡◌, ◌<◌, ◌≤◌, ◌-◌, pos, ◌+ℤ◌, ◌≤ℤ◌, unsigned_abs};
 ghost use Rattle.jiff.specs.Words.{add_months, epoch_day};
 ghost use Rattle.escrow_units.specs.Calendar.{IsBaseDay, thirty_day_place_of, half_back_of, years_after_of};

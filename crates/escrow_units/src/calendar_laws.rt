@@ -1,4 +1,5 @@
-ghost use Rattle.escrow_units.specs.CalendarLaws.{DatesAreUnique, EachDayIsDated, IndexIsBounded, IndexRises, KindsAreExclusive, KindsAreExhaustive, MonthEndIsSameDayElsewhere, MonthEndStays, NoYearsPass, SameDayKeepsDay, SeriesFalls, SeriesHasDays, SeriesStartsAtMaturity, SeriesStepsByHalfYears, SettlementLeadsToBaseDays, StepsCount180, TextsSpellDays, YearsLeadToDays, YearsPass};
+//! What the definitions of dates, series, years, indices and kinds mean.
+ghost use Rattle.escrow_units.specs.CalendarLaws.{DatesAfterAreLater, DatesAreUnique, EachDayIsDated, IndexIsBounded, IndexRises, KindsAreExclusive, KindsAreExhaustive, MonthEndIsSameDayElsewhere, MonthEndStays, NoYearsPass, PreviousIsLast, SameDayKeepsDay, SeriesFalls, SeriesHasDays, SeriesStartsAtMaturity, SeriesStepsByHalfYears, SettlementLeadsToBaseDays, StepsCount180, TextsSpellDays, YearsLeadToDays, YearsPass};
 
 /// What the date of a day number is, the one date of the calendar that has that number, and which bytes spell it.
 pub fn date_laws()
@@ -9,7 +10,8 @@ pub fn date_laws()
 
 /// What the dates of a series are, in the terms of bonds: they start at maturity and fall by half-years of 181 to 184
 /// days, on the same day of the month or at month ends. Where they keep the day of the month, and it is at most the
-/// 28th, each half-year counts 180 of the index.
+/// 28th, each half-year counts 180 of the index. The dates after a day are just those of the series that come after it, and
+/// the date before them is the last up to the day.
 pub fn series_laws()
     ensures start { SeriesStartsAtMaturity }
     ensures fall { SeriesFalls }
@@ -19,6 +21,8 @@ pub fn series_laws()
     ensures month_end { MonthEndStays }
     ensures elsewhere { MonthEndIsSameDayElsewhere }
     ensures index { StepsCount180 }
+    ensures after { DatesAfterAreLater }
+    ensures previous { PreviousIsLast }
 {}
 
 /// What a day some years later is: 365 or 366 days for each, and never out of the days that are counted from.

@@ -1,3 +1,4 @@
+//! The texts of days.
 ghost use Rattle.std.specs.Prelude.{◌≡◌, ◌<◌, Some, None, IfOk, IfErr, IfSome, OnErr};
 ghost use Rattle.escrow_units.specs.DateText.{IsFieldDay, date_number, day_of, day_text, two_digits};
 

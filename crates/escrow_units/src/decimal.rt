@@ -1,3 +1,4 @@
+//! Decimal fields.
 ghost use Rattle.std.specs.Prelude.{◌≡◌, ◌+◌, ◌*◌, ◌≤◌, ◌<◌, ◌^◌, ◌==◌, length, IfSome, IfOk, OnSome, option_map, position};
 ghost use Rattle.escrow_units.specs.NumberText.{whole_of, parted_of, decimal_of, ranged};
 

@@ -1,3 +1,4 @@
+//! The denominations of one file's securities.
 ghost use Rattle.std.specs.Prelude.{◌≡◌, ◌≤◌, IfOk};
 ghost use Rattle.escrow_units.specs.Denomination.{IsDenomination, AreTerms, denomination_of, terms_of, cap_of};
 

@@ -1,3 +1,4 @@
+//! Why a field is refused.
 use thiserror::Error;
 
 /// Why the bytes of a field are no number, date or price of its range.

@@ -30,15 +30,15 @@ pub use day::Day;
 pub use decimal::whole_number;
 pub use denomination::{read_cap, read_terms};
 pub use fault::NumberFault;
-pub use interest::{earned, half_coupon};
+pub use interest::{earned, face_price, half_coupon};
 pub use limits::{
-    AMOUNT_LIMIT, FIRST_WAIT, FLOWS_LIMIT, GREATEST_INDEX, GREATEST_YIELD, MOST_LINES,
-    MOST_NEED_DATES,
+    AMOUNT_LIMIT, FIRST_WAIT, FLOWS_LIMIT, GREATEST_GIVEN_YIELD, GREATEST_INDEX, GREATEST_PRICE,
+    GREATEST_RATE, GREATEST_YIELD, LEAST_PRICE, MOST_LINES, MOST_NEED_DATES,
 };
 pub use number_text::{
     decimal_spelling, read_cents, read_count, read_dollars, read_rate, read_yield,
 };
-pub use price_text::read_price;
+pub use price_text::{price_spelling, read_price};
 pub use printed::{print_cents, print_rate, print_yield};
 pub use rounding::near;
 pub use security::{AskedRate, Flow, Slgs, SlgsKind, StepRule, Terms};

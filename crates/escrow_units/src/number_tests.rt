@@ -1,3 +1,4 @@
+//! Worked figures of the fields.
 use crate::{
     Cents, NumberFault, Price8, Rate, Terms, YieldUnits, near, print_cents, print_rate,
     print_yield, read_cap, read_cents, read_count, read_dollars, read_price, read_rate, read_terms,

@@ -1,9 +1,11 @@
+//! The fields of amounts, rates, yields and counts.
 ghost use Rattle.std.specs.Prelude.{ℕ, List, Some, ◌≡◌, ◌≤◌, ◌^◌, IfOk};
 ghost use Rattle.escrow_units.specs.NumberText.{decimal_of, SpellsDecimal, cents_of, dollars_of, rate_of, yield_of, count_of};
 
 use crate::amount::{Cents, Rate, YieldUnits};
 use crate::decimal::{decimal, in_range, whole_number};
 use crate::fault::NumberFault;
+use crate::limits::{AMOUNT_LIMIT, GREATEST_GIVEN_YIELD, GREATEST_RATE};
 
 /// Reads dollars and cents: 1 to 15 digits, then optionally a point and 1 or 2 digits.
 ///
@@ -12,10 +14,10 @@ use crate::fault::NumberFault;
 #[tactic(auto, unfolding(crate::specs::NumberText::cents_of))]
 pub fn read_cents(bytes: &[u8]) -> Result<Cents, NumberFault>
     ensures value { result ≡ cents_of bytes.now }
-    ensures limit { IfOk result (λ cents. cents.0 ≤ 10 ^ 13) }
+    ensures limit { IfOk result (λ cents. cents.0 ≤ AMOUNT_LIMIT) }
 {
     let number = decimal(bytes, 15, 2);
-    Ok(Cents(in_range(number, 0, 10_000_000_000_000, NumberFault::OutOfRange)?))
+    Ok(Cents(in_range(number, 0, AMOUNT_LIMIT, NumberFault::OutOfRange)?))
 }
 
 /// Reads whole dollars: 1 to 15 digits.
@@ -42,10 +44,11 @@ pub fn read_dollars(bytes: &[u8]) -> Result<u64, NumberFault>
 #[tactic(auto, unfolding(crate::specs::NumberText::rate_of))]
 pub fn read_rate(bytes: &[u8]) -> Result<Rate, NumberFault>
     ensures value { result ≡ rate_of bytes.now }
-    ensures limit { IfOk result (λ rate. rate.0 ≤ 30_000) }
+    ensures limit { IfOk result (λ rate. rate.0 ≤ GREATEST_RATE) }
 {
     let number = decimal(bytes, 3, 3);
-    Ok(Rate(in_range(number, 0, 30_000, NumberFault::OutOfRange)? as u32))
+    let most = GREATEST_RATE as u64;
+    Ok(Rate(in_range(number, 0, most, NumberFault::OutOfRange)? as u32))
 }
 
 /// Reads a yield in percent: 1 to 3 digits, then optionally a point and 1 to 8 digits.
@@ -55,10 +58,10 @@ pub fn read_rate(bytes: &[u8]) -> Result<Rate, NumberFault>
 #[tactic(auto, unfolding(crate::specs::NumberText::yield_of))]
 pub fn read_yield(bytes: &[u8]) -> Result<YieldUnits, NumberFault>
     ensures value { result ≡ yield_of bytes.now }
-    ensures limit { IfOk result (λ units. units.0 ≤ 2_999_000_000) }
+    ensures limit { IfOk result (λ units. units.0 ≤ GREATEST_GIVEN_YIELD) }
 {
     let number = decimal(bytes, 3, 8);
-    Ok(YieldUnits(in_range(number, 0, 2_999_000_000, NumberFault::OutOfRange)?))
+    Ok(YieldUnits(in_range(number, 0, GREATEST_GIVEN_YIELD, NumberFault::OutOfRange)?))
 }
 
 /// Reads a count: 1 to 6 digits.

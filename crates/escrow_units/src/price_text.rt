@@ -1,9 +1,11 @@
+//! The field of a price: a decimal, or whole percents and thirty-seconds.
 ghost use Rattle.std.specs.Prelude.{◌≡◌, ◌+◌, ◌*◌, ◌≤◌, ◌<◌, IfSome, IfOk};
-ghost use Rattle.escrow_units.specs.PriceText.{thirty_seconds_of, eighths_of, fraction_of, quoted_of, price_units_of, price_of};
+ghost use Rattle.escrow_units.specs.PriceText.{PricesAreSpelled, thirty_seconds_of, eighths_of, fraction_of, quoted_of, price_units_of, price_of};
 
 use crate::amount::Price8;
 use crate::decimal::{decimal, in_range, place_of, whole_number};
 use crate::fault::NumberFault;
+use crate::limits::{GREATEST_PRICE, LEAST_PRICE};
 
 /// One percent of par, in units of 10^-8 percent.
 const PERCENT: u64 = 100_000_000;
@@ -76,13 +78,20 @@ fn price_units(bytes: &[u8]) -> Option<u64>
 #[tactic(auto, unfolding(crate::specs::PriceText::price_of))]
 pub fn read_price(bytes: &[u8]) -> Result<Price8, NumberFault>
     ensures value { result ≡ price_of bytes.now }
-    ensures limit { IfOk result (λ price. (1_000_000_000 ≤ price.0) × (price.0 ≤ 30_000_000_000)) }
+    ensures limit { IfOk result (λ price. (LEAST_PRICE ≤ price.0) × (price.0 ≤ GREATEST_PRICE)) }
 {
     let number = price_units(bytes);
     Ok(Price8(in_range(
         number,
-        1_000_000_000,
-        30_000_000_000,
+        LEAST_PRICE,
+        GREATEST_PRICE,
         NumberFault::PriceRange,
     )?))
 }
+
+/// A law on the prices that are read, which does nothing when it is called: which texts a price has, and their value.
+///
+/// A price is a decimal, or whole percents, a hyphen and thirty-seconds of a percent, maybe with eighths of one.
+pub fn price_spelling()
+    ensures { PricesAreSpelled }
+{}

@@ -1,9 +1,11 @@
+//! Printed amounts, rates and yields.
 ghost use Rattle.std.specs.Prelude.{◌≡◌, ◌≤◌, ◌^◌, Ok};
 ghost use Rattle.escrow_units.specs.Digits.{fixed};
 ghost use Rattle.escrow_units.specs.NumberText.{cents_of, rate_of, yield_of};
 
 use crate::amount::{Cents, Rate, YieldUnits};
 use crate::digits::{push_ascii, push_decimal, push_last};
+use crate::limits::{AMOUNT_LIMIT, GREATEST_GIVEN_YIELD, GREATEST_RATE};
 use arrayvec::ArrayString;
 
 // A number of units of 10^-places, with that many decimals.
@@ -25,7 +27,7 @@ fn fixed_text(n: u64, places: u8) -> ArrayString<32>
 /// `read_cents` reads it back, up to its limit of 10^13 cents.
 pub fn print_cents(value: Cents) -> ArrayString<32>
     ensures text { result.bytes ≡ fixed 2 value.0 }
-    ensures reads_back { value.0 ≤ 10 ^ 13 → cents_of result.bytes ≡ Ok value }
+    ensures reads_back { value.0 ≤ AMOUNT_LIMIT → cents_of result.bytes ≡ Ok value }
 {
     fixed_text(value.0, 2)
 }
@@ -35,7 +37,7 @@ pub fn print_cents(value: Cents) -> ArrayString<32>
 /// `read_rate` reads it back, up to its limit of 30.000 percent.
 pub fn print_rate(value: Rate) -> ArrayString<32>
     ensures text { result.bytes ≡ fixed 3 value.0 }
-    ensures reads_back { value.0 ≤ 30_000 → rate_of result.bytes ≡ Ok value }
+    ensures reads_back { value.0 ≤ GREATEST_RATE → rate_of result.bytes ≡ Ok value }
 {
     fixed_text(value.0 as u64, 3)
 }
@@ -45,7 +47,7 @@ pub fn print_rate(value: Rate) -> ArrayString<32>
 /// `read_yield` reads it back, up to its limit of 29.99 percent.
 pub fn print_yield(value: YieldUnits) -> ArrayString<32>
     ensures text { result.bytes ≡ fixed 8 value.0 }
-    ensures reads_back { value.0 ≤ 2_999_000_000 → yield_of result.bytes ≡ Ok value }
+    ensures reads_back { value.0 ≤ GREATEST_GIVEN_YIELD → yield_of result.bytes ≡ Ok value }
 {
     fixed_text(value.0, 8)
 }

@@ -1,3 +1,4 @@
+//! Rounding to the nearest whole number.
 ghost use Rattle.std.specs.Prelude.{◌≡◌, ◌<◌, ◌+◌, ◌*◌, ◌^◌};
 ghost use Rattle.escrow_units.specs.Rounding.{near, IsNearest};
 

@@ -1,3 +1,4 @@
+//! The terms of securities.
 use crate::amount::{Cents, Rate};
 use crate::day::Day;
 

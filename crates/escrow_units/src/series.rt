@@ -2,7 +2,7 @@
 ghost use Rattle.std.specs.Prelude.{◌≡◌, ◌≤ℤ◌, ◌<ℤ◌, ◌+ℤ◌, pos};
 ghost use Rattle.escrow_units.specs.Calendar.{IsBaseDay};
 ghost use Rattle.escrow_units.specs.CalendarLaws.{IsHalfYear};
-ghost use Rattle.escrow_units.specs.Series.{IsLastBy, dates_after_of, next_date_of, previous_date_of};
+ghost use Rattle.escrow_units.specs.Series.{IsFirstAfter, IsLastBy, dates_after_of, next_date_of, previous_date_of};
 
 use crate::calendar::half_back;
 use crate::day::Day;
@@ -31,6 +31,7 @@ pub fn series_around(maturity: Day, rule: StepRule, day: Day) -> SeriesDates
     ensures next { result.next ≡ next_date_of maturity rule day }
     ensures after { result.after.items ≡ dates_after_of maturity rule day }
     ensures last { IsLastBy maturity rule day result.previous }
+    ensures first { IsFirstAfter maturity rule day result.next }
     ensures half_year { IsHalfYear result.previous result.next }
 {
     let mut after = ArrayVec::new();

@@ -1,3 +1,4 @@
+//! The days on which securities may be bought.
 ghost use Rattle.std.specs.Prelude.{◌≡◌, ◌↔◌, IsTrue};
 ghost use Rattle.escrow_units.specs.SlgsTerms.{IsSettlement, is_settlement as is_settlement_day};
 

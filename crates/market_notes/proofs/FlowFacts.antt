@@ -13,16 +13,16 @@ use Rattle.escrow_units.proofs.RoundingFacts.{near-mono, near-zero}
 use Rattle.escrow_units.proofs.LastDates.{last_dates, last_dates-last, last_dates-rise, dates_before, half_back_of-reach, half_back_of-zero}
 use Rattle.escrow_units.specs.Calendar.{half_back_of}
 use Rattle.escrow_units.specs.Flows.{EndsOn, Rise, index360_of}
-use Rattle.escrow_units.specs.Rounding.{near}
+use Rattle.escrow_units.specs.Interest.{earned_of, face_price_of, half_coupon_of}
 use Rattle.escrow_units.specs.Series.{days_between_of}
 use Rattle.escrow_units.specs.declared.security.Flow.{Flow}
 use Rattle.escrow_units.specs.declared.security.StepRule.{StepRule}
 use Rattle.escrow_units.specs.declared.security.StepRule.TheVariants as rule
-use Rattle.market_notes.specs.NoteFlows.{payment_dates, payments_of, payment_on, principal_on, half_year_interest, price_part, accrued_interest, cost_of, previous_date, next_date}
+use Rattle.market_notes.specs.NoteFlows.{payment_dates, payments_of, payment_on, principal_on, accrued_interest, cost_of, previous_date, next_date}
 use Rattle.market_notes.specs.NoteLaws.{IsCouponDate, SettlesIn, CostsPriceOnCouponDate, AreAfterSettlement, PayFaceOnce, AreAtMost, PayNoLessForMore}
 use Rattle.market_notes.specs.PriceForm.{has_matured}
 use Rattle.market_notes.specs.declared.note.Note.{Note}
-use Rattle.market_notes.proofs.SeriesFacts.{IsTerm, PaysOn, last_dates-late}
+use Rattle.escrow_units.proofs.SeriesAround.{HasDates, IsNear, dates-after-are-later}
 
 -- a maturity that is late enough
 pub record IsLater (settle maturity : ℤ) : Type 0 where
@@ -33,12 +33,12 @@ pub later : (settle maturity : ℤ) → has_matured settle maturity ≡ false �
 later settle maturity h = record { after = grind (arith, ints); index = grind (arith, ints) }
 
 -- the accrued interest, by the days of its half-year
-pub accrued-is : (note : Note) (face : ℕ) (from to : ℤ) (elapsed whole : ℕ) → from ≡ previous_date note → to ≡ next_date note
-    → from +ℤ pos elapsed ≡ note.settle → from +ℤ pos whole ≡ to
-    → near (face * note.coupon.0 * elapsed) (200_000 * whole) ≡ accrued_interest note face
+pub accrued-is : (note : Note) (face : ℕ) (from to : ℤ) (elapsed half : ℕ) → from ≡ previous_date note → to ≡ next_date note
+    → from +ℤ pos elapsed ≡ note.settle → from +ℤ pos half ≡ to
+    → earned_of face note.coupon.0 elapsed (2 * half) ≡ accrued_interest note face
 unfolding accrued_interest
-accrued-is note face from to elapsed whole e f g h =
-    rw (← e, ← f, days_between_of-count from note.settle elapsed g, days_between_of-count from to whole h) refl
+accrued-is note face from to elapsed half e f g h =
+    rw (← e, ← f, days_between_of-count from note.settle elapsed g, days_between_of-count from to half h) refl
 
 none-accrued : (note : Note) (face : ℕ) → SettlesIn note (previous_date note) (next_date note) → IsCouponDate note note.settle → accrued_interest note face ≡ 0
 unfolding accrued_interest
@@ -54,8 +54,7 @@ none-accrued note face around on =
 pub costs-price : (note : Note) (face cost : ℕ) → SettlesIn note (previous_date note) (next_date note) → cost ≡ cost_of note face → CostsPriceOnCouponDate note face cost
 costs-price note face cost around is = λ on. omega (arith, is, none-accrued note face around on)
 
-price-more : (note : Note) (face more : ℕ) → face ≤ more → price_part note face ≤ price_part note more
-unfolding price_part
+price-more : (note : Note) (face more : ℕ) → face ≤ more → face_price_of face note.price.0 ≤ face_price_of more note.price.0
 price-more note face more le = near-mono _ _ _ (omega arith) (mul-le-mul_right note.price.0 le)
 
 accrued-more : (note : Note) (face more : ℕ) → SettlesIn note (previous_date note) (next_date note) → face ≤ more → accrued_interest note face ≤ accrued_interest note more
@@ -73,22 +72,22 @@ pub payments-are : (note : Note) (face : ℕ) (flows : List Flow) (i : ℕ) (dat
 unfolding payments_of
 payments-are note face flows i dates e all f = e ∙ ap (map (payment_on note face)) (take_all i dates all ∙ f)
 
-payments-series : (note : Note) (face n : ℕ) → PaysOn note n → payments_of note face ≡ map (payment_on note face) (last_dates note.maturity rule.MonthEnd n)
+payments-series : (note : Note) (face n : ℕ) → HasDates note.maturity rule.MonthEnd note.settle n → payments_of note face ≡ map (payment_on note face) (last_dates note.maturity rule.MonthEnd n)
 unfolding payments_of
 payments-series note face n p = ap (map (payment_on note face)) p.dates
 
-pub payments-rise : (note : Note) (face n : ℕ) → IsTerm note → PaysOn note n → Rise (payments_of note face)
+pub payments-rise : (note : Note) (face n : ℕ) → IsNear note.maturity note.settle → HasDates note.maturity rule.MonthEnd note.settle n → Rise (payments_of note face)
 payments-rise note face n t p =
     subst Rise (sym (payments-series note face n p))
     (rise-map (payment_on note face) (λ day. refl) (last_dates note.maturity rule.MonthEnd n) (last_dates-rise note.maturity rule.MonthEnd n t.base (omega (arith, p.few))))
 
-pub payments-after : (note : Note) (face n : ℕ) → IsTerm note → PaysOn note n → note.settle <ℤ next_date note → AreAfterSettlement note (payments_of note face)
-payments-after note face n t p late =
-    All-same (λ (flow : Flow). IsCouponDate note flow.day × (note.settle <ℤ flow.day)) (payments_of note face) (map (payment_on note face) (last_dates note.maturity rule.MonthEnd n)) (payments-series note face n p)
-    (All-map (λ (flow : Flow). IsCouponDate note flow.day × (note.settle <ℤ flow.day)) (payment_on note face) (last_dates note.maturity rule.MonthEnd n)
-    (last_dates-late note n t p late))
+pub payments-after : (note : Note) (face : ℕ) → IsNear note.maturity note.settle → AreAfterSettlement note (payments_of note face)
+unfolding payments_of
+payments-after note face t =
+    All-map (λ (flow : Flow). IsCouponDate note flow.day × (note.settle <ℤ flow.day)) (payment_on note face) (payment_dates note)
+    (dates-after-are-later note.maturity rule.MonthEnd note.settle t.base).series
 
-pub payments-end : (note : Note) (face n : ℕ) → IsTerm note → PaysOn note n → EndsOn note.maturity (payments_of note face)
+pub payments-end : (note : Note) (face n : ℕ) → IsNear note.maturity note.settle → HasDates note.maturity rule.MonthEnd note.settle n → EndsOn note.maturity (payments_of note face)
 payments-end note face n t p = record {
   before = map (payment_on note face) (dates_before note.maturity rule.MonthEnd (n - 1));
   last = payment_on note face note.maturity;
@@ -128,26 +127,25 @@ choice-mono : (t : Bool) (a b : ℕ) → a ≤ b → (if t then a else 0) ≤ (i
 choice-mono true a b h = h
 choice-mono false a b h = omega arith
 
-face-once : (note : Note) (face k : ℕ) → IsTerm note → k ≤ 84
+face-once : (note : Note) (face k : ℕ) → IsNear note.maturity note.settle → k ≤ 84
     → PayFaceOnce note face (map (payment_on note face) (last_dates note.maturity rule.MonthEnd (suc k)))
 unfolding flow_of cents_of
 face-once note face k t few =
-    face-sum (half_year_interest note face) (principal_on note face) face note.maturity rule.MonthEnd k
+    face-sum (half_coupon_of face note.coupon.0) (principal_on note face) face note.maturity rule.MonthEnd k
     (choice-true (int_eq (half_back_of note.maturity 0 rule.MonthEnd) note.maturity) face 0 ((Decides-int_eq (half_back_of note.maturity 0 rule.MonthEnd) note.maturity).1 (half_back_of-zero note.maturity rule.MonthEnd t.base)))
     (λ j some le.
     let reach = half_back_of-reach note.maturity rule.MonthEnd j t.base (omega arith) in
     choice-false (int_eq (half_back_of note.maturity j rule.MonthEnd) note.maturity) face 0
     (λ e. omega (arith, signed_arith, reach, (Decides-int_eq (half_back_of note.maturity j rule.MonthEnd) note.maturity).0 e)))
 
-pub payments-face : (note : Note) (face n : ℕ) → IsTerm note → PaysOn note n → PayFaceOnce note face (payments_of note face)
+pub payments-face : (note : Note) (face n : ℕ) → IsNear note.maturity note.settle → HasDates note.maturity rule.MonthEnd note.settle n → PayFaceOnce note face (payments_of note face)
 payments-face note face n t p =
     let more : n ≡ suc (n - 1) = omega (arith, p.some) in
     subst (PayFaceOnce note face) (sym (payments-series note face n p ∙ ap (λ (m : ℕ). map (payment_on note face) (last_dates note.maturity rule.MonthEnd m)) more))
     (face-once note face (n - 1) t (omega (arith, p.few)))
 
 -- a greater face
-interest-more : (note : Note) (face more : ℕ) → face ≤ more → half_year_interest note face ≤ half_year_interest note more
-unfolding half_year_interest
+interest-more : (note : Note) (face more : ℕ) → face ≤ more → half_coupon_of face note.coupon.0 ≤ half_coupon_of more note.coupon.0
 interest-more note face more le = near-mono _ _ _ (omega arith) (mul-le-mul_right note.coupon.0 le)
 
 payment-more : (note : Note) (face more : ℕ) (day : ℤ) → face ≤ more → (payment_on note face day).cents.0 ≤ (payment_on note more day).cents.0

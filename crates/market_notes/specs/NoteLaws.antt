@@ -2,9 +2,10 @@
 use Rattle.std.specs.Prelude.{◌≡◌, ℕ, ◌+◌, ◌*◌, ◌<◌, ◌≤◌, List, length, get_or, map, All, ℤ, ◌≤ℤ◌, ◌<ℤ◌, ◌⊎◌}
 use Rattle.escrow_units.specs.Calendar.{IsSeriesDate}
 use Rattle.escrow_units.specs.Flows.{total}
+use Rattle.escrow_units.specs.Interest.{face_price_of, half_coupon_of}
 use Rattle.escrow_units.specs.declared.security.Flow.{Flow}
 use Rattle.escrow_units.specs.declared.security.StepRule.TheVariants as rule
-use Rattle.market_notes.specs.NoteFlows.{cost_of, half_year_interest, payments_of, price_part}
+use Rattle.market_notes.specs.NoteFlows.{cost_of, payments_of}
 use Rattle.market_notes.specs.declared.note.Note.{Note}
 
 -- a date of the note's series, where month ends are kept
@@ -21,7 +22,7 @@ pub record SettlesIn (note : Note) (start «end» : ℤ) : Type 0 where
 
 -- where settlement falls on a coupon date nothing is accrued, and the price alone is paid
 abbrev pub CostsPriceOnCouponDate : Note → ℕ → ℕ → Type 0
-CostsPriceOnCouponDate note face cost = IsCouponDate note note.settle → cost ≡ price_part note face
+CostsPriceOnCouponDate note face cost = IsCouponDate note note.settle → cost ≡ face_price_of face note.price.0
 
 -- a greater face doesn't cost less
 abbrev pub CostsNoLessForMore : Note → ℕ → ℕ → Type 0
@@ -34,7 +35,7 @@ AreAfterSettlement note flows = All (λ flow. IsCouponDate note flow.day × (not
 -- the face is paid once, and half a year's interest with each payment
 abbrev pub PayFaceOnce : Note → ℕ → List Flow → Type 0
 PayFaceOnce note face flows =
-    total flows ≡ face + length flows * half_year_interest note face
+    total flows ≡ face + length flows * half_coupon_of face note.coupon.0
 
 -- payments on the same days, none of them less than the one in its place
 pub record AreAtMost (flows others : List Flow) : Type 0 where

@@ -1,34 +1,28 @@
-ghost use Rattle.std.specs.Prelude.{◌≡◌, ◌^◌, ◌<◌, ◌≤◌};
+//! What a note costs and what it pays.
+ghost use Rattle.std.specs.Prelude.{◌≡◌, ◌^◌, ◌≤◌};
+ghost use Rattle.escrow_units.specs.CalendarLaws.{IsHalfYear};
 ghost use Rattle.escrow_units.specs.Flows.{EndsOn, Rise};
-ghost use Rattle.market_notes.specs.NoteFlows.{accrued_interest, cost_of, half_year_interest as half_year_interest_of, next_date, payments_of, previous_date, price_part as price_part_of};
+ghost use Rattle.market_notes.specs.NoteFlows.{accrued_interest, cost_of, next_date, payment_dates, payments_of, previous_date};
 ghost use Rattle.market_notes.specs.NoteLaws.{AreAfterSettlement, CostsNoLessForMore, CostsPriceOnCouponDate, PayFaceOnce, PayNoLessForMore, SettlesIn};
 ghost use Rattle.market_notes.specs.NoteTerms.{IsNote};
 
 use crate::note::Note;
-use crate::schedule::schedule_of;
 use arrayvec::ArrayVec;
-use escrow_units::{Cents, Flow, days_between, earned, near};
+use escrow_units::{
+    Cents, Flow, SeriesDates, StepRule, days_between, earned, face_price, half_coupon,
+    series_around,
+};
 
-// The price of a face, without accrued interest.
-#[tactic(auto, unfolding(crate::specs::NoteFlows::price_part))]
-fn price_part(note: &Note, face: Cents) -> u64
-    requires note { IsNote note.now }
-    requires face { face.0 ≤ 10 ^ 11 }
-    ensures value { result ≡ price_part_of note.now face.0 }
-    ensures bound { result < 2 ^ 62 }
+// The dates of a note's series around settlement: it pays on those after.
+fn dates_of(note: &Note) -> SeriesDates
+    requires { IsNote note.now }
+    ensures previous { result.previous ≡ previous_date note.now }
+    ensures next { result.next ≡ next_date note.now }
+    ensures after { result.after.items ≡ payment_dates note.now }
+    ensures around { SettlesIn note.now result.previous result.next }
+    ensures half_year { IsHalfYear result.previous result.next }
 {
-    near(face.0 as u128 * note.price.0 as u128, 10_000_000_000) as u64
-}
-
-// The interest of a half-year.
-#[tactic(auto, unfolding(crate::specs::NoteFlows::half_year_interest))]
-fn half_year_interest(note: &Note, face: Cents) -> u64
-    requires note { IsNote note.now }
-    requires face { face.0 ≤ 10 ^ 11 }
-    ensures value { result ≡ half_year_interest_of note.now face.0 }
-    ensures bound { result < 2 ^ 62 }
-{
-    earned(face, note.coupon, 1, 200_000)
+    series_around(note.maturity, StepRule::MonthEnd, note.settle)
 }
 
 /// The cost of a face of a note, in cents: its price and the accrued interest, each rounded to the cent, halves up.
@@ -44,10 +38,11 @@ pub fn note_cost(note: &Note, face: Cents) -> Cents
     ensures on_coupon_date { CostsPriceOnCouponDate note.now face.0 result.0 }
     ensures more_face { CostsNoLessForMore note.now face.0 result.0 }
 {
-    let schedule = schedule_of(note);
-    let elapsed = days_between(schedule.previous, note.settle);
-    let half_year = days_between(schedule.previous, schedule.next);
-    Cents(price_part(note, face) + earned(face, note.coupon, elapsed, 200_000 * half_year))
+    let dates = dates_of(note);
+    let elapsed = days_between(dates.previous, note.settle);
+    let half_year = days_between(dates.previous, dates.next);
+    let accrued = earned(face, note.coupon, elapsed, 2 * half_year);
+    Cents(face_price(face, note.price).0 + accrued.0)
 }
 
 /// The payments of a face of a note, in order of date: half the annual coupon on each date of its series after
@@ -65,14 +60,14 @@ pub fn note_payments(note: &Note, face: Cents) -> ArrayVec<Flow, 84>
     ensures face_once { PayFaceOnce note.now face.0 result.items }
     ensures more_face { PayNoLessForMore note.now face.0 result.items }
 {
-    let schedule = schedule_of(note);
-    let interest = half_year_interest(note, face);
+    let dates = dates_of(note);
+    let interest = half_coupon(face, note.coupon);
     let mut flows = ArrayVec::new();
-    for date in schedule.dates.as_slice() {
+    for date in dates.after.as_slice() {
         let principal = if *date == note.maturity { face.0 } else { 0 };
         flows.push(Flow {
             day: *date,
-            cents: Cents(interest + principal),
+            cents: Cents(interest.0 + principal),
         });
     }
     flows

@@ -6,7 +6,6 @@ mod flows;
 mod note;
 mod read;
 mod row;
-mod schedule;
 #[cfg(test)]
 mod tests;
 

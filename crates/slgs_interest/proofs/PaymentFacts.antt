@@ -6,7 +6,7 @@ use Rattle.escrow_units.proofs.FlowFacts.{choice-false, choice-true, days_betwee
 use Rattle.escrow_units.proofs.RoundingFacts.{near-at-most, near-zero}
 use Rattle.escrow_units.proofs.LastDates.{last_dates, last_dates-all, last_dates-last, last_dates-rise, dates_before, half_back_of-order, half_back_of-reach, half_back_of-zero}
 use Rattle.escrow_units.specs.Flows.{EndsOn, Rise}
-use Rattle.escrow_units.specs.Rounding.{near}
+use Rattle.escrow_units.specs.Interest.{earned_of, half_coupon_of}
 use Rattle.escrow_units.specs.Series.{days_between_of}
 use Rattle.std.specs.Ordering.{int_eq}
 use Rattle.std.proofs.lemmas.Bool.Decides.{Decides-int_eq}
@@ -20,7 +20,7 @@ use Rattle.escrow_units.specs.declared.security.Slgs.{Slgs}
 use Rattle.escrow_units.specs.declared.security.SlgsKind.{SlgsKind}
 use Rattle.escrow_units.specs.declared.security.SlgsKind.TheVariants as kind
 use Rattle.escrow_units.specs.declared.security.StepRule.TheVariants as rule
-use Rattle.slgs_interest.specs.Payments.{payment_dates, payments_of, payment_on, interest_on, principal_on, first_interest, first_interest_of_kind, first_period_interest, half_year_interest, before_first, second_before_first, has_leap_day, basis_of}
+use Rattle.slgs_interest.specs.Payments.{payment_dates, payments_of, payment_on, interest_on, principal_on, first_interest, first_interest_of_kind, first_period_interest, before_first, second_before_first, has_leap_day, basis_of}
 use Rattle.slgs_interest.specs.PaymentLaws.{AreSmall, EarnLittle, AreWithinTerm, PayPrincipalOnce, PayFaceAlone, PayEqualInterest}
 use Rattle.slgs_interest.proofs.Amounts.{interest-at-most, no-interest, whole-period}
 use Rattle.slgs_interest.proofs.Series.{IsPaid}
@@ -131,7 +131,7 @@ first-none slgs face p none = at slgs.kind
 
 interest-none : (slgs : Slgs) (face : ℕ) → IsPaid slgs → slgs.rate.0 ≡ 0 → (day : ℤ) → interest_on slgs face day ≡ 0
 interest-none slgs face p none day =
-    choice-both (int_eq day slgs.first) (first_interest slgs face) (half_year_interest slgs face) 0 (first-none slgs face p none)
+    choice-both (int_eq day slgs.first) (first_interest slgs face) (half_coupon_of face slgs.rate.0) 0 (first-none slgs face p none)
     (near-zero (face * slgs.rate.0) 200_000 (rw none (omega arith)) (omega arith))
 
 sum-none : (f : Flow → ℕ) → ((flow : Flow) → f flow ≡ 0) → (flows : List Flow) → sum_by f flows ≡ 0
@@ -148,14 +148,14 @@ payments-face slgs face p = λ none.
     plain n = omega arith
 
 -- equal interest
-first-whole : (slgs : Slgs) (face : ℕ) → IsPaid slgs → ¬ (slgs.kind ≡ kind.Certificate) → slgs.settle ≡ before_first slgs → first_interest slgs face ≡ half_year_interest slgs face
+first-whole : (slgs : Slgs) (face : ℕ) → IsPaid slgs → ¬ (slgs.kind ≡ kind.Certificate) → slgs.settle ≡ before_first slgs → first_interest slgs face ≡ half_coupon_of face slgs.rate.0
 unfolding first_interest
 first-whole slgs face p other e = at slgs.kind other
   where
-    of_period : first_period_interest slgs face ≡ half_year_interest slgs face
+    of_period : first_period_interest slgs face ≡ half_coupon_of face slgs.rate.0
     of_period = whole-period face slgs.rate.0 slgs.settle slgs.first (before_first slgs) (second_before_first slgs) e (omega (arith, signed_arith, p.late))
 
-    at : (k : SlgsKind) → ¬ (k ≡ kind.Certificate) → first_interest_of_kind k slgs face ≡ half_year_interest slgs face
+    at : (k : SlgsKind) → ¬ (k ≡ kind.Certificate) → first_interest_of_kind k slgs face ≡ half_coupon_of face slgs.rate.0
     at kind.Certificate other = absurd (other refl)
     at kind.Note other = of_period
     at kind.Bond other = of_period
@@ -163,15 +163,15 @@ first-whole slgs face p other e = at slgs.kind other
 pub payments-equal : (slgs : Slgs) (face : ℕ) → IsPaid slgs → PayEqualInterest slgs face (payments_of slgs face)
 unfolding payments_of
 payments-equal slgs face p = λ other e.
-    All-map (λ (flow : Flow). flow.cents.0 ≡ half_year_interest slgs face + principal_on slgs face flow.day) (payment_on slgs face) (payment_dates slgs)
+    All-map (λ (flow : Flow). flow.cents.0 ≡ half_coupon_of face slgs.rate.0 + principal_on slgs face flow.day) (payment_on slgs face) (payment_dates slgs)
     (λ k d lt. equal (slice d k) (first-whole slgs face p other e))
   where
     slice : ℤ → ℕ → ℤ
     slice d k = get_or (payment_dates slgs) k d
 
-    equal : (day : ℤ) → first_interest slgs face ≡ half_year_interest slgs face
-        → interest_on slgs face day + principal_on slgs face day ≡ half_year_interest slgs face + principal_on slgs face day
-    equal day f = ap (λ n. n + principal_on slgs face day) (choice-both (int_eq day slgs.first) (first_interest slgs face) (half_year_interest slgs face) (half_year_interest slgs face) f refl)
+    equal : (day : ℤ) → first_interest slgs face ≡ half_coupon_of face slgs.rate.0
+        → interest_on slgs face day + principal_on slgs face day ≡ half_coupon_of face slgs.rate.0 + principal_on slgs face day
+    equal day f = ap (λ n. n + principal_on slgs face day) (choice-both (int_eq day slgs.first) (first_interest slgs face) (half_coupon_of face slgs.rate.0) (half_coupon_of face slgs.rate.0) f refl)
 
 -- no interest is above 400 million dollars
 basis-least : (settle maturity : ℤ) → 365 ≤ basis_of settle maturity
@@ -201,24 +201,24 @@ first-small slgs face p same f r = at slgs.kind same
 
     long : (t : Bool) → int_lt slgs.settle (before_first slgs) ≡ t
         → (if t
-        then near (face * slgs.rate.0 * (days_between_of (second_before_first slgs) (before_first slgs) + days_between_of slgs.settle (before_first slgs)))
-        (200_000 * days_between_of (second_before_first slgs) (before_first slgs))
-        else near (face * slgs.rate.0 * days_between_of slgs.settle slgs.first) (200_000 * days_between_of (before_first slgs) slgs.first)) ≤ 4 * 10 ^ 10
+        then earned_of face slgs.rate.0 (days_between_of (second_before_first slgs) (before_first slgs) + days_between_of slgs.settle (before_first slgs))
+        (2 * days_between_of (second_before_first slgs) (before_first slgs))
+        else earned_of face slgs.rate.0 (days_between_of slgs.settle slgs.first) (2 * days_between_of (before_first slgs) slgs.first)) ≤ 4 * 10 ^ 10
     long true e =
         let less : slgs.settle <ℤ before_first slgs = omega (arith, ints) in
         let days = days_between_of-whole slgs.settle (before_first slgs) (omega (arith, signed_arith, less)) in
-        interest-at-most face slgs.rate.0 _ (days_between_of (second_before_first slgs) (before_first slgs)) 200_000 f r
+        interest-at-most face slgs.rate.0 _ (2 * days_between_of (second_before_first slgs) (before_first slgs)) f r
         (omega (arith, signed_arith, second, p.second_before.least))
-        (omega (arith, signed_arith, second, days, p.second_before.least, p.second_before.most, p.before.least, p.early)) (omega arith)
+        (omega (arith, signed_arith, second, days, p.second_before.least, p.second_before.most, p.before.least, p.early))
     long false e =
-        interest-at-most face slgs.rate.0 (days_between_of slgs.settle slgs.first) (days_between_of (before_first slgs) slgs.first) 200_000 f r
-        (omega (arith, signed_arith, before, p.before.least)) (omega (arith, signed_arith, before, term, p.before.least, p.early)) (omega arith)
+        interest-at-most face slgs.rate.0 (days_between_of slgs.settle slgs.first) (2 * days_between_of (before_first slgs) slgs.first) f r
+        (omega (arith, signed_arith, before, p.before.least)) (omega (arith, signed_arith, before, term, p.before.least, p.early))
 
     at : (k : SlgsKind) → (k ≡ kind.Certificate → slgs.first ≡ slgs.maturity) → first_interest_of_kind k slgs face ≤ 4 * 10 ^ 10
     at kind.Certificate same =
         let e : days_between_of slgs.settle slgs.maturity ≡ days_between_of slgs.settle slgs.first = ap (λ (day : ℤ). days_between_of slgs.settle day) (sym (same refl)) in
-        interest-at-most face slgs.rate.0 (days_between_of slgs.settle slgs.maturity) (basis_of slgs.settle slgs.maturity) 100_000 f r
-        (basis-some slgs.settle slgs.maturity) (omega (arith, signed_arith, e, term, p.early, basis-least slgs.settle slgs.maturity)) (omega arith)
+        interest-at-most face slgs.rate.0 (days_between_of slgs.settle slgs.maturity) (basis_of slgs.settle slgs.maturity) f r
+        (basis-some slgs.settle slgs.maturity) (omega (arith, signed_arith, e, term, p.early, basis-least slgs.settle slgs.maturity))
     at kind.Note same = long (int_lt slgs.settle (before_first slgs)) refl
     at kind.Bond same = long (int_lt slgs.settle (before_first slgs)) refl
 
@@ -226,7 +226,7 @@ interest-small : (slgs : Slgs) (face : ℕ) → face ≤ 10 ^ 11 → slgs.rate.0
     → (day : ℤ) → interest_on slgs face day ≤ 4 * 10 ^ 10
 interest-small slgs face f r first day =
     let later = near-at-most (face * slgs.rate.0) 200_000 (4 * 10 ^ 10) (omega arith) (omega (arith, mul-le-mul f r)) in
-    choice-most (int_eq day slgs.first) (first_interest slgs face) (half_year_interest slgs face) (4 * 10 ^ 10) first later
+    choice-most (int_eq day slgs.first) (first_interest slgs face) (half_coupon_of face slgs.rate.0) (4 * 10 ^ 10) first later
 
 pub payments-interest : (slgs : Slgs) (face : ℕ) → IsPaid slgs → (slgs.kind ≡ kind.Certificate → slgs.first ≡ slgs.maturity) → face ≤ 10 ^ 11 → slgs.rate.0 ≤ 30_000
     → EarnLittle slgs face (payments_of slgs face)

@@ -1,10 +1,11 @@
 -- The dates on which a security pays.
-use Rattle.std.proofs.Common.{◌≡◌, ◌∙◌, ℕ, ◌+◌, ◌-◌, ◌<◌, ◌≤◌, sym, ap, arith, ℤ, pos, ◌+ℤ◌, ◌≤ℤ◌, ◌<ℤ◌, int_le, Bool, true, false, cond, ◌==◌, List, [], ◌∷◌, ◌++◌, length, reverse, filter}
-use Rattle.std.proofs.lemmas.List.{reverse-append, length-append}
+use Rattle.std.proofs.Common.{◌≡◌, ◌∙◌, ℕ, ◌+◌, ◌-◌, ◌<◌, ◌≤◌, sym, ap, arith, ℤ, pos, ◌+ℤ◌, ◌≤ℤ◌, ◌<ℤ◌, int_le, int_lt, Bool, true, false, cond, ◌==◌, List, [], ◌∷◌, ◌++◌, length, reverse, filter}
+use Rattle.std.proofs.lemmas.Int.{ints}
 use Rattle.jiff_core.proofs.SignedLemmas.{signed_arith}
 use Rattle.escrow_units.specs.Calendar.{half_back_of, years_after_of, IsBaseDay}
 use Rattle.escrow_units.specs.CalendarLaws.{IsHalfYear}
 use Rattle.escrow_units.specs.DayNumber.{IsDayNumber}
+use Rattle.escrow_units.specs.Series.{dates_after_of, series_of}
 use Rattle.escrow_units.specs.SlgsTerms.{IsSettlement, IsSlgs, IsFirstPayment, IsOfKind, shortest_term}
 use Rattle.escrow_units.specs.declared.security.Slgs.{Slgs}
 use Rattle.escrow_units.specs.declared.security.SlgsKind.{SlgsKind}
@@ -37,6 +38,7 @@ pub record IsPaid (slgs : Slgs) : Type 0 where
   pub count : length (payment_dates slgs) ≡ steps + 1
   pub late : (slgs.settle +ℤ pos 15) ≤ℤ slgs.first
   pub early : slgs.first ≤ℤ (slgs.settle +ℤ pos 366)
+  pub near : slgs.maturity ≤ℤ (slgs.first +ℤ pos 14_625)
   pub before : IsHalfYear (before_first slgs) slgs.first
   pub second_before : IsHalfYear (second_before_first slgs) (before_first slgs)
 
@@ -108,52 +110,18 @@ paid slgs h terms =
       count = count;
       late = step.late;
       early = omega (arith, signed_arith, step.early, one.most, none);
+      near = omega (arith, signed_arith, step.late, terms.most, forty.most, none);
       before = half_year-along _ _ _ _ (ap at count) step.first before;
       second_before = half_year-along _ _ _ _ (ap (λ n. at (n + 1)) count) (ap at count) second_before;
     }
 
--- the walk from maturity back to the first payment date
-pub record IsWalk (maturity first date : ℤ) (dates : List ℤ) : Type 0 where
-  pub some : 1 ≤ length dates
-  pub few : length dates ≤ 82
-  pub at : date ≡ half_back_of maturity (length dates - 1) rule.SameDay
-  pub walked : reverse dates ≡ last_dates maturity rule.SameDay (length dates)
-  pub late : first ≤ℤ date
+-- the dates not before a day are those after the day before it
+int_le-before : (first day date : ℤ) → day +ℤ pos 1 ≡ first → int_lt day date ≡ int_le first date
+int_le-before first day date e = grind (arith, ints)
 
-pub walk-start : (maturity first : ℤ) (dates : List ℤ) → IsBaseDay maturity → first ≤ℤ maturity → dates ≡ maturity ∷ [] → IsWalk maturity first maturity dates
-unfolding last_dates
-walk-start maturity first dates h order e = rw e (record {
-  some = omega arith;
-  few = omega arith;
-  at = sym (half_back_of-zero maturity rule.SameDay h);
-  walked = ap (λ d. d ∷ []) (sym (half_back_of-zero maturity rule.SameDay h));
-  late = order;
-})
-
-pub walk-more : (maturity first date next : ℤ) (dates more : List ℤ) (s : ℕ) → IsBaseDay maturity → s ≤ 80 → first ≡ half_back_of maturity s rule.SameDay
-    → IsWalk maturity first date dates → first <ℤ date → next ≡ half_back_of maturity (length dates) rule.SameDay → more ≡ dates ++ next ∷ []
-    → IsWalk maturity first next more
-walk-more maturity first date next dates more s h few e walk less f g =
-    let steps = fewer-steps maturity rule.SameDay (length dates - 1) s h (omega (arith, walk.few)) (omega (arith, signed_arith, e, less, walk.at)) in
-    let last = half_back_of-order maturity rule.SameDay (length dates) s h (omega arith) (omega arith) in
-    let long : length more ≡ length dates + 1 = rw g (simp length-append (omega arith)) in
-    let back : length more - 1 ≡ length dates = omega arith in
-    record {
-      some = omega arith;
-      few = omega arith;
-      at = rw back f;
-      walked = ap reverse g
-          ∙ (reverse-append dates (next ∷ [])
-          ∙ (rw (f, walk.walked) (last_dates-more maturity rule.SameDay (length dates) (length more) long)));
-      late = omega (arith, signed_arith, e, f, last);
-    }
-
-pub walk-end : (slgs : Slgs) (date : ℤ) (dates : List ℤ) → IsBaseDay slgs.maturity → IsWalk slgs.maturity slgs.first date dates → date ≤ℤ slgs.first
-    → reverse dates ≡ payment_dates slgs
-walk-end slgs date dates h walk e =
-    let same : slgs.first ≡ half_back_of slgs.maturity (length dates - 1) rule.SameDay = omega (arith, signed_arith, e, walk.late, walk.at) in
-    let more : length dates ≡ length dates - 1 + 1 = omega (arith, walk.some) in
-    walk.walked ∙ (ap (last_dates slgs.maturity rule.SameDay) more ∙ sym (payment_dates-series slgs (length dates - 1) h (omega (arith, walk.few)) same))
+pub dates-from-first : (slgs : Slgs) (day : ℤ) → day +ℤ pos 1 ≡ slgs.first → dates_after_of slgs.maturity rule.SameDay day ≡ payment_dates slgs
+unfolding dates_after_of payment_dates
+dates-from-first slgs day e = λ i. filter (λ date. int_le-before slgs.first day date e i) (series_of slgs.maturity rule.SameDay)
 
 -- a certificate matures on a day from which half-years are counted
 pub certificate-base : (settle maturity : ℤ) → IsSettlement settle → settle ≤ℤ maturity → maturity ≤ℤ years_after_of settle 1 → IsBaseDay maturity

@@ -2,12 +2,13 @@
 use Rattle.std.specs.Prelude.{◌≡◌, ◌↔◌, ℕ, ◌+◌, ◌*◌, ◌^◌, ◌≤◌, IsTrue, List, All, sum_by, ℤ, ◌≤ℤ◌, ◌<ℤ◌}
 use Rattle.escrow_units.specs.Calendar.{IsSeriesDate}
 use Rattle.escrow_units.specs.Flows.{total}
+use Rattle.escrow_units.specs.Interest.{half_coupon_of}
 use Rattle.escrow_units.specs.SlgsTerms.{IsSettlement, IsSlgs}
 use Rattle.escrow_units.specs.declared.security.Flow.{Flow}
 use Rattle.escrow_units.specs.declared.security.Slgs.{Slgs}
 use Rattle.escrow_units.specs.declared.security.SlgsKind.TheVariants as kind
 use Rattle.escrow_units.specs.declared.security.StepRule.TheVariants as rule
-use Rattle.slgs_interest.specs.Payments.{basis_of, before_first, half_year_interest, interest_on, is_leap_day, principal_on, second_before_first}
+use Rattle.slgs_interest.specs.Payments.{basis_of, before_first, interest_on, is_leap_day, principal_on, second_before_first}
 
 -- all payments come after settlement, and none after maturity
 abbrev pub AreWithinTerm : Slgs → List Flow → Type 0
@@ -26,7 +27,7 @@ PayFaceAlone slgs face flows = slgs.rate.0 ≡ 0 → total flows ≡ face
 abbrev pub PayEqualInterest : Slgs → ℕ → List Flow → Type 0
 PayEqualInterest slgs face flows =
     ¬ (slgs.kind ≡ kind.Certificate) → slgs.settle ≡ before_first slgs
-    → All (λ flow. flow.cents.0 ≡ half_year_interest slgs face + principal_on slgs face flow.day) flows
+    → All (λ flow. flow.cents.0 ≡ half_coupon_of face slgs.rate.0 + principal_on slgs face flow.day) flows
 
 -- no payment of a permitted face is above 2 billion dollars
 abbrev pub AreSmall : List Flow → Type 0

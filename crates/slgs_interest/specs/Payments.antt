@@ -3,8 +3,8 @@
 use Rattle.std.specs.Prelude.{ℕ, zero, suc, ◌+◌, ◌*◌, ◌==◌, Bool, false, ◌&&◌, ◌||◌, if◌then◌else◌, List, map, filter, length, ℤ, pos, ◌+ℤ◌, int_lt, int_le}
 use Rattle.std.specs.Ordering.{int_eq}
 use Rattle.escrow_units.specs.Calendar.{date_of, half_back_of}
-use Rattle.escrow_units.specs.Rounding.{near}
-use Rattle.escrow_units.specs.Series.{days_between_of, series_from}
+use Rattle.escrow_units.specs.Interest.{earned_of, half_coupon_of}
+use Rattle.escrow_units.specs.Series.{days_between_of, series_of}
 use Rattle.escrow_units.specs.declared.security.Flow.{Flow}
 use Rattle.escrow_units.specs.declared.security.Slgs.{Slgs}
 use Rattle.escrow_units.specs.declared.security.SlgsKind.{SlgsKind}
@@ -25,7 +25,7 @@ basis_of settle maturity = if has_leap_day settle (days_between_of settle maturi
 
 -- a security pays on the dates of its series that are not before its first payment date
 unfoldable pub payment_dates : Slgs → List ℤ
-payment_dates slgs = filter (λ date. int_le slgs.first date) (series_from slgs.maturity rule.SameDay 84)
+payment_dates slgs = filter (int_le slgs.first) (series_of slgs.maturity rule.SameDay)
 
 -- the date of the series before the first payment, and the one before that
 abbrev pub before_first : Slgs → ℤ
@@ -37,15 +37,16 @@ second_before_first slgs = half_back_of slgs.maturity (length (payment_dates slg
 -- a certificate's interest, by days of a year of 365 or 366 days
 abbrev pub certificate_interest : Slgs → ℕ → ℕ
 certificate_interest slgs face =
-    near (face * slgs.rate.0 * days_between_of slgs.settle slgs.maturity) (100_000 * basis_of slgs.settle slgs.maturity)
+    earned_of face slgs.rate.0 (days_between_of slgs.settle slgs.maturity) (basis_of slgs.settle slgs.maturity)
 
 -- the interest to a first payment date, where `before` is the date of the series before it and `second` the one before that:
--- a short period earns its days of a half-year, and a long one a half-year and its days of the half-year before that
+-- a short period earns its days of a half-year, and a long one a half-year and its days of the half-year before that. A year
+-- is twice that half-year
 abbrev pub interest_to : ℕ → ℕ → ℤ → ℤ → ℤ → ℤ → ℕ
 interest_to face rate settle first before second =
     if int_lt settle before
-    then near (face * rate * (days_between_of second before + days_between_of settle before)) (200_000 * days_between_of second before)
-    else near (face * rate * days_between_of settle first) (200_000 * days_between_of before first)
+    then earned_of face rate (days_between_of second before + days_between_of settle before) (2 * days_between_of second before)
+    else earned_of face rate (days_between_of settle first) (2 * days_between_of before first)
 
 -- the first interest of a note or bond
 abbrev pub first_period_interest : Slgs → ℕ → ℕ
@@ -61,12 +62,9 @@ first_interest_of_kind kind.Bond slgs face = first_period_interest slgs face
 unfoldable pub first_interest : Slgs → ℕ → ℕ
 first_interest slgs face = first_interest_of_kind slgs.kind slgs face
 
--- the interest of a half-year, half the rate
-abbrev pub half_year_interest : Slgs → ℕ → ℕ
-half_year_interest slgs face = near (face * slgs.rate.0) 200_000
-
+-- a day's interest: the first, or else half a coupon
 abbrev pub interest_on : Slgs → ℕ → ℤ → ℕ
-interest_on slgs face day = if int_eq day slgs.first then first_interest slgs face else half_year_interest slgs face
+interest_on slgs face day = if int_eq day slgs.first then first_interest slgs face else half_coupon_of face slgs.rate.0
 
 -- the face is paid at maturity
 abbrev pub principal_on : Slgs → ℕ → ℤ → ℕ

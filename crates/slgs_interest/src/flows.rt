@@ -1,28 +1,23 @@
-ghost use Rattle.std.specs.Prelude.{◌≡◌, ◌^◌, ◌≤◌, length};
+//! The payments of a security.
+ghost use Rattle.std.specs.Prelude.{◌≡◌, ◌^◌, ◌≤◌};
 ghost use Rattle.escrow_units.specs.Flows.{EndsOn, Rise};
 ghost use Rattle.escrow_units.specs.SlgsTerms.{IsSettlement, IsSlgs};
 ghost use Rattle.slgs_interest.specs.PaymentLaws.{AreSmall, AreWithinTerm, EarnLittle, PayEqualInterest, PayFaceAlone, PayPrincipalOnce};
-ghost use Rattle.slgs_interest.specs.Payments.{payment_dates, payments_of};
+ghost use Rattle.slgs_interest.specs.Payments.{before_first, payment_dates, payments_of};
 
-use crate::interest::{half_year, of_first_payment};
+use crate::interest::of_first_payment;
 use arrayvec::ArrayVec;
-use escrow_units::{Cents, Day, Flow, Slgs, StepRule, half_back};
+use escrow_units::{Cents, Day, Flow, SeriesDates, Slgs, StepRule, half_coupon, series_around};
 
-// The dates on which a security pays, in order.
-fn dates_of(slgs: &Slgs) -> ArrayVec<Day, 84>
+// The dates of a security's series around the day before its first payment: it pays on those after.
+fn dates_of(slgs: &Slgs) -> SeriesDates
     requires settlement { IsSettlement slgs.now.settle }
     requires terms { IsSlgs slgs.now }
-    ensures { result.items ≡ payment_dates slgs.now }
+    ensures dates { result.after.items ≡ payment_dates slgs.now }
+    ensures before { result.previous ≡ before_first slgs.now }
 {
-    let mut date = slgs.maturity;
-    let mut dates = ArrayVec::new();
-    dates.push(date);
-    while date > slgs.first {
-        date = half_back(slgs.maturity, dates.len() as u32, StepRule::SameDay);
-        dates.push(date);
-    }
-    dates.reverse();
-    dates
+    let day_before = Day::new(slgs.first.number() - 1);
+    series_around(slgs.maturity, StepRule::SameDay, day_before)
 }
 
 /// The payments of a face of a SLGS security, in order of date.
@@ -52,15 +47,15 @@ pub fn payments(slgs: &Slgs, face: Cents) -> ArrayVec<Flow, 84>
     ensures equal_interest { PayEqualInterest slgs.now face.0 result.items }
 {
     let dates = dates_of(slgs);
-    let first = of_first_payment(slgs, face, dates.len() as u32);
-    let later = half_year(slgs, face);
+    let first = of_first_payment(slgs, face, dates.previous, dates.after.len() as u32);
+    let later = half_coupon(face, slgs.rate);
     let mut flows = ArrayVec::new();
-    for date in dates.as_slice() {
+    for date in dates.after.as_slice() {
         let interest = if *date == slgs.first { first } else { later };
         let principal = if *date == slgs.maturity { face.0 } else { 0 };
         flows.push(Flow {
             day: *date,
-            cents: Cents(interest + principal),
+            cents: Cents(interest.0 + principal),
         });
     }
     flows

@@ -1,3 +1,4 @@
+//! What the interest of SLGS securities is counted by.
 ghost use Rattle.slgs_interest.specs.PaymentLaws.{BasisCountsLeapDays, DatesBeforeFirst};
 
 /// What the interest of SLGS securities is counted by: the latest dates of the series before the first payment, and a

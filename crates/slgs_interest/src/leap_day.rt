@@ -1,3 +1,4 @@
+//! The days of a certificate's year.
 ghost use Rattle.std.specs.Prelude.{◌≡◌, ◌↔◌, ◌⊎◌, IsTrue, ◌≤ℤ◌, ◌<ℤ◌};
 ghost use Rattle.jiff_core.specs.Calendar.{IsYear};
 ghost use Rattle.escrow_units.specs.Calendar.{date_of, years_after_of};

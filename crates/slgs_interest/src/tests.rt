@@ -1,3 +1,4 @@
+//! Worked payments.
 ghost use Rattle.std.specs.Prelude.{◌≡◌, ◌≤◌, IfSome};
 ghost use Rattle.escrow_units.specs.Calendar.{IsBaseDay};
 ghost use Rattle.escrow_units.specs.SlgsTerms.{IsSettlement, IsSlgs};

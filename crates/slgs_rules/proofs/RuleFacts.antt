@@ -49,29 +49,6 @@ span settle h =
       forty_most = omega (arith, signed_arith, forty.most, none);
     }
 
--- a date is the earliest where the next one is before the day
-pub earliest-before : (maturity from date next : ℤ) (steps : ℕ) → IsBaseDay maturity → 1 ≤ steps → steps ≤ 84
-    → date ≡ half_back_of maturity (steps - 1) rule.SameDay → next ≡ half_back_of maturity steps rule.SameDay → from ≤ℤ date → next <ℤ from
-    → IsEarliestFrom maturity from date
-earliest-before maturity from date next steps h some few e f late before = record {
-  series = record { steps = steps - 1; few = omega arith; back = e };
-  late = late;
-  earliest = λ other series from_other. elim (cases_lt series.steps steps) [
-    | inl sooner ↦ omega (arith, signed_arith, e, series.back, half_back_of-order maturity rule.SameDay series.steps (steps - 1) h (omega arith) (omega arith))
-    | inr later ↦ absurd (omega (arith, signed_arith, f, series.back, half_back_of-order maturity rule.SameDay steps series.steps h later series.few))
-  ];
-}
-
--- or where there is none
-pub earliest-last : (maturity from date : ℤ) (steps : ℕ) → IsBaseDay maturity → steps ≡ 84
-    → date ≡ half_back_of maturity steps rule.SameDay → from ≤ℤ date → IsEarliestFrom maturity from date
-earliest-last maturity from date steps h last e late = record {
-  series = record { steps = steps; few = omega arith; back = e };
-  late = late;
-  earliest = λ other series from_other.
-      omega (arith, signed_arith, e, series.back, half_back_of-order maturity rule.SameDay series.steps steps h (omega (arith, series.few)) (omega arith));
-}
-
 -- two earliest dates are one
 pub earliest-unique : (maturity from a b : ℤ) → IsEarliestFrom maturity from a → IsEarliestFrom maturity from b → a ≡ b
 earliest-unique maturity from a b p q =

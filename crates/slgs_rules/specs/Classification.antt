@@ -4,9 +4,10 @@ use Rattle.std.specs.Prelude.{◌==◌, nat_le, Bool, true, false, not, ◌&&◌
 use Rattle.std.specs.List.{list_any}
 use Rattle.std.specs.Ordering.{int_eq}
 use Rattle.escrow_units.specs.Calendar.{years_after_of}
-use Rattle.escrow_units.specs.Series.{series_from}
+use Rattle.escrow_units.specs.Series.{series_of}
 use Rattle.escrow_units.specs.SlgsTerms.{shortest_term}
 use Rattle.escrow_units.specs.declared.amount.Rate.{Rate}
+use Rattle.escrow_units.specs.declared.limits.TheConstants.{FIRST_WAIT}
 use Rattle.escrow_units.specs.declared.security.AskedRate.{AskedRate}
 use Rattle.escrow_units.specs.declared.security.AskedRate.TheVariants as asked
 use Rattle.escrow_units.specs.declared.security.Slgs.{Slgs}
@@ -30,12 +31,12 @@ is_within_table asked (Some most) = nat_le (rate_of asked (Some most)).0 most.0
 
 -- whether a day is a date of the series that ends at maturity
 abbrev pub is_series_date : ℤ → ℤ → Bool
-is_series_date maturity day = list_any (int_eq day) (series_from maturity rule.SameDay 84)
+is_series_date maturity day = list_any (int_eq day) (series_of maturity rule.SameDay)
 
 -- whether interest may first be paid on a day: a date of the series, at least 30 days and at most one year after settlement
 abbrev pub is_first_interest : ℤ → ℤ → ℤ → Bool
 is_first_interest settle maturity first =
-    is_series_date maturity first && (int_le (settle +ℤ pos 30) first && int_le first (years_after_of settle 1))
+    is_series_date maturity first && (int_le (settle +ℤ pos FIRST_WAIT) first && int_le first (years_after_of settle 1))
 
 -- whether no first payment date is named, or one that a security of more than a year may have
 abbrev pub may_name : ℤ → ℤ → Option ℤ → Bool
@@ -66,14 +67,14 @@ kind_of settle maturity =
 
 -- the earliest date of the series that ends at maturity which is not before a day
 abbrev pub earliest_from : ℤ → ℤ → ℤ
-earliest_from maturity from = unwrap_or (find (int_le from) (series_from maturity rule.SameDay 84)) maturity
+earliest_from maturity from = unwrap_or (find (int_le from) (series_of maturity rule.SameDay)) maturity
 
 -- the first payment date: a certificate's is its maturity; a note or bond has the one that is named, or else the earliest
 -- that is at least 30 days after settlement
 abbrev pub first_of_kind : SlgsKind → ℤ → ℤ → Option ℤ → ℤ
 first_of_kind kind.Certificate settle maturity named = maturity
-first_of_kind kind.Note settle maturity named = unwrap_or named (earliest_from maturity (settle +ℤ pos 30))
-first_of_kind kind.Bond settle maturity named = unwrap_or named (earliest_from maturity (settle +ℤ pos 30))
+first_of_kind kind.Note settle maturity named = unwrap_or named (earliest_from maturity (settle +ℤ pos FIRST_WAIT))
+first_of_kind kind.Bond settle maturity named = unwrap_or named (earliest_from maturity (settle +ℤ pos FIRST_WAIT))
 
 -- the security that a request is for
 abbrev pub security_of : Request → Slgs

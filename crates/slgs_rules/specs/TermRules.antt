@@ -3,6 +3,7 @@ use Rattle.std.specs.Prelude.{◌≡◌, ℕ, ◌<◌, ◌≤◌, ℤ, pos, ◌+
 use Rattle.escrow_units.specs.Calendar.{IsSeriesDate, years_after_of}
 use Rattle.escrow_units.specs.SlgsTerms.{shortest_term, IsOfKind, IsFirstInterest}
 use Rattle.escrow_units.specs.declared.amount.Rate.{Rate}
+use Rattle.escrow_units.specs.declared.limits.TheConstants.{FIRST_WAIT}
 use Rattle.escrow_units.specs.declared.security.AskedRate.{AskedRate}
 use Rattle.escrow_units.specs.declared.security.AskedRate.TheVariants as asked
 use Rattle.escrow_units.specs.declared.security.Slgs.{Slgs}
@@ -72,7 +73,7 @@ pub record IsEarliestFrom (maturity from date : ℤ) : Type 0 where
 -- interest is first paid on the day that is named, or else on the earliest date that is at least 30 days after settlement
 abbrev pub IsNamedOrEarliest : ℤ → ℤ → Option ℤ → ℤ → Type 0
 IsNamedOrEarliest settle maturity (Some named) first = first ≡ named
-IsNamedOrEarliest settle maturity None first = IsEarliestFrom maturity (settle +ℤ pos 30) first
+IsNamedOrEarliest settle maturity None first = IsEarliestFrom maturity (settle +ℤ pos FIRST_WAIT) first
 
 -- the first payment date of each kind: a certificate pays at maturity alone
 abbrev pub IsFirstOfKind : SlgsKind → ℤ → ℤ → Option ℤ → ℤ → Type 0

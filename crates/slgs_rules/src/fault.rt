@@ -1,3 +1,4 @@
+//! The rules that a request may break.
 use thiserror::Error;
 
 /// Why a request for a SLGS time deposit security is refused.

@@ -1,3 +1,4 @@
+//! What the rules of subscriptions mean.
 ghost use Rattle.slgs_rules.specs.RuleLaws.{AnswersAreUnique, ClassifiedIsAnswer, SubscriptionsKeepTerms};
 
 /// What the rules of subscriptions mean: a request has one answer, which the definition by tests gives,

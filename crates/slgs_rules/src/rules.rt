@@ -1,3 +1,4 @@
+//! The rules of subscriptions.
 ghost use Rattle.std.specs.Prelude.{◌≡◌, ◌↔◌, ◌⊎◌, IsTrue, IfOk, IfErr, OnOk, IfSome, pos, ◌+ℤ◌, ◌≤ℤ◌, ◌<ℤ◌};
 ghost use Rattle.escrow_units.specs.Calendar.{IsBaseDay, years_after_of};
 ghost use Rattle.escrow_units.specs.SlgsTerms.{IsFirstInterest, IsFirstPayment, IsOfKind, IsSettlement, IsSlgs, shortest_term};
@@ -5,7 +6,9 @@ ghost use Rattle.slgs_rules.specs.Classification.{classified};
 ghost use Rattle.slgs_rules.specs.TermRules.{HasRate, IsAnswer, IsEarliestFrom, IsFirstOfKind, IsNameable, IsNamedOrEarliest, IsWithinTable, rate_of};
 
 use crate::fault::RuleFault;
-use escrow_units::{AskedRate, Day, Rate, Slgs, SlgsKind, StepRule, half_back, years_after};
+use escrow_units::{
+    AskedRate, Day, FIRST_WAIT, Rate, Slgs, SlgsKind, StepRule, series_around, years_after,
+};
 
 // The rate that the security would bear.
 fn borne_rate(asked: AskedRate, most: Option<Rate>) -> Result<Rate, RuleFault>
@@ -48,35 +51,30 @@ fn kind_of(settle: Day, maturity: Day) -> SlgsKind
     }
 }
 
-// The earliest date of the series that is not before a day.
+// The earliest date of the series that is not before a day of the 40 years up to maturity.
 fn earliest_date(maturity: Day, from: Day) -> Day
     requires base { IsBaseDay maturity }
+    requires from { IsBaseDay from }
     requires order { from ≤ℤ maturity }
+    requires near { maturity <ℤ (from +ℤ pos 14_640) }
     ensures { IsEarliestFrom maturity from result }
 {
-    let mut earliest = maturity;
-    for steps in 1..85 {
-        let date = half_back(maturity, steps, StepRule::SameDay);
-        if date < from {
-            return earliest;
-        }
-        earliest = date;
-    }
-    earliest
+    let day_before = Day::new(from.number() - 1);
+    series_around(maturity, StepRule::SameDay, day_before).next
 }
 
-// The first day on which a note or bond may pay interest, 30 days after settlement.
+// The first day on which a note or bond may pay interest.
 fn interest_start(settle: Day) -> Day
     requires { IsSettlement settle }
-    ensures { result ≡ settle +ℤ pos 30 }
+    ensures { result ≡ settle +ℤ pos FIRST_WAIT }
 {
-    Day::new(settle.number() + 30)
+    Day::new(settle.number() + FIRST_WAIT as i32)
 }
 
 // Whether a day is at least 30 days and at most one year after settlement.
 fn is_in_first_year(settle: Day, day: Day) -> bool
     requires { IsSettlement settle }
-    ensures { IsTrue result ↔ (((settle +ℤ pos 30) ≤ℤ day) × (day ≤ℤ years_after_of settle 1)) }
+    ensures { IsTrue result ↔ (((settle +ℤ pos FIRST_WAIT) ≤ℤ day) × (day ≤ℤ years_after_of settle 1)) }
 {
     day >= interest_start(settle) && day <= years_after(settle, 1)
 }

@@ -1,3 +1,4 @@
+//! Worked requests.
 use crate::fault::RuleFault;
 use crate::rules::classify;
 use escrow_units::{AskedRate, Day, Rate, SlgsKind};

@@ -1,4 +1,5 @@
 use Rattle.escrow_units.proofs.SeriesFacts.{half_back_of-start, half_back_of-falls, half_back_of-steps, half_back_of-day, half_back_of-same_day, half_back_of-month_end, half_back_of-index}
+use Rattle.escrow_units.proofs.SeriesAround.{dates-after-are-later, previous-is-last}
 use Rattle.escrow_units.proofs.calendar_laws.series_laws.Goals as goal
 
 pub returns-clause-start : goal.returns-clause-start
@@ -21,3 +22,9 @@ returns-clause-month_end c = half_back_of-month_end
 
 pub returns-clause-index : goal.returns-clause-index
 returns-clause-index c = half_back_of-index
+
+pub returns-clause-after : goal.returns-clause-after
+returns-clause-after c = dates-after-are-later
+
+pub returns-clause-previous : goal.returns-clause-previous
+returns-clause-previous c = previous-is-last

@@ -41,3 +41,8 @@ pub returns-clause-half_year : goal.returns-clause-half_year
 returns-clause-half_year c =
     let by : c.loop-next.date ≤ℤ c.args.day = search rules in
     (walk-end c.args.maturity c.args.rule c.args.day c.loop-next.date c.loop-next.next c.loop-next.after.items (record { base = c.requires.base; most = c.requires.near }) c.loop-next.invariant by).half_year
+
+pub returns-clause-first : goal.returns-clause-first
+returns-clause-first c =
+    let by : c.loop-next.date ≤ℤ c.args.day = search rules in
+    (walk-end c.args.maturity c.args.rule c.args.day c.loop-next.date c.loop-next.next c.loop-next.after.items (record { base = c.requires.base; most = c.requires.near }) c.loop-next.invariant by).first

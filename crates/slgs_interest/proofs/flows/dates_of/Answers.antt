@@ -1,32 +1,35 @@
-use Rattle.std.proofs.Common.{arith, rules, ◌∙◌, ◌<ℤ◌, ◌≤ℤ◌, ap, List, [], ◌∷◌, ◌++◌, ℤ, refl, reverse}
+use Rattle.std.proofs.Common.{arith, ◌≡◌, ◌∙◌, ◌+ℤ◌, ap, length, pos, List, ℤ}
+use Rattle.std.proofs.lemmas.Int.{ints}
 use Rattle.jiff_core.proofs.SignedLemmas.{signed_arith}
 use Rattle.escrow_units.specs.Calendar.{half_back_of}
 use Rattle.escrow_units.specs.declared.security.StepRule.TheVariants as rule
-use Rattle.escrow_units.proofs.LastDates.{half_back_of-reach, refill-reverse}
-use Rattle.slgs_interest.proofs.Series.{paid, walk-start, walk-more, walk-end}
+use Rattle.escrow_units.proofs.LastDates.{half_back_of-reach}
+use Rattle.slgs_interest.proofs.Series.{paid, dates-from-first}
 use Rattle.slgs_interest.proofs.flows.dates_of.Goals as goal
 
-pub loop-dates-init : goal.loop-dates-init
-loop-dates-init c =
+pub new-day_before-requires : goal.new-day_before-requires
+new-day_before-requires c =
+    let p = paid c.args.slgs.now c.requires.settlement c.requires.terms in
+    (omega (arith, ints, p.late, c.number.ensures.value, c.requires.settlement.0), omega (arith, ints, c.number.ensures.value, c.number.ensures.bound.1))
+
+day-before : (c : goal.After-series_around) → c.new-day_before.result +ℤ pos 1 ≡ c.args.slgs.now.first
+day-before c = omega (arith, ints, c.new-day_before.ensures, c.number.ensures.value, c.number.ensures.bound.0, c.number.ensures.bound.1)
+
+pub series_around-requires : goal.series_around-requires
+series_around-requires c =
     let p = paid c.args.slgs.now c.requires.settlement c.requires.terms in
     let reach = half_back_of-reach c.args.slgs.now.maturity rule.SameDay p.steps p.base (omega (arith, p.few)) in
-    walk-start c.args.slgs.now.maturity c.args.slgs.now.first c.push.new.self.items p.base
-    (omega (arith, signed_arith, reach, p.first))
-    (c.push.ensures.items ∙ ap (λ (xs : List ℤ). xs ++ c.args.slgs.now.maturity ∷ []) c.new-dates.ensures)
+    let day : c.new-day_before.result +ℤ pos 1 ≡ c.args.slgs.now.first = omega (arith, ints, c.new-day_before.ensures, c.number.ensures.value, c.number.ensures.bound.0, c.number.ensures.bound.1) in
+    record {
+      base = p.base;
+      before = omega (arith, signed_arith, day, reach, p.first);
+      near = omega (arith, signed_arith, day, p.near);
+    }
 
-pub half_back-date-requires-clause-base : goal.half_back-date-requires-clause-base
-half_back-date-requires-clause-base c = (paid c.args.slgs.now c.requires.settlement c.requires.terms).base
+pub returns-clause-dates : goal.returns-clause-dates
+returns-clause-dates c = c.series_around.ensures.after ∙ dates-from-first c.args.slgs.now c.new-day_before.result (day-before c)
 
-pub loop-dates-preserved : goal.loop-dates-preserved
-loop-dates-preserved c =
-    let p = paid c.args.slgs.now c.requires.settlement c.requires.terms in
-    let less : c.args.slgs.now.first <ℤ c.loop-dates.date = search rules in
-    walk-more c.args.slgs.now.maturity c.args.slgs.now.first c.loop-dates.date c.half_back-date.result c.loop-dates.dates.items c.push-in-loop-dates.new.self.items p.steps p.base p.few p.first
-    c.loop-dates.invariant less (c.half_back-date.ensures ∙ ap (λ n. half_back_of c.args.slgs.now.maturity n rule.SameDay) c.len.ensures.value) c.push-in-loop-dates.ensures.items
-
-pub returns : goal.returns
-returns c =
-    let p = paid c.args.slgs.now c.requires.settlement c.requires.terms in
-    let least : c.loop-dates.date ≤ℤ c.args.slgs.now.first = search rules in
-    refill-reverse _ c.loop-dates.dates.items c.reverse.new.self refl (c.reverse.ensures.after ∙ ap reverse c.deref_mut.ensures.value)
-    ∙ walk-end c.args.slgs.now c.loop-dates.date c.loop-dates.dates.items p.base c.loop-dates.invariant least
+pub returns-clause-before : goal.returns-clause-before
+returns-clause-before c =
+    c.series_around.ensures.previous
+    ∙ ap (λ (dates : List ℤ). half_back_of c.args.slgs.now.maturity (length dates) rule.SameDay) (dates-from-first c.args.slgs.now c.new-day_before.result (day-before c))

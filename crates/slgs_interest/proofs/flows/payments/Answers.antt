@@ -8,7 +8,7 @@ use Rattle.slgs_interest.proofs.flows.payments.Goals as goal
 pub returns-clause-payments : goal.returns-clause-payments
 returns-clause-payments c =
     payments-are c.args.slgs.now c.args.face.0 c.loop-date.flows.items c.loop-date.date-index c.as_slice-date-items.result.now c.loop-date.invariant
-    c.loop-date-test.false (c.as_slice-date-items.ensures.value ∙ c.dates_of-dates.ensures)
+    c.loop-date-test.false (c.as_slice-date-items.ensures.value ∙ c.dates_of-dates.ensures.dates)
 
 pub returns-clause-rise : goal.returns-clause-rise
 returns-clause-rise c =

@@ -7,11 +7,6 @@ use Rattle.slgs_interest.proofs.Amounts.{long-period, short-period}
 use Rattle.slgs_interest.proofs.Series.{paid}
 use Rattle.slgs_interest.proofs.interest.of_first_period.Goals as goal
 
-pub half_back-before-requires : goal.half_back-before-requires
-half_back-before-requires c =
-    let p = paid c.args.slgs.now c.requires.settlement c.requires.terms in
-    record { few = omega (arith, p.count, p.few, c.requires.dates); base = p.base }
-
 pub overflow_add-dates : goal.overflow_add-dates
 overflow_add-dates c =
     let p = paid c.args.slgs.now c.requires.settlement c.requires.terms in
@@ -25,8 +20,7 @@ half_back-second_before-requires c =
 pub days_between-half_year-requires : goal.days_between-half_year-requires
 days_between-half_year-requires c =
     let p = paid c.args.slgs.now c.requires.settlement c.requires.terms in
-    let before : c.half_back-before.result ≡ before_first c.args.slgs.now =
-    c.half_back-before.ensures ∙ ap (λ n. half_back_of c.args.slgs.now.maturity n rule.SameDay) c.requires.dates in
+    let before = c.requires.before in
     let second : c.half_back-second_before.result ≡ second_before_first c.args.slgs.now =
     c.half_back-second_before.ensures ∙ ap (λ n. half_back_of c.args.slgs.now.maturity (n + 1) rule.SameDay) c.requires.dates in
     omega (arith, signed_arith, before, second, p.second_before.least)
@@ -34,8 +28,7 @@ days_between-half_year-requires c =
 pub overflow_mul-half_year : goal.overflow_mul-half_year
 overflow_mul-half_year c =
     let p = paid c.args.slgs.now c.requires.settlement c.requires.terms in
-    let before : c.half_back-before.result ≡ before_first c.args.slgs.now =
-    c.half_back-before.ensures ∙ ap (λ n. half_back_of c.args.slgs.now.maturity n rule.SameDay) c.requires.dates in
+    let before = c.requires.before in
     let second : c.half_back-second_before.result ≡ second_before_first c.args.slgs.now =
     c.half_back-second_before.ensures ∙ ap (λ n. half_back_of c.args.slgs.now.maturity (n + 1) rule.SameDay) c.requires.dates in
     let few : c.days_between-half_year.result ≤ 184 = omega (arith, signed_arith, before, second, p.second_before.most, c.days_between-half_year.ensures) in
@@ -44,17 +37,15 @@ overflow_mul-half_year c =
 pub earned-requires-clause-parts : goal.earned-requires-clause-parts
 earned-requires-clause-parts c =
     let p = paid c.args.slgs.now c.requires.settlement c.requires.terms in
-    let before : c.half_back-before.result ≡ before_first c.args.slgs.now =
-    c.half_back-before.ensures ∙ ap (λ n. half_back_of c.args.slgs.now.maturity n rule.SameDay) c.requires.dates in
+    let before = c.requires.before in
     let second : c.half_back-second_before.result ≡ second_before_first c.args.slgs.now =
     c.half_back-second_before.ensures ∙ ap (λ n. half_back_of c.args.slgs.now.maturity (n + 1) rule.SameDay) c.requires.dates in
     omega (arith, signed_arith, before, second, p.second_before.most, p.before.least, p.early, c.days_between-half_year.ensures, c.days_between.ensures)
 
-pub earned-requires-clause-whole : goal.earned-requires-clause-whole
-earned-requires-clause-whole c =
+pub earned-requires-clause-year : goal.earned-requires-clause-year
+earned-requires-clause-year c =
     let p = paid c.args.slgs.now c.requires.settlement c.requires.terms in
-    let before : c.half_back-before.result ≡ before_first c.args.slgs.now =
-    c.half_back-before.ensures ∙ ap (λ n. half_back_of c.args.slgs.now.maturity n rule.SameDay) c.requires.dates in
+    let before = c.requires.before in
     let second : c.half_back-second_before.result ≡ second_before_first c.args.slgs.now =
     c.half_back-second_before.ensures ∙ ap (λ n. half_back_of c.args.slgs.now.maturity (n + 1) rule.SameDay) c.requires.dates in
     omega (arith, signed_arith, before, second, p.second_before.least, c.days_between-half_year.ensures)
@@ -62,46 +53,41 @@ earned-requires-clause-whole c =
 pub days_between-half_year-requires-else-lt : goal.days_between-half_year-requires-else-lt
 days_between-half_year-requires-else-lt c =
     let p = paid c.args.slgs.now c.requires.settlement c.requires.terms in
-    let before : c.half_back-before.result ≡ before_first c.args.slgs.now =
-    c.half_back-before.ensures ∙ ap (λ n. half_back_of c.args.slgs.now.maturity n rule.SameDay) c.requires.dates in
+    let before = c.requires.before in
     omega (arith, signed_arith, before, p.before.least)
 
 pub overflow_mul-half_year-else-lt : goal.overflow_mul-half_year-else-lt
 overflow_mul-half_year-else-lt c =
     let p = paid c.args.slgs.now c.requires.settlement c.requires.terms in
-    let before : c.half_back-before.result ≡ before_first c.args.slgs.now =
-    c.half_back-before.ensures ∙ ap (λ n. half_back_of c.args.slgs.now.maturity n rule.SameDay) c.requires.dates in
+    let before = c.requires.before in
     let few : c.days_between-half_year-else-lt.result ≤ 184 = omega (arith, signed_arith, before, p.before.most, c.days_between-half_year-else-lt.ensures) in
     record { fits = omega arith }
 
 pub earned-requires-else-lt-clause-parts : goal.earned-requires-else-lt-clause-parts
 earned-requires-else-lt-clause-parts c =
     let p = paid c.args.slgs.now c.requires.settlement c.requires.terms in
-    omega (arith, signed_arith, p.early, c.days_between-else-lt.ensures)
+    omega (arith, signed_arith, p.early, c.days_between-days.ensures)
 
-pub earned-requires-else-lt-clause-whole : goal.earned-requires-else-lt-clause-whole
-earned-requires-else-lt-clause-whole c =
+pub earned-requires-else-lt-clause-year : goal.earned-requires-else-lt-clause-year
+earned-requires-else-lt-clause-year c =
     let p = paid c.args.slgs.now c.requires.settlement c.requires.terms in
-    let before : c.half_back-before.result ≡ before_first c.args.slgs.now =
-    c.half_back-before.ensures ∙ ap (λ n. half_back_of c.args.slgs.now.maturity n rule.SameDay) c.requires.dates in
+    let before = c.requires.before in
     omega (arith, signed_arith, before, p.before.least, c.days_between-half_year-else-lt.ensures)
 
 pub returns-then-lt-clause-value : goal.returns-then-lt-clause-value
 returns-then-lt-clause-value c =
-    let before : c.half_back-before.result ≡ before_first c.args.slgs.now =
-    c.half_back-before.ensures ∙ ap (λ n. half_back_of c.args.slgs.now.maturity n rule.SameDay) c.requires.dates in
+    let before = c.requires.before in
     let second : c.half_back-second_before.result ≡ second_before_first c.args.slgs.now =
     c.half_back-second_before.ensures ∙ ap (λ n. half_back_of c.args.slgs.now.maturity (n + 1) rule.SameDay) c.requires.dates in
-    let less : c.args.slgs.now.settle <ℤ c.half_back-before.result = search rules in
+    let less : c.args.slgs.now.settle <ℤ c.args.before = search rules in
     c.earned.ensures.value
-    ∙ long-period c.args.face.0 c.args.slgs.now.rate.0 c.args.slgs.now.settle c.args.slgs.now.first c.half_back-before.result c.half_back-second_before.result _ _ less c.days_between-half_year.ensures c.days_between.ensures
+    ∙ long-period c.args.face.0 c.args.slgs.now.rate.0 c.args.slgs.now.settle c.args.slgs.now.first c.args.before c.half_back-second_before.result _ _ less c.days_between-half_year.ensures c.days_between.ensures
     ∙ (λ i. interest_to c.args.face.0 c.args.slgs.now.rate.0 c.args.slgs.now.settle c.args.slgs.now.first (before i) (second i))
 
 pub returns-else-lt-clause-value : goal.returns-else-lt-clause-value
 returns-else-lt-clause-value c =
-    let before : c.half_back-before.result ≡ before_first c.args.slgs.now =
-    c.half_back-before.ensures ∙ ap (λ n. half_back_of c.args.slgs.now.maturity n rule.SameDay) c.requires.dates in
-    let least : c.half_back-before.result ≤ℤ c.args.slgs.now.settle = search rules in
+    let before = c.requires.before in
+    let least : c.args.before ≤ℤ c.args.slgs.now.settle = search rules in
     c.earned-else-lt.ensures.value
-    ∙ short-period c.args.face.0 c.args.slgs.now.rate.0 c.args.slgs.now.settle c.args.slgs.now.first c.half_back-before.result (second_before_first c.args.slgs.now) _ _ least c.days_between-half_year-else-lt.ensures c.days_between-else-lt.ensures
+    ∙ short-period c.args.face.0 c.args.slgs.now.rate.0 c.args.slgs.now.settle c.args.slgs.now.first c.args.before (second_before_first c.args.slgs.now) _ _ least c.days_between-half_year-else-lt.ensures c.days_between-days.ensures
     ∙ ap (λ (b : ℤ). interest_to c.args.face.0 c.args.slgs.now.rate.0 c.args.slgs.now.settle c.args.slgs.now.first b (second_before_first c.args.slgs.now)) before

@@ -1,6 +1,6 @@
 use Rattle.std.proofs.Common.{arith, ◌∙◌, sym}
 use Rattle.jiff_core.proofs.SignedLemmas.{signed_arith}
-use Rattle.slgs_rules.proofs.RuleFacts.{maturity-base, interest-date, earliest-self}
+use Rattle.slgs_rules.proofs.RuleFacts.{maturity-base, interest-date, earliest-self, span}
 use Rattle.std.proofs.lemmas.Bool.Decides.{Decides-int_eq}
 use Rattle.slgs_rules.proofs.rules.is_first_interest.Goals as goal
 
@@ -9,7 +9,9 @@ earliest_date-requires c =
     let within = c.is_in_first_year.ensures.0 c.if-is_in_first_year.true in
     record {
       base = maturity-base c.args.settle c.args.maturity c.requires.settlement c.requires.longer c.requires.most;
+      from = (omega (arith, signed_arith, within.0, c.requires.settlement.0), omega (arith, signed_arith, within.1, (span c.args.settle c.requires.settlement).year_most, c.requires.settlement.1));
       order = omega (arith, signed_arith, within.1, c.requires.longer);
+      near = omega (arith, signed_arith, within.0, (span c.args.settle c.requires.settlement).forty_most, c.requires.most);
     }
 
 pub returns-then-is_in_first_year : goal.returns-then-is_in_first_year
