@@ -1,12 +1,10 @@
-ghost use Rattle.std.specs.Prelude.{◌≡◌, All, List, IfOk, length, vec_items};
+ghost use Rattle.std.specs.Prelude.{◌≡◌, All, IfOk, length, vec_items};
 ghost use Rattle.std.specs.Result.{result_map_both};
 ghost use Rattle.escrow_units.specs.Denomination.{AreTerms};
 ghost use Rattle.escrow_units.specs.SlgsTerms.{IsSettlement};
 ghost use Rattle.row_fields.specs.RowForm.{Answers};
 ghost use Rattle.slgs_rules.specs.Classification.{classified};
-ghost use Rattle.rate_table.specs.RangeIndex.{IsRateIndex};
 ghost use Rattle.rate_table.specs.Table.{IsRateFile};
-ghost use Rattle.rate_table.specs.declared.table.RateRange.{RateRange};
 ghost use Rattle.offer_book.specs.Book.{IsSecurityLine};
 ghost use Rattle.offer_book.specs.Offers.{AreLinesOf, EachOfferHasOneLine, LinesKeepRules, RefusalsNameFirstFault, line_of as line_of_terms, line_or_refused, request_of, rule_kind as kind_of_rule, slgs_lines_of};
 
@@ -53,8 +51,7 @@ fn offered_line(
 ) -> Result<Line, RefusalKind>
     requires settlement { IsSettlement settle }
     requires terms { AreTerms terms }
-    ensures { (ranges : List RateRange) → IsRateIndex ranges index.now
-        → result ≡ line_or_refused terms offer.now.cap (classified (request_of settle ranges offer.now)) }
+    ensures { result ≡ line_or_refused terms offer.now.cap (classified (request_of settle index.now offer.now)) }
 {
     let most = index.maximum(offer.maturity);
     match classify(settle, offer.maturity, offer.rate, offer.first, most) {

@@ -1,4 +1,3 @@
-pub mod FileFacts
 pub mod IndexFacts
 pub mod LookupFacts
 pub mod OverlapFacts

@@ -1,6 +1,6 @@
 -- The range that holds a day.
-use Rattle.std.proofs.Common.{◌≡◌, ◌∙◌, refl, ap, arith, List, [], ◌∷◌, ℤ, ◌≤ℤ◌, ◌<ℤ◌, true, false, ◌⊎◌, inl, inr, rules}
-use Rattle.std.specs.Prelude.{◌↔◌, Some, None, IsNone, IfSome, Contains, All, Any, is_some}
+use Rattle.std.proofs.Common.{◌≡◌, ◌∙◌, refl, ap, arith, List, [], ◌∷◌, ℤ, true, false, ◌⊎◌, inl, inr, rules}
+use Rattle.std.specs.Prelude.{◌↔◌, Some, None, IsNone, IfSome, Contains, All, Any, is_some, int_le, if◌then◌else◌}
 use Rattle.std.specs.BTreeMap.{BTreeMap}
 use Rattle.std.specs.List.{list_any}
 use Rattle.std.proofs.lemmas.Int.{ints}
@@ -8,8 +8,8 @@ use Rattle.std.proofs.lemmas.List.Folds.{list_any_at}
 use Rattle.std.proofs.lemmas.Bool.{cases_Bool}
 use Rattle.std.proofs.lemmas.List.Elements.{All-contains, Contains-append_right, All-nil, All-cons}
 use Rattle.rate_table.specs.declared.table.RateRange.{RateRange}
-use Rattle.rate_table.specs.Table.{AreApart, IsRange, holds, meets, maximum_of}
-use Rattle.rate_table.specs.RangeIndex.{HasNoneBy, IsIndex, IsLatest}
+use Rattle.rate_table.specs.Table.{AreApart, holds, overlap, maximum_of}
+use Rattle.rate_table.specs.RangeIndex.{HasNoneBy, IsRateIndex, IsLatest}
 use Rattle.rate_table.proofs.OverlapFacts.{overlap-early, overlap-none, same_or_apart}
 
 -- what is found is among the ranges and holds the day
@@ -58,9 +58,9 @@ look (first ∷ ranges) day =
       ]
     ]
 
--- two ranges that hold one day meet
-both-meet : (a b : RateRange) (day : ℤ) → holds day a ≡ true → holds day b ≡ true → meets a b ≡ true
-both-meet a b day has-a has-b = grind (arith, ints)
+-- two ranges that hold one day have it in common
+both-hold : (a b : RateRange) (day : ℤ) → holds day a ≡ true → holds day b ≡ true → overlap a b ≡ true
+both-hold a b day has-a has-b = grind (arith, ints)
 
 -- the one range that holds the day is found
 pub maximum_of-held : (ranges : List RateRange) (day : ℤ) (range : RateRange) → AreApart ranges → Contains ranges range → holds day range ≡ true → maximum_of ranges day ≡ Some range.most
@@ -68,7 +68,7 @@ maximum_of-held ranges day range apart among holding =
     elim (look ranges day) [
       | inl found ↦ elim (same_or_apart ranges found.range range apart found.found.among among) [
         | inl same ↦ found.is ∙ ap (λ (r : RateRange). Some r.most) same
-        | inr none ↦ let meet : meets found.range range ≡ true = both-meet found.range range day found.found.holding holding in cc
+        | inr none ↦ let meet : overlap found.range range ≡ true = both-hold found.range range day found.found.holding holding in cc
       ]
       | inr missing ↦ let none : holds day range ≡ false = All-contains (λ r. holds day r ≡ false) ranges range missing.none among in cc
     ]
@@ -87,30 +87,31 @@ maximum_of-none ranges day =
       | inr missing ↦ (λ _. missing.none, λ _. rw missing.is (search rules))
     ]
 
--- where no range meets the one day, none is found
-apart-none : (ranges : List RateRange) (one : RateRange) (day : ℤ) → one.from ≡ day → one.to ≡ day → list_any (meets one) ranges ≡ false → maximum_of ranges day ≡ None
+-- where no range overlap the one day, none is found
+apart-none : (ranges : List RateRange) (one : RateRange) (day : ℤ) → one.from ≡ day → one.to ≡ day → list_any (overlap one) ranges ≡ false → maximum_of ranges day ≡ None
 apart-none ranges one day from to apart =
     elim (look ranges day) [
       | inl found ↦
           let holding : holds day found.range ≡ true = found.found.holding in
-          let meet : meets one found.range ≡ true = rw (from, to) (both-meet (record one { from = day; to = day }) found.range day (grind (arith, ints)) holding) in
-          let any : list_any (meets one) ranges ≡ true = list_any_at (meets one) ranges found.found.among.0 found.range found.found.among.1 (rw found.found.among.2 meet) in
+          let meet : overlap one found.range ≡ true = rw (from, to) (both-hold (record one { from = day; to = day }) found.range day (grind (arith, ints)) holding) in
+          let any : list_any (overlap one) ranges ≡ true = list_any_at (overlap one) ranges found.found.among.0 found.range found.found.among.1 (rw found.found.among.2 meet) in
           cc
       | inr missing ↦ missing.is
     ]
 
--- the range that begins last by a day gives the greatest rate if it reaches the day, and else no range does
-pub maximum_of-latest : (ranges : List RateRange) (m : BTreeMap ℤ RateRange) (day : ℤ) (latest : RateRange) → IsIndex ranges m → AreApart ranges → IsLatest m day latest → day ≤ℤ latest.to → maximum_of ranges day ≡ Some latest.most
-maximum_of-latest ranges m day latest index apart found reaches =
-    let listed = index.only found.first latest found.entry in
-    maximum_of-held ranges day latest apart listed.among (grind (arith, ints, listed.begins, found.early))
-
-pub maximum_of-early : (ranges : List RateRange) (m : BTreeMap ℤ RateRange) (day : ℤ) (latest : RateRange) → IsIndex ranges m → All IsRange ranges → AreApart ranges → IsLatest m day latest → latest.to <ℤ day → maximum_of ranges day ≡ None
-maximum_of-early ranges m day latest index in_order apart found ends =
-    let one : RateRange = record latest { from = day; to = day } in
-    apart-none ranges one day refl refl (overlap-early ranges m one latest index in_order apart found ends)
-
-pub maximum_of-none_by : (ranges : List RateRange) (m : BTreeMap ℤ RateRange) (day : ℤ) → IsIndex ranges m → HasNoneBy m day → maximum_of ranges day ≡ None
+-- no range begins by the day
+pub maximum_of-none_by : (ranges : List RateRange) (m : BTreeMap ℤ RateRange) (day : ℤ) → IsRateIndex ranges m → HasNoneBy m day → maximum_of ranges day ≡ None
 maximum_of-none_by ranges m day index none =
     let one : RateRange = record { from = day; to = day; most = record { 0 = 0 } } in
     apart-none ranges one day refl refl (overlap-none ranges m one index none)
+
+-- the range that begins last by a day gives the greatest rate if it reaches the day, and else no range does
+pub maximum_of-latest : (ranges : List RateRange) (m : BTreeMap ℤ RateRange) (day : ℤ) (latest : RateRange) → IsRateIndex ranges m → IsLatest m day latest → maximum_of ranges day ≡ (if int_le day latest.to then Some latest.most else None)
+maximum_of-latest ranges m day latest index found = elim (cases_Bool (int_le day latest.to)) [
+  | inl reaches ↦
+      let listed = index.entries.only found.first latest found.entry in
+      rw reaches (maximum_of-held ranges day latest index.apart listed.among (grind (arith, ints, listed.begins, found.early)))
+  | inr ends ↦
+      let one : RateRange = record latest { from = day; to = day } in
+      rw ends (apart-none ranges one day refl refl (overlap-early ranges m one latest index found (grind (arith, ints))))
+]

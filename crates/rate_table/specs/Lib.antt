@@ -1,3 +1,4 @@
 pub mod RangeIndex
 pub mod RateForm
 pub mod Table
+pub mod RateRows

@@ -15,12 +15,12 @@ abbrev pub holds : ℤ → RateRange → Bool
 holds day range = int_le range.from day && int_le day range.to
 
 -- whether two ranges have a day in common
-abbrev pub meets : RateRange → RateRange → Bool
-meets a b = int_le a.from b.to && int_le b.from a.to
+abbrev pub overlap : RateRange → RateRange → Bool
+overlap a b = int_le a.from b.to && int_le b.from a.to
 
 -- no two ranges have a day in common
 abbrev pub AreApart : List RateRange → Type 0
-AreApart ranges = AllPairs (λ a b. meets a b ≡ false) ranges
+AreApart ranges = AllPairs (λ a b. overlap a b ≡ false) ranges
 
 -- the greatest rate for a maturity: that of the range that holds the day
 abbrev pub maximum_of : List RateRange → ℤ → Option Rate

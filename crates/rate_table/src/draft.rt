@@ -1,13 +1,100 @@
-use crate::index::RateIndex;
-use crate::table::{Offer, RateRange};
-use escrow_units::Terms;
+//! What has been read of a rate file so far.
+ghost use Rattle.std.specs.Prelude.{◌≡◌, Some, Ok, IsSomeAnd};
+ghost use Rattle.std.specs.Result.{result_and};
+ghost use Rattle.escrow_units.specs.Denomination.{AreTerms};
+ghost use Rattle.row_fields.specs.RowForm.{RowAnswers};
+ghost use Rattle.rate_table.specs.RateForm.{bare_file, with_offer, with_range, with_read_row};
+ghost use Rattle.rate_table.specs.RateRows.{IsRateRow};
+ghost use Rattle.rate_table.specs.Table.{IsOffer, IsRange, IsRateFile};
 
-/// What has been read of a rate file so far.
+use crate::index::RateIndex;
+use crate::row::RateRow;
+use crate::table::{Offer, Offers, RateFile, RateRange};
+use escrow_desk::{NoMemory, RefusalKind};
+use escrow_units::Terms;
+use row_fields::RowFault;
+use std::alloc::Global;
+use std::marker::Model;
+
+/// What has been read of a rate file so far. Contracts see it as a file.
 #[derive(Drop)]
 pub(crate) struct Draft {
-    pub terms: Terms,
-    pub ranges: Vec<RateRange>,
-    /// The same ranges, by their first days.
-    pub index: RateIndex,
-    pub offers: Vec<Offer>,
+    terms: Terms,
+    ranges: RateIndex,
+    offers: Vec<Offer>,
+}
+
+impl Model for Draft {
+    ghost use Rattle.std.specs.Prelude.{Some};
+    ghost use Rattle.rate_table.specs.declared.table.RateFile.{RateFile};
+
+    ghost Value = { RateFile };
+
+    ghost use Rattle.rate_table.specs.Table.{IsRateFile};
+
+    ghost view = { λ draft. record { terms = Some draft.terms; ranges = draft.ranges; offers = draft.offers.items } };
+
+    ghost invariant = { λ draft. IsRateFile (record { terms = Some draft.terms; ranges = draft.ranges; offers = draft.offers.items }) };
+}
+
+impl Draft {
+    /// A file of these terms, without ranges and offers.
+    pub fn new(alloc: Global, terms: Terms) -> Draft
+        requires { AreTerms terms }
+        ensures { result ≡ bare_file (Some terms) }
+    {
+        Draft {
+            terms,
+            ranges: RateIndex::new(alloc),
+            offers: Vec::new(alloc),
+        }
+    }
+
+    // One more range, where it has no day in common with an earlier one.
+    fn add_range(&mut self, range: RateRange) -> Result<(), RowFault>
+        requires { IsRange range }
+        ensures { RowAnswers (result_and result (Ok self.new)) (with_range self.old range) }
+    {
+        if self.ranges.overlaps(&range) {
+            return Err(RowFault::Refused(RefusalKind::Overlap));
+        }
+        self.ranges.add(&range)?;
+        Ok(())
+    }
+
+    // One more offer.
+    fn add_offer(&mut self, offer: Offer) -> Result<(), RowFault>
+        requires { IsSomeAnd self.old.terms (λ terms. IsOffer terms offer) }
+        ensures { RowAnswers (result_and result (Ok self.new)) (with_offer self.old offer) }
+    {
+        // Its fields are copied one by one, since the proof of the push reads their types.
+        match self.offers.push(Offer { ..offer }) {
+            Ok(()) => Ok(()),
+            Err(_) => Err(RowFault::NoMemory),
+        }
+    }
+
+    /// One more row.
+    pub fn add(&mut self, row: RateRow) -> Result<(), RowFault>
+        requires { IsSomeAnd self.old.terms (λ terms. IsRateRow terms row) }
+        ensures { RowAnswers (result_and result (Ok self.new)) (with_read_row self.old row) }
+    {
+        match row {
+            RateRow::Terms(_) => Err(RowFault::Refused(RefusalKind::Repeated)),
+            RateRow::Range(range) => self.add_range(range),
+            RateRow::Offer(offer) => self.add_offer(offer),
+        }
+    }
+
+    /// What has been read, as the file.
+    pub fn into_file(self) -> RateFile
+        ensures file { result ≡ self }
+        ensures kept { IsRateFile result }
+    {
+        RateFile {
+            terms: Some(self.terms),
+            ranges: self.ranges.into_ranges(),
+            offers: Offers::new(self.offers),
+        }
+    }
 }

@@ -5,7 +5,6 @@ mod draft;
 mod fields;
 mod index;
 mod lookup;
-mod overlap;
 mod read;
 mod row;
 mod table;

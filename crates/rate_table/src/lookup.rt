@@ -1,3 +1,4 @@
+//! The greatest rate for one maturity.
 ghost use Rattle.std.specs.Prelude.{◌≡◌, ◌↔◌, Some, IsNone, IfSome, true, false, All, Any, Contains};
 ghost use Rattle.rate_table.specs.Table.{AreApart, holds as holds_day, maximum_of};
 ghost use Rattle.rate_table.specs.declared.table.RateRange.{RateRange};

@@ -1,3 +1,4 @@
+//! What a rate file says.
 ghost use Rattle.std.specs.Prelude.{◌≡◌};
 
 use escrow_units::{AskedRate, Day, Rate, Terms};

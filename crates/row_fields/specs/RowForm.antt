@@ -1,5 +1,5 @@
 -- Rows of an input file: their fields, and how a fault of a field or a row is answered. The rows are this project's own.
-use Rattle.std.specs.Prelude.{◌≡◌, ℕ, Bool, ◌==◌, nat_eq, int_lt, if◌then◌else◌, List, [], length, slice_index_or, ok_or, Result, Ok, Err, codes, ℤ, ⊤}
+use Rattle.std.specs.Prelude.{◌≡◌, ℕ, ◌+◌, Bool, ◌==◌, nat_eq, int_lt, if◌then◌else◌, List, [], ◌∷◌, length, slice_index_or, ok_or, Result, Ok, Err, codes, ℤ, ⊤}
 use lib.Pointwise.{pointwise}
 use Rattle.escrow_desk.specs.declared.refusal.CaseError.{CaseError}
 use Rattle.escrow_desk.specs.declared.refusal.CaseError.TheVariants as error
@@ -74,6 +74,12 @@ refusal_of file number refused = record { file = file; row = number; kind = refu
 abbrev pub answer_of_row : {T : Type 0} → FileKind → ℕ → Result T RefusalKind → Result T Refusal
 answer_of_row file number (Ok value) = Ok value
 answer_of_row file number (Err refused) = Err (refusal_of file number refused)
+
+-- what was read of a file, with its rows from this number on, in order; the first that is refused refuses the file
+abbrev pub with_rows : {T : Type 0} → FileKind → (T → ℕ → Row → Result T RefusalKind) → T → ℕ → List Row → Result T Refusal
+with_rows file with_row before number [] = Ok before
+with_rows file with_row before number (row ∷ rows) =
+    answer_of_row file number (with_row before number row) >>= (λ more. with_rows file with_row more (number + 1) rows)
 
 -- a call answers what is defined, or want of memory
 abbrev pub Answers : {T : Type 0} → Result T CaseError → Result T Refusal → Type 0
