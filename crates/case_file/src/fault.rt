@@ -1,3 +1,5 @@
+//! Why files give no case.
+
 ghost use Rattle.std.specs.Prelude.{◌≡◌};
 ghost use Rattle.case_file.specs.declared.fault.CaseFault.TheVariants.{NoCase as Without, NoMemory as OutOfMemory};
 ghost use Rattle.case_file.specs.Fault.{fault_of};

@@ -1,3 +1,5 @@
+//! Worked figures.
+
 use crate::{CaseFault, NoCase, read_case};
 use escrow_desk::{FileKind, Refusal, RefusalKind};
 use escrow_units::{Cents, Day, YieldUnits};

@@ -1,3 +1,5 @@
+//! The first day on which a portfolio is short.
+
 ghost use Rattle.std.specs.Prelude.{◌≡◌, ℕ, ◌+◌, ◌^◌, ◌<◌, ◌≤◌, length, take, slice_index_or, ◌≤ℤ◌, ◌<ℤ◌, MatchOption, IfNone, IfSome};
 ghost use Rattle.std.specs.List.{All, AllWithin, flat_map, sum, zip};
 ghost use Rattle.escrow_units.specs.Flows.{Rise, total};

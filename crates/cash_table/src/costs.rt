@@ -1,3 +1,5 @@
+//! What a portfolio costs.
+
 ghost use Rattle.std.specs.Prelude.{◌≡◌, ◌^◌, ◌<◌, ◌≤◌, length, ◌*◌};
 ghost use Rattle.std.specs.List.{sum_by, zip};
 ghost use Rattle.offer_book.specs.Portfolio.{IsPermitted, line_cost, cost as cost_of, security_cost as security_cost_of};

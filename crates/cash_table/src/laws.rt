@@ -1,3 +1,5 @@
+//! Laws of portfolios, for callers to cite. None of these calls does anything.
+
 ghost use Rattle.std.specs.Prelude.{◌≡◌, ℕ, ◌+◌, ◌*◌, ◌^◌, ◌≤◌, ◌↔◌, List, [], drop, slice_index};
 ghost use Rattle.std.specs.List.{All};
 ghost use Rattle.escrow_units.specs.Flows.{index360_of, indexed, total, FallWithinFortyYears};

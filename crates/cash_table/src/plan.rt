@@ -1,3 +1,5 @@
+//! Portfolios, and the first line that isn't permitted.
+
 ghost use Rattle.std.specs.Prelude.{◌≡◌, ◌<◌, ◌↔◌, length, replicate, slice_index, slice_set, IfOk, IsNone};
 ghost use Rattle.offer_book.specs.Portfolio.{IsPermitted};
 ghost use Rattle.cash_table.specs.First.{first_unpermitted_of};

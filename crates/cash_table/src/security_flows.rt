@@ -1,3 +1,5 @@
+//! What the securities of a portfolio pay.
+
 ghost use Rattle.std.specs.Prelude.{◌≡◌, ◌*◌, ◌^◌, ◌<◌, ◌≤◌, [], IfOk};
 ghost use Rattle.std.specs.List.{All, flat_map, zip};
 ghost use Rattle.escrow_units.specs.Calendar.{years_after_of};
@@ -29,14 +31,10 @@ pub fn flows(alloc: Global, book: &Book, plan: &Plan) -> Result<Vec<Flow>, NoMem
     ensures later { IfOk result (λ flows. All (λ flow. 1 ≤ index360_of book.now.settle flow.day) flows.items) }
     ensures bound { IfOk result (λ flows. total flows.items ≤ 89 * 10 ^ 13) }
 {
+    let lines = book.lines();
     let settle = book.settle();
     let mut sums = DaySums::between(alloc, settle, years_after(settle, 40))?;
-    add_bought(
-        &mut sums,
-        settle,
-        &book.lines()[1..],
-        &plan.units()[1..],
-    );
+    add_bought(&mut sums, settle, &lines[1..], &plan.units()[1..]);
     sums.into_flows(alloc)
 }
 

@@ -7,6 +7,7 @@ use Rattle.std.proofs.lemmas.List.{length-map}
 use Rattle.std.proofs.lemmas.List.Elements.{All-cons, All-nil, All-map, All-weaker, filter_passes}
 use Rattle.std.proofs.lemmas.List.Sums.{sum_by-le}
 use Rattle.std.proofs.lemmas.Int.{ints}
+use Rattle.escrow_units.specs.Interest.{half_coupon_of}
 use Rattle.escrow_units.specs.Calendar.{IsBaseDay, years_after_of}
 use Rattle.escrow_units.specs.DayNumber.{IsDayNumber}
 use Rattle.escrow_units.specs.Flows.{total, FallWithinFortyYears}
@@ -18,7 +19,7 @@ use Rattle.escrow_units.specs.declared.security.SlgsKind.{SlgsKind}
 use Rattle.escrow_units.specs.declared.security.SlgsKind.TheVariants as kind
 use Rattle.escrow_units.proofs.SeriesFacts.{years_after_of-none}
 use Rattle.escrow_units.proofs.YearFacts.{years_after_of-passes}
-use Rattle.slgs_interest.specs.Payments.{payment_dates, payments_of, payment_on, interest_on, principal_on, first_interest, first_interest_of_kind, first_period_interest, half_year_interest, before_first, second_before_first}
+use Rattle.slgs_interest.specs.Payments.{payment_dates, payments_of, payment_on, interest_on, principal_on, first_interest, first_interest_of_kind, first_period_interest, before_first, second_before_first}
 use Rattle.escrow_units.specs.Series.{days_between_of}
 use Rattle.slgs_interest.specs.PaymentLaws.{AreSmall, AreWithinTerm}
 use Rattle.escrow_units.proofs.RoundingFacts.{near-zero}
@@ -102,8 +103,8 @@ first_interest-none slgs face none = at slgs.kind
 
 payment-none : (slgs : Slgs) (face : ℕ) → face ≡ 0 → (day : ℤ) → interest_on slgs face day + principal_on slgs face day ≡ 0
 payment-none slgs face none day =
-    let later : half_year_interest slgs face ≡ 0 = near-nothing (face * slgs.rate.0) 200_000 (rw none (omega arith)) in
-    let interest = choice-none (int_eq day slgs.first) (first_interest slgs face) (half_year_interest slgs face) (first_interest-none slgs face none) later in
+    let later : half_coupon_of face slgs.rate.0 ≡ 0 = near-nothing (face * slgs.rate.0) 200_000 (rw none (omega arith)) in
+    let interest = choice-none (int_eq day slgs.first) (first_interest slgs face) (half_coupon_of face slgs.rate.0) (first_interest-none slgs face none) later in
     let principal = choice-none (int_eq day slgs.maturity) face 0 none refl in
     join _ _ interest principal
   where

@@ -1,3 +1,5 @@
+//! Books.
+
 ghost use Rattle.std.specs.Prelude.{◌≡◌, ◌*◌, ◌^◌, ◌<◌, ◌≤◌, length, slice_index_or};
 ghost use Rattle.escrow_units.specs.Flows.{total, FallWithinFortyYears};
 ghost use Rattle.offer_book.specs.Book.{IsBook};

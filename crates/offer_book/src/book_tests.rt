@@ -1,3 +1,5 @@
+//! Worked figures of books.
+
 ghost use Rattle.std.specs.Prelude.{◌≡◌, pos, IfOk};
 ghost use Rattle.escrow_units.specs.SlgsTerms.{IsSettlement};
 ghost use Rattle.offer_book.specs.Book.{IsCashLine, IsSecurityLine};

@@ -1,3 +1,5 @@
+//! Lines: what units of them cost and pay.
+
 ghost use Rattle.std.specs.Prelude.{◌≡◌, ◌*◌, ◌^◌, ◌<◌, ◌≤◌};
 
 use arrayvec::ArrayVec;

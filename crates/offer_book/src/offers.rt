@@ -1,3 +1,5 @@
+//! The lines of a rate file's offers.
+
 ghost use Rattle.std.specs.Prelude.{◌≡◌, All, IfOk, length, vec_items};
 ghost use Rattle.std.specs.Result.{result_map_both};
 ghost use Rattle.escrow_units.specs.Denomination.{AreTerms};

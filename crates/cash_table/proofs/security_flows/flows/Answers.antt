@@ -1,12 +1,13 @@
-use Rattle.std.proofs.Common.{◌≡◌, ◌≤◌, ◌*◌, ◌^◌, List, ℤ, ◌∙◌, sym, subst, arith}
+use Rattle.std.proofs.Common.{◌≡◌, ◌≤◌, ◌*◌, ◌^◌, List, ℤ, ◌∙◌, sym, ap, subst, arith}
 use Rattle.std.specs.List.{All}
 use Rattle.std.proofs.lemmas.List.{take_rest}
 use Rattle.std.proofs.lemmas.Result.{IfOk-weaker}
 use Rattle.escrow_units.specs.Flows.{index360_of, total, FallWithinFortyYears}
 use Rattle.escrow_units.specs.declared.security.Flow.{Flow}
+use Rattle.day_sums.specs.Table.{SpanSums}
 use Rattle.offer_book.specs.Portfolio.{security_flows}
 use Rattle.cash_table.proofs.CostFacts.{drop-zip}
-use Rattle.cash_table.proofs.FlowFacts.{flows_within, flows_later, flows_at_most, securities_permitted, securities_at_most}
+use Rattle.cash_table.proofs.FlowFacts.{lines_after_cash, years_follow, flows_within, flows_later, flows_at_most, securities_permitted, securities_at_most}
 use Rattle.cash_table.proofs.security_flows.flows.Goals as goal
 
 abbrev AreLater : ℤ → List Flow → Type 0
@@ -17,26 +18,39 @@ IsBounded flows = total flows ≤ 89 * 10 ^ 13
 
 pub add_bought-requires-clause-permitted : goal.add_bought-requires-clause-permitted
 add_bought-requires-clause-permitted c =
-    simp (take_rest, drop-zip, c.lines.ensures.value, c.units.ensures) (securities_permitted c.args.book.now.lines c.args.plan.now c.requires.units)
+    simp (take_rest, drop-zip, c.lines-lines.ensures.value, c.units.ensures) (securities_permitted c.args.book.now.lines c.args.plan.now c.requires.units)
 
 pub add_bought-requires-clause-room : goal.add_bought-requires-clause-room
 add_bought-requires-clause-room c =
-    simp (take_rest, drop-zip, c.settle.ensures, c.lines.ensures.value, c.units.ensures) (omega (arith, securities_at_most c.args.book.now c.args.plan.now c.lines.ensures.limits c.requires))
+    simp (take_rest, drop-zip, c.settle-settle.ensures, c.lines-lines.ensures.value, c.units.ensures) (omega (arith, securities_at_most c.args.book.now c.args.plan.now c.lines-lines.ensures.limits c.requires))
 
 pub returns-clause-within : goal.returns-clause-within
 returns-clause-within c =
-    IfOk-weaker c.into_flows.result (λ flows. flows.items ≡ c.add_bought.new.sums) (λ flows. FallWithinFortyYears c.args.book.now.settle flows.items)
-    (λ flows same. let sums : c.add_bought.new.sums ≡ security_flows c.args.book.now c.args.plan.now = simp (take_rest, drop-zip, c.settle.ensures, c.lines.ensures.value, c.units.ensures) at (c.in_ok-add_bought.ensures) in
-    subst (FallWithinFortyYears c.args.book.now.settle) (sym (same ∙ sums)) (flows_within c.args.book.now c.args.plan.now c.lines.ensures.limits)) c.into_flows.ensures.value
+    IfOk-weaker c.into_flows.result (λ flows. flows.items ≡ c.add_bought.new.sums.sums) (λ flows. FallWithinFortyYears c.args.book.now.settle flows.items)
+    (λ flows same. let sums : c.add_bought.new.sums.sums ≡ security_flows c.args.book.now c.args.plan.now = simp (take_rest, drop-zip, c.settle-settle.ensures, c.lines-lines.ensures.value, c.units.ensures) at (ap (λ (s : SpanSums). s.sums) c.add_bought.ensures) in
+    subst (FallWithinFortyYears c.args.book.now.settle) (sym (same ∙ sums)) (flows_within c.args.book.now c.args.plan.now c.lines-lines.ensures.limits)) c.into_flows.ensures.value
 
 pub returns-clause-later : goal.returns-clause-later
 returns-clause-later c =
-    IfOk-weaker c.into_flows.result (λ flows. flows.items ≡ c.add_bought.new.sums) (λ flows. AreLater c.args.book.now.settle flows.items)
-    (λ flows same. let sums : c.add_bought.new.sums ≡ security_flows c.args.book.now c.args.plan.now = simp (take_rest, drop-zip, c.settle.ensures, c.lines.ensures.value, c.units.ensures) at (c.in_ok-add_bought.ensures) in
-    subst (AreLater c.args.book.now.settle) (sym (same ∙ sums)) (flows_later c.args.book.now c.args.plan.now c.lines.ensures.limits)) c.into_flows.ensures.value
+    IfOk-weaker c.into_flows.result (λ flows. flows.items ≡ c.add_bought.new.sums.sums) (λ flows. AreLater c.args.book.now.settle flows.items)
+    (λ flows same. let sums : c.add_bought.new.sums.sums ≡ security_flows c.args.book.now c.args.plan.now = simp (take_rest, drop-zip, c.settle-settle.ensures, c.lines-lines.ensures.value, c.units.ensures) at (ap (λ (s : SpanSums). s.sums) c.add_bought.ensures) in
+    subst (AreLater c.args.book.now.settle) (sym (same ∙ sums)) (flows_later c.args.book.now c.args.plan.now c.lines-lines.ensures.limits)) c.into_flows.ensures.value
 
 pub returns-clause-bound : goal.returns-clause-bound
 returns-clause-bound c =
-    IfOk-weaker c.into_flows.result (λ flows. flows.items ≡ c.add_bought.new.sums) (λ flows. IsBounded flows.items)
-    (λ flows same. let sums : c.add_bought.new.sums ≡ security_flows c.args.book.now c.args.plan.now = simp (take_rest, drop-zip, c.settle.ensures, c.lines.ensures.value, c.units.ensures) at (c.in_ok-add_bought.ensures) in
-    subst (IsBounded) (sym (same ∙ sums)) (flows_at_most c.args.book.now c.args.plan.now c.lines.ensures.limits c.requires)) c.into_flows.ensures.value
+    IfOk-weaker c.into_flows.result (λ flows. flows.items ≡ c.add_bought.new.sums.sums) (λ flows. IsBounded flows.items)
+    (λ flows same. let sums : c.add_bought.new.sums.sums ≡ security_flows c.args.book.now c.args.plan.now = simp (take_rest, drop-zip, c.settle-settle.ensures, c.lines-lines.ensures.value, c.units.ensures) at (ap (λ (s : SpanSums). s.sums) c.add_bought.ensures) in
+    subst (IsBounded) (sym (same ∙ sums)) (flows_at_most c.args.book.now c.args.plan.now c.lines-lines.ensures.limits c.requires)) c.into_flows.ensures.value
+
+pub between-requires : goal.between-requires
+between-requires c = rw (c.years_after.ensures, c.settle-settle.ensures) (years_follow c.args.book.now.settle c.lines-lines.ensures.limits.settlement)
+
+pub add_bought-requires-clause-lines : goal.add_bought-requires-clause-lines
+add_bought-requires-clause-lines c =
+    simp (take_rest, c.settle-settle.ensures, c.lines-lines.ensures.value) (lines_after_cash c.args.book.now.settle c.args.book.now.lines c.lines-lines.ensures.limits.lines)
+
+pub returns-clause-value : goal.returns-clause-value
+returns-clause-value c =
+    IfOk-weaker c.into_flows.result (λ flows. flows.items ≡ c.add_bought.new.sums.sums) (λ flows. flows.items ≡ security_flows c.args.book.now c.args.plan.now)
+    (λ flows same. let sums : c.add_bought.new.sums.sums ≡ security_flows c.args.book.now c.args.plan.now = simp (take_rest, drop-zip, c.settle-settle.ensures, c.lines-lines.ensures.value, c.units.ensures) at (ap (λ (s : SpanSums). s.sums) c.add_bought.ensures) in
+    same ∙ sums) c.into_flows.ensures.value
