@@ -47,7 +47,8 @@ fn reply_to_bytes(alloc: Global, case: &Case, bytes: &[u8]) -> Result<Reply, NoM
     }
 }
 
-// The reply to the certificate of a name.
+// The reply to the certificate of a name. It isn't inlined: its tables would stand on the stack while rows are read.
+#[inline(never)]
 fn reply_to_certificate<D: Desk>(
     alloc: Global,
     desk: &mut D,
