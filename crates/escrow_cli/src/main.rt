@@ -40,7 +40,11 @@ fn complaint(status: Status) -> Option<&'static str>
 // Carries the words out.
 fn run_words(rt: &HostRuntime) -> Status {
     match words_of(rt) {
-        Ok(words) => run(rt.alloc(), words.as_slice(), &mut RealDesk::new(rt)),
+        Ok(words) => run(
+            rt.alloc(),
+            words.as_slice(),
+            &mut RealDesk::new(rt, rt.alloc()),
+        ),
         Err(NoMemory) => Status::NoMemory,
     }
 }

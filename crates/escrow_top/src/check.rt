@@ -48,7 +48,8 @@ fn answer_to_bytes(alloc: Global, case: &Case, bytes: &[u8]) -> Result<Answer, N
     }
 }
 
-// The answer to the certificate of a name.
+// The answer to the certificate of a name. It isn't inlined: its tables would stand on the stack while rows are read.
+#[inline(never)]
 fn answer_to_certificate<D: Desk>(
     alloc: Global,
     desk: &mut D,
