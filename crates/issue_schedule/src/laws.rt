@@ -1,8 +1,6 @@
 ghost use Rattle.issue_schedule.specs.BondLaws.{CalledBondsPayOnce, HeldBondsPayOnce, PeriodsStartBySeries};
 ghost use Rattle.issue_schedule.specs.NeedLaws.{NeedsAreAboveZero, NeedsFallWithin, NeedsKeepTotal, NeedsRise};
 
-use escrow_units::{series_laws, year_laws};
-
 /// What the needs of an issue are: together the direct needs and what each bond needs, on days that strictly rise, from
 /// settlement to 40 years later, and above 0 on each.
 pub fn needs_laws()
@@ -20,7 +18,4 @@ pub fn bond_laws()
     ensures held { HeldBondsPayOnce }
     ensures called { CalledBondsPayOnce }
     ensures periods { PeriodsStartBySeries }
-{
-    series_laws();
-    year_laws();
-}
+{}
