@@ -1,3 +1,4 @@
+//! What the needs of an issue and of one bond are.
 ghost use Rattle.issue_schedule.specs.BondLaws.{CalledBondsPayOnce, HeldBondsPayOnce, PeriodsStartBySeries};
 ghost use Rattle.issue_schedule.specs.NeedLaws.{NeedsAreAboveZero, NeedsFallWithin, NeedsKeepTotal, NeedsRise};
 
