@@ -1,5 +1,5 @@
 -- The dates of a series around a day.
-use Rattle.std.proofs.Common.{◌≡◌, ◌∙◌, ℕ, ◌+◌, ◌-◌, ◌<◌, ◌≤◌, zero, suc, refl, sym, ap, arith, ℤ, pos, ◌+ℤ◌, ◌≤ℤ◌, ◌<ℤ◌, int_lt, inl, inr, ◌⊎◌, Bool, true, false, List, [], ◌∷◌, ◌++◌, length, reverse, All, filter, subst}
+use Rattle.std.proofs.Common.{◌≡◌, ◌∙◌, ℕ, ◌+◌, ◌-◌, ◌<◌, ◌≤◌, zero, suc, refl, sym, ap, arith, ℤ, pos, ◌+ℤ◌, ◌≤ℤ◌, ◌<ℤ◌, int_lt, inl, inr, ◌⊎◌, Bool, true, false, List, [], ◌∷◌, ◌++◌, length, get_or, reverse, All, filter, subst}
 use Rattle.std.specs.Prelude.{Contains}
 use Rattle.std.proofs.lemmas.Bool.{cases_lt}
 use Rattle.std.proofs.lemmas.List.{reverse-append, length-append}
@@ -10,7 +10,7 @@ use Rattle.escrow_units.specs.Calendar.{half_back_of, IsBaseDay, IsSeriesDate}
 use Rattle.escrow_units.specs.CalendarLaws.{IsHalfYear}
 use Rattle.escrow_units.specs.Series.{AreDatesAfter, IsFirstAfter, IsLastBy, dates_after_of, next_date_of, previous_date_of, series_of}
 use Rattle.escrow_units.specs.declared.security.StepRule.{StepRule}
-use Rattle.escrow_units.proofs.SeriesFacts.{half_back_of-falls}
+use Rattle.escrow_units.proofs.SeriesFacts.{half_back_of-steps}
 use Rattle.escrow_units.proofs.FlowFacts.{cases_int_le, int_lt-is, int_lt-not, int_lt-test}
 use Rattle.escrow_units.proofs.LastDates.{last_dates, last_dates-all, last_dates-more, last_dates-rise, filter-dates, half_back_of-order, half_back_of-reach, half_back_of-zero, half_year-along, half_year-before, length-last_dates, series_from-last}
 
@@ -176,9 +176,50 @@ pub counted : (maturity : ℤ) (r : StepRule) (day : ℤ) → IsNear maturity da
 counted maturity r day near before =
     counted-by maturity r day 84 near (omega arith) (omega (arith, signed_arith, half_back_of-reach maturity r 84 near.base (omega arith), near.most)) before
 
-pub previous-is-last : (maturity : ℤ) (r : StepRule) (day : ℤ) → IsBaseDay maturity → day <ℤ maturity → maturity ≤ℤ (day +ℤ pos 14_640)
+-- no date comes after maturity
+none-after : (maturity : ℤ) (r : StepRule) (day : ℤ) → IsBaseDay maturity → maturity ≤ℤ day → dates_after_of maturity r day ≡ []
+unfolding dates_after_of last_dates
+none-after maturity r day base late =
+    ap (filter (int_lt day)) (series_from-last maturity r 84) ∙ filter-dates (int_lt day) maturity r 0 85 (omega arith)
+    (λ j none. absurd (omega (arith, none)))
+    (λ j from less. int_lt-not day _ (omega (arith, signed_arith, late, half_back_of-order maturity r 0 j base (omega arith) (omega arith), half_back_of-zero maturity r base)))
+
+last-of-all : (maturity : ℤ) (r : StepRule) (day : ℤ) → IsBaseDay maturity → maturity ≤ℤ day → IsLastBy maturity r day (previous_date_of maturity r day)
+last-of-all maturity r day base late =
+    let same : previous_date_of maturity r day ≡ half_back_of maturity 0 r = ap (λ (dates : List ℤ). half_back_of maturity (length dates) r) (none-after maturity r day base late) in
+    last-along maturity r day _ _ same (record {
+      series = record { steps = 0; few = omega arith; back = refl };
+      by = omega (arith, signed_arith, late, half_back_of-zero maturity r base);
+      last = λ other on by. rw on.back (half_back_of-order maturity r 0 on.steps base (omega arith) on.few);
+    })
+
+pub previous-is-last : (maturity : ℤ) (r : StepRule) (day : ℤ) → IsBaseDay maturity → maturity ≤ℤ (day +ℤ pos 14_640)
     → IsLastBy maturity r day (previous_date_of maturity r day)
-previous-is-last maturity r day base before most = (counted maturity r day (record { base = base; most = most }) before).last
+previous-is-last maturity r day base most =
+    elim (cases_int_le maturity day) [
+      | inl late ↦ last-of-all maturity r day base late
+      | inr before ↦ (counted maturity r day (record { base = base; most = most }) before).last
+    ]
+
+-- two last dates are one
+pub last-unique : (maturity : ℤ) (r : StepRule) (day a b : ℤ) → IsLastBy maturity r day a → IsLastBy maturity r day b → a ≡ b
+last-unique maturity r day a b p q = omega (arith, signed_arith, p.last b q.series q.by, q.last a p.series p.by)
+
+-- and begin a half-year
+pub last-recent : (maturity : ℤ) (r : StepRule) (day a : ℤ) → IsBaseDay maturity → day <ℤ maturity → IsLastBy maturity r day a → day ≤ℤ (a +ℤ pos 184)
+last-recent maturity r day a base before p = at p.series.steps p.series.few p.series.back
+  where
+    at : (k : ℕ) → k ≤ 84 → a ≡ half_back_of maturity k r → day ≤ℤ (a +ℤ pos 184)
+    at zero few e = absurd (omega (arith, signed_arith, e, half_back_of-zero maturity r base, before, p.by))
+    at (suc k) few e =
+        let more : k + 1 ≡ suc k = omega arith in
+        let step = rw more at (half_back_of-steps maturity r k base (omega arith)) in
+        elim (cases_int_le (half_back_of maturity k r) day) [
+          | inl by ↦
+              let sooner = p.last (half_back_of maturity k r) (record { steps = k; few = omega arith; back = refl }) by in
+              absurd (omega (arith, signed_arith, e, step.least, sooner))
+          | inr late ↦ omega (arith, signed_arith, e, step.most, late)
+        ]
 
 -- ---- the dates after a day, each once
 
@@ -192,17 +233,24 @@ contains-kept p x y xs false e c = rw e c
 contains-first : (p : ℤ → Bool) (x : ℤ) (xs : List ℤ) → p x ≡ true → Contains (filter p (x ∷ xs)) x
 contains-first p x xs e = rw e (0, omega arith, refl)
 
-pub contains-date : (p : ℤ → Bool) (maturity : ℤ) (r : StepRule) (s n : ℕ) → s < n → p (half_back_of maturity s r) ≡ true
-    → Contains (filter p (last_dates maturity r n)) (half_back_of maturity s r)
+-- a filter keeps what passes
+pub Contains-filter : (p : ℤ → Bool) (xs : List ℤ) (y : ℤ) → Contains xs y → p y ≡ true → Contains (filter p xs) y
+Contains-filter p [] y c is = absurd (omega (arith, c.1))
+Contains-filter p (x ∷ xs) y c is = at c.0 c.1 c.2 (λ later. Contains-filter p xs y later is)
+  where
+    at : (k : ℕ) → k < length (x ∷ xs) → get_or (x ∷ xs) k y ≡ y → (Contains xs y → Contains (filter p xs) y) → Contains (filter p (x ∷ xs)) y
+    at zero less e rest = subst (λ (z : ℤ). Contains (filter p (x ∷ xs)) z) e (contains-first p x xs (rw e is))
+    at (suc k) less e rest = contains-kept p x y xs (p x) refl (rest (k, omega (arith, less), e))
+
+contains-date : (maturity : ℤ) (r : StepRule) (s n : ℕ) → s < n → Contains (last_dates maturity r n) (half_back_of maturity s r)
 unfolding last_dates
-contains-date p maturity r s zero less is = absurd (omega arith)
-contains-date p maturity r s (suc k) less is =
+contains-date maturity r s zero less = absurd (omega arith)
+contains-date maturity r s (suc k) less =
     elim (cases_lt s k) [
-      | inl sooner ↦ contains-kept p (half_back_of maturity k r) (half_back_of maturity s r) (last_dates maturity r k) (p (half_back_of maturity k r)) refl (contains-date p maturity r s k sooner is)
+      | inl sooner ↦ contains-later (half_back_of maturity k r) (half_back_of maturity s r) (last_dates maturity r k) (contains-date maturity r s k sooner)
       | inr same ↦
-          let e : s ≡ k = omega arith in
-          subst (λ (j : ℕ). Contains (filter p (half_back_of maturity k r ∷ last_dates maturity r k)) (half_back_of maturity j r)) (sym e)
-          (contains-first p (half_back_of maturity k r) (last_dates maturity r k) (rw e at is))
+          let e : k ≡ s = omega arith in
+          (0, omega arith, ap (λ (j : ℕ). half_back_of maturity j r) e)
     ]
 
 pub dates-after-are-later : (maturity : ℤ) (r : StepRule) (day : ℤ) → IsBaseDay maturity → AreDatesAfter maturity r day (dates_after_of maturity r day)
@@ -216,6 +264,6 @@ dates-after-are-later maturity r day base =
       series = λ k d less. (dated k d less, int_lt-is day _ (passes k d less));
       all = λ date on late.
           subst (Contains (filter (int_lt day) (last_dates maturity r 85))) (sym on.back)
-          (contains-date (int_lt day) maturity r on.steps 85 (omega (arith, on.few)) (rw on.back at (int_lt-test day date late)));
+          (Contains-filter (int_lt day) (last_dates maturity r 85) (half_back_of maturity on.steps r) (contains-date maturity r on.steps 85 (omega (arith, on.few))) (rw on.back at (int_lt-test day date late)));
       rise = AllPairs-filter (λ a b. a <ℤ b) (int_lt day) (last_dates maturity r 85) (last_dates-rise maturity r 85 base (omega arith));
     })

@@ -82,10 +82,10 @@ DatesAfterAreLater =
     (maturity : ℤ) (rule : StepRule) (day : ℤ) → IsBaseDay maturity
     → AreDatesAfter maturity rule day (dates_after_of maturity rule day)
 
--- and the date before them is the last up to the day, which lies at most 40 years before maturity
+-- and the date before them is the last up to the day, where maturity is at most 40 years later
 abbrev pub PreviousIsLast : Type 0
 PreviousIsLast =
-    (maturity : ℤ) (rule : StepRule) (day : ℤ) → IsBaseDay maturity → day <ℤ maturity → maturity ≤ℤ (day +ℤ pos 14_640)
+    (maturity : ℤ) (rule : StepRule) (day : ℤ) → IsBaseDay maturity → maturity ≤ℤ (day +ℤ pos 14_640)
     → IsLastBy maturity rule day (previous_date_of maturity rule day)
 
 -- years have 365 or 366 days, so more years lead to a later day

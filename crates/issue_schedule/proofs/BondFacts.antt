@@ -1,130 +1,111 @@
--- The dates of a bond's series, searched and counted from maturity back.
-use Rattle.std.proofs.Common.{◌≡◌, ◌∙◌, refl, sym, ap, arith, ℕ, zero, suc, ◌+◌, ◌-◌, ◌<◌, ◌≤◌, List, [], ◌∷◌, ◌++◌, map, Bool, true, false, ℤ, pos, ◌+ℤ◌, ◌≤ℤ◌, ◌<ℤ◌, inl, inr, append_assoc, if◌then◌else◌}
-use Rattle.std.specs.Prelude.{filter, find, int_le, int_lt, unsigned_abs, ◌&&◌, Some, None}
+-- Where a bond stands in its series, and its half-coupons date by date.
+use Rattle.std.proofs.Common.{◌≡◌, ◌∙◌, refl, sym, ap, arith, ℕ, zero, suc, ◌+◌, ◌-◌, ◌<◌, ◌≤◌, List, [], ◌∷◌, ◌++◌, map, take, length, get_or, Bool, true, false, ℤ, pos, ◌+ℤ◌, ◌≤ℤ◌, ◌<ℤ◌, inl, inr, append_assoc, if◌then◌else◌, filter}
+use Rattle.std.specs.Prelude.{Contains, int_le, int_lt, unsigned_abs, ◌&&◌}
 use Rattle.std.proofs.lemmas.Int.{ints}
-use Rattle.std.proofs.lemmas.List.{append-nil}
+use Rattle.std.proofs.lemmas.List.{append-nil, map-append, take_all}
+use Rattle.std.proofs.lemmas.List.Elements.{filter_more}
 use Rattle.std.proofs.lemmas.Bool.{cases_lt, cases_Bool}
 use Rattle.jiff_core.proofs.SignedLemmas.{signed_arith}
 use Rattle.jiff_core.specs.Calendar.{days_from_civil, day_count, days_of_years, days_of_months}
-use Rattle.escrow_units.specs.Calendar.{half_back_of, years_after_of, date_of, IsBaseDay}
-use Rattle.escrow_units.specs.CalendarLaws.{SeriesFalls, SeriesStepsByHalfYears, SeriesStartsAtMaturity, YearsPass, NoYearsPass, SettlementLeadsToBaseDays}
+use Rattle.escrow_units.specs.Calendar.{years_after_of, date_of, IsBaseDay, IsSeriesDate}
+use Rattle.escrow_units.specs.CalendarLaws.{YearsPass, NoYearsPass, SettlementLeadsToBaseDays}
+use Rattle.escrow_units.specs.Series.{AreDatesAfter, IsLastBy, dates_after_of}
 use Rattle.escrow_units.specs.SlgsTerms.{IsSettlement}
+use Rattle.escrow_units.specs.declared.security.Flow.{Flow}
 use Rattle.escrow_units.specs.declared.security.StepRule.TheVariants as rule
 use Rattle.escrow_units.proofs.DateFacts.{pos_abs}
-use Rattle.issue_schedule.specs.IssueTerms.{IsLater}
+use Rattle.escrow_units.proofs.FlowFacts.{cases_int_le}
 use Rattle.day_sums.specs.Summed.{on}
-use Rattle.issue_schedule.specs.Needs.{series}
-use Rattle.escrow_units.specs.declared.security.Flow.{Flow}
-
-abbrev pub step_date : ℤ → ℕ → ℤ
-step_date maturity step = half_back_of maturity step rule.SameDay
+use Rattle.issue_schedule.specs.IssueTerms.{IsLater}
+use Rattle.issue_schedule.specs.Needs.{half_coupon, interest}
+use Rattle.issue_schedule.specs.declared.issue.Bond.{Bond}
 
 pub later-base : (base : SettlementLeadsToBaseDays) (settle day : ℤ) → IsSettlement settle → IsLater settle day → IsBaseDay day
 later-base base settle day settlement later = base settle day settlement (omega (arith, ints, later.after)) later.by
 
--- tests of days
-pub int_le-yes : (a b : ℤ) → a ≤ℤ b → int_le a b ≡ true
-int_le-yes a b h = grind (arith, ints)
+-- a day after settlement is at most 40 years of 366 days later
+pub later-near : (pass : YearsPass) (none : NoYearsPass) (settle day : ℤ) → IsSettlement settle → IsLater settle day → day ≤ℤ (settle +ℤ pos 14_640)
+later-near pass none settle day settlement later =
+    let same = none settle (omega (arith, ints, settlement.0), omega (arith, ints, settlement.1)) in
+    let most = (pass settle 0 40 (settlement.0, omega (arith, ints, settlement.1)) (omega arith)).most in
+    omega (arith, signed_arith, ints, same, most, later.by)
 
-pub int_le-no : (a b : ℤ) → b <ℤ a → int_le a b ≡ false
-int_le-no a b h = grind (arith, ints)
+-- ---- the half-coupons up to a last day, of the first dates
 
-pub int_lt-yes : (a b : ℤ) → a <ℤ b → int_lt a b ≡ true
-int_lt-yes a b h = grind (arith, ints)
+abbrev pub paid : ℤ → ℕ → List ℤ → List Flow
+paid last cents dates = map (λ date. on date cents) (filter (λ date. int_le date last) dates)
 
-pub int_lt-no : (a b : ℤ) → b ≤ℤ a → int_lt a b ≡ false
-int_lt-no a b h = grind (arith, ints)
+pub paid-more : (last : ℤ) (cents : ℕ) (dates : List ℤ) (i : ℕ) (d : ℤ) (before flows more : List Flow) → i < length dates
+    → flows ≡ before ++ paid last cents (take i dates)
+    → more ≡ flows ++ (if int_le (get_or dates i d) last then on (get_or dates i d) cents ∷ [] else [])
+    → more ≡ before ++ paid last cents (take (i + 1) dates)
+paid-more last cents dates i d before flows more short are is =
+    let date = get_or dates i d in
+    let front = filter (λ (day : ℤ). int_le day last) (take i dates) in
+    is ∙ (ap (λ (fs : List Flow). fs ++ (if int_le date last then on date cents ∷ [] else [])) are
+    ∙ (append_assoc before (paid last cents (take i dates)) (if int_le date last then on date cents ∷ [] else [])
+    ∙ ap (λ (fs : List Flow). before ++ fs)
+    (one last cents date front
+    ∙ sym (ap (map (λ (day : ℤ). on day cents)) (filter_more (λ (day : ℤ). int_le day last) dates i d short)))))
+  where
+    by_test : (b : Bool) (date : ℤ) (cents : ℕ) (front : List ℤ) → map (λ (day : ℤ). on day cents) front ++ (if b then on date cents ∷ [] else []) ≡ map (λ (day : ℤ). on day cents) (front ++ (if b then date ∷ [] else []))
+    by_test true date cents front = sym (map-append (λ (day : ℤ). on day cents) front (date ∷ []))
+    by_test false date cents front = sym (map-append (λ (day : ℤ). on day cents) front [])
 
--- the dates that are left
-pub series-left : (maturity : ℤ) (step : ℕ) → step < 85 → series maturity step (85 - step) ≡ step_date maturity step ∷ series maturity (step + 1) (85 - (step + 1))
-unfolding series
-series-left maturity step short =
-    let left : 85 - step ≡ suc (85 - (step + 1)) = omega arith in
-    rw left refl
+    one : (last : ℤ) (cents : ℕ) (date : ℤ) (front : List ℤ) → map (λ (day : ℤ). on day cents) front ++ (if int_le date last then on date cents ∷ [] else []) ≡ map (λ (day : ℤ). on day cents) (front ++ (if int_le date last then date ∷ [] else []))
+    one last cents date front = by_test (int_le date last) date cents front
 
-pub series-none : (maturity : ℤ) (step : ℕ) → 85 ≤ step → series maturity step (85 - step) ≡ []
-unfolding series
-series-none maturity step all =
-    let left : 85 - step ≡ 0 = omega arith in
-    rw left refl
+pub paid-all : (settle last : ℤ) (bond : Bond) (dates : List ℤ) (i : ℕ) (before flows : List Flow) → length dates ≤ i
+    → dates ≡ dates_after_of bond.maturity rule.SameDay settle → flows ≡ before ++ paid last (half_coupon bond) (take i dates)
+    → flows ≡ before ++ interest settle last bond
+paid-all settle last bond dates i before flows all same are =
+    are ∙ ap (λ (ds : List ℤ). before ++ paid last (half_coupon bond) ds) (take_all i dates all ∙ same)
 
--- the first date up to a day
-pub find-here : (maturity day : ℤ) (step : ℕ) → step < 85 → step_date maturity step ≤ℤ day → find (λ date. int_le date day) (series maturity step (85 - step)) ≡ Some (step_date maturity step)
-find-here maturity day step short early = rw (series-left maturity step short, int_le-yes (step_date maturity step) day early) refl
+-- ---- the last date up to a day, among the first dates after settlement
 
-pub find-later : (maturity day : ℤ) (step : ℕ) → step < 85 → day <ℤ step_date maturity step → find (λ date. int_le date day) (series maturity step (85 - step)) ≡ find (λ date. int_le date day) (series maturity (step + 1) (85 - (step + 1)))
-find-later maturity day step short late = rw (series-left maturity step short, int_le-no (step_date maturity step) day late) refl
+pub record IsStart (maturity settle previous day start : ℤ) (dates : List ℤ) (i : ℕ) : Type 0 where
+  pub series : IsSeriesDate maturity rule.SameDay start
+  pub by : start ≤ℤ day
+  pub from : previous ≤ℤ start
+  pub most : (k : ℕ) (d : ℤ) → k < i → k < length dates → get_or dates k d ≤ℤ day → get_or dates k d ≤ℤ start
 
-pub find-end : (maturity day : ℤ) (step : ℕ) → 85 ≤ step → find (λ date. int_le date day) (series maturity step (85 - step)) ≡ None
-find-end maturity day step all = rw (series-none maturity step all) refl
+pub start-first : (maturity settle previous day : ℤ) (dates : List ℤ) → IsLastBy maturity rule.SameDay settle previous → settle ≤ℤ day
+    → IsStart maturity settle previous day previous dates 0
+start-first maturity settle previous day dates last from = record {
+  series = last.series;
+  by = omega (arith, ints, last.by, from);
+  from = omega (arith, ints);
+  most = λ k d less. absurd (omega arith);
+}
 
--- one more date is later than a day
-pub later-more : (maturity day : ℤ) (step : ℕ) → ((k : ℕ) → k < step → day <ℤ step_date maturity k) → day <ℤ step_date maturity step → (k : ℕ) → k < step + 1 → day <ℤ step_date maturity k
-later-more maturity day step before here k short =
-    elim (cases_lt k step) [
-      | inl less ↦ before k less
-      | inr more ↦ let same : k ≡ step = omega arith in rw same here
-    ]
+pub start-more : (maturity settle previous day start more : ℤ) (dates : List ℤ) (i : ℕ) → IsStart maturity settle previous day start dates i
+    → IsSeriesDate maturity rule.SameDay more → more ≤ℤ day → start ≤ℤ more
+    → ((d : ℤ) → i < length dates → get_or dates i d ≤ℤ day → get_or dates i d ≤ℤ more)
+    → IsStart maturity settle previous day more dates (i + 1)
+start-more maturity settle previous day start more dates i is series by later here = record {
+  series = series;
+  by = by;
+  from = omega (arith, ints, is.from, later);
+  most = λ k d less short early. elim (cases_lt k i) [
+    | inl sooner ↦ omega (arith, ints, is.most k d sooner short early, later)
+    | inr last ↦ let same : k ≡ i = omega arith in rw same (here d (rw same at short) (rw same at early))
+  ];
+}
 
-within-half_year : (day from to : ℤ) → to ≤ℤ (from +ℤ pos 184) → day <ℤ to → day ≤ℤ (from +ℤ pos 184)
-within-half_year day from to near after = omega (arith, signed_arith, ints, near, after)
-
--- the first date up to a day before maturity is at most a half-year before it
-pub start-recent : (start : SeriesStartsAtMaturity) (half_years : SeriesStepsByHalfYears) (maturity day : ℤ) (step : ℕ) → IsBaseDay maturity → day <ℤ maturity → ((k : ℕ) → k < step → day <ℤ step_date maturity k) → step < 85 → step_date maturity step ≤ℤ day → day ≤ℤ (step_date maturity step +ℤ pos 184)
-start-recent start half_years maturity day zero base before later short early =
-    let same : step_date maturity 0 ≡ maturity = start maturity rule.SameDay (omega (arith, ints, base.0), omega (arith, ints, base.1)) in
-    absurd (omega (arith, ints))
-start-recent start half_years maturity day (suc k) base before later short early =
-    let next : suc k ≡ k + 1 = omega arith in
-    rw next (within-half_year day (step_date maturity (k + 1)) (step_date maturity k)
-    (half_years maturity rule.SameDay k base (omega arith)).most (later k (omega arith)))
-
--- the dates of interest that are left
-abbrev pub is_interest : ℤ → ℤ → ℤ → Bool
-is_interest settle last date = int_lt settle date && int_le date last
-
-pub interest-here : (settle last maturity : ℤ) (step : ℕ) → step < 85 → settle <ℤ step_date maturity step → step_date maturity step ≤ℤ last → filter (is_interest settle last) (series maturity step (85 - step)) ≡ step_date maturity step ∷ filter (is_interest settle last) (series maturity (step + 1) (85 - (step + 1)))
-interest-here settle last maturity step short after by =
-    rw (series-left maturity step short, int_lt-yes settle (step_date maturity step) after, int_le-yes (step_date maturity step) last by) refl
-
-pub interest-later : (settle last maturity : ℤ) (step : ℕ) → step < 85 → settle <ℤ step_date maturity step → last <ℤ step_date maturity step → filter (is_interest settle last) (series maturity step (85 - step)) ≡ filter (is_interest settle last) (series maturity (step + 1) (85 - (step + 1)))
-interest-later settle last maturity step short after late =
-    rw (series-left maturity step short, int_lt-yes settle (step_date maturity step) after, int_le-no (step_date maturity step) last late) refl
-
--- the interest on the dates that are left
-abbrev pub interest_left : ℤ → ℤ → ℤ → ℕ → ℕ → List Flow
-interest_left settle last maturity cents step = map (λ date. on date cents) (filter (is_interest settle last) (series maturity step (85 - step)))
-
-abbrev pub if_by : ℤ → Flow → List Flow
-if_by last flow = if int_le flow.day last then flow ∷ [] else []
-
-pub interest-more : (settle last maturity : ℤ) (cents step : ℕ) (flows more : List Flow) → step < 85 → settle <ℤ step_date maturity step → more ≡ flows ++ if_by last (on (step_date maturity step) cents) → flows ++ interest_left settle last maturity cents step ≡ more ++ interest_left settle last maturity cents (step + 1)
-interest-more settle last maturity cents step flows more short after is =
-    let date = step_date maturity step in
-    let rest = interest_left settle last maturity cents (step + 1) in
-    elim (cases_Bool (int_le date last)) [
-      | inl by ↦
-          let pushed : more ≡ flows ++ on date cents ∷ [] = rw by at is in
-          let left : interest_left settle last maturity cents step ≡ on date cents ∷ rest = ap (λ (days : List ℤ). map (λ (d : ℤ). on d cents) days) (interest-here settle last maturity step short after (omega (arith, ints, by))) in
-          ap (λ (xs : List Flow). flows ++ xs) left ∙ sym (ap (λ (xs : List Flow). xs ++ rest) pushed ∙ append_assoc flows (on date cents ∷ []) rest)
-      | inr late ↦
-          let kept : more ≡ flows ++ [] = rw late at is in
-          let left : interest_left settle last maturity cents step ≡ rest = ap (λ (days : List ℤ). map (λ (d : ℤ). on d cents) days) (interest-later settle last maturity step short after (omega (arith, ints, late))) in
-          ap (λ (xs : List Flow). flows ++ xs) left ∙ sym (ap (λ (xs : List Flow). xs ++ rest) (kept ∙ append-nil flows))
-    ]
-
--- from the first date by settlement on there are none
-interest-over : (fall : SeriesFalls) (settle last maturity : ℤ) (step count : ℕ) → IsBaseDay maturity → step + count ≤ 85 → (0 < count → step_date maturity step ≤ℤ settle) → filter (is_interest settle last) (series maturity step count) ≡ []
-unfolding series
-interest-over fall settle last maturity step zero base few early = refl
-interest-over fall settle last maturity step (suc count) base few early =
-    let by : step_date maturity step ≤ℤ settle = early (omega arith) in
-    rw (int_lt-no settle (step_date maturity step) by)
-    (interest-over fall settle last maturity (step + 1) count base (omega arith)
-    (λ some. let below : step_date maturity (step + 1) <ℤ step_date maturity step = fall maturity rule.SameDay step (step + 1) base (omega arith) (omega arith) in omega (arith, ints)))
-
-pub interest-none : (fall : SeriesFalls) (settle last maturity : ℤ) (step : ℕ) → IsBaseDay maturity → step < 85 → step_date maturity step ≤ℤ settle → filter (is_interest settle last) (series maturity step (85 - step)) ≡ []
-interest-none fall settle last maturity step base short by = interest-over fall settle last maturity step (85 - step) base (omega arith) (λ _. by)
+pub start-end : (maturity settle previous day start : ℤ) (dates : List ℤ) (i : ℕ) → IsStart maturity settle previous day start dates i → length dates ≤ i
+    → IsLastBy maturity rule.SameDay settle previous → AreDatesAfter maturity rule.SameDay settle dates → IsLastBy maturity rule.SameDay day start
+start-end maturity settle previous day start dates i is all last after = record {
+  series = is.series;
+  by = is.by;
+  last = λ other dated by. elim (cases_int_le other settle) [
+    | inl early ↦ omega (arith, ints, last.last other dated early, is.from)
+    | inr late ↦
+        let found = after.all other dated late in
+        let early : get_or dates found.0 other ≤ℤ day = rw found.2 by in
+        let most = is.most found.0 other (omega (arith, found.1, all)) found.1 early in
+        omega (arith, ints, most, found.2)
+  ];
+}
 
 -- 40 years after a day lies beyond the half-year that it begins
 unfoldable all_near : ℕ → Bool
@@ -177,10 +158,3 @@ start-near pass none start day low high order recent =
     let beyond = near-of pass none start (omega (arith, signed_arith, ints, low, recent)) (omega (arith, ints, order, high)) in
     omega (arith, ints, recent, beyond)
 
-pub interest-done : (fall : SeriesFalls) (settle last maturity : ℤ) (cents step : ℕ) (flows : List Flow) → IsBaseDay maturity → step < 85 → step_date maturity step ≤ℤ settle → flows ++ interest_left settle last maturity cents step ≡ flows
-interest-done fall settle last maturity cents step flows base short by =
-    ap (λ (days : List ℤ). flows ++ map (λ (d : ℤ). on d cents) days) (interest-none fall settle last maturity step base short by) ∙ append-nil flows
-
-pub interest-all : (settle last maturity : ℤ) (cents step : ℕ) (flows : List Flow) → 85 ≤ step → flows ++ interest_left settle last maturity cents step ≡ flows
-interest-all settle last maturity cents step flows all =
-    ap (λ (days : List ℤ). flows ++ map (λ (d : ℤ). on d cents) (filter (is_interest settle last) days)) (series-none maturity step all) ∙ append-nil flows

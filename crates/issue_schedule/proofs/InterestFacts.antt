@@ -1,21 +1,24 @@
 -- Half-coupons on the dates of a series, each once, and what a bond pays on a day.
-use Rattle.std.proofs.Common.{◌≡◌, ◌∙◌, refl, sym, ap, arith, ℕ, zero, suc, ◌+◌, ◌*◌, ◌<◌, ◌≤◌, List, [], ◌∷◌, ◌++◌, length, map, Bool, true, false, ℤ, ◌≤ℤ◌, ◌<ℤ◌, inl, inr}
-use Rattle.std.specs.Prelude.{◌≢◌, filter, int_le, int_lt, if◌then◌else◌}
+use Rattle.std.proofs.Common.{◌≡◌, ◌∙◌, refl, sym, ap, subst, arith, get_or, ℕ, zero, suc, ◌+◌, ◌*◌, ◌<◌, ◌≤◌, List, [], ◌∷◌, ◌++◌, length, map, Bool, true, false, ℤ, ◌≤ℤ◌, ◌<ℤ◌, inl, inr}
+use Rattle.std.specs.Prelude.{◌≢◌, AllPairs, Contains, filter, int_le, if◌then◌else◌}
 use Rattle.std.specs.Ordering.{int_eq}
 use Rattle.std.proofs.lemmas.Int.{ints}
 use Rattle.std.proofs.lemmas.Bool.{cases_lt}
+use Rattle.std.proofs.lemmas.List.Elements.{All-filter, filter_passes}
+use Rattle.std.proofs.lemmas.List.Kept.{AllPairs-filter}
 use Rattle.std.proofs.lemmas.List.Sums.{sum_by-append, sum_by-cons}
-use Rattle.escrow_units.specs.Calendar.{IsBaseDay}
-use Rattle.escrow_units.specs.CalendarLaws.{SeriesFalls}
+use Rattle.escrow_units.specs.Calendar.{IsBaseDay, IsSeriesDate}
+use Rattle.escrow_units.proofs.FlowFacts.{int_le-test}
+use Rattle.escrow_units.proofs.SeriesAround.{Contains-filter}
+use Rattle.escrow_units.specs.CalendarLaws.{DatesAfterAreLater}
+use Rattle.escrow_units.specs.Series.{dates_after_of}
 use Rattle.escrow_units.specs.Flows.{total}
 use Rattle.escrow_units.specs.declared.security.Flow.{Flow}
 use Rattle.escrow_units.specs.declared.security.StepRule.TheVariants as rule
 use Rattle.day_sums.specs.Summed.{cents_on, on}
 use Rattle.issue_schedule.specs.declared.issue.Bond.{Bond}
 use Rattle.issue_schedule.specs.BondLaws.{IsInterestDay}
-use Rattle.issue_schedule.specs.Needs.{half_coupon, interest, series}
-use Rattle.issue_schedule.proofs.BondFacts.{is_interest, step_date, int_le-yes, int_lt-yes}
-use Rattle.issue_schedule.proofs.NeedFacts.{both}
+use Rattle.issue_schedule.specs.Needs.{half_coupon, interest, interest_dates}
 
 -- so many cents, where days are the same
 abbrev pub here : ℤ → ℤ → ℕ → ℕ
@@ -42,90 +45,57 @@ here-yes day cents = rw (eq-yes day) refl
 pub here-no : (day date : ℤ) (cents : ℕ) → date ≢ day → here day date cents ≡ 0
 here-no day date cents differ = rw (eq-no date day differ) refl
 
--- the interest of a part of the series
-abbrev pub paid : ℤ → ℤ → ℤ → ℕ → ℕ → ℕ → List Flow
-paid settle last maturity cents step count = all_on cents (filter (is_interest settle last) (series maturity step count))
+-- what the first of some dates adds to a day
+abbrev all_on-cons : (day date : ℤ) (cents : ℕ) (dates : List ℤ) → cents_on day (all_on cents (date ∷ dates)) ≡ here day date cents + cents_on day (all_on cents dates)
+all_on-cons day date cents dates = on-cons day (on date cents) (all_on cents dates)
 
--- what the first date of it adds to a day
-abbrev pub part : ℤ → ℤ → ℤ → ℤ → ℕ → ℕ
-part settle last day date cents = if is_interest settle last date then here day date cents else 0
+-- nothing on a day that is none of them
+absent : (day : ℤ) (cents : ℕ) (dates : List ℤ) → ((k : ℕ) → k < length dates → get_or dates k day ≢ day) → cents_on day (all_on cents dates) ≡ 0
+absent day cents [] differ = refl
+absent day cents (date ∷ dates) differ =
+    let first = here-no day date cents (differ 0 (omega arith)) in
+    let rest = absent day cents dates (λ k less. differ (suc k) (omega (arith, less))) in
+    omega (arith, all_on-cons day date cents dates, first, rest)
 
-paid-first : (settle last day date : ℤ) (cents : ℕ) (dates : List ℤ) (passes : Bool) → is_interest settle last date ≡ passes
-    → cents_on day (all_on cents (filter (is_interest settle last) (date ∷ dates))) ≡ part settle last day date cents + cents_on day (all_on cents (filter (is_interest settle last) dates))
-paid-first settle last day date cents dates true is = rw is (on-cons day (on date cents) (all_on cents (filter (is_interest settle last) dates)))
-paid-first settle last day date cents dates false is = rw is (omega arith)
-
-paid-more : (settle last maturity day : ℤ) (cents step count : ℕ)
-    → cents_on day (paid settle last maturity cents step (suc count)) ≡ part settle last day (step_date maturity step) cents + cents_on day (paid settle last maturity cents (step + 1) count)
-unfolding series
-paid-more settle last maturity day cents step count = paid-first settle last day (step_date maturity step) cents (series maturity (step + 1) count) (is_interest settle last (step_date maturity step)) refl
-
-part-none : (settle last day date : ℤ) (cents : ℕ) (passes : Bool) → is_interest settle last date ≡ passes → (passes ≡ true → date ≢ day) → part settle last day date cents ≡ 0
-part-none settle last day date cents true is differ = rw is (here-no day date cents (differ refl))
-part-none settle last day date cents false is differ = rw is refl
-
-part-all : (settle last date : ℤ) (cents : ℕ) → is_interest settle last date ≡ true → part settle last date date cents ≡ cents
-part-all settle last date cents is = rw is (here-yes date cents)
-
--- nothing on a day that is none of the dates
-absent : (settle last maturity day : ℤ) (cents step count : ℕ)
-    → ((k : ℕ) → step ≤ k → k < step + count → is_interest settle last (step_date maturity k) ≡ true → step_date maturity k ≢ day)
-    → cents_on day (paid settle last maturity cents step count) ≡ 0
-unfolding series
-absent settle last maturity day cents step zero differ = refl
-absent settle last maturity day cents step (suc count) differ =
-    let first = part-none settle last day (step_date maturity step) cents (is_interest settle last (step_date maturity step)) refl (differ step (omega arith) (omega arith)) in
-    let rest = absent settle last maturity day cents (step + 1) count (λ k least short. differ k (omega (arith, least)) (omega (arith, short))) in
-    omega (arith, paid-more settle last maturity day cents step count, first, rest)
-
-earlier-differs : (fall : SeriesFalls) (maturity : ℤ) (j k : ℕ) → IsBaseDay maturity → j < k → k ≤ 84 → step_date maturity k ≢ step_date maturity j
-earlier-differs fall maturity j k base less few same =
-    let below = fall maturity rule.SameDay j k base less few in
-    absurd (omega (arith, ints, below, same))
-
--- once on one that is
-present : (fall : SeriesFalls) (settle last maturity : ℤ) (cents step count k : ℕ) → IsBaseDay maturity → step ≤ k → k < step + count → step + count ≤ 85
-    → is_interest settle last (step_date maturity k) ≡ true → cents_on (step_date maturity k) (paid settle last maturity cents step count) ≡ cents
-present fall settle last maturity cents step zero k base least short few is = absurd (omega (arith, least, short))
-present fall settle last maturity cents step (suc count) k base least short few is =
-    elim (cases_lt step k) [
-      | inl more ↦
-          let differ = earlier-differs fall maturity step k base more (omega (arith, short, few)) in
-          let first = part-none settle last (step_date maturity k) (step_date maturity step) cents (is_interest settle last (step_date maturity step)) refl (λ _ same. differ (sym same)) in
-          let rest = present fall settle last maturity cents (step + 1) count k base (omega (arith, more)) (omega (arith, short)) (omega (arith, few)) is in
-          omega (arith, paid-more settle last maturity (step_date maturity k) cents step count, first, rest)
-      | inr only ↦
-          let same : step ≡ k = omega (arith, least, only) in
-          let first = part-all settle last (step_date maturity k) cents is in
-          let rest = absent settle last maturity (step_date maturity k) cents (k + 1) count (λ j from until _. earlier-differs fall maturity k j base (omega (arith, from)) (omega (arith, few, same, until))) in
-          rw same (omega (arith, paid-more settle last maturity (step_date maturity k) cents k count, first, rest))
-    ]
-
-in-tests : (settle last day : ℤ) → settle <ℤ day → day ≤ℤ last → is_interest settle last day ≡ true
-in-tests settle last day after by = rw (int_lt-yes settle day after, int_le-yes day last by) refl
+-- and once on one of some that rise
+present : (day : ℤ) (cents : ℕ) (dates : List ℤ) (k : ℕ) → AllPairs (λ a b. a <ℤ b) dates → k < length dates → get_or dates k day ≡ day
+    → cents_on day (all_on cents dates) ≡ cents
+present day cents [] k rise less is = absurd (omega arith)
+present day cents (date ∷ dates) zero rise less is =
+    let first : here day date cents ≡ cents = rw is (here-yes day cents) in
+    let rest = absent day cents dates (λ k short same.
+    let later : get_or (date ∷ dates) 0 day <ℤ get_or (date ∷ dates) (suc k) day = rise 0 (suc k) day (omega arith) (omega (arith, short)) in
+    absurd (omega (arith, ints, later, is, same))) in
+    omega (arith, all_on-cons day date cents dates, first, rest)
+present day cents (date ∷ dates) (suc k) rise less is =
+    let later : get_or (date ∷ dates) 0 day <ℤ get_or (date ∷ dates) (suc k) day = rise 0 (suc k) day (omega arith) (omega (arith, less)) in
+    let first = here-no day date cents (λ same. absurd (omega (arith, ints, later, is, same))) in
+    let rest = present day cents dates k (λ i j d lt within. rise (suc i) (suc j) d (omega (arith, lt)) (omega (arith, within))) (omega (arith, less)) is in
+    omega (arith, all_on-cons day date cents dates, first, rest)
 
 -- a bond pays half its coupon once on a day of interest
-pub interest-once : (fall : SeriesFalls) (settle last : ℤ) (bond : Bond) (day : ℤ) → IsBaseDay bond.maturity → IsInterestDay settle last bond.maturity day
+pub interest-once : (dates : DatesAfterAreLater) (settle last : ℤ) (bond : Bond) (day : ℤ) → IsBaseDay bond.maturity → IsInterestDay settle last bond.maturity day
     → cents_on day (interest settle last bond) ≡ half_coupon bond
-interest-once fall settle last bond day base is =
-    let tests = in-tests settle last day is.after is.by in
-    let once = present fall settle last bond.maturity (half_coupon bond) 0 85 is.series.steps base (omega arith) (omega (arith, is.series.few)) (omega arith) (rw is.series.back at tests) in
-    ap (λ (d : ℤ). cents_on d (interest settle last bond)) is.series.back ∙ once
-
-dated : (settle last maturity day : ℤ) (k : ℕ) → k < 85 → is_interest settle last (step_date maturity k) ≡ true → step_date maturity k ≡ day → IsInterestDay settle last maturity day
-dated settle last maturity day k short passes same =
-    let tests = both (int_lt settle day) (int_le day last) (rw same at passes) in
-    record {
-      after = omega (arith, ints, tests.0);
-      by = omega (arith, ints, tests.1);
-      series = record { steps = k; few = omega (arith, short); back = sym same };
-    }
+interest-once dates settle last bond day base is =
+    let all = dates bond.maturity rule.SameDay settle base in
+    let found = Contains-filter (λ date. int_le date last) (dates_after_of bond.maturity rule.SameDay settle) day (all.all day is.series is.after) (int_le-test day last is.by) in
+    present day (half_coupon bond) (interest_dates settle last bond.maturity) found.0
+    (AllPairs-filter (λ a b. a <ℤ b) (λ date. int_le date last) (dates_after_of bond.maturity rule.SameDay settle) all.rise) found.1 found.2
 
 -- and none on another
-pub interest-none : (settle last : ℤ) (bond : Bond) (day : ℤ) → ¬ (IsInterestDay settle last bond.maturity day) → cents_on day (interest settle last bond) ≡ 0
-interest-none settle last bond day other =
-    absent settle last bond.maturity day (half_coupon bond) 0 85
-    (λ k least short passes same. other (dated settle last bond.maturity day k (omega (arith, short)) passes same))
+pub interest-none : (dates : DatesAfterAreLater) (settle last : ℤ) (bond : Bond) (day : ℤ) → IsBaseDay bond.maturity → ¬ (IsInterestDay settle last bond.maturity day) → cents_on day (interest settle last bond) ≡ 0
+interest-none dates settle last bond day base other =
+    let all = dates bond.maturity rule.SameDay settle base in
+    let after = All-filter (λ date. int_le date last) (λ date. IsSeriesDate bond.maturity rule.SameDay date × (settle <ℤ date)) (dates_after_of bond.maturity rule.SameDay settle) all.series in
+    let by = filter_passes (λ date. int_le date last) (dates_after_of bond.maturity rule.SameDay settle) in
+    absent day (half_coupon bond) (interest_dates settle last bond.maturity)
+    (λ k less same.
+    let here = after k day less in
+    other (record {
+      after = omega (arith, ints, here.1, same);
+      by = omega (arith, ints, by k day less, same);
+      series = subst (λ (d : ℤ). IsSeriesDate bond.maturity rule.SameDay d) same here.0;
+    }))
 
 pub total-all_on : (cents : ℕ) (dates : List ℤ) → total (all_on cents dates) ≡ length dates * cents
 total-all_on cents [] = omega arith

@@ -2,5 +2,4 @@ pub mod BondFacts
 pub mod FileFacts
 pub mod InterestFacts
 pub mod NeedFacts
-pub mod PeriodFacts
 pub mod PaymentFacts

@@ -6,10 +6,12 @@ use Rattle.std.specs.Ordering.{int_eq}
 use Rattle.std.proofs.lemmas.Int.{ints}
 use Rattle.std.proofs.lemmas.List.{append-nil, take_all, take_more}
 use Rattle.std.proofs.lemmas.List.Concat.{flat_map-append}
-use Rattle.std.proofs.lemmas.List.Elements.{All-nil, All-cons, All-head, All-tail, All-append, All-map, All-weaker, filter_passes}
+use Rattle.std.proofs.lemmas.List.Elements.{All-nil, All-cons, All-head, All-tail, All-append, All-filter, All-map, All-weaker, filter_passes}
 use Rattle.std.proofs.lemmas.List.Sums.{sum_by-append, sum_by-cons, sum_by_more_le}
 use Rattle.escrow_units.specs.Calendar.{years_after_of}
 use Rattle.escrow_units.specs.Flows.{total}
+use Rattle.escrow_units.specs.Series.{dates_after_of, series_of}
+use Rattle.escrow_units.specs.declared.security.StepRule.TheVariants as rule
 use Rattle.escrow_units.specs.declared.security.Flow.{Flow}
 use Rattle.day_sums.specs.Summed.{on, summed}
 use Rattle.day_sums.specs.SummedLaws.{FallWithin}
@@ -20,7 +22,7 @@ use Rattle.issue_schedule.specs.declared.issue.Issue.{Issue}
 use Rattle.issue_schedule.specs.IssueTerms.{HasNeeds, IsBond, IsCall, IsDirect}
 use Rattle.issue_schedule.specs.Limits.{total_limit}
 use Rattle.issue_schedule.specs.NeedLaws.{NeedsAreAboveZero, NeedsFallWithin, NeedsKeepTotal, NeedsRise}
-use Rattle.issue_schedule.specs.Needs.{accrued, accrued_since, all_needs, bond_needs, call_price, called_needs, held_needs, half_coupon, interest, interest_dates, needs_of, period_start, series_of}
+use Rattle.issue_schedule.specs.Needs.{accrued, accrued_since, all_needs, bond_needs, call_price, called_needs, held_needs, half_coupon, interest, interest_dates, needs_of, period_start}
 
 pub total-append : (front back : List Flow) → total (front ++ back) ≡ total front + total back
 total-append front back = sum_by-append (λ (f : Flow). f.cents.0) front back
@@ -81,21 +83,19 @@ needs-rise settle call direct bonds = (are-sums (all_needs settle call direct bo
 abbrev pub IsWithin : ℤ → ℤ → ℤ → Type 0
 IsWithin from to day = (from ≤ℤ day) × (day ≤ℤ to)
 
-pub both : (a b : Bool) → (a && b) ≡ true → (a ≡ true) × (b ≡ true)
-both true b e = (refl, e)
-both false b e = cc e
-
-interest-day : (settle last to date : ℤ) → last ≤ℤ to → (int_lt settle date && int_le date last) ≡ true → IsWithin settle to date
-interest-day settle last to date by passes =
-    let tests = both (int_lt settle date) (int_le date last) passes in
-    (omega (arith, ints, tests.0), omega (arith, ints, tests.1, by))
+-- the dates of interest come after settlement and up to the last day
+dates-within : (settle last to maturity : ℤ) → last ≤ℤ to → All (IsWithin settle to) (interest_dates settle last maturity)
+unfolding dates_after_of
+dates-within settle last to maturity by =
+    let after = All-filter (λ (date : ℤ). int_le date last) (λ (date : ℤ). int_lt settle date ≡ true) (dates_after_of maturity rule.SameDay settle)
+    (filter_passes (int_lt settle) (series_of maturity rule.SameDay)) in
+    let early = filter_passes (λ (date : ℤ). int_le date last) (dates_after_of maturity rule.SameDay settle) in
+    λ k d less. (omega (arith, ints, after k d less), omega (arith, ints, early k d less, by))
 
 interest-within : (settle last to : ℤ) (bond : Bond) → last ≤ℤ to → FallWithin settle to (interest settle last bond)
 interest-within settle last to bond by =
     All-map (λ (f : Flow). IsWithin settle to f.day) (λ (date : ℤ). on date (half_coupon bond)) (interest_dates settle last bond.maturity)
-    (All-weaker (λ (date : ℤ). (int_lt settle date && int_le date last) ≡ true) (λ (date : ℤ). IsWithin settle to date)
-    (λ date passes. interest-day settle last to date by passes) (interest_dates settle last bond.maturity)
-    (filter_passes (λ (date : ℤ). int_lt settle date && int_le date last) (series_of bond.maturity)))
+    (dates-within settle last to bond.maturity by)
 
 held-within : (settle to : ℤ) (bond : Bond) → IsWithin settle to bond.maturity → FallWithin settle to (held_needs settle bond)
 held-within settle to bond within =

@@ -2,6 +2,7 @@
 use Rattle.std.specs.Prelude.{◌≡◌, ◌≢◌, ◌+◌, ◌*◌, List, length, Option, Some, IfSome, ℤ, ◌≤ℤ◌, ◌<ℤ◌}
 use Rattle.escrow_units.specs.Calendar.{IsSeriesDate}
 use Rattle.escrow_units.specs.Flows.{total}
+use Rattle.escrow_units.specs.Series.{IsLastBy}
 use Rattle.escrow_units.specs.SlgsTerms.{IsSettlement}
 use Rattle.escrow_units.specs.declared.security.Flow.{Flow}
 use Rattle.escrow_units.specs.declared.security.StepRule.TheVariants as rule
@@ -61,14 +62,9 @@ CalledBondsPayOnce =
     → IsSettlement settle → IsBond settle bond → IsCall settle call → call.day <ℤ bond.maturity
     → PaysAsCalled settle call bond (bond_needs settle (Some call) bond)
 
--- the greatest date of the series that isn't after a day
-pub record IsGreatestBy (maturity day start : ℤ) : Type 0 where
-  pub series : IsBondDate maturity start
-  pub by : start ≤ℤ day
-  pub greatest : (date : ℤ) → IsBondDate maturity date → date ≤ℤ day → date ≤ℤ start
-
--- begins the half-year of the day
+-- the half-year of a day begins at the last date of the series up to the day
 abbrev pub PeriodsStartBySeries : Type 0
 PeriodsStartBySeries =
     (settle maturity day : ℤ)
-    → IsSettlement settle → IsLater settle maturity → settle ≤ℤ day → IsGreatestBy maturity day (period_start maturity day)
+    → IsSettlement settle → IsLater settle maturity → settle ≤ℤ day
+    → IsLastBy maturity rule.SameDay day (period_start maturity day)

@@ -2,6 +2,7 @@
 use Rattle.std.specs.Prelude.{◌≡◌, ℕ, ◌^◌, ◌≤◌, ◌<ℤ◌, ◌≤ℤ◌, ℤ, length, All, IfSome}
 use Rattle.escrow_units.specs.Calendar.{years_after_of}
 use Rattle.escrow_units.specs.SlgsTerms.{IsSettlement}
+use Rattle.escrow_units.specs.declared.limits.TheConstants.{AMOUNT_LIMIT, GREATEST_PRICE, GREATEST_RATE, LEAST_PRICE, MOST_NEED_DATES}
 use Rattle.escrow_units.specs.declared.security.Flow.{Flow}
 use Rattle.issue_schedule.specs.Limits.{total_limit}
 use Rattle.escrow_units.specs.Flows.{total}
@@ -22,25 +23,25 @@ pub record IsLater (settle day : ℤ) : Type 0 where
 -- a call after settlement, at a price from 10 to 300 percent of par
 pub record IsCall (settle : ℤ) (call : Call) : Type 0 where
   pub day : IsLater settle call.day
-  pub least : 1_000_000_000 ≤ call.price.0
-  pub most : call.price.0 ≤ 30_000_000_000
+  pub least : LEAST_PRICE ≤ call.price.0
+  pub most : call.price.0 ≤ GREATEST_PRICE
 
 -- an old bond that matures after settlement
 pub record IsBond (settle : ℤ) (bond : Bond) : Type 0 where
   pub maturity : IsLater settle bond.maturity
-  pub principal : bond.principal.0 ≤ 10 ^ 13
-  pub coupon : bond.coupon.0 ≤ 30_000
+  pub principal : bond.principal.0 ≤ AMOUNT_LIMIT
+  pub coupon : bond.coupon.0 ≤ GREATEST_RATE
 
 -- a need that is given as such, from settlement on
 pub record IsDirect (settle : ℤ) (flow : Flow) : Type 0 where
   pub from : settle ≤ℤ flow.day
   pub by : flow.day ≤ℤ years_after_of settle 40
-  pub cents : flow.cents.0 ≤ 10 ^ 13
+  pub cents : flow.cents.0 ≤ AMOUNT_LIMIT
 
 -- a payment of the refunding issue, after settlement
 pub record IsPay (settle : ℤ) (flow : Flow) : Type 0 where
   pub day : IsLater settle flow.day
-  pub cents : flow.cents.0 ≤ 10 ^ 13
+  pub cents : flow.cents.0 ≤ AMOUNT_LIMIT
 
 -- at least one cent
 pub record IsIssuePrice (price : IssuePrice) : Type 0 where
@@ -90,7 +91,7 @@ IsRestricted (Computed row price) = (1 ≤ price.0) × (price.0 ≤ 10 ^ 13)
 -- what each issue that is read keeps
 pub record IsIssue (issue : Issue) : Type 0 where
   pub needs : HasNeeds issue
-  pub dates : need_dates issue ≤ 480
+  pub dates : need_dates issue ≤ MOST_NEED_DATES
   pub cash : issue.cash.0 ≤ 10 ^ 13
   pub restricted : IsRestricted issue.restricted
   pub pays : All (IsPay issue.settle) issue.pays

@@ -1,42 +1,34 @@
 -- What old bonds and direct needs come to on each day.
-use Rattle.std.specs.Prelude.{ℕ, zero, suc, ◌+◌, ◌-◌, ◌*◌, ◌^◌, ◌&&◌, if◌then◌else◌, int_lt, int_le, List, [], ◌∷◌, ◌++◌, map, filter, find, Option, Some, None, unwrap_or, ℤ}
+use Rattle.std.specs.Prelude.{ℕ, if◌then◌else◌, int_le, List, [], ◌∷◌, ◌++◌, map, filter, Option, Some, None, ℤ}
 use Rattle.std.specs.List.{flat_map}
 use Rattle.std.specs.Ordering.{int_eq}
-use Rattle.escrow_units.specs.Calendar.{half_back_of, thirty_day_place_of}
-use Rattle.escrow_units.specs.Rounding.{near}
+use Rattle.escrow_units.specs.Flows.{index360_of}
+use Rattle.escrow_units.specs.Interest.{earned_of, face_price_of, half_coupon_of}
+use Rattle.escrow_units.specs.Series.{dates_after_of, previous_date_of}
 use Rattle.escrow_units.specs.declared.security.Flow.{Flow}
 use Rattle.escrow_units.specs.declared.security.StepRule.TheVariants as rule
 use Rattle.day_sums.specs.Summed.{on, summed}
 use Rattle.issue_schedule.specs.declared.issue.Bond.{Bond}
 use Rattle.issue_schedule.specs.declared.issue.Call.{Call}
 
--- so many dates of the series that ends at maturity, from a step on, back in time by half-years
-unfoldable pub series : ℤ → ℕ → ℕ → List ℤ
-series maturity step zero = []
-series maturity step (suc count) = half_back_of maturity step rule.SameDay ∷ series maturity (step + 1) count
-
--- the dates of the last 42 years before maturity; no bond runs so long after settlement
-abbrev pub series_of : ℤ → List ℤ
-series_of maturity = series maturity 0 85
-
 -- a bond pays interest on the dates of its series after settlement, here up to a last day
 abbrev pub interest_dates : ℤ → ℤ → ℤ → List ℤ
-interest_dates settle last maturity = filter (λ date. int_lt settle date && int_le date last) (series_of maturity)
+interest_dates settle last maturity = filter (λ date. int_le date last) (dates_after_of maturity rule.SameDay settle)
 
--- the interest of a half-year, half the coupon, to the cent
+-- half its coupon
 abbrev pub half_coupon : Bond → ℕ
-half_coupon bond = near (bond.principal.0 * bond.coupon.0) 200_000
+half_coupon bond = half_coupon_of bond.principal.0 bond.coupon.0
 
 abbrev pub interest : ℤ → ℤ → Bond → List Flow
 interest settle last bond = map (λ date. on date (half_coupon bond)) (interest_dates settle last bond.maturity)
 
--- the date of the series that begins the half-year of a day: the greatest that isn't after the day
+-- the date of the series that begins the half-year of a day: the last up to the day
 abbrev pub period_start : ℤ → ℤ → ℤ
-period_start maturity day = unwrap_or (find (λ date. int_le date day) (series_of maturity)) day
+period_start maturity day = previous_date_of maturity rule.SameDay day
 
--- the interest that has accrued since a day, by years of twelve months of thirty days (30/360)
+-- the interest that has accrued since a day, by years of twelve months of thirty days (30E/360)
 abbrev pub accrued_since : Bond → ℤ → ℤ → ℕ
-accrued_since bond start day = near (bond.principal.0 * bond.coupon.0 * (thirty_day_place_of day - thirty_day_place_of start)) 36_000_000
+accrued_since bond start day = earned_of bond.principal.0 bond.coupon.0 (index360_of start day) 360
 
 -- accrued interest is due where the call is no date of the series
 abbrev pub accrued : Bond → ℤ → List Flow
@@ -46,7 +38,7 @@ accrued bond day =
 
 -- the price of a bond that is called
 abbrev pub call_price : Bond → Call → ℕ
-call_price bond call = near (bond.principal.0 * call.price.0) (10 ^ 10)
+call_price bond call = face_price_of bond.principal.0 call.price.0
 
 -- a bond that isn't called pays interest up to maturity, and its principal there
 abbrev pub held_needs : ℤ → Bond → List Flow

@@ -1,65 +1,62 @@
-ghost use Rattle.std.specs.Prelude.{◌≡◌, ◌≤◌, ◌<◌, ◌+◌, ◌^◌, [], ◌∷◌, ◌++◌, int_le, if◌then◌else◌, ◌≤ℤ◌, ◌<ℤ◌, ◌+ℤ◌, pos, Some, IfSome};
+//! What one old bond needs.
+ghost use Rattle.std.specs.Prelude.{◌≡◌, ◌⊎◌, ◌≤◌, ◌<◌, ◌+◌, [], ◌∷◌, ◌++◌, int_le, if◌then◌else◌, length, ◌≤ℤ◌, ◌<ℤ◌, ◌+ℤ◌, pos, IfSome};
 ghost use Rattle.arrayvec.specs.ArrayVec.{array_vec_len};
 ghost use Rattle.escrow_units.specs.Calendar.{IsBaseDay, years_after_of};
+ghost use Rattle.escrow_units.specs.Series.{AreDatesAfter, IsLastBy, dates_after_of};
 ghost use Rattle.escrow_units.specs.SlgsTerms.{IsSettlement};
+ghost use Rattle.escrow_units.specs.declared.security.StepRule.TheVariants as rule;
 ghost use Rattle.issue_schedule.specs.IssueTerms.{IsBond, IsCall, IsLater};
-ghost use Rattle.issue_schedule.specs.Needs.{accrued, accrued_since as accrued_since_of, bond_needs as bond_needs_of, call_price as call_price_of, called_needs as called_needs_of, half_coupon as half_coupon_of, held_needs as held_needs_of, interest, period_start as period_start_of};
+ghost use Rattle.issue_schedule.specs.Needs.{accrued, accrued_since as accrued_since_of, bond_needs as bond_needs_of, call_price as call_price_of, called_needs as called_needs_of, held_needs as held_needs_of, interest, period_start as period_start_of};
 
 use crate::issue::{Bond, Call};
 use arrayvec::ArrayVec;
-use escrow_units::{Cents, Day, Flow, StepRule, half_back, index360, near, series_laws, year_laws};
+use escrow_units::{
+    AMOUNT_LIMIT, Cents, Day, Flow, GREATEST_PRICE, GREATEST_RATE, StepRule, earned, face_price,
+    half_coupon, index360, series_around, series_laws, year_laws,
+};
 
-// The interest of a half-year, half the coupon, in cents.
-fn half_coupon(bond: &Bond) -> u64
-    requires principal { bond.now.principal.0 ≤ 10 ^ 13 }
-    requires coupon { bond.now.coupon.0 ≤ 30_000 }
-    ensures { result ≡ half_coupon_of bond.now }
-{
-    near(bond.principal.0 as u128 * bond.coupon.0 as u128, 200_000) as u64
-}
-
-// The price of a bond that is called, in cents.
-fn call_price(bond: &Bond, call: &Call) -> u64
-    requires principal { bond.now.principal.0 ≤ 10 ^ 13 }
-    requires price { call.now.price.0 ≤ 30_000_000_000 }
-    ensures { result ≡ call_price_of bond.now call.now }
-{
-    near(
-        bond.principal.0 as u128 * call.price.0 as u128,
-        10_000_000_000,
-    ) as u64
-}
-
-// The interest that has accrued since a day, in cents.
-fn accrued_since(bond: &Bond, start: Day, day: Day) -> u64
-    requires principal { bond.now.principal.0 ≤ 10 ^ 13 }
-    requires coupon { bond.now.coupon.0 ≤ 30_000 }
+// The interest that has accrued since a day.
+fn accrued_since(bond: &Bond, start: Day, day: Day) -> Cents
+    requires principal { bond.now.principal.0 ≤ AMOUNT_LIMIT }
+    requires coupon { bond.now.coupon.0 ≤ GREATEST_RATE }
     requires order { start ≤ℤ day }
     requires near { day ≤ℤ years_after_of start 40 }
-    ensures { result ≡ accrued_since_of bond.now start day }
+    ensures { result.0 ≡ accrued_since_of bond.now start day }
 {
-    near(
-        bond.principal.0 as u128 * bond.coupon.0 as u128 * index360(start, day) as u128,
-        36_000_000,
-    ) as u64
+    earned(bond.principal, bond.coupon, index360(start, day), 360)
 }
 
-// The date of the series that begins the half-year of a day before maturity.
-fn period_start(maturity: Day, day: Day) -> Day
+// The later of two dates, of which the second counts only where it is not after a day.
+fn later_by(start: Day, date: Day, day: Day) -> Day
+    requires { start ≤ℤ day }
+    ensures either { (result ≡ start) ⊎ (result ≡ date) }
+    ensures by { result ≤ℤ day }
+    ensures order { start ≤ℤ result }
+    ensures reach { date ≤ℤ day → date ≤ℤ result }
+{
+    if date <= day && start < date {
+        date
+    } else {
+        start
+    }
+}
+
+// The last date of a series up to a day, by the last up to settlement and the later dates.
+fn period_start(maturity: Day, settle: Day, previous: Day, after: &[Day], day: Day) -> Day
     requires base { IsBaseDay maturity }
-    requires before { day <ℤ maturity }
+    requires near { maturity ≤ℤ (day +ℤ pos 14_640) }
+    requires from { settle ≤ℤ day }
+    requires previous { IsLastBy maturity StepRule.SameDay settle previous }
+    requires after { AreDatesAfter maturity StepRule.SameDay settle after.now }
     ensures value { result ≡ period_start_of maturity day }
-    ensures order { result ≤ℤ day }
-    ensures recent { day ≤ℤ (result +ℤ pos 184) }
+    ensures last { IsLastBy maturity StepRule.SameDay day result }
 {
     series_laws();
-    for step in 0..85 {
-        let date = half_back(maturity, step, StepRule::SameDay);
-        if date <= day {
-            return date;
-        }
+    let mut start = previous;
+    for date in after {
+        start = later_by(start, *date, day);
     }
-    day
+    start
 }
 
 // An amount, where it falls by a last day.
@@ -73,88 +70,119 @@ fn push_by(flows: &mut ArrayVec<Flow, 88>, last: Day, flow: Flow)
     }
 }
 
-// Half-coupons on the interest dates up to a last day.
-fn push_interest(flows: &mut ArrayVec<Flow, 88>, settle: Day, last: Day, bond: &Bond)
+// Half-coupons on the dates of the series after settlement, up to a last day.
+fn push_interest(flows: &mut ArrayVec<Flow, 88>, last: Day, bond: &Bond, after: &[Day], settle: Day)
     requires room { array_vec_len flows.old ≤ 2 }
-    requires base { IsBaseDay bond.now.maturity }
-    requires principal { bond.now.principal.0 ≤ 10 ^ 13 }
-    requires coupon { bond.now.coupon.0 ≤ 30_000 }
+    requires few { length after.now ≤ 84 }
+    requires after { after.now ≡ dates_after_of bond.now.maturity StepRule.SameDay settle }
+    requires principal { bond.now.principal.0 ≤ AMOUNT_LIMIT }
+    requires coupon { bond.now.coupon.0 ≤ GREATEST_RATE }
     ensures { flows.new.items ≡ flows.old.items ++ interest settle last bond.now }
 {
-    series_laws();
-    let cents = Cents(half_coupon(bond));
-    for step in 0..85 {
-        let day = half_back(bond.maturity, step, StepRule::SameDay);
-        if day <= settle {
-            return;
-        }
-        push_by(flows, last, Flow { day, cents });
+    let cents = half_coupon(bond.principal, bond.coupon);
+    for date in after {
+        push_by(flows, last, Flow { day: *date, cents });
     }
 }
 
-// Accrued interest at a call that is no date of the series.
-fn push_accrued(flows: &mut ArrayVec<Flow, 88>, bond: &Bond, day: Day)
+// Accrued interest at a call, where its half-year begins earlier.
+fn push_accrued(flows: &mut ArrayVec<Flow, 88>, bond: &Bond, start: Day, day: Day)
     requires room { array_vec_len flows.old ≤ 1 }
     requires base { IsBaseDay bond.now.maturity }
-    requires principal { bond.now.principal.0 ≤ 10 ^ 13 }
-    requires coupon { bond.now.coupon.0 ≤ 30_000 }
+    requires principal { bond.now.principal.0 ≤ AMOUNT_LIMIT }
+    requires coupon { bond.now.coupon.0 ≤ GREATEST_RATE }
     requires before { day <ℤ bond.now.maturity }
     requires late { pos 10_957 ≤ℤ day }
+    requires start { start ≡ period_start_of bond.now.maturity day }
+    requires last { IsLastBy bond.now.maturity StepRule.SameDay day start }
     ensures flows { flows.new.items ≡ flows.old.items ++ accrued bond.now day }
     ensures room { array_vec_len flows.new ≤ array_vec_len flows.old + 1 }
 {
     year_laws();
-    let start = period_start(bond.maturity, day);
     if start != day {
-        let cents = Cents(accrued_since(bond, start, day));
+        let cents = accrued_since(bond, start, day);
         flows.push(Flow { day, cents });
     }
 }
 
-// What a bond needs that isn't called.
-fn held_needs(settle: Day, bond: &Bond) -> ArrayVec<Flow, 88>
-    requires settle { IsSettlement settle }
+// What a bond needs that isn't called, by the dates of its series after settlement.
+fn held_needs(settle: Day, bond: &Bond, after: &[Day]) -> ArrayVec<Flow, 88>
     requires bond { IsBond settle bond.now }
+    requires few { length after.now ≤ 84 }
+    requires after { after.now ≡ dates_after_of bond.now.maturity StepRule.SameDay settle }
     ensures { result.items ≡ held_needs_of settle bond.now }
 {
-    year_laws();
     let mut flows = ArrayVec::new();
     flows.push(Flow {
         day: bond.maturity,
         cents: bond.principal,
     });
-    push_interest(&mut flows, settle, bond.maturity, bond);
+    push_interest(&mut flows, bond.maturity, bond, after, settle);
     flows
 }
 
-// What a bond needs that is called.
-fn called_needs(settle: Day, bond: &Bond, call: &Call) -> ArrayVec<Flow, 88>
+// What a bond needs that is called, by the dates of its series after settlement and the last before them.
+fn called_needs(
+    settle: Day,
+    bond: &Bond,
+    call: &Call,
+    previous: Day,
+    after: &[Day],
+) -> ArrayVec<Flow, 88>
     requires settle { IsSettlement settle }
     requires bond { IsBond settle bond.now }
     requires call { IsCall settle call.now }
     requires before { call.now.day <ℤ bond.now.maturity }
+    requires few { length after.now ≤ 84 }
+    requires previous { IsLastBy bond.now.maturity StepRule.SameDay settle previous }
+    requires after { after.now ≡ dates_after_of bond.now.maturity StepRule.SameDay settle }
     ensures { result.items ≡ called_needs_of settle bond.now call.now }
 {
     year_laws();
+    series_laws();
+    let start = period_start(bond.maturity, settle, previous, after, call.day);
     let mut flows = ArrayVec::new();
     flows.push(Flow {
         day: call.day,
-        cents: Cents(call_price(bond, call)),
+        cents: face_price(bond.principal, call.price),
     });
-    push_accrued(&mut flows, bond, call.day);
-    push_interest(&mut flows, settle, call.day, bond);
+    push_accrued(&mut flows, bond, start, call.day);
+    push_interest(&mut flows, call.day, bond, after, settle);
     flows
 }
 
-/// What a bond needs, on each of its days.
+// What a bond needs, by the dates of its series after settlement and the last before them.
+fn needs_by_dates(
+    settle: Day,
+    call: Option<Call>,
+    bond: &Bond,
+    previous: Day,
+    after: &[Day],
+) -> ArrayVec<Flow, 88>
+    requires settle { IsSettlement settle }
+    requires call { IfSome call (IsCall settle) }
+    requires bond { IsBond settle bond.now }
+    requires few { length after.now ≤ 84 }
+    requires previous { IsLastBy bond.now.maturity StepRule.SameDay settle previous }
+    requires after { after.now ≡ dates_after_of bond.now.maturity StepRule.SameDay settle }
+    ensures { result.items ≡ bond_needs_of settle call bond.now }
+{
+    match call {
+        Some(call) if call.day < bond.maturity => {
+            called_needs(settle, bond, &call, previous, after)
+        }
+        _ => held_needs(settle, bond, after),
+    }
+}
+
+/// What a bond needs, on each of its days: the dates of its series are counted back once.
 pub(crate) fn bond_needs(settle: Day, call: Option<Call>, bond: &Bond) -> ArrayVec<Flow, 88>
     requires settle { IsSettlement settle }
     requires call { IfSome call (IsCall settle) }
     requires bond { IsBond settle bond.now }
     ensures { result.items ≡ bond_needs_of settle call bond.now }
 {
-    match call {
-        Some(call) if call.day < bond.maturity => called_needs(settle, bond, &call),
-        _ => held_needs(settle, bond),
-    }
+    year_laws();
+    let dates = series_around(bond.maturity, StepRule::SameDay, settle);
+    needs_by_dates(settle, call, bond, dates.previous, dates.after.as_slice())
 }

@@ -1,7 +1,6 @@
+//! What the needs of an issue and of one bond are.
 ghost use Rattle.issue_schedule.specs.BondLaws.{CalledBondsPayOnce, HeldBondsPayOnce, PeriodsStartBySeries};
 ghost use Rattle.issue_schedule.specs.NeedLaws.{NeedsAreAboveZero, NeedsFallWithin, NeedsKeepTotal, NeedsRise};
-
-use escrow_units::{series_laws, year_laws};
 
 /// What the needs of an issue are: together the direct needs and what each bond needs, on days that strictly rise, from
 /// settlement to 40 years later, and above 0 on each.
@@ -20,7 +19,4 @@ pub fn bond_laws()
     ensures held { HeldBondsPayOnce }
     ensures called { CalledBondsPayOnce }
     ensures periods { PeriodsStartBySeries }
-{
-    series_laws();
-    year_laws();
-}
+{}

@@ -1,3 +1,4 @@
+//! Sums that keep to the limit of amounts.
 ghost use Rattle.std.specs.Prelude.{◌≡◌, ◌≤◌, ◌+◌, All, IfSome};
 ghost use Rattle.std.specs.List.{flat_map};
 ghost use Rattle.escrow_units.specs.Flows.{total};
@@ -8,10 +9,7 @@ ghost use Rattle.issue_schedule.specs.Needs.{bond_needs as bond_needs_of};
 
 use crate::bond::bond_needs;
 use crate::issue::Issue;
-use escrow_units::Flow;
-
-// The most that all needs together, or all payments together, may be, in cents.
-const TOTAL_LIMIT: u64 = 10_000_000_000_000;
+use escrow_units::{AMOUNT_LIMIT, Flow};
 
 /// A sum with amounts added, where it keeps to the limit.
 pub(crate) fn limited_sum(sum: u64, flows: &[Flow]) -> Option<u64>
@@ -20,7 +18,7 @@ pub(crate) fn limited_sum(sum: u64, flows: &[Flow]) -> Option<u64>
 {
     let mut sum = sum;
     for flow in flows {
-        if flow.cents.0 > TOTAL_LIMIT - sum {
+        if flow.cents.0 > AMOUNT_LIMIT - sum {
             return None;
         }
         sum += flow.cents.0;

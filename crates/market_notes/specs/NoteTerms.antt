@@ -4,6 +4,7 @@ use Rattle.escrow_units.specs.Calendar.{years_after_of}
 use Rattle.escrow_units.specs.Denomination.{AreTerms}
 use Rattle.escrow_units.specs.Flows.{index360_of}
 use Rattle.escrow_units.specs.SlgsTerms.{IsSettlement}
+use Rattle.escrow_units.specs.declared.limits.TheConstants.{GREATEST_PRICE, GREATEST_RATE, LEAST_PRICE}
 use Rattle.escrow_units.specs.declared.security.Terms.{Terms}
 use Rattle.market_notes.specs.declared.note.Note.{Note}
 use Rattle.market_notes.specs.declared.note.NoteFile.{NoteFile}
@@ -15,9 +16,9 @@ pub record IsNote (note : Note) : Type 0 where
   pub after : note.settle <ℤ note.maturity
   pub index : 1 ≤ index360_of note.settle note.maturity
   pub term : note.maturity ≤ℤ years_after_of note.settle 40
-  pub coupon : note.coupon.0 ≤ 30_000
-  pub least_price : 1_000_000_000 ≤ note.price.0
-  pub most_price : note.price.0 ≤ 30_000_000_000
+  pub coupon : note.coupon.0 ≤ GREATEST_RATE
+  pub least_price : LEAST_PRICE ≤ note.price.0
+  pub most_price : note.price.0 ≤ GREATEST_PRICE
 
 -- a note for one settlement, with a cap from the minimum to 1,000,000,000 dollars
 pub record IsOffered (day : ℤ) (terms : Terms) (offer : Note) : Type 0 where

@@ -1,6 +1,7 @@
 -- The dates on which a security pays.
 use Rattle.std.proofs.Common.{◌≡◌, ◌∙◌, ℕ, ◌+◌, ◌-◌, ◌<◌, ◌≤◌, sym, ap, arith, ℤ, pos, ◌+ℤ◌, ◌≤ℤ◌, ◌<ℤ◌, int_le, int_lt, Bool, true, false, cond, ◌==◌, List, [], ◌∷◌, ◌++◌, length, reverse, filter}
 use Rattle.std.proofs.lemmas.Int.{ints}
+use Rattle.std.proofs.lemmas.List.Elements.{filter_agree}
 use Rattle.jiff_core.proofs.SignedLemmas.{signed_arith}
 use Rattle.escrow_units.specs.Calendar.{half_back_of, years_after_of, IsBaseDay}
 use Rattle.escrow_units.specs.CalendarLaws.{IsHalfYear}
@@ -121,7 +122,8 @@ int_le-before first day date e = grind (arith, ints)
 
 pub dates-from-first : (slgs : Slgs) (day : ℤ) → day +ℤ pos 1 ≡ slgs.first → dates_after_of slgs.maturity rule.SameDay day ≡ payment_dates slgs
 unfolding dates_after_of payment_dates
-dates-from-first slgs day e = λ i. filter (λ date. int_le-before slgs.first day date e i) (series_of slgs.maturity rule.SameDay)
+dates-from-first slgs day e =
+    filter_agree (int_lt day) (int_le slgs.first) (λ date. int_le-before slgs.first day date e) (series_of slgs.maturity rule.SameDay)
 
 -- a certificate matures on a day from which half-years are counted
 pub certificate-base : (settle maturity : ℤ) → IsSettlement settle → settle ≤ℤ maturity → maturity ≤ℤ years_after_of settle 1 → IsBaseDay maturity

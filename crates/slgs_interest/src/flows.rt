@@ -7,7 +7,9 @@ ghost use Rattle.slgs_interest.specs.Payments.{before_first, payment_dates, paym
 
 use crate::interest::of_first_payment;
 use arrayvec::ArrayVec;
-use escrow_units::{Cents, Day, Flow, SeriesDates, Slgs, StepRule, half_coupon, series_around};
+use escrow_units::{
+    Cents, Day, Flow, GREATEST_RATE, SeriesDates, Slgs, StepRule, half_coupon, series_around,
+};
 
 // The dates of a security's series around the day before its first payment: it pays on those after.
 fn dates_of(slgs: &Slgs) -> SeriesDates
@@ -34,7 +36,7 @@ fn dates_of(slgs: &Slgs) -> SeriesDates
 pub fn payments(slgs: &Slgs, face: Cents) -> ArrayVec<Flow, 84>
     requires settlement { IsSettlement slgs.now.settle }
     requires terms { IsSlgs slgs.now }
-    requires rate { slgs.now.rate.0 ≤ 30_000 }
+    requires rate { slgs.now.rate.0 ≤ GREATEST_RATE }
     requires face { face.0 ≤ 10 ^ 11 }
     ensures payments { result.items ≡ payments_of slgs.now face.0 }
     ensures rise { Rise result.items }

@@ -4,7 +4,9 @@ ghost use Rattle.escrow_units.specs.SlgsTerms.{IsSettlement, IsSlgs};
 ghost use Rattle.slgs_interest.specs.Payments.{before_first, certificate_interest, first_interest, first_period_interest, payment_dates};
 
 use crate::leap_day::basis;
-use escrow_units::{Cents, Day, Slgs, SlgsKind, StepRule, days_between, earned, half_back};
+use escrow_units::{
+    Cents, Day, GREATEST_RATE, Slgs, SlgsKind, StepRule, days_between, earned, half_back,
+};
 
 // A certificate's interest.
 fn of_certificate(slgs: &Slgs, face: Cents) -> Cents
@@ -12,7 +14,7 @@ fn of_certificate(slgs: &Slgs, face: Cents) -> Cents
     requires terms { IsSlgs slgs.now }
     requires kind { slgs.now.kind ≡ SlgsKind.Certificate }
     requires face { face.0 ≤ 10 ^ 11 }
-    requires rate { slgs.now.rate.0 ≤ 30_000 }
+    requires rate { slgs.now.rate.0 ≤ GREATEST_RATE }
     ensures value { result.0 ≡ certificate_interest slgs.now face.0 }
     ensures bound { result.0 < 2 ^ 62 }
 {
@@ -28,7 +30,7 @@ fn of_first_period(slgs: &Slgs, face: Cents, before: Day, dates: u32) -> Cents
     requires before { before ≡ before_first slgs.now }
     requires dates { dates ≡ length (payment_dates slgs.now) }
     requires face { face.0 ≤ 10 ^ 11 }
-    requires rate { slgs.now.rate.0 ≤ 30_000 }
+    requires rate { slgs.now.rate.0 ≤ GREATEST_RATE }
     ensures value { result.0 ≡ first_period_interest slgs.now face.0 }
     ensures bound { result.0 < 2 ^ 62 }
 {
@@ -52,7 +54,7 @@ pub(crate) fn of_first_payment(slgs: &Slgs, face: Cents, before: Day, dates: u32
     requires before { before ≡ before_first slgs.now }
     requires dates { dates ≡ length (payment_dates slgs.now) }
     requires face { face.0 ≤ 10 ^ 11 }
-    requires rate { slgs.now.rate.0 ≤ 30_000 }
+    requires rate { slgs.now.rate.0 ≤ GREATEST_RATE }
     ensures value { result.0 ≡ first_interest slgs.now face.0 }
     ensures bound { result.0 < 2 ^ 62 }
 {

@@ -1,33 +1,40 @@
-use Rattle.std.proofs.Common.{◌≡◌, ◌∙◌, sym, ap, rules, ◌≤◌, ◌<◌, ◌≤ℤ◌, ◌<ℤ◌, ℤ}
-use Rattle.std.specs.Prelude.{Option, unwrap_or}
-use Rattle.issue_schedule.proofs.BondFacts.{step_date, find-here, find-later, find-end, later-more, start-recent}
+use Rattle.std.proofs.Common.{◌≡◌, ◌∙◌, ◌<◌, ◌≤◌, ◌≤ℤ◌, length, get_or, sym, subst, arith, ℤ, inl, inr}
+use Rattle.std.proofs.lemmas.Int.{ints}
+use Rattle.std.proofs.lemmas.List.{get_or_default}
+use Rattle.jiff_core.proofs.SignedLemmas.{signed_arith}
+use Rattle.escrow_units.specs.Calendar.{IsSeriesDate}
+use Rattle.escrow_units.specs.Series.{IsLastBy}
+use Rattle.escrow_units.specs.declared.security.StepRule.TheVariants as rule
+use Rattle.escrow_units.proofs.SeriesAround.{last-unique}
+use Rattle.issue_schedule.proofs.BondFacts.{start-first, start-more, start-end}
 use Rattle.issue_schedule.proofs.bond.period_start.Goals as goal
 
-pub returns-then-le-clause-value : goal.returns-then-le-clause-value
-returns-then-le-clause-value c =
-    let short : c.loop-step.step < 85 = search rules in
-    let is : c.half_back-date.result ≡ step_date c.args.maturity c.loop-step.step = c.half_back-date.ensures in
-    let by : c.half_back-date.result ≤ℤ c.args.day = search rules in
-    is ∙ sym (ap (λ (found : Option ℤ). unwrap_or found c.args.day) (c.loop-step.invariant.rest ∙ find-here c.args.maturity c.args.day c.loop-step.step short (rw is at by)))
+pub loop-date-init : goal.loop-date-init
+loop-date-init c = start-first c.args.maturity c.args.settle c.args.previous c.args.day c.args.after.now c.requires.previous c.requires.from
 
-pub returns-then-le-clause-recent : goal.returns-then-le-clause-recent
-returns-then-le-clause-recent c =
-    let short : c.loop-step.step < 85 = search rules in
-    let is : c.half_back-date.result ≡ step_date c.args.maturity c.loop-step.step = c.half_back-date.ensures in
-    let by : c.half_back-date.result ≤ℤ c.args.day = search rules in
-    rw is (start-recent c.series_laws.ensures.start c.series_laws.ensures.half_years c.args.maturity c.args.day c.loop-step.step c.requires.base c.requires.before c.loop-step.invariant.later short (rw is at by))
+pub loop-date-preserved : goal.loop-date-preserved
+loop-date-preserved c =
+    let is = c.loop-date.invariant in
+    let later = c.later_by-start.ensures in
+    let dated : IsSeriesDate c.args.maturity rule.SameDay c.later_by-start.result =
+    elim later.either [
+      | inl kept ↦ subst (λ (d : ℤ). IsSeriesDate c.args.maturity rule.SameDay d) (sym kept) is.series
+      | inr taken ↦
+          let found = (c.requires.after.series c.loop-date.date-index c.date-item.result c.loop-date-test.true).0 in
+          subst (λ (d : ℤ). IsSeriesDate c.args.maturity rule.SameDay d) (sym (taken ∙ c.date-item.is)) found
+    ] in
+    start-more c.args.maturity c.args.settle c.args.previous c.args.day c.loop-date.start c.later_by-start.result c.args.after.now c.loop-date.date-index
+    is dated later.by later.order
+    (λ d short early.
+    let same : get_or c.args.after.now c.loop-date.date-index d ≡ c.date-item.result = get_or_default c.args.after.now c.loop-date.date-index d c.date-item.result short ∙ sym c.date-item.is in
+    rw same (later.reach (rw same at early)))
 
-pub loop-step-preserved : goal.loop-step-preserved
-loop-step-preserved c =
-    let short : c.loop-step.step < 85 = search rules in
-    let is : c.half_back-date.result ≡ step_date c.args.maturity c.loop-step.step = c.half_back-date.ensures in
-    let late : c.args.day <ℤ c.half_back-date.result = search rules in
-    record {
-      rest = c.loop-step.invariant.rest ∙ find-later c.args.maturity c.args.day c.loop-step.step short (rw is at late);
-      later = later-more c.args.maturity c.args.day c.loop-step.step c.loop-step.invariant.later (rw is at late);
-    }
+pub returns-clause-last : goal.returns-clause-last
+returns-clause-last c =
+    start-end c.args.maturity c.args.settle c.args.previous c.args.day c.loop-date.start c.args.after.now c.loop-date.date-index
+    c.loop-date.invariant c.loop-date-test.false c.requires.previous c.requires.after
 
 pub returns-clause-value : goal.returns-clause-value
 returns-clause-value c =
-    let all : 85 ≤ c.loop-step.step = search rules in
-    sym (ap (λ (found : Option ℤ). unwrap_or found c.args.day) (c.loop-step.invariant.rest ∙ find-end c.args.maturity c.args.day c.loop-step.step all))
+    last-unique c.args.maturity rule.SameDay c.args.day c.loop-date.start _ (returns-clause-last c)
+    (c.series_laws.ensures.previous c.args.maturity rule.SameDay c.args.day c.requires.base c.requires.near)

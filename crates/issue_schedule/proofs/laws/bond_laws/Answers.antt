@@ -1,16 +1,17 @@
+use Rattle.escrow_units.proofs.SeriesAround.{dates-after-are-later, previous-is-last}
+use Rattle.escrow_units.proofs.SeriesFacts.{half_back_of-start, years_after_of-none}
+use Rattle.escrow_units.proofs.YearFacts.{settlement-base, years_after_of-passes}
 use Rattle.issue_schedule.specs.BondLaws.{PeriodsStartBySeries}
-use Rattle.issue_schedule.proofs.PaymentFacts.{called-once, held-once}
-use Rattle.issue_schedule.proofs.PeriodFacts.{period-greatest}
+use Rattle.issue_schedule.proofs.PaymentFacts.{called-once, held-once, period-last}
 use Rattle.issue_schedule.proofs.laws.bond_laws.Goals as goal
 
+pub returns-clause-periods : goal.returns-clause-periods
+returns-clause-periods c = period-last settlement-base years_after_of-passes years_after_of-none previous-is-last
+
 pub returns-clause-held : goal.returns-clause-held
-returns-clause-held c = held-once c.series_laws.ensures.fall c.series_laws.ensures.start c.year_laws.ensures.base
+returns-clause-held c = held-once dates-after-are-later half_back_of-start settlement-base
 
 pub returns-clause-called : goal.returns-clause-called
 returns-clause-called c =
-    let periods : PeriodsStartBySeries = period-greatest c.series_laws.ensures.fall c.series_laws.ensures.half_years c.series_laws.ensures.start c.year_laws.ensures.pass c.year_laws.ensures.none c.year_laws.ensures.base in
-    called-once c.series_laws.ensures.fall c.year_laws.ensures.base periods
-
-pub returns-clause-periods : goal.returns-clause-periods
-returns-clause-periods c =
-    period-greatest c.series_laws.ensures.fall c.series_laws.ensures.half_years c.series_laws.ensures.start c.year_laws.ensures.pass c.year_laws.ensures.none c.year_laws.ensures.base
+    let periods : PeriodsStartBySeries = period-last settlement-base years_after_of-passes years_after_of-none previous-is-last in
+    called-once dates-after-are-later settlement-base periods
