@@ -1,6 +1,6 @@
 pub mod BondFacts
-pub mod FileFacts
 pub mod InterestFacts
 pub mod NeedFacts
 pub mod PeriodFacts
 pub mod PaymentFacts
+pub mod FileFacts
