@@ -1,5 +1,5 @@
 pub mod BondFacts
-pub mod FileFacts
 pub mod InterestFacts
 pub mod NeedFacts
 pub mod PaymentFacts
+pub mod FileFacts

@@ -1,5 +1,6 @@
 -- The issue file: its rows, and what they give or where they are refused. The rows are this project's own.
-use Rattle.std.specs.Prelude.{ℕ, ◌+◌, ◌==◌, ◌||◌, ◌&&◌, Bool, nat_lt, nat_le, int_lt, int_le, if◌then◌else◌, List, [], ◌∷◌, ◌++◌, length, is_some, unwrap_or, Option, Some, None, Result, Ok, Err, codes, ℤ, pos}
+use Rattle.std.specs.Prelude.{ℕ, ◌==◌, ◌||◌, ◌&&◌, Bool, nat_lt, nat_le, int_lt, int_le, if◌then◌else◌, List, [], ◌∷◌, ◌++◌, length, is_some, unwrap_or, Option, Some, None, Result, Ok, Err, codes, ℤ}
+use Rattle.escrow_desk.specs.declared.refusal.FileKind.TheVariants as file
 use Rattle.escrow_desk.specs.declared.refusal.Refusal.{Refusal}
 use Rattle.escrow_desk.specs.declared.refusal.RefusalKind.{RefusalKind}
 use Rattle.escrow_desk.specs.declared.refusal.RefusalKind.TheVariants as kind
@@ -13,171 +14,148 @@ use Rattle.escrow_units.specs.declared.security.Flow.{Flow}
 use Rattle.issue_schedule.specs.Limits.{total_limit}
 use Rattle.issue_schedule.specs.IssueTerms.{needs_total, need_dates}
 use Rattle.escrow_units.specs.Flows.{total}
-use Rattle.issue_schedule.specs.Rows.{Row, field_of, is_word, ◌>>=◌, or_refused, day_field, day_by, of_width, at_row}
-use Rattle.issue_schedule.specs.declared.draft.Draft.{Draft}
+use Rattle.row_fields.specs.RowForm.{Row, field_of, is_word, ◌>>=◌, or_refused, day_field_of, day_by_of, of_width, answer_of_row, with_rows}
+use Rattle.issue_schedule.specs.declared.draft.IssueRead.{IssueRead}
 use Rattle.issue_schedule.specs.declared.draft.IssuePrice.{IssuePrice}
-use Rattle.issue_schedule.specs.declared.fields.RowKind.{RowKind}
-use Rattle.issue_schedule.specs.declared.fields.RowKind.TheVariants as row_kind
+use Rattle.issue_schedule.specs.declared.row.IssueRow.{IssueRow}
+use Rattle.issue_schedule.specs.declared.row.IssueRow.TheVariants as issue_row
 use Rattle.issue_schedule.specs.declared.issue.Bond.{Bond}
 use Rattle.issue_schedule.specs.declared.issue.Call.{Call}
 use Rattle.issue_schedule.specs.declared.issue.Issue.{Issue}
 use Rattle.issue_schedule.specs.declared.issue.Restricted.{Restricted}
 use Rattle.issue_schedule.specs.declared.issue.Restricted.TheVariants.{Given, Computed}
 
--- a settlement day: from 2000-01-01 to 2150-01-01
-abbrev pub settlement_field : List ℕ → Result ℤ RefusalKind
-settlement_field bytes = do
-  day ← day_field bytes
-  if is_settlement day then Ok day else Err kind.OutOfRange
-
--- `settle,DATE`
-abbrev pub settle_row : Row → Result ℤ RefusalKind
-settle_row row = of_width 2 row (settlement_field (field_of row 1))
+-- `settle,DATE`, from 2000-01-01 to 2150-01-01
+abbrev pub settle_row_of : Row → Result ℤ RefusalKind
+settle_row_of row = of_width 2 row (do
+  day ← day_field_of (field_of row 1)
+  if is_settlement day then Ok day else Err kind.OutOfRange)
 
 -- the rows below name days up to the last one, 40 years after settlement
 -- `call,DATE,PRICE`, the price in percent of par
-abbrev pub call_row : ℤ → Row → Result Call RefusalKind
-call_row last row = of_width 3 row (do
-  day ← day_by last (field_of row 1)
+abbrev pub call_row_of : ℤ → Row → Result Call RefusalKind
+call_row_of last row = of_width 3 row (do
+  day ← day_by_of last (field_of row 1)
   price ← or_refused (price_of (field_of row 2))
   Ok (record { day = day; price = price }))
 
 -- `bond,MATURITY,PRINCIPAL,COUPON`
-abbrev pub bond_row : ℤ → Row → Result Bond RefusalKind
-bond_row last row = of_width 4 row (do
-  maturity ← day_by last (field_of row 1)
+abbrev pub bond_row_of : ℤ → Row → Result Bond RefusalKind
+bond_row_of last row = of_width 4 row (do
+  maturity ← day_by_of last (field_of row 1)
   principal ← or_refused (cents_of (field_of row 2))
   coupon ← or_refused (rate_of (field_of row 3))
   Ok (record { maturity = maturity; principal = principal; coupon = coupon }))
 
 -- `need,DATE,AMOUNT`, and `pay,DATE,AMOUNT`
-abbrev pub flow_row : ℤ → Row → Result Flow RefusalKind
-flow_row last row = of_width 3 row (do
-  day ← day_by last (field_of row 1)
+abbrev pub flow_row_of : ℤ → Row → Result Flow RefusalKind
+flow_row_of last row = of_width 3 row (do
+  day ← day_by_of last (field_of row 1)
   cents ← or_refused (cents_of (field_of row 2))
   Ok (record { day = day; cents = cents }))
 
 -- `cash,AMOUNT`, and `allowance,AMOUNT`
-abbrev pub cents_row : Row → Result Cents RefusalKind
-cents_row row = of_width 2 row (or_refused (cents_of (field_of row 1)))
+abbrev pub cents_row_of : Row → Result Cents RefusalKind
+cents_row_of row = of_width 2 row (or_refused (cents_of (field_of row 1)))
 
 -- `restricted,YIELD`
-abbrev pub yield_row : Row → Result YieldUnits RefusalKind
-yield_row row = of_width 2 row (or_refused (yield_of (field_of row 1)))
+abbrev pub yield_row_of : Row → Result YieldUnits RefusalKind
+yield_row_of row = of_width 2 row (or_refused (yield_of (field_of row 1)))
 
 -- `price,AMOUNT`: at least one cent
-abbrev pub price_row : ℕ → Row → Result IssuePrice RefusalKind
-price_row number row = do
-  cents ← cents_row row
+abbrev pub price_row_of : ℕ → Row → Result IssuePrice RefusalKind
+price_row_of number row = do
+  cents ← cents_row_of row
   if cents.0 == 0 then Err kind.OutOfRange else Ok (record { row = number; cents = cents })
 
 -- `budget,COUNT`
-abbrev pub budget_row : Row → Result ℕ RefusalKind
-budget_row row = of_width 2 row (or_refused (count_of (field_of row 1)))
+abbrev pub budget_row_of : Row → Result ℕ RefusalKind
+budget_row_of row = of_width 2 row (or_refused (count_of (field_of row 1)))
 
--- what a row is, by its first field
-abbrev pub kind_of_row : List ℕ → Option RowKind
-kind_of_row word =
-    if is_word (codes "settle") word then Some row_kind.Settle else
-    (if is_word (codes "call") word then Some row_kind.Call else
-    (if is_word (codes "bond") word then Some row_kind.Bond else
-    (if is_word (codes "need") word then Some row_kind.Need else
-    (if is_word (codes "cash") word then Some row_kind.Cash else
-    (if is_word (codes "restricted") word then Some row_kind.Restricted else
-    (if is_word (codes "price") word then Some row_kind.Price else
-    (if is_word (codes "pay") word then Some row_kind.Pay else
-    (if is_word (codes "allowance") word then Some row_kind.Allowance else
-    (if is_word (codes "budget") word then Some row_kind.Budget else None)))))))))
-
--- a second `settle` row
-abbrev pub repeated_settle : Row → Result Draft RefusalKind
-repeated_settle row = do
-  _ ← settle_row row
-  Err kind.Repeated
+-- what a row says, by its number from 1
+abbrev pub issue_row_of : ℤ → ℕ → Row → Result IssueRow RefusalKind
+issue_row_of last number row =
+    if is_word (codes "settle") (field_of row 0) then (settle_row_of row >>= (λ day. Ok (issue_row.Settle day))) else
+    (if is_word (codes "call") (field_of row 0) then (call_row_of last row >>= (λ call. Ok (issue_row.Call call))) else
+    (if is_word (codes "bond") (field_of row 0) then (bond_row_of last row >>= (λ bond. Ok (issue_row.Bond bond))) else
+    (if is_word (codes "need") (field_of row 0) then (flow_row_of last row >>= (λ need. Ok (issue_row.Need need))) else
+    (if is_word (codes "cash") (field_of row 0) then (cents_row_of row >>= (λ cash. Ok (issue_row.Cash cash))) else
+    (if is_word (codes "restricted") (field_of row 0) then (yield_row_of row >>= (λ units. Ok (issue_row.Restricted units))) else
+    (if is_word (codes "price") (field_of row 0) then (price_row_of number row >>= (λ price. Ok (issue_row.Price price))) else
+    (if is_word (codes "pay") (field_of row 0) then (flow_row_of last row >>= (λ pay. Ok (issue_row.Pay pay))) else
+    (if is_word (codes "allowance") (field_of row 0) then (cents_row_of row >>= (λ allowance. Ok (issue_row.Allowance allowance))) else
+    (if is_word (codes "budget") (field_of row 0) then (budget_row_of row >>= (λ budget. Ok (issue_row.Budget budget))) else
+    Err kind.UnknownRow)))))))))
 
 -- the one call, which is after settlement
-abbrev pub with_call_row : Draft → Row → Result Draft RefusalKind
-with_call_row draft row = do
-  call ← call_row draft.last row
-  if is_some draft.call then Err kind.Repeated else
-      (if int_le call.day draft.settle then Err kind.DateOrder else Ok (record draft { call = Some call }))
+abbrev pub with_call : IssueRead → Call → Result IssueRead RefusalKind
+with_call read call =
+    if is_some read.call then Err kind.Repeated else
+    (if int_le call.day read.settle then Err kind.DateOrder else Ok (record read { call = Some call }))
 
 -- one more old bond, which matures after settlement
-abbrev pub with_bond_row : Draft → Row → Result Draft RefusalKind
-with_bond_row draft row = do
-  bond ← bond_row draft.last row
-  if int_le bond.maturity draft.settle then Err kind.DateOrder else Ok (record draft { bonds = draft.bonds ++ bond ∷ [] })
+abbrev pub with_bond : IssueRead → Bond → Result IssueRead RefusalKind
+with_bond read bond =
+    if int_le bond.maturity read.settle then Err kind.DateOrder else Ok (record read { bonds = read.bonds ++ bond ∷ [] })
 
 -- one more direct need, on or after settlement
-abbrev pub with_need_row : Draft → Row → Result Draft RefusalKind
-with_need_row draft row = do
-  need ← flow_row draft.last row
-  if int_lt need.day draft.settle then Err kind.DateOrder else Ok (record draft { direct = draft.direct ++ need ∷ [] })
+abbrev pub with_need : IssueRead → Flow → Result IssueRead RefusalKind
+with_need read need =
+    if int_lt need.day read.settle then Err kind.DateOrder else Ok (record read { direct = read.direct ++ need ∷ [] })
 
 -- the one cash maximum
-abbrev pub with_cash_row : Draft → Row → Result Draft RefusalKind
-with_cash_row draft row = do
-  cash ← cents_row row
-  if is_some draft.cash then Err kind.Repeated else Ok (record draft { cash = Some cash })
+abbrev pub with_cash : IssueRead → Cents → Result IssueRead RefusalKind
+with_cash read cash = if is_some read.cash then Err kind.Repeated else Ok (record read { cash = Some cash })
 
 -- the one restricted yield, where no price and no payment stand
-abbrev pub with_restricted_row : Draft → Row → Result Draft RefusalKind
-with_restricted_row draft row = do
-  restricted ← yield_row row
-  if is_some draft.restricted || is_some draft.price || nat_lt 0 (length draft.pays) then Err kind.Repeated
-      else Ok (record draft { restricted = Some restricted })
+abbrev pub with_restricted : IssueRead → YieldUnits → Result IssueRead RefusalKind
+with_restricted read units =
+    if is_some read.restricted || is_some read.price || nat_lt 0 (length read.pays) then Err kind.Repeated
+    else Ok (record read { restricted = Some units })
 
 -- the one issue price, where no restricted yield stands
-abbrev pub with_price_row : Draft → ℕ → Row → Result Draft RefusalKind
-with_price_row draft number row = do
-  price ← price_row number row
-  if is_some draft.price || is_some draft.restricted then Err kind.Repeated else Ok (record draft { price = Some price })
+abbrev pub with_price : IssueRead → IssuePrice → Result IssueRead RefusalKind
+with_price read price =
+    if is_some read.price || is_some read.restricted then Err kind.Repeated else Ok (record read { price = Some price })
 
 -- one more payment of the refunding issue, after settlement, where no restricted yield stands
-abbrev pub with_pay_row : Draft → Row → Result Draft RefusalKind
-with_pay_row draft row = do
-  pay ← flow_row draft.last row
-  if is_some draft.restricted then Err kind.Repeated else
-      (if int_le pay.day draft.settle then Err kind.DateOrder else Ok (record draft { pays = draft.pays ++ pay ∷ [] }))
+abbrev pub with_pay : IssueRead → Flow → Result IssueRead RefusalKind
+with_pay read pay =
+    if is_some read.restricted then Err kind.Repeated else
+    (if int_le pay.day read.settle then Err kind.DateOrder else Ok (record read { pays = read.pays ++ pay ∷ [] }))
 
 -- the one allowance
-abbrev pub with_allowance_row : Draft → Row → Result Draft RefusalKind
-with_allowance_row draft row = do
-  allowance ← cents_row row
-  if is_some draft.allowance then Err kind.Repeated else Ok (record draft { allowance = Some allowance })
+abbrev pub with_allowance : IssueRead → Cents → Result IssueRead RefusalKind
+with_allowance read allowance = if is_some read.allowance then Err kind.Repeated else Ok (record read { allowance = Some allowance })
 
 -- the one budget
-abbrev pub with_budget_row : Draft → Row → Result Draft RefusalKind
-with_budget_row draft row = do
-  budget ← budget_row row
-  if is_some draft.budget then Err kind.Repeated else Ok (record draft { budget = Some budget })
+abbrev pub with_budget : IssueRead → ℕ → Result IssueRead RefusalKind
+with_budget read budget = if is_some read.budget then Err kind.Repeated else Ok (record read { budget = Some budget })
 
--- what has been read with one more row, by the row's number
-abbrev pub with_row_of : Option RowKind → Draft → ℕ → Row → Result Draft RefusalKind
-with_row_of (Some row_kind.Settle) draft number row = repeated_settle row
-with_row_of (Some row_kind.Call) draft number row = with_call_row draft row
-with_row_of (Some row_kind.Bond) draft number row = with_bond_row draft row
-with_row_of (Some row_kind.Need) draft number row = with_need_row draft row
-with_row_of (Some row_kind.Cash) draft number row = with_cash_row draft row
-with_row_of (Some row_kind.Restricted) draft number row = with_restricted_row draft row
-with_row_of (Some row_kind.Price) draft number row = with_price_row draft number row
-with_row_of (Some row_kind.Pay) draft number row = with_pay_row draft row
-with_row_of (Some row_kind.Allowance) draft number row = with_allowance_row draft row
-with_row_of (Some row_kind.Budget) draft number row = with_budget_row draft row
-with_row_of None draft number row = Err kind.UnknownRow
+-- what was read, with what one more row says; `settle` stands once, in row 1
+abbrev pub with_read_row : IssueRead → IssueRow → Result IssueRead RefusalKind
+with_read_row read (issue_row.Settle day) = Err kind.Repeated
+with_read_row read (issue_row.Call call) = with_call read call
+with_read_row read (issue_row.Bond bond) = with_bond read bond
+with_read_row read (issue_row.Need need) = with_need read need
+with_read_row read (issue_row.Cash cash) = with_cash read cash
+with_read_row read (issue_row.Restricted units) = with_restricted read units
+with_read_row read (issue_row.Price price) = with_price read price
+with_read_row read (issue_row.Pay pay) = with_pay read pay
+with_read_row read (issue_row.Allowance allowance) = with_allowance read allowance
+with_read_row read (issue_row.Budget budget) = with_budget read budget
 
-abbrev pub with_row : Draft → ℕ → Row → Result Draft RefusalKind
-with_row draft number row = with_row_of (kind_of_row (field_of row 0)) draft number row
+abbrev pub with_row : IssueRead → ℕ → Row → Result IssueRead RefusalKind
+with_row read number row = issue_row_of (years_after_of read.settle 40) number row >>= with_read_row read
 
 -- row 1 is `settle`
-abbrev pub first_row : Row → Result ℤ RefusalKind
-first_row row = if is_word (codes "settle") (field_of row 0) then settle_row row else Err kind.Missing
+abbrev pub first_settle_of : Row → Result ℤ RefusalKind
+first_settle_of row = if is_word (codes "settle") (field_of row 0) then settle_row_of row else Err kind.Missing
 
 -- nothing has been read but the settlement day
-abbrev pub bare_draft : ℤ → Draft
-bare_draft settle = record {
+abbrev pub bare_read : ℤ → IssueRead
+bare_read settle = record {
   settle = settle;
-  last = years_after_of settle 40;
   call = None;
   bonds = [];
   direct = [];
@@ -189,18 +167,12 @@ bare_draft settle = record {
   budget = None;
 }
 
--- rows from this number on, in order; the first that is refused refuses the file
-abbrev pub with_rows : Draft → ℕ → List Row → Result Draft Refusal
-with_rows draft number [] = Ok draft
-with_rows draft number (row ∷ rows) =
-    at_row number (with_row draft number row) >>= (λ more. with_rows more (number + 1) rows)
-
 -- what the rows give, numbered from 1, or the first refusal of a row; an empty file has no row 1
-unfoldable pub draft_of : List Row → Result Draft Refusal
-draft_of [] = at_row 1 (Err kind.Missing)
+unfoldable pub draft_of : List Row → Result IssueRead Refusal
+draft_of [] = answer_of_row file.Issue 1 (Err kind.Missing)
 draft_of (row ∷ rows) = do
-  settle ← at_row 1 (first_row row)
-  with_rows (bare_draft settle) 2 rows
+  settle ← answer_of_row file.Issue 1 (first_settle_of row)
+  with_rows file.Issue with_row (bare_read settle) 2 rows
 
 -- the yield of an issue price and at least one payment
 abbrev pub computed_of : Option IssuePrice → List Flow → Result Restricted RefusalKind
@@ -214,37 +186,37 @@ restricted_of (Some units) price pays = Ok (Given units)
 restricted_of None price pays = computed_of price pays
 
 -- what the rows say; no cash and no allowance are 0, and no budget is 1,000
-abbrev pub issue_with : Draft → Restricted → Issue
-issue_with draft restricted = record {
-  settle = draft.settle;
-  call = draft.call;
-  bonds = draft.bonds;
-  direct = draft.direct;
-  cash = unwrap_or draft.cash (record { 0 = 0 });
+abbrev pub issue_with_of : IssueRead → Restricted → Issue
+issue_with_of read restricted = record {
+  settle = read.settle;
+  call = read.call;
+  bonds = read.bonds;
+  direct = read.direct;
+  cash = unwrap_or read.cash (record { 0 = 0 });
   restricted = restricted;
-  pays = draft.pays;
-  allowance = unwrap_or draft.allowance (record { 0 = 0 });
-  budget = unwrap_or draft.budget 1000;
+  pays = read.pays;
+  allowance = unwrap_or read.allowance (record { 0 = 0 });
+  budget = unwrap_or read.budget 1000;
 }
 
 -- the needs, and the payments, are at most 10^13 cents together
-abbrev pub is_within_limit : Issue → Bool
-is_within_limit issue = nat_le (needs_total issue) total_limit && nat_le (total issue.pays) total_limit
+abbrev pub is_within_limit_of : Issue → Bool
+is_within_limit_of issue = nat_le (needs_total issue) total_limit && nat_le (total issue.pays) total_limit
 
 -- and there are at most 480 need dates
-abbrev pub within_limits : Issue → Result Issue RefusalKind
-within_limits issue =
-    if is_within_limit issue then (if nat_lt 480 (need_dates issue) then Err kind.TooManyDates else Ok issue)
+abbrev pub within_limits_of : Issue → Result Issue RefusalKind
+within_limits_of issue =
+    if is_within_limit_of issue then (if nat_lt 480 (need_dates issue) then Err kind.TooManyDates else Ok issue)
     else Err kind.NeedsTooLarge
 
 -- what all the rows give, or a refusal of the whole file
-abbrev pub finished : Draft → Result Issue RefusalKind
-finished draft = do
-  restricted ← restricted_of draft.restricted draft.price draft.pays
-  within_limits (issue_with draft restricted)
+abbrev pub finished_of : IssueRead → Result Issue RefusalKind
+finished_of read = do
+  restricted ← restricted_of read.restricted read.price read.pays
+  within_limits_of (issue_with_of read restricted)
 
 -- the issue of the rows of a file, or its first refusal
 unfoldable pub issue_of : List Row → Result Issue Refusal
 issue_of rows = do
-  draft ← draft_of rows
-  at_row 0 (finished draft)
+  read ← draft_of rows
+  answer_of_row file.Issue 0 (finished_of read)

@@ -6,9 +6,9 @@ use Rattle.escrow_units.specs.declared.limits.TheConstants.{AMOUNT_LIMIT, GREATE
 use Rattle.escrow_units.specs.declared.security.Flow.{Flow}
 use Rattle.issue_schedule.specs.Limits.{total_limit}
 use Rattle.escrow_units.specs.Flows.{total}
+use Rattle.issue_schedule.specs.IssueRows.{IsBudget, IsCents, IsGivenYield, IsIssuePrice}
 use Rattle.issue_schedule.specs.Needs.{all_needs, needs_of}
-use Rattle.issue_schedule.specs.declared.draft.Draft.{Draft}
-use Rattle.issue_schedule.specs.declared.draft.IssuePrice.{IssuePrice}
+use Rattle.issue_schedule.specs.declared.draft.IssueRead.{IssueRead}
 use Rattle.issue_schedule.specs.declared.issue.Bond.{Bond}
 use Rattle.issue_schedule.specs.declared.issue.Call.{Call}
 use Rattle.issue_schedule.specs.declared.issue.Issue.{Issue}
@@ -43,29 +43,23 @@ pub record IsPay (settle : ℤ) (flow : Flow) : Type 0 where
   pub day : IsLater settle flow.day
   pub cents : flow.cents.0 ≤ AMOUNT_LIMIT
 
--- at least one cent
-pub record IsIssuePrice (price : IssuePrice) : Type 0 where
-  pub least : 1 ≤ price.cents.0
-  pub most : price.cents.0 ≤ 10 ^ 13
-
--- from 1 to 10,000 nodes
-pub record IsBudget (budget : ℕ) : Type 0 where
-  pub least : 1 ≤ budget
-  pub most : budget ≤ 10_000
-
 -- what has been read so far keeps all this
-pub record IsDraft (draft : Draft) : Type 0 where
-  pub settle : IsSettlement draft.settle
-  pub last : draft.last ≡ years_after_of draft.settle 40
-  pub call : IfSome draft.call (IsCall draft.settle)
-  pub bonds : All (IsBond draft.settle) draft.bonds
-  pub direct : All (IsDirect draft.settle) draft.direct
-  pub cash : IfSome draft.cash (λ cents. cents.0 ≤ 10 ^ 13)
-  pub restricted : IfSome draft.restricted (λ units. units.0 ≤ 2_999_000_000)
-  pub price : IfSome draft.price IsIssuePrice
-  pub pays : All (IsPay draft.settle) draft.pays
-  pub allowance : IfSome draft.allowance (λ cents. cents.0 ≤ 10 ^ 13)
-  pub budget : IfSome draft.budget IsBudget
+pub record IsRead (read : IssueRead) : Type 0 where
+  pub settle : IsSettlement read.settle
+  pub call : IfSome read.call (IsCall read.settle)
+  pub bonds : All (IsBond read.settle) read.bonds
+  pub direct : All (IsDirect read.settle) read.direct
+  pub cash : IfSome read.cash IsCents
+  pub restricted : IfSome read.restricted IsGivenYield
+  pub price : IfSome read.price IsIssuePrice
+  pub pays : All (IsPay read.settle) read.pays
+  pub allowance : IfSome read.allowance IsCents
+  pub budget : IfSome read.budget IsBudget
+
+-- and its rows name days up to 40 years after settlement
+pub record IsDraft (last : ℤ) (read : IssueRead) : Type 0 where
+  pub last_day : last ≡ years_after_of read.settle 40
+  pub read_rows : IsRead read
 
 -- all needs of an issue together, in cents
 abbrev pub needs_total : Issue → ℕ

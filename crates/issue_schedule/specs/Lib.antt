@@ -1,7 +1,7 @@
 pub mod BondLaws
 pub mod IssueForm
+pub mod IssueRows
 pub mod IssueTerms
 pub mod Limits
 pub mod NeedLaws
 pub mod Needs
-pub mod Rows

@@ -1,9 +1,9 @@
 -- What the needs of an issue are, in the terms of bonds.
 use Rattle.std.specs.Prelude.{◌≡◌, ◌+◌, List, sum_by, Option, ℤ}
 use Rattle.escrow_units.specs.Calendar.{years_after_of}
-use Rattle.escrow_units.specs.Flows.{total, Rise}
+use Rattle.escrow_units.specs.Flows.{total, Rise, FallWithin}
 use Rattle.escrow_units.specs.declared.security.Flow.{Flow}
-use Rattle.day_sums.specs.SummedLaws.{AreAboveZero, FallWithin}
+use Rattle.day_sums.specs.SummedLaws.{AreAboveZero}
 use Rattle.issue_schedule.specs.IssueTerms.{HasNeeds}
 use Rattle.issue_schedule.specs.declared.issue.Bond.{Bond}
 use Rattle.issue_schedule.specs.declared.issue.Call.{Call}

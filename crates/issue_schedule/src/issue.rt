@@ -1,3 +1,4 @@
+//! What an issue file says.
 use crate::lists::{Bonds, Flows};
 use escrow_units::{Cents, Day, Price8, Rate, YieldUnits};
 

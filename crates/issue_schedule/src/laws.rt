@@ -1,4 +1,4 @@
-//! What the needs of an issue and of one bond are.
+//! Laws of the needs and of one bond, beside the calls that compute them.
 ghost use Rattle.issue_schedule.specs.BondLaws.{CalledBondsPayOnce, HeldBondsPayOnce, PeriodsStartBySeries};
 ghost use Rattle.issue_schedule.specs.NeedLaws.{NeedsAreAboveZero, NeedsFallWithin, NeedsKeepTotal, NeedsRise};
 

@@ -4,7 +4,6 @@
 mod add;
 mod bond;
 mod draft;
-mod fields;
 mod issue;
 mod laws;
 mod limits;

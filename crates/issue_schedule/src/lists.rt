@@ -1,4 +1,5 @@
-ghost use Rattle.std.specs.Prelude.{◌≡◌, [], ◌∷◌, ◌++◌, OnOk, nat_eq, length};
+//! The bonds and the amounts of an issue.
+ghost use Rattle.std.specs.Prelude.{◌≡◌, [], ◌∷◌, ◌++◌, if◌then◌else◌, is_ok, nat_eq, length};
 
 use crate::issue::Bond;
 use escrow_desk::NoMemory;
@@ -52,9 +53,9 @@ impl Bonds {
         }
     }
 
-    // One more bond, at the end.
+    // One more bond, at the end. Where memory ran out the bonds stay.
     pub(crate) fn push(&mut self, bond: Bond) -> Result<(), NoMemory>
-        ensures { OnOk result (self.new ≡ self.old ++ bond ∷ []) }
+        ensures { self.new ≡ (if is_ok result then self.old ++ bond ∷ [] else self.old) }
     {
         self.bonds.push(bond)?;
         Ok(())
@@ -114,9 +115,9 @@ impl Flows {
         }
     }
 
-    // One more amount, at the end.
+    // One more amount, at the end. Where memory ran out the amounts stay.
     pub(crate) fn push(&mut self, flow: Flow) -> Result<(), NoMemory>
-        ensures { OnOk result (self.new ≡ self.old ++ flow ∷ []) }
+        ensures { self.new ≡ (if is_ok result then self.old ++ flow ∷ [] else self.old) }
     {
         self.flows.push(flow)?;
         Ok(())

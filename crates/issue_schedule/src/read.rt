@@ -1,54 +1,33 @@
+//! The reader of issue files.
 ghost use Rattle.std.specs.Prelude.{◌≡◌, ◌≤◌, drop, length, IfOk, OnOk, IfSome, All};
-ghost use Rattle.escrow_units.specs.SlgsTerms.{IsSettlement};
-ghost use Rattle.issue_schedule.specs.Rows.{Answers};
-ghost use Rattle.issue_schedule.specs.IssueForm.{bare_draft as bare_draft_of, draft_of, finished as finished_of, issue_of, issue_with as issue_with_of, is_within_limit as is_within_limit_of, restricted_of, with_rows, within_limits as within_limits_of};
-ghost use Rattle.issue_schedule.specs.IssueTerms.{HasNeeds, IsBond, IsCall, IsDirect, IsDraft, IsIssue, IsRestricted, need_dates};
-ghost use Rattle.issue_schedule.specs.Limits.{total_limit};
+ghost use Rattle.escrow_desk.specs.declared.refusal.FileKind.TheVariants.{Issue as IssueFile};
 ghost use Rattle.escrow_units.specs.Flows.{total};
-ghost use Rattle.issue_schedule.specs.Rows.{at_row as answer_at_row};
+ghost use Rattle.escrow_units.specs.SlgsTerms.{IsSettlement};
+ghost use Rattle.row_fields.specs.RowForm.{Answers, RowAnswers, with_rows};
+ghost use Rattle.issue_schedule.specs.IssueForm.{bare_read, draft_of, finished_of, is_within_limit_of, issue_of, issue_with_of, restricted_of, with_row, within_limits_of};
+ghost use Rattle.issue_schedule.specs.IssueTerms.{HasNeeds, IsBond, IsCall, IsDirect, IsIssue, IsRead, IsRestricted, need_dates};
+ghost use Rattle.issue_schedule.specs.Limits.{total_limit};
 
-use crate::add::{add_row, at_row, refused};
-use crate::draft::Draft;
+use crate::draft::{Draft, IssueRead};
 use crate::issue::{Issue, Restricted};
 use crate::limits::{limited_bonds, limited_sum};
-use crate::lists::{Bonds, Flows};
-use crate::row::first_row;
+use crate::row::first_settle;
 use crate::schedule::needs;
-use escrow_desk::{CaseError, RefusalKind, Rows};
-use escrow_units::{Cents, Day, years_after};
+use escrow_desk::{CaseError, FileKind, RefusalKind, Rows};
+use escrow_units::{Cents, Day};
+use row_fields::{Row, RowFault, at_row, row_answer};
 use std::alloc::Global;
-
-// Nothing has been read but the settlement day.
-fn bare_draft(alloc: Global, settle: Day) -> Draft
-    requires { IsSettlement settle }
-    ensures value { result ≡ bare_draft_of settle }
-    ensures kept { IsDraft result }
-{
-    Draft {
-        settle,
-        last: years_after(settle, 40),
-        call: None,
-        bonds: Bonds::none(alloc),
-        direct: Flows::none(alloc),
-        cash: None,
-        restricted: None,
-        price: None,
-        pays: Flows::none(alloc),
-        allowance: None,
-        budget: None,
-    }
-}
 
 // The rest of the rows, after row 1 with the settlement day.
 fn read_rest(alloc: Global, rows: &Rows, settle: Day) -> Result<Draft, CaseError>
     requires settle { IsSettlement settle }
     requires rows { 1 ≤ length rows.now }
-    ensures draft { Answers result (with_rows (bare_draft_of settle) 2 (drop 1 rows.now)) }
-    ensures kept { IfOk result IsDraft }
+    ensures { Answers result (with_rows IssueFile with_row (bare_read settle) 2 (drop 1 rows.now)) }
 {
-    let mut draft = bare_draft(alloc, settle);
-    for row in 1..rows.count() {
-        add_row(&mut draft, rows, row)?;
+    let mut draft = Draft::new(alloc, settle);
+    for place in 1..rows.count() {
+        let added = draft.add_row(&Row::at(rows, place), place + 1);
+        row_answer(FileKind::Issue, place + 1, added)?;
     }
     Ok(draft)
 }
@@ -56,27 +35,26 @@ fn read_rest(alloc: Global, rows: &Rows, settle: Day) -> Result<Draft, CaseError
 // What the rows give, or the first that is refused.
 #[tactic(auto, unfolding(crate::specs::IssueForm::draft_of))]
 fn read_draft(alloc: Global, rows: &Rows) -> Result<Draft, CaseError>
-    ensures draft { Answers result (draft_of rows.now) }
-    ensures kept { IfOk result IsDraft }
+    ensures { Answers result (draft_of rows.now) }
 {
     if rows.count() == 0 {
-        return Err(refused(1, RefusalKind::Missing));
+        return at_row(FileKind::Issue, 1, Err(RefusalKind::Missing));
     }
-    let settle = at_row(1, first_row(rows))?;
+    let settle = at_row(FileKind::Issue, 1, first_settle(&Row::at(rows, 0)))?;
     read_rest(alloc, rows, settle)
 }
 
 // The restricted yield, given or to be computed.
-fn restricted_yield(draft: &Draft) -> Result<Restricted, RefusalKind>
-    requires { IsDraft draft.now }
-    ensures value { result ≡ restricted_of draft.now.restricted draft.now.price draft.now.pays }
+fn restricted_yield(read: &IssueRead) -> Result<Restricted, RefusalKind>
+    requires { IsRead read.now }
+    ensures value { result ≡ restricted_of read.now.restricted read.now.price read.now.pays }
     ensures kept { IfOk result IsRestricted }
 {
-    if let Some(units) = draft.restricted {
+    if let Some(units) = read.restricted {
         return Ok(Restricted::Given(units));
     }
-    match draft.price {
-        Some(price) if !draft.pays.is_empty() => Ok(Restricted::Computed {
+    match read.price {
+        Some(price) if !read.pays.is_empty() => Ok(Restricted::Computed {
             row: price.row,
             price: price.cents,
         }),
@@ -85,19 +63,19 @@ fn restricted_yield(draft: &Draft) -> Result<Restricted, RefusalKind>
 }
 
 // What the rows say, before the limits are tried.
-fn issue_with(draft: Draft, restricted: Restricted) -> Issue
-    ensures { result ≡ issue_with_of draft restricted }
+fn issue_with(read: IssueRead, restricted: Restricted) -> Issue
+    ensures { result ≡ issue_with_of read restricted }
 {
     Issue {
-        settle: draft.settle,
-        call: draft.call,
-        bonds: draft.bonds,
-        direct: draft.direct,
-        cash: draft.cash.unwrap_or(Cents(0)),
+        settle: read.settle,
+        call: read.call,
+        bonds: read.bonds,
+        direct: read.direct,
+        cash: read.cash.unwrap_or(Cents(0)),
         restricted,
-        pays: draft.pays,
-        allowance: draft.allowance.unwrap_or(Cents(0)),
-        budget: draft.budget.unwrap_or(1000),
+        pays: read.pays,
+        allowance: read.allowance.unwrap_or(Cents(0)),
+        budget: read.budget.unwrap_or(1000),
     }
 }
 
@@ -115,39 +93,35 @@ fn is_within_limit(issue: &Issue) -> bool
 }
 
 // An issue that keeps to the limits of the whole file, or the refusal.
-fn within_limits(alloc: Global, issue: Issue) -> Result<Issue, CaseError>
+fn within_limits(alloc: Global, issue: Issue) -> Result<Issue, RowFault>
     requires settle { IsSettlement issue.settle }
     requires call { IfSome issue.call (IsCall issue.settle) }
     requires bonds { All (IsBond issue.settle) issue.bonds }
     requires direct { All (IsDirect issue.settle) issue.direct }
-    ensures issue { Answers result (answer_at_row 0 (within_limits_of issue)) }
+    ensures issue { RowAnswers result (within_limits_of issue) }
     ensures same { IfOk result (λ answer. answer ≡ issue) }
     ensures needs { OnOk result (HasNeeds issue) }
     ensures dates { OnOk result (need_dates issue ≤ 480) }
     ensures pays { OnOk result (total issue.pays ≤ total_limit) }
 {
     if !is_within_limit(&issue) {
-        return Err(refused(0, RefusalKind::NeedsTooLarge));
+        return Err(RowFault::Refused(RefusalKind::NeedsTooLarge));
     }
-    let Ok(dates) = needs(alloc, &issue) else {
-        return Err(CaseError::NoMemory);
-    };
+    let dates = needs(alloc, &issue)?;
     if dates.len() > 480 {
-        return Err(refused(0, RefusalKind::TooManyDates));
+        return Err(RowFault::Refused(RefusalKind::TooManyDates));
     }
     Ok(issue)
 }
 
 // What all the rows give, or a refusal of the whole file.
-fn finished(alloc: Global, draft: Draft) -> Result<Issue, CaseError>
-    requires { IsDraft draft }
-    ensures issue { Answers result (answer_at_row 0 (finished_of draft)) }
+fn finished(alloc: Global, draft: Draft) -> Result<Issue, RowFault>
+    ensures issue { RowAnswers result (finished_of draft) }
     ensures kept { IfOk result IsIssue }
 {
-    match restricted_yield(&draft) {
-        Ok(restricted) => within_limits(alloc, issue_with(draft, restricted)),
-        Err(kind) => Err(refused(0, kind)),
-    }
+    let read = draft.into_read();
+    let restricted = restricted_yield(&read)?;
+    within_limits(alloc, issue_with(read, restricted))
 }
 
 /// Reads an issue file: row 1 is `settle`, and the other rows come in any order.
@@ -167,5 +141,5 @@ pub fn read_issue(alloc: Global, rows: &Rows) -> Result<Issue, CaseError>
     ensures kept { IfOk result IsIssue }
 {
     let draft = read_draft(alloc, rows)?;
-    finished(alloc, draft)
+    row_answer(FileKind::Issue, 0, finished(alloc, draft))
 }

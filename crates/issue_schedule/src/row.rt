@@ -1,70 +1,93 @@
-ghost use Rattle.std.specs.Prelude.{◌≡◌, ◌<◌, ◌≤◌, ◌+◌, ◌^◌, ◌≤ℤ◌, [], length, slice_index_or, IfOk};
+//! The rows of an issue file.
+ghost use Rattle.std.specs.Prelude.{◌≡◌, IfOk};
 ghost use Rattle.escrow_units.specs.SlgsTerms.{IsSettlement};
-ghost use Rattle.issue_schedule.specs.IssueForm.{settle_row as settle_of_row, first_row as first_of_rows, call_row as call_of_row, bond_row as bond_of_row, flow_row as flow_of_row, cents_row as cents_of_row, yield_row as yield_of_row, price_row as price_of_row, budget_row as budget_of_row};
+ghost use Rattle.issue_schedule.specs.IssueForm.{bond_row_of, budget_row_of, call_row_of, cents_row_of, first_settle_of, flow_row_of, issue_row_of, price_row_of, settle_row_of, yield_row_of};
+ghost use Rattle.issue_schedule.specs.IssueRows.{IsBondRow, IsBudget, IsCallRow, IsCents, IsFlowRow, IsGivenYield, IsIssuePrice, IsIssueRow};
 
 use crate::draft::IssuePrice;
-use crate::fields::settlement_field;
 use crate::issue::{Bond, Call};
-use escrow_desk::{RefusalKind, Rows};
+use escrow_desk::RefusalKind;
 use escrow_units::{
-    Cents, Day, Flow, YieldUnits, read_cents, read_count, read_price, read_rate, read_yield,
+    Cents, Day, Flow, YieldUnits, is_settlement, read_cents, read_count, read_price, read_rate,
+    read_yield,
 };
-use row_fields::{day_by, refusal_kind, row_word};
+use row_fields::{Row, day_by, day_field, refusal_kind};
 
-/// `settle,DATE`
-pub(crate) fn settle_row(rows: &Rows, row: u32) -> Result<Day, RefusalKind>
-    requires { row < length rows.now }
-    ensures value { result ≡ settle_of_row (slice_index_or rows.now row []) }
-    ensures range { IfOk result IsSettlement }
-{
-    if rows.width(row) != 2 {
-        return Err(RefusalKind::WrongFields);
-    }
-    settlement_field(rows.field(row, 1))
+/// What a row of an issue file says.
+#[derive(Clone, Copy)]
+pub(crate) enum IssueRow {
+    /// `settle,DATE`
+    Settle(Day),
+    /// `call,DATE,PRICE`
+    Call(Call),
+    /// `bond,MATURITY,PRINCIPAL,COUPON`
+    Bond(Bond),
+    /// `need,DATE,AMOUNT`
+    Need(Flow),
+    /// `cash,AMOUNT`
+    Cash(Cents),
+    /// `restricted,YIELD`
+    Restricted(YieldUnits),
+    /// `price,AMOUNT`
+    Price(IssuePrice),
+    /// `pay,DATE,AMOUNT`
+    Pay(Flow),
+    /// `allowance,AMOUNT`
+    Allowance(Cents),
+    /// `budget,COUNT`
+    Budget(u32),
 }
 
-/// The settlement day of row 1, which is the first.
-pub(crate) fn first_row(rows: &Rows) -> Result<Day, RefusalKind>
-    requires { 0 < length rows.now }
-    ensures value { result ≡ first_of_rows (slice_index_or rows.now 0 []) }
+// `settle,DATE`, from 2000-01-01 to 2150-01-01.
+fn settle_row(row: &Row) -> Result<Day, RefusalKind>
+    ensures value { result ≡ settle_row_of row.now }
     ensures range { IfOk result IsSettlement }
 {
-    if row_word(rows, 0) != b"settle".as_slice() {
+    if row.width() != 2 {
+        return Err(RefusalKind::WrongFields);
+    }
+    let day = day_field(row.field(1))?;
+    if !is_settlement(day) {
+        return Err(RefusalKind::OutOfRange);
+    }
+    Ok(day)
+}
+
+/// The settlement day of row 1, which is `settle`; any other first row is `Missing`.
+pub(crate) fn first_settle(row: &Row) -> Result<Day, RefusalKind>
+    ensures value { result ≡ first_settle_of row.now }
+    ensures range { IfOk result IsSettlement }
+{
+    if row.word() != b"settle".as_slice() {
         return Err(RefusalKind::Missing);
     }
-    settle_row(rows, 0)
+    settle_row(row)
 }
 
-/// `call,DATE,PRICE`, with a date up to the last day.
-pub(crate) fn call_row(rows: &Rows, row: u32, last: Day) -> Result<Call, RefusalKind>
-    requires { row < length rows.now }
-    ensures value { result ≡ call_of_row last (slice_index_or rows.now row []) }
-    ensures day { IfOk result (λ call. call.day ≤ℤ last) }
-    ensures least { IfOk result (λ call. 1_000_000_000 ≤ call.price.0) }
-    ensures most { IfOk result (λ call. call.price.0 ≤ 30_000_000_000) }
+// `call,DATE,PRICE`, with a date up to the last day.
+fn call_row(row: &Row, last: Day) -> Result<Call, RefusalKind>
+    ensures value { result ≡ call_row_of last row.now }
+    ensures call { IfOk result (IsCallRow last) }
 {
-    if rows.width(row) != 3 {
+    if row.width() != 3 {
         return Err(RefusalKind::WrongFields);
     }
-    let day = day_by(rows.field(row, 1), last)?;
-    let price = read_price(rows.field(row, 2)).map_err(refusal_kind)?;
+    let day = day_by(row.field(1), last)?;
+    let price = read_price(row.field(2)).map_err(refusal_kind)?;
     Ok(Call { day, price })
 }
 
-/// `bond,MATURITY,PRINCIPAL,COUPON`, with a maturity up to the last day.
-pub(crate) fn bond_row(rows: &Rows, row: u32, last: Day) -> Result<Bond, RefusalKind>
-    requires { row < length rows.now }
-    ensures value { result ≡ bond_of_row last (slice_index_or rows.now row []) }
-    ensures maturity { IfOk result (λ bond. bond.maturity ≤ℤ last) }
-    ensures principal { IfOk result (λ bond. bond.principal.0 ≤ 10 ^ 13) }
-    ensures coupon { IfOk result (λ bond. bond.coupon.0 ≤ 30_000) }
+// `bond,MATURITY,PRINCIPAL,COUPON`, with a maturity up to the last day.
+fn bond_row(row: &Row, last: Day) -> Result<Bond, RefusalKind>
+    ensures value { result ≡ bond_row_of last row.now }
+    ensures bond { IfOk result (IsBondRow last) }
 {
-    if rows.width(row) != 4 {
+    if row.width() != 4 {
         return Err(RefusalKind::WrongFields);
     }
-    let maturity = day_by(rows.field(row, 1), last)?;
-    let principal = read_cents(rows.field(row, 2)).map_err(refusal_kind)?;
-    let coupon = read_rate(rows.field(row, 3)).map_err(refusal_kind)?;
+    let maturity = day_by(row.field(1), last)?;
+    let principal = read_cents(row.field(2)).map_err(refusal_kind)?;
+    let coupon = read_rate(row.field(3)).map_err(refusal_kind)?;
     Ok(Bond {
         maturity,
         principal,
@@ -72,72 +95,91 @@ pub(crate) fn bond_row(rows: &Rows, row: u32, last: Day) -> Result<Bond, Refusal
     })
 }
 
-/// `need,DATE,AMOUNT`, and `pay,DATE,AMOUNT`, with a date up to the last day.
-pub(crate) fn flow_row(rows: &Rows, row: u32, last: Day) -> Result<Flow, RefusalKind>
-    requires { row < length rows.now }
-    ensures value { result ≡ flow_of_row last (slice_index_or rows.now row []) }
-    ensures day { IfOk result (λ flow. flow.day ≤ℤ last) }
-    ensures cents { IfOk result (λ flow. flow.cents.0 ≤ 10 ^ 13) }
+// `need,DATE,AMOUNT`, and `pay,DATE,AMOUNT`, with a date up to the last day.
+fn flow_row(row: &Row, last: Day) -> Result<Flow, RefusalKind>
+    ensures value { result ≡ flow_row_of last row.now }
+    ensures flow { IfOk result (IsFlowRow last) }
 {
-    if rows.width(row) != 3 {
+    if row.width() != 3 {
         return Err(RefusalKind::WrongFields);
     }
-    let day = day_by(rows.field(row, 1), last)?;
-    let cents = read_cents(rows.field(row, 2)).map_err(refusal_kind)?;
+    let day = day_by(row.field(1), last)?;
+    let cents = read_cents(row.field(2)).map_err(refusal_kind)?;
     Ok(Flow { day, cents })
 }
 
-/// `cash,AMOUNT`, and `allowance,AMOUNT`
-pub(crate) fn cents_row(rows: &Rows, row: u32) -> Result<Cents, RefusalKind>
-    requires { row < length rows.now }
-    ensures value { result ≡ cents_of_row (slice_index_or rows.now row []) }
-    ensures limit { IfOk result (λ cents. cents.0 ≤ 10 ^ 13) }
+// `cash,AMOUNT`, and `allowance,AMOUNT`
+fn cents_row(row: &Row) -> Result<Cents, RefusalKind>
+    ensures value { result ≡ cents_row_of row.now }
+    ensures cents { IfOk result IsCents }
 {
-    if rows.width(row) != 2 {
+    if row.width() != 2 {
         return Err(RefusalKind::WrongFields);
     }
-    read_cents(rows.field(row, 1)).map_err(refusal_kind)
+    read_cents(row.field(1)).map_err(refusal_kind)
 }
 
-/// `restricted,YIELD`
-pub(crate) fn yield_row(rows: &Rows, row: u32) -> Result<YieldUnits, RefusalKind>
-    requires { row < length rows.now }
-    ensures value { result ≡ yield_of_row (slice_index_or rows.now row []) }
-    ensures limit { IfOk result (λ units. units.0 ≤ 2_999_000_000) }
+// `restricted,YIELD`
+fn yield_row(row: &Row) -> Result<YieldUnits, RefusalKind>
+    ensures value { result ≡ yield_row_of row.now }
+    ensures units { IfOk result IsGivenYield }
 {
-    if rows.width(row) != 2 {
+    if row.width() != 2 {
         return Err(RefusalKind::WrongFields);
     }
-    read_yield(rows.field(row, 1)).map_err(refusal_kind)
+    read_yield(row.field(1)).map_err(refusal_kind)
 }
 
-/// `price,AMOUNT`, of at least one cent.
-pub(crate) fn price_row(rows: &Rows, row: u32) -> Result<IssuePrice, RefusalKind>
-    requires row { row < length rows.now }
-    requires count { length rows.now < 2 ^ 32 }
-    ensures value { result ≡ price_of_row (row + 1) (slice_index_or rows.now row []) }
-    ensures least { IfOk result (λ price. 1 ≤ price.cents.0) }
-    ensures most { IfOk result (λ price. price.cents.0 ≤ 10 ^ 13) }
+// `price,AMOUNT`, of at least one cent, where `number` is the row's, from 1.
+fn price_row(row: &Row, number: u32) -> Result<IssuePrice, RefusalKind>
+    ensures value { result ≡ price_row_of number row.now }
+    ensures price { IfOk result IsIssuePrice }
 {
-    let cents = cents_row(rows, row)?;
+    let cents = cents_row(row)?;
     if cents.0 == 0 {
         return Err(RefusalKind::OutOfRange);
     }
-    Ok(IssuePrice {
-        row: row + 1,
-        cents,
-    })
+    Ok(IssuePrice { row: number, cents })
 }
 
-/// `budget,COUNT`
-pub(crate) fn budget_row(rows: &Rows, row: u32) -> Result<u32, RefusalKind>
-    requires { row < length rows.now }
-    ensures value { result ≡ budget_of_row (slice_index_or rows.now row []) }
-    ensures least { IfOk result (λ budget. 1 ≤ budget) }
-    ensures most { IfOk result (λ budget. budget ≤ 10_000) }
+// `budget,COUNT`
+fn budget_row(row: &Row) -> Result<u32, RefusalKind>
+    ensures value { result ≡ budget_row_of row.now }
+    ensures budget { IfOk result IsBudget }
 {
-    if rows.width(row) != 2 {
+    if row.width() != 2 {
         return Err(RefusalKind::WrongFields);
     }
-    read_count(rows.field(row, 1)).map_err(refusal_kind)
+    read_count(row.field(1)).map_err(refusal_kind)
+}
+
+/// A row by its number, from 1; it names days up to the last one.
+pub(crate) fn issue_row(row: &Row, number: u32, last: Day) -> Result<IssueRow, RefusalKind>
+    ensures value { result ≡ issue_row_of last number row.now }
+    ensures row { IfOk result (IsIssueRow last) }
+{
+    let word = row.word();
+    if word == b"settle".as_slice() {
+        Ok(IssueRow::Settle(settle_row(row)?))
+    } else if word == b"call".as_slice() {
+        Ok(IssueRow::Call(call_row(row, last)?))
+    } else if word == b"bond".as_slice() {
+        Ok(IssueRow::Bond(bond_row(row, last)?))
+    } else if word == b"need".as_slice() {
+        Ok(IssueRow::Need(flow_row(row, last)?))
+    } else if word == b"cash".as_slice() {
+        Ok(IssueRow::Cash(cents_row(row)?))
+    } else if word == b"restricted".as_slice() {
+        Ok(IssueRow::Restricted(yield_row(row)?))
+    } else if word == b"price".as_slice() {
+        Ok(IssueRow::Price(price_row(row, number)?))
+    } else if word == b"pay".as_slice() {
+        Ok(IssueRow::Pay(flow_row(row, last)?))
+    } else if word == b"allowance".as_slice() {
+        Ok(IssueRow::Allowance(cents_row(row)?))
+    } else if word == b"budget".as_slice() {
+        Ok(IssueRow::Budget(budget_row(row)?))
+    } else {
+        Err(RefusalKind::UnknownRow)
+    }
 }

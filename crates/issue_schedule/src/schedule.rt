@@ -1,8 +1,8 @@
 //! The needs of an issue, by day.
 ghost use Rattle.std.specs.Prelude.{◌≡◌, ◌≤◌, ◌+◌, sum_by, IfOk};
 ghost use Rattle.escrow_units.specs.Calendar.{years_after_of};
-ghost use Rattle.escrow_units.specs.Flows.{Rise, total};
-ghost use Rattle.day_sums.specs.SummedLaws.{AreAboveZero, FallWithin};
+ghost use Rattle.escrow_units.specs.Flows.{Rise, total, FallWithin};
+ghost use Rattle.day_sums.specs.SummedLaws.{AreAboveZero};
 ghost use Rattle.issue_schedule.specs.IssueTerms.{HasNeeds};
 ghost use Rattle.issue_schedule.specs.Limits.{total_limit};
 ghost use Rattle.issue_schedule.specs.Needs.{bond_needs as bond_needs_of, needs_of};

@@ -20,7 +20,7 @@ use Rattle.escrow_units.specs.declared.security.StepRule.{StepRule}
 use Rattle.escrow_units.specs.declared.security.StepRule.TheVariants as rule
 use Rattle.market_notes.specs.NoteFlows.{payment_dates, payments_of, payment_on, principal_on, accrued_interest, cost_of, previous_date, next_date}
 use Rattle.market_notes.specs.NoteLaws.{IsCouponDate, SettlesIn, CostsPriceOnCouponDate, AreAfterSettlement, PayFaceOnce, AreAtMost, PayNoLessForMore}
-use Rattle.market_notes.specs.PriceForm.{has_matured}
+use Rattle.market_notes.specs.PriceForm.{has_matured_of}
 use Rattle.market_notes.specs.declared.note.Note.{Note}
 use Rattle.escrow_units.proofs.SeriesAround.{HasDates, IsNear, dates-after-are-later}
 
@@ -29,7 +29,7 @@ pub record IsLater (settle maturity : ℤ) : Type 0 where
   pub after : settle <ℤ maturity
   pub index : 1 ≤ index360_of settle maturity
 
-pub later : (settle maturity : ℤ) → has_matured settle maturity ≡ false → IsLater settle maturity
+pub later : (settle maturity : ℤ) → has_matured_of settle maturity ≡ false → IsLater settle maturity
 later settle maturity h = record { after = grind (arith, ints); index = grind (arith, ints) }
 
 -- the accrued interest, by the days of its half-year

@@ -1,4 +1,3 @@
 pub mod FlowFacts
-pub mod ReadFacts
 pub mod SeriesFacts
 pub mod TestTerms

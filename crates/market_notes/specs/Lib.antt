@@ -1,5 +1,6 @@
 pub mod NoteFlows
 pub mod NoteLaws
-pub mod NoteRules
+pub mod NoteDraft
 pub mod NoteTerms
 pub mod PriceForm
+pub mod PriceRows

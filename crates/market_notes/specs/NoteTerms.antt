@@ -1,5 +1,5 @@
 -- What marketable notes and price files keep. The limits are this project's own.
-use Rattle.std.specs.Prelude.{◌≡◌, ◌≤◌, ℤ, ◌≤ℤ◌, ◌<ℤ◌, All, IfSome, IsSomeAnd}
+use Rattle.std.specs.Prelude.{◌≡◌, ◌≤◌, ℤ, ◌≤ℤ◌, ◌<ℤ◌, List, All, IfSome, IsSomeAnd}
 use Rattle.escrow_units.specs.Calendar.{years_after_of}
 use Rattle.escrow_units.specs.Denomination.{AreTerms}
 use Rattle.escrow_units.specs.Flows.{index360_of}
@@ -26,6 +26,12 @@ pub record IsOffered (day : ℤ) (terms : Terms) (offer : Note) : Type 0 where
   pub settle : offer.settle ≡ day
   pub least : terms.minimum ≤ offer.cap
   pub most : offer.cap ≤ 1_000_000_000
+
+-- what has been read of a price file so far: its settlement and terms, and the notes up to some row
+pub record NotesRead : Type 0 where
+  pub settle : ℤ
+  pub terms : Terms
+  pub notes : List Note
 
 -- what each file that is read keeps; a file without terms has no notes
 pub record IsNoteFile (settle : ℤ) (file : NoteFile) : Type 0 where

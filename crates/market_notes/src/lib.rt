@@ -1,7 +1,7 @@
 //! Marketable Treasury notes: the price file, what a note costs and what it pays.
 #![tactic(auto)]
 
-mod fields;
+mod draft;
 mod flows;
 mod note;
 mod read;

@@ -1,3 +1,4 @@
+//! A note, and the file of them.
 ghost use Rattle.std.specs.Prelude.{◌≡◌};
 
 use escrow_units::{Day, Price8, Rate, Terms};

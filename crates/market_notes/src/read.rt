@@ -1,56 +1,42 @@
-ghost use Rattle.std.specs.Prelude.{◌≡◌, ◌<◌, ◌+◌, ◌^◌, ◌≤◌, [], ◌∷◌, ◌++◌, Err, All, drop, length, slice_index_or, IfOk, IfErr, OnOk};
-ghost use Rattle.escrow_desk.specs.declared.refusal.CaseError.TheVariants.{Refused, NoMemory};
+//! The reader of price files.
+ghost use Rattle.std.specs.Prelude.{◌≡◌, ◌≤◌, Ok, drop, length, IfOk, OnOk};
+ghost use Rattle.std.specs.Result.{result_and};
+ghost use Rattle.escrow_units.specs.Denomination.{AreTerms};
 ghost use Rattle.escrow_units.specs.SlgsTerms.{IsSettlement};
-ghost use Rattle.market_notes.specs.NoteTerms.{IsNoteFile, IsOffered};
-ghost use Rattle.market_notes.specs.NoteRules.{AreRules};
-ghost use Rattle.market_notes.specs.PriceForm.{Answers, at_row as answer_at_row, note_file_of, notes_of, refusal_at, row_note as note_of_row};
+ghost use Rattle.row_fields.specs.RowForm.{Answers, RowAnswers};
+ghost use Rattle.market_notes.specs.NoteTerms.{IsNoteFile};
+ghost use Rattle.market_notes.specs.PriceForm.{none_read, note_file_of, with_price_rows, with_row};
 
-use crate::fields::{RowKind, row_kind};
-use crate::note::{Note, NoteFile, Notes};
-use crate::row::{NoteRules, note_row};
-use escrow_desk::{CaseError, FileKind, RefusalKind, Rows};
-use escrow_units::{Day, years_after};
-use row_fields::{at_row, first_row, repeated_terms, row_word};
+use crate::draft::Draft;
+use crate::note::{NoteFile, Notes};
+use escrow_desk::{CaseError, FileKind, Rows};
+use escrow_units::{Day, Terms};
+use row_fields::{Row, RowFault, at_row, first_terms, row_answer};
 use std::alloc::Global;
 
-// The note of a row after the first, by the row's place from 0.
-fn row_note(rules: &NoteRules, rows: &Rows, row: u32) -> Result<Note, RefusalKind>
-    requires row { row < length rows.now }
-    requires rules { AreRules rules.now }
-    ensures value { result ≡ note_of_row rules.now.settle rules.now.terms (slice_index_or rows.now row []) }
-    ensures note { IfOk result (IsOffered rules.now.settle rules.now.terms) }
+// One more row.
+fn add_row(draft: &mut Draft, row: &Row) -> Result<(), RowFault>
+    ensures added { RowAnswers (result_and result (Ok draft.new)) (with_row draft.old row.now) }
+    ensures settle { draft.new.settle ≡ draft.old.settle }
 {
-    match row_kind(row_word(rows, row)) {
-        Some(RowKind::Terms) => Err(repeated_terms(rows, row)),
-        Some(RowKind::Note) => note_row(rules, rows, row),
-        None => Err(RefusalKind::UnknownRow),
-    }
+    let row = draft.price_row(row)?;
+    draft.add(row)
 }
 
-// One more note. Its fields are copied one by one, since the proof of the push reads their types.
-fn push_note(notes: &mut Vec<Note>, note: &Note) -> Result<(), CaseError>
-    ensures memory { IfErr result (λ error. error ≡ NoMemory) }
-    ensures notes { OnOk result (notes.new.items ≡ notes.old.items ++ note.now ∷ []) }
-{
-    if notes.push(Note { ..*note }).is_err() {
-        return Err(CaseError::NoMemory);
-    }
-    Ok(())
-}
-
-// The notes of the rows after the first.
-fn read_rest(alloc: Global, rules: &NoteRules, rows: &Rows) -> Result<Notes, CaseError>
-    requires rules { AreRules rules.now }
+// The rest of the rows, after row 1 with the terms.
+fn read_rest(alloc: Global, rows: &Rows, settle: Day, terms: Terms) -> Result<Draft, CaseError>
+    requires settle { IsSettlement settle }
+    requires terms { AreTerms terms }
     requires rows { 1 ≤ length rows.now }
-    ensures notes { Answers result (notes_of rules.now.settle rules.now.terms 2 (drop 1 rows.now)) }
-    ensures kept { IfOk result (λ notes. All (IsOffered rules.now.settle rules.now.terms) notes) }
+    ensures read { Answers result (with_price_rows (none_read settle terms) 2 (drop 1 rows.now)) }
+    ensures settle { IfOk result (λ draft. draft.settle ≡ settle) }
 {
-    let mut notes = Vec::new(alloc);
-    for row in 1..rows.count() {
-        let note = at_row(FileKind::Prices, row + 1, row_note(rules, rows, row))?;
-        push_note(&mut notes, &note)?;
+    let mut draft = Draft::new(alloc, settle, terms);
+    for place in 1..rows.count() {
+        let added = add_row(&mut draft, &Row::at(rows, place));
+        row_answer(FileKind::Prices, place + 1, added)?;
     }
-    Ok(Notes::new(notes))
+    Ok(draft)
 }
 
 /// Reads a price file: no rows, or row 1 `terms,MINIMUM,STEP`, and then rows `note,MATURITY,COUPON,PRICE,CAP`.
@@ -78,15 +64,6 @@ pub fn read_notes(alloc: Global, settle: Day, rows: &Rows) -> Result<NoteFile, C
             notes: Notes::new(Vec::new(alloc)),
         });
     }
-    let terms = at_row(FileKind::Prices, 1, first_row(rows))?;
-    let rules = NoteRules {
-        settle,
-        latest: years_after(settle, 40),
-        terms,
-    };
-    let notes = read_rest(alloc, &rules, rows)?;
-    Ok(NoteFile {
-        terms: Some(terms),
-        notes,
-    })
+    let terms = at_row(FileKind::Prices, 1, first_terms(&Row::at(rows, 0)))?;
+    Ok(read_rest(alloc, rows, settle, terms)?.into_file())
 }

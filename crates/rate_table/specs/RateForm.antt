@@ -83,9 +83,6 @@ with_read_row file (rate_row.Offer offer) = with_offer file offer
 abbrev pub with_row : Terms → RateFile → ℕ → Row → Result RateFile RefusalKind
 with_row terms file number row = rate_row_of terms number row >>= with_read_row file
 
-abbrev pub at_row : {T : Type 0} → ℕ → Result T RefusalKind → Result T Refusal
-at_row number answer = answer_of_row file.Rates number answer
-
 -- a file without ranges and offers
 abbrev pub bare_file : Option Terms → RateFile
 bare_file terms = record { terms = terms; ranges = []; offers = [] }
@@ -94,5 +91,5 @@ bare_file terms = record { terms = terms; ranges = []; offers = [] }
 unfoldable pub rate_file_of : List Row → Result RateFile Refusal
 rate_file_of [] = Ok (bare_file None)
 rate_file_of (row ∷ rows) = do
-  terms ← at_row 1 (first_terms_of row)
+  terms ← answer_of_row file.Rates 1 (first_terms_of row)
   with_rows file.Rates (with_row terms) (bare_file (Some terms)) 2 rows

@@ -10,7 +10,7 @@ ghost use Rattle.rate_table.specs.Table.{IsOffer, IsRange, IsRateFile};
 use crate::index::RateIndex;
 use crate::row::RateRow;
 use crate::table::{Offer, Offers, RateFile, RateRange};
-use escrow_desk::{NoMemory, RefusalKind};
+use escrow_desk::RefusalKind;
 use escrow_units::Terms;
 use row_fields::RowFault;
 use std::alloc::Global;
@@ -68,10 +68,8 @@ impl Draft {
         ensures { RowAnswers (result_and result (Ok self.new)) (with_offer self.old offer) }
     {
         // Its fields are copied one by one, since the proof of the push reads their types.
-        match self.offers.push(Offer { ..offer }) {
-            Ok(()) => Ok(()),
-            Err(_) => Err(RowFault::NoMemory),
-        }
+        self.offers.push(Offer { ..offer })?;
+        Ok(())
     }
 
     /// One more row.

@@ -5,6 +5,7 @@ ghost use Rattle.row_fields.specs.RowForm.{Answers, answer_of_row, row_answer_of
 ghost use Rattle.row_fields.specs.declared.fault.RowFault.TheVariants as fault;
 
 use escrow_desk::{CaseError, FileKind, NoMemory, Refusal, RefusalKind};
+use std::alloc::AllocFailed;
 
 /// Why a row isn't joined to what was read before it.
 #[derive(Clone, Copy, Debug, PartialEq, Eq)]
@@ -27,6 +28,15 @@ impl From<NoMemory> for RowFault {
     ghost from_gives = { λ _ answer. answer ≡ fault.NoMemory };
 
     fn from(_no_memory: NoMemory) -> RowFault {
+        RowFault::NoMemory
+    }
+}
+
+impl<T: Drop> From<AllocFailed<T>> for RowFault {
+    ghost from_gives = { λ _ answer. answer ≡ fault.NoMemory };
+
+    /// What could not be stored is let go.
+    fn from(_failed: AllocFailed<T>) -> RowFault {
         RowFault::NoMemory
     }
 }

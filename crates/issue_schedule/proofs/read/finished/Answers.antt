@@ -1,6 +1,7 @@
 use Rattle.issue_schedule.proofs.FileFacts.{finished-with}
 use Rattle.issue_schedule.proofs.read.finished.Goals as goal
 
-pub returns-in-Ok-clause-issue : goal.returns-in-Ok-clause-issue
-returns-in-Ok-clause-issue c =
-    finished-with c.args.draft c.in-Ok.restricted c.issue_with.result c.within_limits.result c.in-Ok.ensures.value c.issue_with.ensures c.within_limits.ensures.issue
+pub returns-clause-issue : goal.returns-clause-issue
+returns-clause-issue c =
+    rw (← c.into_read-read.ensures.read)
+    (finished-with c.into_read-read.result c.in_ok-restricted.restricted c.issue_with.result c.within_limits.result c.in_ok-restricted.ensures.value c.issue_with.ensures c.within_limits.ensures.issue)

@@ -2,9 +2,8 @@ use Rattle.std.proofs.Common.{◌≡◌, ◌∙◌, ◌+◌, ◌≤◌, ap, sym,
 use Rattle.std.specs.Prelude.{sum_by}
 use Rattle.std.proofs.lemmas.Result.{IfOk-weaker}
 use Rattle.escrow_units.specs.Calendar.{years_after_of}
-use Rattle.escrow_units.specs.Flows.{total}
+use Rattle.escrow_units.specs.Flows.{total, FallWithin}
 use Rattle.escrow_units.specs.declared.security.Flow.{Flow}
-use Rattle.day_sums.specs.SummedLaws.{FallWithin}
 use Rattle.issue_schedule.specs.Limits.{total_limit}
 use Rattle.issue_schedule.specs.Needs.{bond_needs}
 use Rattle.issue_schedule.proofs.NeedFacts.{needs-total, needs-limit, needs-within}

@@ -1,18 +1,25 @@
-use Rattle.std.proofs.Common.{◌≡◌, ◌∙◌, ◌+◌, ◌<◌, [], ◌∷◌, ◌++◌, Ok, rules, length}
-use Rattle.std.proofs.lemmas.List.Elements.{All-push}
-use Rattle.market_notes.specs.NoteTerms.{IsOffered}
-use Rattle.market_notes.proofs.ReadFacts.{at_row-ok, notes_of-more}
+use Rattle.std.proofs.Common.{◌∙◌, ◌+◌, ◌<◌, [], get_or, length, rules}
+use Rattle.std.specs.Prelude.{Ok}
+use Rattle.std.specs.Result.{result_and}
+use Rattle.escrow_desk.specs.declared.refusal.FileKind.TheVariants.{Prices}
+use Rattle.row_fields.specs.RowForm.{RowAnswers}
+use Rattle.row_fields.proofs.RowFacts.{rows-fail, rows-more}
+use Rattle.market_notes.specs.PriceForm.{with_row}
 use Rattle.market_notes.proofs.read.read_rest.Goals as goal
 
-pub loop-row-preserved : goal.loop-row-preserved
-loop-row-preserved c =
-    let short : c.loop-row.row < length c.args.rows.now = search rules in
-    let pushed : c.push_note.new.notes.items ≡ c.loop-row.notes.items ++ c.in_ok-note.note ∷ [] = search rules in
-    let is : c.row_note.result ≡ Ok c.in_ok-note.note = at_row-ok (c.loop-row.row + 1) c.row_note.result c.in_ok-note.note c.in_ok-note.ensures.answer in
-    let good : IsOffered c.args.rules.now.settle c.args.rules.now.terms c.in_ok-note.note = rw is at c.row_note.ensures.note in
+pub returns-in_err-row_answer-clause-read : goal.returns-in_err-row_answer-clause-read
+returns-in_err-row_answer-clause-read c =
+    let short : c.loop-place.place < length c.args.rows.now = search rules in
+    let added : RowAnswers (result_and c.add_row-added.result (Ok c.add_row-added.new.draft)) (with_row c.loop-place.draft (get_or c.args.rows.now c.loop-place.place [])) = rw (← c.at.ensures) c.add_row-added.ensures.added in
+    rw c.loop-place.invariant.rest
+    (rows-fail Prices (λ read _ row. with_row read row) c.loop-place.draft c.add_row-added.new.draft (c.loop-place.place + 1) c.loop-place.place c.args.rows.now c.add_row-added.result c.from_residual.result c.in_err-row_answer.field-0.0 short (search rules) (search rules) added)
+
+pub loop-place-preserved : goal.loop-place-preserved
+loop-place-preserved c =
+    let short : c.loop-place.place < length c.args.rows.now = search rules in
+    let added : RowAnswers (result_and c.add_row-added.result (Ok c.add_row-added.new.draft)) (with_row c.loop-place.draft (get_or c.args.rows.now c.loop-place.place [])) = rw (← c.at.ensures) c.add_row-added.ensures.added in
     record {
-      kept = rw pushed (All-push (IsOffered c.args.rules.now.settle c.args.rules.now.terms) c.loop-row.notes.items c.in_ok-note.note c.loop-row.invariant.kept good);
-      rest = c.loop-row.invariant.rest
-          ∙ rw pushed (notes_of-more c.args.rules.now.settle c.args.rules.now.terms c.loop-row.notes.items (c.loop-row.row + 1) c.args.rows.now c.loop-row.row c.in_ok-note.note short
-          (rw (← c.row_note.ensures.value) c.in_ok-note.ensures.answer));
+      settle = search rules;
+      rest = c.loop-place.invariant.rest
+          ∙ rows-more Prices (λ read _ row. with_row read row) c.loop-place.draft c.add_row-added.new.draft (c.loop-place.place + 1) c.loop-place.place c.args.rows.now c.add_row-added.result c.in_ok-row_answer.field-0 short (search rules) added;
     }

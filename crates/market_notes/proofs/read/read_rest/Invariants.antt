@@ -1,12 +1,9 @@
-use Rattle.std.proofs.Common.{◌≡◌, ◌+◌, drop, All}
-use Rattle.market_notes.specs.NoteTerms.{IsOffered}
-use Rattle.market_notes.specs.PriceForm.{notes_of}
-use Rattle.market_notes.proofs.ReadFacts.{after_found}
+use Rattle.std.proofs.Common.{◌≡◌, ◌+◌, drop}
+use Rattle.market_notes.specs.PriceForm.{none_read, with_price_rows}
 use Rattle.market_notes.proofs.read.read_rest.Given as goal
 
-abbrev pub invariant-loop-row : goal.invariant-loop-row
-invariant-loop-row l = record {
-  kept : All (IsOffered l.fn.rules.settle l.fn.rules.terms) l.notes.items;
-  rest : notes_of l.fn.rules.settle l.fn.rules.terms 2 (drop 1 l.rows)
-      ≡ after_found l.notes.items (notes_of l.fn.rules.settle l.fn.rules.terms (l.row + 1) (drop l.row l.rows));
+abbrev pub invariant-loop-place : goal.invariant-loop-place
+invariant-loop-place l = record {
+  settle : l.draft.settle ≡ l.fn.settle;
+  rest : with_price_rows (none_read l.fn.settle l.fn.terms) 2 (drop 1 l.rows) ≡ with_price_rows l.draft (l.place + 1) (drop l.place l.rows);
 }

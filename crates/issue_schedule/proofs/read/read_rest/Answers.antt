@@ -1,0 +1,22 @@
+use Rattle.std.proofs.Common.{◌∙◌, ◌+◌, ◌<◌, [], get_or, length, rules}
+use Rattle.std.specs.Prelude.{Ok}
+use Rattle.std.specs.Result.{result_and}
+use Rattle.escrow_desk.specs.declared.refusal.FileKind.TheVariants.{Issue}
+use Rattle.row_fields.specs.RowForm.{RowAnswers}
+use Rattle.row_fields.proofs.RowFacts.{rows-fail, rows-more}
+use Rattle.issue_schedule.specs.IssueForm.{with_row}
+use Rattle.issue_schedule.proofs.read.read_rest.Goals as goal
+
+pub returns-in_err-row_answer : goal.returns-in_err-row_answer
+returns-in_err-row_answer c =
+    let short : c.loop-place.place < length c.args.rows.now = search rules in
+    let added : RowAnswers (result_and c.add_row-added.result (Ok c.add_row-added.new.self)) (with_row c.loop-place.draft (c.loop-place.place + 1) (get_or c.args.rows.now c.loop-place.place [])) = rw (← c.at.ensures) c.add_row-added.ensures in
+    rw c.loop-place.invariant
+    (rows-fail Issue with_row c.loop-place.draft c.add_row-added.new.self (c.loop-place.place + 1) c.loop-place.place c.args.rows.now c.add_row-added.result c.from_residual.result c.in_err-row_answer.field-0.0 short (search rules) (search rules) added)
+
+pub loop-place-preserved : goal.loop-place-preserved
+loop-place-preserved c =
+    let short : c.loop-place.place < length c.args.rows.now = search rules in
+    let added : RowAnswers (result_and c.add_row-added.result (Ok c.add_row-added.new.self)) (with_row c.loop-place.draft (c.loop-place.place + 1) (get_or c.args.rows.now c.loop-place.place [])) = rw (← c.at.ensures) c.add_row-added.ensures in
+    c.loop-place.invariant
+    ∙ rows-more Issue with_row c.loop-place.draft c.add_row-added.new.self (c.loop-place.place + 1) c.loop-place.place c.args.rows.now c.add_row-added.result c.in_ok-row_answer.field-0 short (search rules) added
