@@ -8,14 +8,13 @@ use Rattle.std.proofs.lemmas.Slice.Zip.{length-zip}
 use Rattle.std.proofs.Math.Nat.{mul-le-mul_right}
 use Rattle.std.proofs.lemmas.Int.{ints}
 use Rattle.std.proofs.lemmas.List.Sums.{sum_by-le}
-use Rattle.escrow_units.specs.Calendar.{IsBaseDay, years_after_of}
+use Rattle.escrow_units.specs.Calendar.{years_after_of}
 use Rattle.escrow_units.specs.DayNumber.{IsDayNumber}
 use Rattle.escrow_units.specs.Flows.{index360_of, total, FallWithinFortyYears}
 use Rattle.escrow_units.specs.SlgsTerms.{IsSettlement}
 use Rattle.escrow_units.specs.declared.security.Flow.{Flow}
 use Rattle.escrow_units.proofs.IndexFacts.{thirty_day_place_of-apart}
-use Rattle.escrow_units.proofs.SeriesFacts.{years_after_of-none}
-use Rattle.escrow_units.proofs.YearFacts.{settlement-base, years_after_of-passes}
+use Rattle.escrow_units.proofs.YearFacts.{settlement-base}
 use Rattle.day_sums.specs.Summed.{summed}
 use Rattle.day_sums.proofs.SumFacts.{count, counted, counted-zero, count-append, days-summed}
 use Rattle.day_sums.proofs.Uniqueness.{keep-total, same-sums, in-steps}
@@ -102,15 +101,6 @@ flows_later book plan limits =
         let base = settlement-base settle day h (omega (arith, ints, late.0)) late.1 in
         let is_day : IsDayNumber day = (omega (arith, ints, base.0), omega (arith, ints, base.1)) in
         omega (arith, thirty_day_place_of-apart settle day own is_day (omega (arith, ints, late.0)))
-
--- the 40 years after settlement
-pub years_follow : (settle : ℤ) → IsSettlement settle → settle ≤ℤ years_after_of settle 40
-years_follow settle h =
-    let own : IsDayNumber settle = (omega (arith, ints, h.0), omega (arith, ints, h.1)) in
-    let base : IsBaseDay settle = (h.0, omega (arith, ints, h.1)) in
-    let years = years_after_of-passes settle 0 40 base (omega arith) in
-    let none = years_after_of-none settle own in
-    omega (arith, ints, years.least, none)
 
 -- the lines after opening cash
 pub lines_after_cash : (settle : ℤ) (lines : List Line) → AreLines settle lines → All (IsSecurityLine settle) (drop 1 lines)

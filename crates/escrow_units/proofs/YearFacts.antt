@@ -101,6 +101,13 @@ ten_years settle h =
     let base : IsBaseDay settle = (h.0, omega (arith, signed_arith, h.1)) in
     omega (arith, signed_arith, (years_after_of-passes settle 1 9 base (omega arith)).least)
 
+-- 40 years after settlement come later
+pub years-follow : (settle : ℤ) → IsSettlement settle → settle ≤ℤ years_after_of settle 40
+years-follow settle h =
+    let own : IsDayNumber settle = (omega (arith, signed_arith, h.0), omega (arith, signed_arith, h.1)) in
+    let years = years_after_of-passes settle 0 40 (h.0, omega (arith, signed_arith, h.1)) (omega arith) in
+    omega (arith, signed_arith, years.least, years_after_of-none settle own)
+
 pub kinds-exclusive : (settle maturity : ℤ) (a b : SlgsKind) → IsSettlement settle → IsOfKind a settle maturity → IsOfKind b settle maturity → a ≡ b
 kinds-exclusive settle maturity kind.Certificate kind.Certificate h p q = refl
 kinds-exclusive settle maturity kind.Certificate kind.Note h p q = absurd (omega (arith, signed_arith, p, q.0))

@@ -120,7 +120,7 @@ at-test : (settle to : ℤ) (bond : Bond) (call : Call) (held : Bool) → IsWith
 at-test settle to bond call true matures called = held-within settle to bond matures
 at-test settle to bond call false matures called = called-within settle to bond call called
 
-bond-within : (settle : ℤ) (call : Option Call) (bond : Bond) → IfSome call (IsCall settle) → IsBond settle bond
+pub bond-within : (settle : ℤ) (call : Option Call) (bond : Bond) → IfSome call (IsCall settle) → IsBond settle bond
     → FallWithin settle (years_after_of settle 40) (bond_needs settle call bond)
 bond-within settle None bond calls is = held-within settle (years_after_of settle 40) bond (omega (arith, ints, is.maturity.after), is.maturity.by)
 bond-within settle (Some call) bond calls is =

@@ -11,18 +11,18 @@ use crate::bond::bond_needs;
 use crate::issue::Issue;
 use day_sums::DaySums;
 use escrow_desk::NoMemory;
-use escrow_units::Flow;
+use escrow_units::{Flow, years_after};
 use std::alloc::Global;
 
 // What is needed on each day.
 fn needs_by_day(alloc: Global, issue: &Issue) -> Result<DaySums, NoMemory>
     requires { HasNeeds issue.now }
-    ensures { IfOk result (λ sums. sums ≡ needs_of issue.now.settle issue.now.call issue.now.direct issue.now.bonds) }
+    ensures { IfOk result (λ sums. sums ≡ record { from = issue.now.settle; to = years_after_of issue.now.settle 40; sums = needs_of issue.now.settle issue.now.call issue.now.direct issue.now.bonds }) }
 {
-    let mut sums = DaySums::none(alloc);
-    sums.add(issue.direct.as_slice())?;
+    let mut sums = DaySums::between(alloc, issue.settle, years_after(issue.settle, 40))?;
+    sums.add(issue.direct.as_slice());
     for bond in issue.bonds.as_slice() {
-        sums.add(bond_needs(issue.settle, issue.call, bond).as_slice())?;
+        sums.add(bond_needs(issue.settle, issue.call, bond).as_slice());
     }
     Ok(sums)
 }

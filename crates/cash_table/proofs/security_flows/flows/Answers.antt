@@ -3,11 +3,12 @@ use Rattle.std.specs.List.{All}
 use Rattle.std.proofs.lemmas.List.{take_rest}
 use Rattle.std.proofs.lemmas.Result.{IfOk-weaker}
 use Rattle.escrow_units.specs.Flows.{index360_of, total, FallWithinFortyYears}
+use Rattle.escrow_units.proofs.YearFacts.{years-follow}
 use Rattle.escrow_units.specs.declared.security.Flow.{Flow}
 use Rattle.day_sums.specs.Table.{SpanSums}
 use Rattle.offer_book.specs.Portfolio.{security_flows}
 use Rattle.cash_table.proofs.CostFacts.{drop-zip}
-use Rattle.cash_table.proofs.FlowFacts.{lines_after_cash, years_follow, flows_within, flows_later, flows_at_most, securities_permitted, securities_at_most}
+use Rattle.cash_table.proofs.FlowFacts.{lines_after_cash, flows_within, flows_later, flows_at_most, securities_permitted, securities_at_most}
 use Rattle.cash_table.proofs.security_flows.flows.Goals as goal
 
 abbrev AreLater : ℤ → List Flow → Type 0
@@ -43,7 +44,7 @@ returns-clause-bound c =
     subst (IsBounded) (sym (same ∙ sums)) (flows_at_most c.args.book.now c.args.plan.now c.lines-lines.ensures.limits c.requires)) c.into_flows.ensures.value
 
 pub between-requires : goal.between-requires
-between-requires c = rw (c.years_after.ensures, c.settle-settle.ensures) (years_follow c.args.book.now.settle c.lines-lines.ensures.limits.settlement)
+between-requires c = rw (c.years_after.ensures, c.settle-settle.ensures) (years-follow c.args.book.now.settle c.lines-lines.ensures.limits.settlement)
 
 pub add_bought-requires-clause-lines : goal.add_bought-requires-clause-lines
 add_bought-requires-clause-lines c =

@@ -1,24 +1,15 @@
-use Rattle.std.proofs.Common.{◌≡◌, ◌∙◌, ◌+◌, ◌<◌, ◌≤◌, ◌++◌, arith, rules, ap, length, get_or, List}
-use Rattle.escrow_units.specs.Flows.{total}
+use Rattle.std.proofs.Common.{◌≡◌, ◌∙◌, ◌+◌, ◌<◌, ◌≤◌, ◌++◌, arith, rules, ap, sym, subst, length, get_or, List}
+use Rattle.escrow_units.specs.Flows.{FallWithin, total}
+use Rattle.escrow_units.proofs.YearFacts.{years-follow}
+use Rattle.issue_schedule.specs.IssueTerms.{IsBond}
 use Rattle.escrow_units.specs.declared.security.Flow.{Flow}
+use Rattle.day_sums.specs.Table.{SpanSums}
+use Rattle.day_sums.proofs.TableFacts.{span_sums}
 use Rattle.day_sums.specs.Summed.{summed}
 use Rattle.issue_schedule.specs.Limits.{total_limit}
 use Rattle.issue_schedule.specs.Needs.{bond_needs}
-use Rattle.issue_schedule.proofs.NeedFacts.{all-summed, bond-fits, bond-more}
+use Rattle.issue_schedule.proofs.NeedFacts.{all-summed, bond-fits, bond-more, bond-within}
 use Rattle.issue_schedule.proofs.schedule.needs_by_day.Goals as goal
-
-pub add-requires-in-loop-bond : goal.add-requires-in-loop-bond
-add-requires-in-loop-bond c =
-    let issue = c.args.issue.now in
-    let f = bond_needs issue.settle issue.call in
-    let bonds = c.as_slice-bond-items.result.now in
-    let short : c.loop-bond.bond-index < length bonds = search rules in
-    let pays : c.as_slice-in-loop-bond.result.now ≡ f c.bond-item.result = c.as_slice-in-loop-bond.ensures.value ∙ c.bond_needs.ensures in
-    let one : f (get_or bonds c.loop-bond.bond-index c.bond-item.result) ≡ f c.bond-item.result = search rules in
-    let fits : total c.loop-bond.sums + total (f (get_or bonds c.loop-bond.bond-index c.bond-item.result)) ≤ total_limit =
-    bond-fits f issue.direct bonds c.loop-bond.bond-index c.bond-item.result c.loop-bond.sums total_limit short c.loop-bond.invariant (search rules) in
-    let same : total c.as_slice-in-loop-bond.result.now ≡ total (f c.bond-item.result) = ap total pays in
-    omega (arith, fits, same, ap total one)
 
 pub loop-bond-preserved : goal.loop-bond-preserved
 loop-bond-preserved c =
@@ -27,12 +18,45 @@ loop-bond-preserved c =
     let bonds = c.as_slice-bond-items.result.now in
     let short : c.loop-bond.bond-index < length bonds = search rules in
     let pays : c.as_slice-in-loop-bond.result.now ≡ f (get_or bonds c.loop-bond.bond-index c.bond-item.result) = c.as_slice-in-loop-bond.ensures.value ∙ (c.bond_needs.ensures ∙ search rules) in
-    bond-more f issue.direct bonds c.loop-bond.bond-index c.bond-item.result c.loop-bond.sums c.add-in-loop-bond.new.self short c.loop-bond.invariant
-    (c.in_ok-add-2.ensures.sums ∙ ap (λ (flows : List Flow). summed (c.loop-bond.sums ++ flows)) pays)
+    let from = ap (λ (s : SpanSums). s.from) c.loop-bond.invariant in
+    let to = ap (λ (s : SpanSums). s.to) c.loop-bond.invariant in
+    let before = ap (λ (s : SpanSums). s.sums) c.loop-bond.invariant in
+    c.add-in-loop-bond.ensures ∙ span_sums from to
+    (bond-more f issue.direct bonds c.loop-bond.bond-index c.bond-item.result c.loop-bond.sums.sums (summed (c.loop-bond.sums.sums ++ c.as_slice-in-loop-bond.result.now)) short before
+    (ap (λ (flows : List Flow). summed (c.loop-bond.sums.sums ++ flows)) pays))
 
 pub returns : goal.returns
 returns c =
     let issue = c.args.issue.now in
     let all : length c.as_slice-bond-items.result.now ≤ c.loop-bond.bond-index = search rules in
     let same : c.as_slice-bond-items.result.now ≡ issue.bonds = search rules in
-    all-summed issue.settle issue.call issue.direct issue.bonds c.loop-bond.sums c.loop-bond.bond-index (rw same at all) (rw same at c.loop-bond.invariant)
+    let from = ap (λ (s : SpanSums). s.from) c.loop-bond.invariant in
+    let to = ap (λ (s : SpanSums). s.to) c.loop-bond.invariant in
+    let sums = ap (λ (s : SpanSums). s.sums) c.loop-bond.invariant in
+    span_sums from to (all-summed issue.settle issue.call issue.direct issue.bonds c.loop-bond.sums.sums c.loop-bond.bond-index (rw same at all) (rw same at sums))
+
+pub between-requires : goal.between-requires
+between-requires c = rw c.years_after.ensures (years-follow c.args.issue.now.settle c.requires.settle)
+
+pub add-requires-in-loop-bond-clause-span : goal.add-requires-in-loop-bond-clause-span
+add-requires-in-loop-bond-clause-span c =
+    let issue = c.args.issue.now in
+    let from = ap (λ (s : SpanSums). s.from) c.loop-bond.invariant in
+    let to = ap (λ (s : SpanSums). s.to) c.loop-bond.invariant in
+    let bond : IsBond issue.settle c.bond-item.result = search rules in
+    subst (λ flows. FallWithin c.loop-bond.sums.from c.loop-bond.sums.to flows) (sym (c.as_slice-in-loop-bond.ensures.value ∙ c.bond_needs.ensures))
+    (rw (from, to) (bond-within issue.settle issue.call c.bond-item.result c.requires.call bond))
+
+pub add-requires-in-loop-bond-clause-room : goal.add-requires-in-loop-bond-clause-room
+add-requires-in-loop-bond-clause-room c =
+    let issue = c.args.issue.now in
+    let f = bond_needs issue.settle issue.call in
+    let bonds = c.as_slice-bond-items.result.now in
+    let short : c.loop-bond.bond-index < length bonds = search rules in
+    let before = ap (λ (s : SpanSums). s.sums) c.loop-bond.invariant in
+    let pays : c.as_slice-in-loop-bond.result.now ≡ f c.bond-item.result = c.as_slice-in-loop-bond.ensures.value ∙ c.bond_needs.ensures in
+    let one : f (get_or bonds c.loop-bond.bond-index c.bond-item.result) ≡ f c.bond-item.result = search rules in
+    let fits : total c.loop-bond.sums.sums + total (f (get_or bonds c.loop-bond.bond-index c.bond-item.result)) ≤ total_limit =
+    bond-fits f issue.direct bonds c.loop-bond.bond-index c.bond-item.result c.loop-bond.sums.sums total_limit short before (search rules) in
+    let same : total c.as_slice-in-loop-bond.result.now ≡ total (f c.bond-item.result) = ap total pays in
+    omega (arith, fits, same, ap total one)

@@ -1,9 +1,11 @@
 use Rattle.std.proofs.Common.{◌≡◌, ◌++◌, take}
 use Rattle.std.specs.List.{flat_map}
+use Rattle.escrow_units.specs.Calendar.{years_after_of}
+use Rattle.day_sums.proofs.TableFacts.{span}
 use Rattle.day_sums.specs.Summed.{summed}
 use Rattle.issue_schedule.specs.Needs.{bond_needs}
 use Rattle.issue_schedule.proofs.schedule.needs_by_day.Given as goal
 
 abbrev pub invariant-loop-bond : goal.invariant-loop-bond
 invariant-loop-bond l =
-    l.sums ≡ summed (l.issue.direct ++ flat_map (bond_needs l.issue.settle l.issue.call) (take l.bond-index l.bond-items))
+    l.sums ≡ span l.issue.settle (years_after_of l.issue.settle 40) (summed (l.issue.direct ++ flat_map (bond_needs l.issue.settle l.issue.call) (take l.bond-index l.bond-items)))
