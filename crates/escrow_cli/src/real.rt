@@ -195,24 +195,28 @@ mod tests {
     use std::fs;
     use std::test::Fail;
 
+    // So many bytes of one kind.
+    fn filled(alloc: Global, byte: u8, count: usize) -> Result<Vec<u8>, Fail> {
+        Ok(vec![in alloc; byte; count]?)
+    }
+
     // A file of three pieces is read whole though another takes its name after the first, and a missing file is
     // counted.
     #[test]
     fn a_file_that_is_renamed_over_is_read_on(rt: HostRuntime) -> Result<(), Fail> {
-        let old = vec![in rt.alloc(); b'o'; 150_000]?;
+        let old = filled(rt.alloc(), b'o', 150_000)?;
         fs::write(&rt, "issue", old.as_slice())?;
         fs::write(&rt, "other", b"new")?;
         let mut desk = RealDesk::new(&rt, rt.alloc());
-        let mut piece = vec![in rt.alloc(); 0u8; 65_536]?;
+        let mut piece = filled(rt.alloc(), 0, 65_536)?;
         let mut read = desk.read("issue", 0, piece.as_mut_slice()).unwrap_or(0);
         fs::rename(&rt, "other", "issue")?;
         for _ in 0..4 {
-            read += desk
-                .read("issue", read as u64, piece.as_mut_slice())
-                .unwrap_or(0);
+            let count = desk.read("issue", read as u64, piece.as_mut_slice());
+            read = read.saturating_add(count.unwrap_or(0));
         }
         assert_eq!(rt; read, 150_000);
-        assert_eq!(rt; piece[0], b'o');
+        assert_eq!(rt; piece.first(), Some(&b'o'));
         let again = read_all(rt.alloc(), &mut desk, "issue", 100).ok();
         assert_eq!(rt; again.as_deref(), Some(b"new".as_slice()));
         assert_eq!(rt;
