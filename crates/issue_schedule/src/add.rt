@@ -3,8 +3,8 @@ ghost use Rattle.std.specs.Prelude.{◌≡◌, Ok};
 ghost use Rattle.std.specs.Result.{result_and};
 ghost use Rattle.escrow_units.specs.Calendar.{years_after_of};
 ghost use Rattle.row_fields.specs.RowForm.{RowAnswers};
-ghost use Rattle.issue_schedule.specs.IssueForm.{with_allowance, with_bond, with_budget, with_call, with_cash, with_need, with_pay, with_price, with_read_row, with_restricted, with_row};
-ghost use Rattle.issue_schedule.specs.IssueRows.{IsBondRow, IsBudget, IsCallRow, IsCents, IsFlowRow, IsGivenYield, IsIssuePrice, IsIssueRow};
+ghost use Rattle.issue_schedule.specs.IssueForm.{with_allowance, with_bond, with_budget, with_call, with_cash, with_need, with_pay, with_price, with_restricted, with_row};
+ghost use Rattle.issue_schedule.specs.IssueRows.{IsBondRow, IsBudget, IsCallRow, IsCents, IsFlowRow, IsGivenYield, IsIssuePrice};
 
 use crate::draft::{Draft, IssuePrice};
 use crate::issue::{Bond, Call};
@@ -131,12 +131,11 @@ impl Draft {
         Ok(())
     }
 
-    // What one more row says.
-    fn add(&mut self, row: IssueRow) -> Result<(), RowFault>
-        requires { IsIssueRow (years_after_of self.old.settle 40) row }
-        ensures { RowAnswers (result_and result (Ok self.new)) (with_read_row self.old row) }
+    /// One more row, by its number from 1.
+    pub(crate) fn add_row(&mut self, row: &Row, number: u32) -> Result<(), RowFault>
+        ensures { RowAnswers (result_and result (Ok self.new)) (with_row self.old number row.now) }
     {
-        match row {
+        match issue_row(row, number, self.last)? {
             IssueRow::Settle(_) => Err(RowFault::Refused(RefusalKind::Repeated)),
             IssueRow::Call(call) => self.add_call(call),
             IssueRow::Bond(bond) => self.add_bond(bond),
@@ -148,13 +147,5 @@ impl Draft {
             IssueRow::Allowance(allowance) => self.add_allowance(allowance),
             IssueRow::Budget(budget) => self.add_budget(budget),
         }
-    }
-
-    /// One more row, by its number from 1.
-    pub(crate) fn add_row(&mut self, row: &Row, number: u32) -> Result<(), RowFault>
-        ensures { RowAnswers (result_and result (Ok self.new)) (with_row self.old number row.now) }
-    {
-        let row = issue_row(row, number, self.last)?;
-        self.add(row)
     }
 }

@@ -5,7 +5,7 @@ ghost use Rattle.escrow_units.specs.Denomination.{AreTerms};
 ghost use Rattle.escrow_units.specs.SlgsTerms.{IsSettlement};
 ghost use Rattle.row_fields.specs.RowForm.{RowAnswers};
 ghost use Rattle.market_notes.specs.NoteTerms.{IsNoteFile, IsOffered};
-ghost use Rattle.market_notes.specs.PriceForm.{file_of, none_read, note_row_of, price_row_of, with_note, with_read_row};
+ghost use Rattle.market_notes.specs.PriceForm.{file_of, none_read, note_row_of, price_row_of, with_note, with_row};
 ghost use Rattle.market_notes.specs.PriceRows.{IsPriceRow};
 
 use crate::note::{Note, NoteFile, Notes};
@@ -77,8 +77,8 @@ impl Draft {
         })
     }
 
-    /// What one more row says.
-    pub fn price_row(&self, row: &Row) -> Result<PriceRow, RefusalKind>
+    // What one more row says.
+    fn price_row(&self, row: &Row) -> Result<PriceRow, RefusalKind>
         ensures value { result ≡ price_row_of self.now.settle self.now.terms row.now }
         ensures row { IfOk result (IsPriceRow self.now.settle self.now.terms) }
     {
@@ -104,12 +104,11 @@ impl Draft {
     }
 
     /// One more row.
-    pub fn add(&mut self, row: PriceRow) -> Result<(), RowFault>
-        requires { IsPriceRow self.old.settle self.old.terms row }
-        ensures added { RowAnswers (result_and result (Ok self.new)) (with_read_row self.old row) }
+    pub fn add_row(&mut self, row: &Row) -> Result<(), RowFault>
+        ensures added { RowAnswers (result_and result (Ok self.new)) (with_row self.old row.now) }
         ensures settle { self.new.settle ≡ self.old.settle }
     {
-        match row {
+        match self.price_row(row)? {
             PriceRow::Terms(_) => Err(RowFault::Refused(RefusalKind::Repeated)),
             PriceRow::Note(note) => self.add_note(note),
         }

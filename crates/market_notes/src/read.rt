@@ -1,27 +1,17 @@
 //! The reader of price files.
-ghost use Rattle.std.specs.Prelude.{◌≡◌, ◌≤◌, Ok, drop, length, IfOk, OnOk};
-ghost use Rattle.std.specs.Result.{result_and};
+ghost use Rattle.std.specs.Prelude.{◌≡◌, ◌≤◌, drop, length, IfOk};
 ghost use Rattle.escrow_units.specs.Denomination.{AreTerms};
 ghost use Rattle.escrow_units.specs.SlgsTerms.{IsSettlement};
-ghost use Rattle.row_fields.specs.RowForm.{Answers, RowAnswers};
+ghost use Rattle.row_fields.specs.RowForm.{Answers};
 ghost use Rattle.market_notes.specs.NoteTerms.{IsNoteFile};
-ghost use Rattle.market_notes.specs.PriceForm.{none_read, note_file_of, with_price_rows, with_row};
+ghost use Rattle.market_notes.specs.PriceForm.{none_read, note_file_of, with_price_rows};
 
 use crate::draft::Draft;
 use crate::note::{NoteFile, Notes};
 use escrow_desk::{CaseError, FileKind, Rows};
 use escrow_units::{Day, Terms};
-use row_fields::{Row, RowFault, at_row, first_terms, row_answer};
+use row_fields::{Row, at_row, first_terms, row_answer};
 use std::alloc::Global;
-
-// One more row.
-fn add_row(draft: &mut Draft, row: &Row) -> Result<(), RowFault>
-    ensures added { RowAnswers (result_and result (Ok draft.new)) (with_row draft.old row.now) }
-    ensures settle { draft.new.settle ≡ draft.old.settle }
-{
-    let row = draft.price_row(row)?;
-    draft.add(row)
-}
 
 // The rest of the rows, after row 1 with the terms.
 fn read_rest(alloc: Global, rows: &Rows, settle: Day, terms: Terms) -> Result<Draft, CaseError>
@@ -33,7 +23,7 @@ fn read_rest(alloc: Global, rows: &Rows, settle: Day, terms: Terms) -> Result<Dr
 {
     let mut draft = Draft::new(alloc, settle, terms);
     for place in 1..rows.count() {
-        let added = add_row(&mut draft, &Row::at(rows, place));
+        let added = draft.add_row(&Row::at(rows, place));
         row_answer(FileKind::Prices, place + 1, added)?;
     }
     Ok(draft)

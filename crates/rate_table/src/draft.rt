@@ -3,16 +3,15 @@ ghost use Rattle.std.specs.Prelude.{◌≡◌, Some, Ok, IsSomeAnd};
 ghost use Rattle.std.specs.Result.{result_and};
 ghost use Rattle.escrow_units.specs.Denomination.{AreTerms};
 ghost use Rattle.row_fields.specs.RowForm.{RowAnswers};
-ghost use Rattle.rate_table.specs.RateForm.{bare_file, with_offer, with_range, with_read_row};
-ghost use Rattle.rate_table.specs.RateRows.{IsRateRow};
+ghost use Rattle.rate_table.specs.RateForm.{bare_file, with_offer, with_range, with_row};
 ghost use Rattle.rate_table.specs.Table.{IsOffer, IsRange, IsRateFile};
 
 use crate::index::RateIndex;
-use crate::row::RateRow;
+use crate::row::{RateRow, rate_row};
 use crate::table::{Offer, Offers, RateFile, RateRange};
 use escrow_desk::RefusalKind;
 use escrow_units::Terms;
-use row_fields::RowFault;
+use row_fields::{Row, RowFault};
 use std::alloc::Global;
 use std::marker::Model;
 
@@ -53,7 +52,8 @@ impl Draft {
     // One more range, where it has no day in common with an earlier one.
     fn add_range(&mut self, range: RateRange) -> Result<(), RowFault>
         requires { IsRange range }
-        ensures { RowAnswers (result_and result (Ok self.new)) (with_range self.old range) }
+        ensures added { RowAnswers (result_and result (Ok self.new)) (with_range self.old range) }
+        ensures terms { self.new.terms ≡ self.old.terms }
     {
         if self.ranges.overlaps(&range) {
             return Err(RowFault::Refused(RefusalKind::Overlap));
@@ -65,22 +65,25 @@ impl Draft {
     // One more offer.
     fn add_offer(&mut self, offer: Offer) -> Result<(), RowFault>
         requires { IsSomeAnd self.old.terms (λ terms. IsOffer terms offer) }
-        ensures { RowAnswers (result_and result (Ok self.new)) (with_offer self.old offer) }
+        ensures added { RowAnswers (result_and result (Ok self.new)) (with_offer self.old offer) }
+        ensures terms { self.new.terms ≡ self.old.terms }
     {
         // Its fields are copied one by one, since the proof of the push reads their types.
         self.offers.push(Offer { ..offer })?;
         Ok(())
     }
 
-    /// One more row.
-    pub fn add(&mut self, row: RateRow) -> Result<(), RowFault>
-        requires { IsSomeAnd self.old.terms (λ terms. IsRateRow terms row) }
-        ensures { RowAnswers (result_and result (Ok self.new)) (with_read_row self.old row) }
+    /// One more row, by its number from 1, under the file's denominations.
+    pub fn add_row(&mut self, row: &Row, number: u32, terms: Terms) -> Result<(), RowFault>
+        requires { self.old.terms ≡ Some terms }
+        ensures added { RowAnswers (result_and result (Ok self.new)) (with_row terms self.old number row.now) }
+        ensures terms { self.new.terms ≡ self.old.terms }
     {
-        match row {
-            RateRow::Terms(_) => Err(RowFault::Refused(RefusalKind::Repeated)),
-            RateRow::Range(range) => self.add_range(range),
-            RateRow::Offer(offer) => self.add_offer(offer),
+        match rate_row(row, number, terms) {
+            Ok(RateRow::Terms(_)) => Err(RowFault::Refused(RefusalKind::Repeated)),
+            Ok(RateRow::Range(range)) => self.add_range(range),
+            Ok(RateRow::Offer(offer)) => self.add_offer(offer),
+            Err(kind) => Err(RowFault::Refused(kind)),
         }
     }
 

@@ -1,31 +1,17 @@
 //! The reader of rate files.
 ghost use Rattle.std.specs.Prelude.{◌≡◌, ◌≤◌, Some, Ok, drop, length, IfOk, OnOk};
-ghost use Rattle.std.specs.Result.{result_and};
 ghost use Rattle.escrow_units.specs.Denomination.{AreTerms};
 ghost use Rattle.escrow_desk.specs.declared.refusal.FileKind.TheVariants.{Rates};
-ghost use Rattle.row_fields.specs.RowForm.{Answers, RowAnswers, with_rows};
+ghost use Rattle.row_fields.specs.RowForm.{Answers, with_rows};
 ghost use Rattle.rate_table.specs.RateForm.{bare_file, rate_file_of, with_row};
 ghost use Rattle.rate_table.specs.Table.{IsRateFile};
 
 use crate::draft::Draft;
-use crate::row::rate_row;
 use crate::table::{Offers, RateFile, RateRanges};
 use escrow_desk::{CaseError, FileKind, Rows};
 use escrow_units::{Day, Terms};
-use row_fields::{Row, RowFault, at_row, first_terms, row_answer};
+use row_fields::{Row, at_row, first_terms, row_answer};
 use std::alloc::Global;
-
-// One more row, by its number from 1.
-fn add_row(draft: &mut Draft, row: &Row, number: u32, terms: Terms) -> Result<(), RowFault>
-    requires { draft.old.terms ≡ Some terms }
-    ensures added { RowAnswers (result_and result (Ok draft.new)) (with_row terms draft.old number row.now) }
-    ensures terms { OnOk result (draft.new.terms ≡ Some terms) }
-{
-    match rate_row(row, number, terms) {
-        Ok(row) => draft.add(row),
-        Err(kind) => Err(RowFault::Refused(kind)),
-    }
-}
 
 // The rest of the rows, added to row 1's terms.
 fn read_rest(alloc: Global, rows: &Rows, terms: Terms) -> Result<RateFile, CaseError>
@@ -36,7 +22,7 @@ fn read_rest(alloc: Global, rows: &Rows, terms: Terms) -> Result<RateFile, CaseE
 {
     let mut draft = Draft::new(alloc, terms);
     for place in 1..rows.count() {
-        let added = add_row(&mut draft, &Row::at(rows, place), place + 1, terms);
+        let added = draft.add_row(&Row::at(rows, place), place + 1, terms);
         row_answer(FileKind::Rates, place + 1, added)?;
     }
     Ok(draft.into_file())

@@ -10,16 +10,16 @@ use Rattle.market_notes.proofs.read.read_rest.Goals as goal
 pub returns-in_err-row_answer-clause-read : goal.returns-in_err-row_answer-clause-read
 returns-in_err-row_answer-clause-read c =
     let short : c.loop-place.place < length c.args.rows.now = search rules in
-    let added : RowAnswers (result_and c.add_row-added.result (Ok c.add_row-added.new.draft)) (with_row c.loop-place.draft (get_or c.args.rows.now c.loop-place.place [])) = rw (← c.at.ensures) c.add_row-added.ensures.added in
+    let added : RowAnswers (result_and c.add_row-added.result (Ok c.add_row-added.new.self)) (with_row c.loop-place.draft (get_or c.args.rows.now c.loop-place.place [])) = rw (← c.at.ensures) c.add_row-added.ensures.added in
     rw c.loop-place.invariant.rest
-    (rows-fail Prices (λ read _ row. with_row read row) c.loop-place.draft c.add_row-added.new.draft (c.loop-place.place + 1) c.loop-place.place c.args.rows.now c.add_row-added.result c.from_residual.result c.in_err-row_answer.field-0.0 short (search rules) (search rules) added)
+    (rows-fail Prices (λ read _ row. with_row read row) c.loop-place.draft c.add_row-added.new.self (c.loop-place.place + 1) c.loop-place.place c.args.rows.now c.add_row-added.result c.from_residual.result c.in_err-row_answer.field-0.0 short (search rules) (search rules) added)
 
 pub loop-place-preserved : goal.loop-place-preserved
 loop-place-preserved c =
     let short : c.loop-place.place < length c.args.rows.now = search rules in
-    let added : RowAnswers (result_and c.add_row-added.result (Ok c.add_row-added.new.draft)) (with_row c.loop-place.draft (get_or c.args.rows.now c.loop-place.place [])) = rw (← c.at.ensures) c.add_row-added.ensures.added in
+    let added : RowAnswers (result_and c.add_row-added.result (Ok c.add_row-added.new.self)) (with_row c.loop-place.draft (get_or c.args.rows.now c.loop-place.place [])) = rw (← c.at.ensures) c.add_row-added.ensures.added in
     record {
       settle = search rules;
       rest = c.loop-place.invariant.rest
-          ∙ rows-more Prices (λ read _ row. with_row read row) c.loop-place.draft c.add_row-added.new.draft (c.loop-place.place + 1) c.loop-place.place c.args.rows.now c.add_row-added.result c.in_ok-row_answer.field-0 short (search rules) added;
+          ∙ rows-more Prices (λ read _ row. with_row read row) c.loop-place.draft c.add_row-added.new.self (c.loop-place.place + 1) c.loop-place.place c.args.rows.now c.add_row-added.result c.in_ok-row_answer.field-0 short (search rules) added;
     }
