@@ -11,7 +11,7 @@ use Rattle.offer_book.specs.Book.{IsBook, IsNeeds, IsSecurityLine, AreWithoutInt
 use Rattle.offer_book.specs.Offers.{AreLinesOf}
 use Rattle.offer_book.specs.declared.line.Line.{Line}
 use Rattle.escrow_desk.specs.declared.refusal.Refusal.{Refusal}
-use Rattle.case_file.specs.Case.{IsKept, book_of, case_view, cash_line, or_refused}
+use Rattle.case_file.specs.Case.{HasTerms, IsKept, book_of, case_view, cash_line, or_refused}
 use Rattle.case_file.specs.declared.case.Case.{Case}
 use Rattle.case_file.specs.declared.fault.CaseFault.{CaseFault}
 
@@ -23,18 +23,17 @@ ok_of (Err refusal) value is = absurd (cc)
 pub kept : (rows : List Row) (issue : Issue) (rates : RateFile) (offers : List Line) (result : Result Case CaseFault)
     → rate_file_of rows ≡ Ok rates → AreLinesOf issue.settle rates offers
     → IfOk result (λ case. case.book ≡ book_of issue offers) → IfOk result (λ case. IsBook case.book)
-    → IfOk result (λ case. (100_000 ≤ case.limit.0) × (case.limit.0 ≤ 3_000_000_000))
+    → IfOk result (λ case. HasTerms (case_view case))
     → IfOk result (λ case. AreWithoutInterest case.book.lines)
     → IfOk result (λ case. IsKept rows (case_view case))
-kept rows issue rates offers (Err why) is_rates rules book limits limit interest = book
-kept rows issue rates offers (Ok case) is_rates rules book limits limit interest = record {
+kept rows issue rates offers (Err why) is_rates rules book limits terms interest = book
+kept rows issue rates offers (Ok case) is_rates rules book limits terms interest = record {
   book = limits;
   rates = rates;
   is_rates = is_rates;
   rules = rw book rules;
   interest = interest;
-  least_limit = limit.0;
-  most_limit = limit.1;
+  terms = terms;
 }
 
 -- the book of an issue within its limits and of lines on offer is within the limits of books

@@ -22,7 +22,7 @@ use Rattle.case_file.specs.declared.fault.CaseFault.{CaseFault}
 use Rattle.case_file.specs.declared.fault.CaseFault.TheVariants as fault
 use Rattle.case_file.specs.declared.fault.NoCase.{NoCase}
 use Rattle.case_file.specs.declared.fault.NoCase.TheVariants.{Refused, Unbuilt}
-use Rattle.escrow_units.specs.declared.limits.TheConstants.{GREATEST_YIELD}
+use Rattle.escrow_units.specs.declared.limits.TheConstants.{AMOUNT_LIMIT, GREATEST_YIELD, MOST_LINES}
 
 -- a case: its book; its limit on the yield, which is the restricted yield plus one thousandth of a percentage point
 -- (26 CFR 1.148-2(d)(2)), in units of 10^-10; the greatest gap that is allowed, in cents; and the greatest number of nodes
@@ -58,7 +58,7 @@ without_prices (row ∷ rows) = Err (Unbuilt file.Prices)
 -- at most 256 lines are on offer
 abbrev pub few_lines : List Line → Result (Unit {0}) NoCase
 few_lines offers =
-    if nat_lt 256 (length offers) then Err (Refused (refusal_of file.Prices 0 kind.TooManyLines)) else Ok tt
+    if nat_lt MOST_LINES (length offers) then Err (Refused (refusal_of file.Prices 0 kind.TooManyLines)) else Ok tt
 
 -- the restricted yield that is given: one that is to be computed isn't built yet
 abbrev pub given_yield : Restricted → Result ℕ NoCase
@@ -94,7 +94,16 @@ rows_case issue_rows rate_rows price_rows = do
   offers ← or_refused (slgs_lines_of issue.settle rates)
   case_with issue offers
 
--- what each case keeps of the rate file that it was read from: its book keeps every limit; its lines on offer are those of
+-- the numbers of a case: a limit of one thousandth of a percentage point to 30 percent, an allowance of at most 10^13 cents,
+-- and a budget of 1 to 10,000 nodes
+pub record HasTerms (case : CaseContents) : Type 0 where
+  pub least_limit : 100_000 ≤ case.limit
+  pub most_limit : case.limit ≤ GREATEST_YIELD
+  pub allowance : case.allowance ≤ AMOUNT_LIMIT
+  pub least_budget : 1 ≤ case.budget
+  pub most_budget : case.budget ≤ 10_000
+
+-- what each case keeps, also of the rate file that it was read from: its book keeps every limit; its lines on offer are those of
 -- the file, each with every rule of term, rate and denomination; and none of them bears interest
 pub record IsKept (rate_rows : List Row) (case : CaseContents) : Type 0 where
   pub book : IsBook case.book
@@ -102,8 +111,7 @@ pub record IsKept (rate_rows : List Row) (case : CaseContents) : Type 0 where
   pub is_rates : rate_file_of rate_rows ≡ Ok rates
   pub rules : AreLinesOf case.book.settle rates (drop 1 case.book.lines)
   pub interest : AreWithoutInterest case.book.lines
-  pub least_limit : 100_000 ≤ case.limit
-  pub most_limit : case.limit ≤ GREATEST_YIELD
+  pub terms : HasTerms case
 
 -- a case as contracts see it
 abbrev pub case_view : Case → CaseContents

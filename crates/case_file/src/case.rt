@@ -11,18 +11,15 @@ ghost use Rattle.rate_table.specs.RateForm.{rate_file_of};
 ghost use Rattle.rate_table.specs.Table.{IsRateFile};
 ghost use Rattle.offer_book.specs.Book.{IsBook, IsSecurityLine, AreWithoutInterest};
 ghost use Rattle.offer_book.specs.Offers.{AreLinesOf, slgs_lines_of};
-ghost use Rattle.case_file.specs.Case.{Answers, IsKept, bears_interest as bears_interest_of_line, book_of, case_view, case_with, cash_line, given_yield as given_yield_of, or_refused, rows_case, without_prices};
+ghost use Rattle.case_file.specs.Case.{Answers, HasTerms, IsKept, bears_interest as bears_interest_of_line, book_of, case_view, case_with, cash_line, given_yield as given_yield_of, or_refused, rows_case, without_prices};
 
 use crate::fault::{CaseFault, NoCase};
-use escrow_desk::{FileKind, NoMemory, Refusal, RefusalKind, read_rows};
-use escrow_units::{Cents, Day, GREATEST_YIELD, MOST_LINES, YieldUnits};
+use escrow_desk::{FILE_LIMIT, FileKind, NoMemory, Refusal, RefusalKind, read_rows};
+use escrow_units::{Cents, Day, MOST_LINES, YieldUnits};
 use issue_schedule::{Issue, Restricted, needs, read_issue};
 use offer_book::{Book, Line, LineKind, slgs_lines};
 use rate_table::{RateFile, read_rates};
 use std::alloc::Global;
-
-// The most lines of securities.
-const MOST_OFFERS: usize = 256;
 
 // What a portfolio may yield above the restricted yield: one thousandth of a percentage point.
 const MATERIALLY_HIGHER: u64 = 100_000;
@@ -43,7 +40,7 @@ pub struct Case {
 
 // The issue of an issue file's bytes.
 fn issue_of_text(alloc: Global, text: &[u8]) -> Result<Issue, CaseFault>
-    requires { length text.now ≤ 1_048_576 }
+    requires { length text.now ≤ FILE_LIMIT }
     ensures issue { Answers (λ issue. issue) result (or_refused (issue_of (rows_of text.now))) }
     ensures kept { IfOk result IsIssue }
 {
@@ -53,7 +50,7 @@ fn issue_of_text(alloc: Global, text: &[u8]) -> Result<Issue, CaseFault>
 
 // The rate file of its bytes.
 fn rates_of_text(alloc: Global, settle: Day, text: &[u8]) -> Result<RateFile, CaseFault>
-    requires { length text.now ≤ 1_048_576 }
+    requires { length text.now ≤ FILE_LIMIT }
     ensures rates { Answers (λ rates. rates) result (or_refused (rate_file_of (rows_of text.now))) }
     ensures kept { IfOk result IsRateFile }
 {
@@ -63,7 +60,7 @@ fn rates_of_text(alloc: Global, settle: Day, text: &[u8]) -> Result<RateFile, Ca
 
 // That a price file's bytes have no rows.
 fn require_no_prices(alloc: Global, text: &[u8]) -> Result<(), CaseFault>
-    requires { length text.now ≤ 1_048_576 }
+    requires { length text.now ≤ FILE_LIMIT }
     ensures { Answers (λ none. none) result (without_prices (rows_of text.now)) }
 {
     let rows = read_rows(alloc, text)?;
@@ -148,10 +145,10 @@ fn case_of_issue(alloc: Global, issue: &Issue, offers: &[Line]) -> Result<Case, 
     ensures case { Answers case_view result (case_with issue.now offers.now) }
     ensures book { IfOk result (λ case. case.book ≡ book_of issue.now offers.now) }
     ensures limits { IfOk result (λ case. IsBook case.book) }
-    ensures limit { IfOk result (λ case. (100_000 ≤ case.limit.0) × (case.limit.0 ≤ GREATEST_YIELD)) }
+    ensures terms { IfOk result (λ case. HasTerms (case_view case)) }
     ensures interest { IfOk result (λ case. AreWithoutInterest case.book.lines) }
 {
-    if offers.len() > MOST_OFFERS {
+    if offers.len() > MOST_LINES as usize {
         return Err(CaseFault::NoCase(NoCase::Refused(Refusal {
             file: FileKind::Prices,
             row: 0,
@@ -186,9 +183,9 @@ pub fn read_case(
     rates: &[u8],
     prices: &[u8],
 ) -> Result<Case, CaseFault>
-    requires issue { length issue.now ≤ 1_048_576 }
-    requires rates { length rates.now ≤ 1_048_576 }
-    requires prices { length prices.now ≤ 1_048_576 }
+    requires issue { length issue.now ≤ FILE_LIMIT }
+    requires rates { length rates.now ≤ FILE_LIMIT }
+    requires prices { length prices.now ≤ FILE_LIMIT }
     ensures case { Answers case_view result (rows_case (rows_of issue.now) (rows_of rates.now) (rows_of prices.now)) }
     ensures kept { IfOk result (λ case. IsKept (rows_of rates.now) (case_view case)) }
 {

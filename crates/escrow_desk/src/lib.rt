@@ -7,6 +7,7 @@
 mod buffer;
 mod desk;
 mod files;
+mod limits;
 mod memory;
 mod named;
 mod never;
@@ -16,6 +17,7 @@ mod tally;
 mod transfer;
 
 pub use desk::{Desk, DeskError, Failed};
+pub use limits::{CERTIFICATE_LIMIT, FILE_LIMIT};
 pub use memory::MemoryDesk;
 pub use named::NamedBytes;
 pub use never::NeverFails;

@@ -4,6 +4,7 @@ ghost use Rattle.std.specs.Prelude.{◌≡◌, ◌<◌, ◌≤◌, [], length, I
 ghost use Rattle.escrow_desk.specs.Rows.{rows_of};
 
 use crate::buffer::RowBuffer;
+use crate::limits::FILE_LIMIT;
 use crate::refusal::NoMemory;
 use csv::{ByteRecord, ReaderBuilder};
 use std::alloc::Global;
@@ -60,7 +61,7 @@ impl Rows {
 ///
 /// Where memory ran out. A fault of the crate, of which none is known over bytes in memory, is answered so too.
 pub fn read_rows(alloc: Global, bytes: &[u8]) -> Result<Rows, NoMemory>
-    requires { length bytes.now ≤ 1048576 }
+    requires { length bytes.now ≤ FILE_LIMIT }
     ensures { IfOk result (λ rows. rows ≡ rows_of bytes.now) }
 {
     let mut reader = ReaderBuilder::new()

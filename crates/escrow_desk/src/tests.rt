@@ -129,7 +129,7 @@ fn lent_files_never_fail(rt: HostRuntime) -> Result<(), Fail> {
 
 // The records with a bar after each field and a slash after each record.
 fn spelling(alloc: Global, text: &[u8]) -> Result<Vec<u8>, Fail>
-    requires { length text.now ≤ 1048576 }
+    requires { length text.now ≤ FILE_LIMIT }
 {
     let Ok(rows) = read_rows(alloc, text) else {
         return Ok(Vec::new(alloc));

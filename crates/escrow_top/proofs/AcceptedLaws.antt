@@ -3,6 +3,7 @@ use Rattle.std.proofs.Common.{◌≡◌, ℕ, ◌+◌, ◌-◌, ◌≤◌, Bool,
 use Rattle.std.specs.Prelude.{option_map}
 use Rattle.std.proofs.lemmas.Bool.{ltb-false}
 use Rattle.std.proofs.lemmas.Bool.Decides.{nat_tests}
+use Rattle.escrow_desk.specs.declared.limits.TheConstants.{CERTIFICATE_LIMIT}
 use Rattle.escrow_desk.specs.Rows.{rows_of}
 use Rattle.offer_book.specs.Book.{BookContents, IsBook}
 use Rattle.offer_book.specs.Portfolio.{Meets, IsFirstShort, cost, security_cost, security_flows, total_needs}
@@ -15,7 +16,7 @@ use Rattle.escrow_top.specs.InputFiles.{InputFiles}
 use Rattle.case_file.specs.Case.{CaseContents, IsKept}
 use Rattle.std.specs.Bool.{then_some}
 use Rattle.std.specs.Option.{option_or}
-use Rattle.escrow_top.specs.Answer.{first_not_offered, plan_of, plan_yield, is_leaf_weak, reason_against, reason_of, yes_text, weighed, weigh_of, certificate_answer, certificate_limit, case_of, check_answer}
+use Rattle.escrow_top.specs.Answer.{first_not_offered, plan_of, plan_yield, is_leaf_weak, reason_against, reason_of, yes_text, weighed, weigh_of, certificate_answer, case_of, check_answer}
 use Rattle.escrow_top.specs.Accepted.{Accepted, IsUnopposed, YesExactly}
 use Rattle.escrow_top.specs.declared.status.Status.TheVariants as status
 use Rattle.escrow_top.specs.declared.verdict.Reason.{Reason}
@@ -42,7 +43,7 @@ is_taken case (Some certificate) done =
     record { certificate = certificate; is_certificate = refl; none = both.0; said = both.1 }
 
 -- the answer to a certificate is `yes` only where it is within its limit
-certificate_taken : (case : CaseContents) (cert : List ℕ) (long : Bool) → nat_lt certificate_limit (length cert) ≡ long → (certificate_answer case cert).status ≡ status.Done → IsTaken case (certificate_of (length case.book.needs) cert) × ((certificate_answer case cert).text ≡ (weigh_of case (certificate_of (length case.book.needs) cert)).text)
+certificate_taken : (case : CaseContents) (cert : List ℕ) (long : Bool) → nat_lt CERTIFICATE_LIMIT (length cert) ≡ long → (certificate_answer case cert).status ≡ status.Done → IsTaken case (certificate_of (length case.book.needs) cert) × ((certificate_answer case cert).text ≡ (weigh_of case (certificate_of (length case.book.needs) cert)).text)
 certificate_taken case cert true is done = let never : status.Refused ≡ status.Done = rw is at done in absurd (cc)
 certificate_taken case cert false is done =
     let claims : (weigh_of case (certificate_of (length case.book.needs) cert)).status ≡ status.Done = rw is at done in
@@ -106,7 +107,7 @@ least_by_gap whole gap needs rival borne dear = omega arith
 
 pub accepted : (files : InputFiles) (cert : List ℕ) (case : CaseContents) → case_of files ≡ Ok case → IsKept (rows_of files.rates) case → (certificate_answer case cert).status ≡ status.Done → Accepted files cert
 accepted files cert case is_case kept done =
-    let taken = certificate_taken case cert (nat_lt certificate_limit (length cert)) refl done in
+    let taken = certificate_taken case cert (nat_lt CERTIFICATE_LIMIT (length cert)) refl done in
     let yes = taken.0 in
     let book = case.book in
     let plan = plan_of book yes.certificate.purchases in
@@ -157,15 +158,15 @@ no_reason_stands case certificate plan limits rises unopposed =
     let allowed : nat_lt case.allowance certificate.gap ≡ false = under-test certificate.gap case.allowance unopposed.allowed in
     rw (offered, ← same, covered, borne, allowed) refl
 
-done_where_unopposed : (case : CaseContents) (cert : List ℕ) (certificate : CertificateContents) (plan : List ℕ) → IsBook case.book → length cert ≤ certificate_limit → certificate_of (length case.book.needs) cert ≡ Some certificate → IsUnopposed case certificate plan → (certificate_answer case cert).status ≡ status.Done
+done_where_unopposed : (case : CaseContents) (cert : List ℕ) (certificate : CertificateContents) (plan : List ℕ) → IsBook case.book → length cert ≤ CERTIFICATE_LIMIT → certificate_of (length case.book.needs) cert ≡ Some certificate → IsUnopposed case certificate plan → (certificate_answer case cert).status ≡ status.Done
 done_where_unopposed case cert certificate plan limits within is unopposed =
-    let short = under-test (length cert) certificate_limit within in
+    let short = under-test (length cert) CERTIFICATE_LIMIT within in
     let none = no_reason_stands case certificate plan limits (purchases-rise (length case.book.needs) cert certificate is) unopposed in
     rw (short, is, none) refl
 
 unopposed_where_done : (case : CaseContents) (cert : List ℕ) (certificate : CertificateContents) → IsBook case.book → certificate_of (length case.book.needs) cert ≡ Some certificate → (certificate_answer case cert).status ≡ status.Done → (plan : List ℕ) × IsUnopposed case certificate plan
 unopposed_where_done case cert certificate limits is done =
-    let taken = certificate_taken case cert (nat_lt certificate_limit (length cert)) refl done in
+    let taken = certificate_taken case cert (nat_lt CERTIFICATE_LIMIT (length cert)) refl done in
     let yes = taken.0 in
     let some : Some yes.certificate ≡ Some certificate = sym yes.is_certificate ∙ is in
     let same : yes.certificate ≡ certificate = cc in

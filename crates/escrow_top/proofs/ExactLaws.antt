@@ -5,6 +5,7 @@ use Rattle.std.specs.Bool.{then_some}
 use lib.Pointwise.{pointwise}
 use Rattle.std.proofs.lemmas.Bool.{and_parts, cases_lt}
 use Rattle.std.proofs.lemmas.Bool.Decides.{nat_tests}
+use Rattle.escrow_desk.specs.declared.limits.TheConstants.{FILE_LIMIT}
 use Rattle.escrow_desk.specs.Content.{Content, Told, file_of, with_said}
 use Rattle.escrow_desk.specs.Counts.{AllSteady, Counts, Rose, IsSteady}
 use Rattle.escrow_desk.specs.Rows.{rows_of}
@@ -15,7 +16,7 @@ use Rattle.offer_book.specs.Book.{IsBook}
 use Rattle.case_file.specs.Case.{CaseContents, IsKept, rows_case}
 use Rattle.case_file.specs.declared.fault.NoCase.{NoCase}
 use Rattle.case_file.specs.declared.fault.NoCase.TheVariants.{Refused}
-use Rattle.escrow_top.specs.InputFiles.{InputFiles, FileNames, file_limit, first_too_long, inputs_of}
+use Rattle.escrow_top.specs.InputFiles.{InputFiles, FileNames, first_too_long, inputs_of}
 use Rattle.escrow_top.specs.Answer.{Answer, case_answer, case_of, certificate_answer, check_answer, check_names, is_structure, named_answer, no_case_answer, refused}
 use Rattle.escrow_top.specs.Accepted.{YesExactly}
 use Rattle.escrow_top.specs.Ending.{IsAnswerTo, IsNoCommand, NamedAnswers, OfFiles, OfNamedFiles, is_reached}
@@ -59,15 +60,15 @@ long-named content names files read cert kind is long over =
 
 pub named-there : (content : Content) (names : FileNames) (files : InputFiles) (cert : List ℕ) → AreThere content names files → file_of content names.cert ≡ Some cert → named_answer content names ≡ Some (check_answer files cert)
 named-there content names files cert there is =
-    elim (cases_lt file_limit (length files.issue)) [
+    elim (cases_lt FILE_LIMIT (length files.issue)) [
       | inl long ↦
           long-named content names files (texts_of files.issue [] []) cert _ (read-long_issue content names files.issue there.issue long)
           (over-issue files.issue [] [] long) (over-issue files.issue files.rates files.prices long)
-      | inr issue ↦ elim (cases_lt file_limit (length files.rates)) [
+      | inr issue ↦ elim (cases_lt FILE_LIMIT (length files.rates)) [
         | inl long ↦
             long-named content names files (texts_of files.issue files.rates []) cert _ (read-long_rates content names files.issue files.rates there.issue there.rates issue long)
             (over-rates files.issue files.rates [] issue long) (over-rates files.issue files.rates files.prices issue long)
-        | inr rates ↦ elim (cases_lt file_limit (length files.prices)) [
+        | inr rates ↦ elim (cases_lt FILE_LIMIT (length files.prices)) [
           | inl long ↦
               long-named content names files (texts_of files.issue files.rates files.prices) cert _ (read-long_prices content names files.issue files.rates files.prices there.issue there.rates there.prices issue rates)
               (over-prices files.issue files.rates files.prices issue rates long) (over-prices files.issue files.rates files.prices issue rates long)
@@ -123,11 +124,11 @@ no_case_exactly told names texts why (Ok reply) read within is said = exactly-to
 
 long-books : (content : Content) (names : FileNames) (files : InputFiles) (kind : FileKind) → IsSomeAnd (inputs_of content names) (λ texts. first_too_long texts ≡ Some kind) → AreThere content names files → (case : CaseContents) → case_of files ≡ Ok case → IsBook case.book
 long-books content names files kind long there case is_case =
-    elim (cases_lt file_limit (length files.issue)) [
+    elim (cases_lt FILE_LIMIT (length files.issue)) [
       | inl over ↦ absurd (never (over-issue files.issue files.rates files.prices over))
-      | inr issue ↦ elim (cases_lt file_limit (length files.rates)) [
+      | inr issue ↦ elim (cases_lt FILE_LIMIT (length files.rates)) [
         | inl over ↦ absurd (never (over-rates files.issue files.rates files.prices issue over))
-        | inr rates ↦ elim (cases_lt file_limit (length files.prices)) [
+        | inr rates ↦ elim (cases_lt FILE_LIMIT (length files.prices)) [
           | inl over ↦ absurd (never (over-prices files.issue files.rates files.prices issue rates over))
           | inr prices ↦ absurd (within (record { issue = issue; rates = rates; prices = prices }))
         ]

@@ -8,11 +8,12 @@ use Rattle.offer_book.specs.Portfolio.{IsFirstShort, IsPermitted, Meets, cost, t
 use Rattle.cash_table.specs.First.{first_short_of}
 use Rattle.cash_table.proofs.DayFacts.{first_short_is}
 use Rattle.case_file.specs.Case.{CaseContents}
+use Rattle.escrow_desk.specs.declared.limits.TheConstants.{CERTIFICATE_LIMIT}
 use Rattle.escrow_top.specs.CertificateForm.{CertificateContents, certificate_of}
 use Rattle.escrow_top.specs.InputFiles.{InputFiles}
 use Rattle.std.specs.Bool.{then_some}
 use Rattle.std.specs.Option.{option_or}
-use Rattle.escrow_top.specs.Answer.{case_of, certificate_answer, certificate_limit, weigh_of, first_not_offered, is_leaf_weak, is_offered, plan_of, reason_against, reason_of, reason_text, weighed}
+use Rattle.escrow_top.specs.Answer.{case_of, certificate_answer, weigh_of, first_not_offered, is_leaf_weak, is_offered, plan_of, reason_against, reason_of, reason_text, weighed}
 use Rattle.escrow_top.specs.Accepted.{Buys, IsOffered}
 use Rattle.escrow_top.specs.NotAccepted.{IsFirstNotOffered, IsSound, NotAccepted, Stands, StandsAgainst}
 use Rattle.escrow_top.specs.declared.certificate.Purchase.{Purchase}
@@ -116,7 +117,7 @@ is_denied case (Some certificate) denied =
     let both = reasoned case certificate (reason_of case certificate) refl denied in
     record { certificate = certificate; why = both.why; is_certificate = refl; is = both.is; said = both.said }
 
-certificate_denied : (case : CaseContents) (cert : List ℕ) (long : Bool) → nat_lt certificate_limit (length cert) ≡ long → (certificate_answer case cert).status ≡ status.No → IsDenied case (certificate_of (length case.book.needs) cert) × ((certificate_answer case cert).text ≡ (weigh_of case (certificate_of (length case.book.needs) cert)).text)
+certificate_denied : (case : CaseContents) (cert : List ℕ) (long : Bool) → nat_lt CERTIFICATE_LIMIT (length cert) ≡ long → (certificate_answer case cert).status ≡ status.No → IsDenied case (certificate_of (length case.book.needs) cert) × ((certificate_answer case cert).text ≡ (weigh_of case (certificate_of (length case.book.needs) cert)).text)
 certificate_denied case cert true is denied = let never : status.Refused ≡ status.No = rw is at denied in absurd (cc)
 certificate_denied case cert false is denied =
     let claims : (weigh_of case (certificate_of (length case.book.needs) cert)).status ≡ status.No = rw is at denied in
@@ -124,7 +125,7 @@ certificate_denied case cert false is denied =
 
 pub not_accepted : (files : InputFiles) (cert : List ℕ) (case : CaseContents) → case_of files ≡ Ok case → IsBook case.book → (certificate_answer case cert).status ≡ status.No → NotAccepted files cert
 not_accepted files cert case is_case limits denied =
-    let found = certificate_denied case cert (nat_lt certificate_limit (length cert)) refl denied in
+    let found = certificate_denied case cert (nat_lt CERTIFICATE_LIMIT (length cert)) refl denied in
     let no = found.0 in
     record {
       case = case;

@@ -1,5 +1,6 @@
 -- What `yes` means.
 use Rattle.std.specs.Prelude.{◌≡◌, ◌≢◌, ◌↔◌, ℕ, ◌+◌, ◌<◌, ◌≤◌, ◌==◌, if◌then◌else◌, List, length, drop, All, slice_get, Some, Ok}
+use Rattle.escrow_desk.specs.declared.limits.TheConstants.{CERTIFICATE_LIMIT}
 use Rattle.escrow_units.specs.Flows.{indexed}
 use Rattle.escrow_units.specs.PresentValue.{IndexedFlow, YieldLiesIn}
 use Rattle.yield_enclosure.specs.declared.answer.YieldAnswer.{YieldAnswer}
@@ -14,7 +15,7 @@ use Rattle.offer_book.specs.Portfolio.{IsPermitted, IsPermittedUnits, Meets, cos
 use Rattle.escrow_top.specs.CertificateForm.{CertificateContents, certificate_of}
 use Rattle.escrow_top.specs.InputFiles.{InputFiles}
 use Rattle.case_file.specs.Case.{CaseContents}
-use Rattle.escrow_top.specs.Answer.{case_of, certificate_limit, check_answer, plan_yield, yes_text}
+use Rattle.escrow_top.specs.Answer.{case_of, check_answer, plan_yield, yes_text}
 use Rattle.escrow_top.specs.declared.certificate.Purchase.{Purchase}
 use Rattle.escrow_top.specs.declared.status.Status.{Status}
 use Rattle.escrow_top.specs.declared.status.Status.TheVariants as status
@@ -100,6 +101,6 @@ abbrev pub YesExactly : Status → InputFiles → List ℕ → Type 0
 YesExactly reached files cert =
     (case : CaseContents) (certificate : CertificateContents)
     → case_of files ≡ Ok case
-    → length cert ≤ certificate_limit
+    → length cert ≤ CERTIFICATE_LIMIT
     → certificate_of (length case.book.needs) cert ≡ Some certificate
     → (reached ≡ status.Done) ↔ ((plan : List ℕ) × IsUnopposed case certificate plan)

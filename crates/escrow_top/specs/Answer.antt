@@ -6,6 +6,7 @@ use Rattle.std.specs.Option.{option_or}
 use lib.Pointwise.{pointwise}
 use Rattle.escrow_desk.specs.Content.{Content, file_of}
 use Rattle.escrow_desk.specs.Rows.{rows_of}
+use Rattle.escrow_desk.specs.declared.limits.TheConstants.{CERTIFICATE_LIMIT}
 use Rattle.escrow_desk.specs.declared.refusal.FileKind.{FileKind}
 use Rattle.escrow_desk.specs.declared.refusal.FileKind.TheVariants as file
 use Rattle.escrow_desk.specs.declared.refusal.Refusal.{Refusal}
@@ -155,14 +156,10 @@ abbrev pub weigh_of : CaseContents → Option CertificateContents → Answer
 weigh_of case None = unbuilt file.Cert
 weigh_of case (Some certificate) = weighed case (plan_of case.book certificate.purchases) certificate.gap (reason_of case certificate)
 
--- the most bytes of a certificate
-abbrev pub certificate_limit : ℕ
-certificate_limit = 67_108_864
-
 -- the answer to the bytes of a certificate
 abbrev pub certificate_answer : CaseContents → List ℕ → Answer
 certificate_answer case cert =
-    if nat_lt certificate_limit (length cert) then refused (refusal_of file.Cert 0 kind.TooLong)
+    if nat_lt CERTIFICATE_LIMIT (length cert) then refused (refusal_of file.Cert 0 kind.TooLong)
     else weigh_of case (certificate_of (length case.book.needs) cert)
 
 -- the answer where the input files give no case

@@ -1,6 +1,7 @@
 -- The three input files, and how they are read.
 use Rattle.std.specs.Prelude.{ℕ, nat_lt, if◌then◌else◌, List, [], length, Option, Some, None}
 use Rattle.escrow_desk.specs.Content.{Content, file_of}
+use Rattle.escrow_desk.specs.declared.limits.TheConstants.{FILE_LIMIT}
 use Rattle.escrow_desk.specs.declared.refusal.FileKind.{FileKind}
 use Rattle.escrow_desk.specs.declared.refusal.FileKind.TheVariants as file
 use Rattle.escrow_top.specs.CertificateForm.{◌>>=◌}
@@ -18,16 +19,12 @@ pub record InputFiles : Type 0 where
   pub rates : List ℕ
   pub prices : List ℕ
 
--- the most bytes of an input file
-abbrev pub file_limit : ℕ
-file_limit = 1_048_576
-
 -- the first of the input files that has more bytes than its limit
 abbrev pub first_too_long : InputFiles → Option FileKind
 first_too_long texts =
-    if nat_lt file_limit (length texts.issue) then Some file.Issue else
-    (if nat_lt file_limit (length texts.rates) then Some file.Rates else
-    (if nat_lt file_limit (length texts.prices) then Some file.Prices else None))
+    if nat_lt FILE_LIMIT (length texts.issue) then Some file.Issue else
+    (if nat_lt FILE_LIMIT (length texts.rates) then Some file.Rates else
+    (if nat_lt FILE_LIMIT (length texts.prices) then Some file.Prices else None))
 
 -- the bytes of a file, where the files before it keep to their limit: after one that doesn't, none is read
 abbrev pub next_file : Content → List ℕ → Option FileKind → Option (List ℕ)

@@ -1,5 +1,6 @@
 -- What was read of the files that a desk tells.
 use Rattle.std.specs.Prelude.{◌≡◌, ℕ, ◌≤◌, ◌<◌, List, length, Option, Some, None, MatchOption, IsSomeAnd}
+use Rattle.escrow_desk.specs.declared.limits.TheConstants.{FILE_LIMIT}
 use Rattle.escrow_desk.specs.Content.{Content, Told, file_of}
 use Rattle.escrow_desk.specs.declared.refusal.FileKind.{FileKind}
 use Rattle.escrow_top.specs.declared.files.FileNames.{FileNames as CodeNames}
@@ -8,7 +9,7 @@ use Rattle.escrow_top.specs.declared.files.FileText.{FileText}
 use Rattle.escrow_top.specs.declared.files.FileText.TheVariants as text
 use Rattle.escrow_top.specs.declared.files.Inputs.{Inputs}
 use Rattle.escrow_top.specs.declared.files.Inputs.TheVariants as inputs
-use Rattle.escrow_top.specs.InputFiles.{InputFiles, FileNames, file_limit, first_too_long, inputs_of}
+use Rattle.escrow_top.specs.InputFiles.{InputFiles, FileNames, first_too_long, inputs_of}
 use Rattle.case_file.specs.Case.{CaseContents}
 use Rattle.escrow_top.specs.Answer.{Answer, certificate_answer, named_answer}
 
@@ -37,9 +38,9 @@ IsRead told name limit found =
 
 -- each of the input files has at most as many bytes as its limit
 pub record AreWithin (texts : InputFiles) : Type 0 where
-  pub issue : length texts.issue ≤ file_limit
-  pub rates : length texts.rates ≤ file_limit
-  pub prices : length texts.prices ≤ file_limit
+  pub issue : length texts.issue ≤ FILE_LIMIT
+  pub rates : length texts.rates ≤ FILE_LIMIT
+  pub prices : length texts.prices ≤ FILE_LIMIT
 
 -- the three input files of these names are there, with these bytes
 pub record AreThere (content : Content) (names : FileNames) (texts : InputFiles) : Type 0 where

@@ -1,7 +1,7 @@
 //! `check`, from the names of its files to its answer.
 
 ghost use Rattle.std.specs.Prelude.{◌≡◌, ◌≤◌, IfOk, IsErrOf, IsTrue, length};
-ghost use Rattle.escrow_top.specs.Answer.{certificate_answer, certificate_limit, weigh_of, refused as refused_answer};
+ghost use Rattle.escrow_top.specs.Answer.{certificate_answer, weigh_of, refused as refused_answer};
 ghost use Rattle.row_fields.specs.RowForm.{refusal_of};
 ghost use Rattle.case_file.specs.Case.{case_view};
 ghost use Rattle.escrow_top.specs.CertificateForm.{certificate_of};
@@ -18,11 +18,8 @@ use crate::status::Status;
 use crate::stop::Stop;
 use crate::verdict::weigh;
 use case_file::{Case, CaseFault, read_case};
-use escrow_desk::{Desk, FileKind, NoMemory, Refusal, RefusalKind};
+use escrow_desk::{CERTIFICATE_LIMIT, Desk, FileKind, NoMemory, Refusal, RefusalKind};
 use std::alloc::Global;
-
-/// The most bytes of a certificate.
-const CERTIFICATE_LIMIT: u64 = 67_108_864;
 
 // The answer that a file has more bytes than its limit.
 fn too_long(alloc: Global, file: FileKind) -> Result<Answer, NoMemory>

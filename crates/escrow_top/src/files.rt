@@ -6,11 +6,8 @@ ghost use Rattle.escrow_top.specs.Reading.{AreFound, IsRead, KeepToLimits, Keeps
 ghost use Rattle.escrow_top.specs.Stopping.{CountsStep};
 
 use crate::stop::Stop;
-use escrow_desk::{Desk, FileKind, ReadRefusal, read_all};
+use escrow_desk::{Desk, FILE_LIMIT, FileKind, ReadRefusal, read_all};
 use std::alloc::Global;
-
-/// The most bytes of an input file.
-const FILE_LIMIT: u64 = 1_048_576;
 
 /// The names of the four files of `check`.
 #[derive(Clone, Copy)]
