@@ -1,5 +1,5 @@
 -- Days that are apart have indexes that are apart.
-use Rattle.std.proofs.Common.{◌≡◌, ℕ, ◌+◌, ◌≤◌, refl, arith, ℤ, pos, ◌+ℤ◌, ◌≤ℤ◌, inl, inr}
+use Rattle.std.proofs.Common.{◌≡◌, ◌+◌, ◌≤◌, refl, arith, ℤ, pos, ◌+ℤ◌, ◌≤ℤ◌, inl, inr}
 use Rattle.jiff.specs.Words.{epoch_day}
 use Rattle.jiff_core.specs.Calendar.{days_from_civil}
 use Rattle.jiff_core.specs.declared.civil.date.Date.{Date}

@@ -1,19 +1,18 @@
 -- What a price in thirty-seconds spells.
-use Rattle.std.proofs.Common.{◌≡◌, ◌∙◌, ℕ, suc, ◌+◌, ◌-◌, ◌*◌, ◌/◌, ◌%◌, ◌^◌, ◌≤◌, ◌&&◌, Bool, true, false, cond, leb, List, [], ◌∷◌, ◌++◌, length, Option, Some, None, refl, ap, sym, subst, arith, inl, inr, ◌⊎◌}
+use Rattle.std.proofs.Common.{◌≡◌, ◌∙◌, ℕ, ◌+◌, ◌-◌, ◌*◌, ◌/◌, ◌%◌, ◌≤◌, ◌&&◌, Bool, true, false, cond, leb, List, [], ◌∷◌, ◌++◌, Some, None, refl, ap, sym, subst, arith, inl, inr, ◌⊎◌}
 use Rattle.std.proofs.lemmas.Bool.{leb-true}
 use Rattle.std.proofs.lemmas.List.{append-nil}
 use Rattle.std.proofs.lemmas.Grind.{common_steps}
-use Rattle.std.specs.Prelude.{codes, if◌then◌else◌, nat_le, ◌==◌}
+use Rattle.std.specs.Prelude.{if◌then◌else◌, nat_le, ◌==◌}
 use Rattle.std.specs.List.{list_all, list_any, before_first, after_first}
-use Rattle.std.specs.Option.{option_map, option_and_then}
-use Rattle.std.specs.Char.{is_ascii_digit, digit_value}
+use Rattle.std.specs.Char.{is_ascii_digit}
 use Rattle.std.specs.Str.Parse.{digits_value}
 use Rattle.escrow_units.specs.Digits.{last_digits}
 use Rattle.escrow_units.specs.NumberText.{whole_of, decimal_of, decimal_text, SpellsDecimal}
 use Rattle.escrow_units.specs.PriceText.{thirty_seconds_of, eighths_of, fraction_of, quoted_of, is_hyphen, price_units_of, PricesAreSpelled, SpellsEighths, SpellsThirtySeconds}
 use Rattle.escrow_units.proofs.NumberFacts.{digit-value, digit-bound, cond-Some}
-use Rattle.escrow_units.proofs.PrintedFacts.{IsMark, and-true, both, list_any-none, parted-digits, whole_of-digits}
-use Rattle.escrow_units.proofs.SpellingFacts.{IsWhole, whole_of-Some, option_map-Some, option_and_then-Some, parted, decimal_text-some, decimal_of-spelled, decimal_of-read}
+use Rattle.escrow_units.proofs.PrintedFacts.{IsMark, and-true, list_any-none, parted-digits, whole_of-digits}
+use Rattle.escrow_units.proofs.SpellingFacts.{whole_of-Some, option_map-Some, option_and_then-Some, parted, decimal_of-spelled, decimal_of-read}
 
 hyphen : IsMark 45 is_hyphen
 hyphen = record {

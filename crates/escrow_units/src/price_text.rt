@@ -81,12 +81,7 @@ pub fn read_price(bytes: &[u8]) -> Result<Price8, NumberFault>
     ensures limit { IfOk result (λ price. (LEAST_PRICE ≤ price.0) × (price.0 ≤ GREATEST_PRICE)) }
 {
     let number = price_units(bytes);
-    Ok(Price8(in_range(
-        number,
-        LEAST_PRICE,
-        GREATEST_PRICE,
-        NumberFault::PriceRange,
-    )?))
+    Ok(Price8(in_range(number, LEAST_PRICE, GREATEST_PRICE, NumberFault::PriceRange)?))
 }
 
 /// A law on the prices that are read, which does nothing when it is called: which texts a price has, and their value.

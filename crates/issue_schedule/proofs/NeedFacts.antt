@@ -39,11 +39,6 @@ bond-fits f direct bonds i d sums limit short are all =
     let more = sum_by_more_le (λ (b : Bond). total (f b)) bonds i d short in
     omega (arith, kept, all, more, total-append direct (flat_map f bonds), bonds-total f bonds, bonds-total f (take i bonds))
 
--- direct needs alone
-pub direct-sums : (f : Bond → List Flow) (direct start sums : List Flow) → start ≡ [] → sums ≡ summed (start ++ direct) → sums ≡ summed (direct ++ flat_map f [])
-direct-sums f direct start sums empty are =
-    are ∙ (ap (λ (fs : List Flow). summed (fs ++ direct)) empty ∙ sym (ap (λ (fs : List Flow). summed fs) (append-nil direct)))
-
 -- one more bond
 pub bond-more : (f : Bond → List Flow) (direct : List Flow) (bonds : List Bond) (i : ℕ) (d : Bond) (sums more : List Flow) → i < length bonds
     → sums ≡ summed (direct ++ flat_map f (take i bonds)) → more ≡ summed (sums ++ f (get_or bonds i d))

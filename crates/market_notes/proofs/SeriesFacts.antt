@@ -1,5 +1,5 @@
 -- The dates on which a note pays.
-use Rattle.std.proofs.Common.{ℕ, arith, ℤ, pos, ◌+ℤ◌, ◌≤ℤ◌, inl, inr}
+use Rattle.std.proofs.Common.{arith, ℤ, inl, inr}
 use Rattle.jiff_core.proofs.SignedLemmas.{signed_arith}
 use Rattle.escrow_units.specs.Calendar.{IsBaseDay}
 use Rattle.escrow_units.specs.DayNumber.{IsDayNumber}

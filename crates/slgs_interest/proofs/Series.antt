@@ -1,5 +1,5 @@
 -- The dates on which a security pays.
-use Rattle.std.proofs.Common.{◌≡◌, ◌∙◌, ℕ, ◌+◌, ◌-◌, ◌<◌, ◌≤◌, sym, ap, arith, ℤ, pos, ◌+ℤ◌, ◌≤ℤ◌, ◌<ℤ◌, int_le, int_lt, Bool, true, false, cond, ◌==◌, List, [], ◌∷◌, ◌++◌, length, reverse, filter}
+use Rattle.std.proofs.Common.{◌≡◌, ◌∙◌, ℕ, ◌+◌, ◌<◌, ◌≤◌, sym, ap, arith, ℤ, pos, ◌+ℤ◌, ◌≤ℤ◌, int_le, int_lt, Bool, true, false, cond, ◌==◌, length, filter}
 use Rattle.std.proofs.lemmas.Int.{ints}
 use Rattle.std.proofs.lemmas.List.Elements.{filter_agree}
 use Rattle.jiff_core.proofs.SignedLemmas.{signed_arith}
@@ -14,7 +14,7 @@ use Rattle.escrow_units.specs.declared.security.SlgsKind.TheVariants as kind
 use Rattle.escrow_units.specs.declared.security.StepRule.TheVariants as rule
 use Rattle.escrow_units.proofs.SeriesFacts.{half_back_of-falls, half_back_of-steps, years_after_of-none}
 use Rattle.escrow_units.proofs.FlowFacts.{int_le-not, int_le-test}
-use Rattle.escrow_units.proofs.LastDates.{last_dates, last_dates-more, fewer-steps, filter-dates, half_back_of-order, half_back_of-reach, half_back_of-zero, half_year-along, length-last_dates, series_from-last}
+use Rattle.escrow_units.proofs.LastDates.{last_dates, fewer-steps, filter-dates, half_back_of-order, half_back_of-reach, half_back_of-zero, half_year-along, length-last_dates, series_from-last}
 use Rattle.escrow_units.proofs.YearFacts.{years_after_of-passes, settlement-base}
 use Rattle.slgs_interest.specs.PaymentLaws.{IsLatestBefore}
 use Rattle.slgs_interest.specs.Payments.{payment_dates, before_first, second_before_first}

@@ -1,6 +1,6 @@
 use Rattle.std.proofs.Common.{rules, ◌∙◌, ◌<ℤ◌, ◌≤ℤ◌, ap, refl, reverse}
 use Rattle.escrow_units.specs.Calendar.{half_back_of}
-use Rattle.escrow_units.proofs.SeriesAround.{IsNear, walk-start, walk-more, walk-end}
+use Rattle.escrow_units.proofs.SeriesAround.{walk-start, walk-more, walk-end}
 use Rattle.escrow_units.proofs.LastDates.{refill-reverse}
 use Rattle.escrow_units.proofs.series.series_around.Goals as goal
 

@@ -1,6 +1,4 @@
-use Rattle.std.proofs.Common.{◌∙◌, ◌<ℤ◌, sym, subst, arith}
-use Rattle.jiff_core.proofs.SignedLemmas.{signed_arith}
-use Rattle.market_notes.specs.NoteFlows.{next_date}
+use Rattle.std.proofs.Common.{◌∙◌, sym, subst}
 use Rattle.escrow_units.specs.Flows.{EndsOn, Rise}
 use Rattle.market_notes.specs.NoteLaws.{AreAfterSettlement, PayFaceOnce, PayNoLessForMore}
 use Rattle.market_notes.proofs.FlowFacts.{payments-are, payments-rise, payments-after, payments-end, payments-face, payments-more}

@@ -2,7 +2,7 @@ use Rattle.std.proofs.Common.{arith, rules, ◌≡◌, ◌∙◌, ◌+◌, ap, �
 use Rattle.jiff_core.proofs.SignedLemmas.{signed_arith}
 use Rattle.escrow_units.specs.Calendar.{half_back_of}
 use Rattle.escrow_units.specs.declared.security.StepRule.TheVariants as rule
-use Rattle.slgs_interest.specs.Payments.{before_first, second_before_first, interest_to}
+use Rattle.slgs_interest.specs.Payments.{second_before_first, interest_to}
 use Rattle.slgs_interest.proofs.Amounts.{long-period, short-period}
 use Rattle.slgs_interest.proofs.Series.{paid}
 use Rattle.slgs_interest.proofs.interest.of_first_period.Goals as goal
