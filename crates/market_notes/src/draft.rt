@@ -98,8 +98,7 @@ impl Draft {
         ensures added { RowAnswers (result_and result (Ok self.new)) (with_note self.old note) }
         ensures settle { self.new.settle ≡ self.old.settle }
     {
-        // Its fields are copied one by one, since the proof of the push reads their types.
-        self.notes.push(Note { ..note })?;
+        self.notes.push(note)?;
         Ok(())
     }
 

@@ -1,12 +1,13 @@
 -- Ranges by their first days: which one is the latest, and what has a day in common with it.
 use Rattle.std.proofs.Common.{◌≡◌, ◌∙◌, refl, sym, ap, arith, rules, ℕ, ◌<◌, length, List, [], ◌∷◌, ◌++◌, ℤ, ◌≤ℤ◌, ◌<ℤ◌, true, false, get_or, ◌⊎◌, inl, inr}
-use Rattle.std.specs.Prelude.{int_le, Option, Some, None, IsSome, Contains}
+use Rattle.std.specs.Prelude.{int_le, Option, Some, IsSome, Contains}
 use Rattle.std.specs.List.{list_any}
 use Rattle.std.specs.Ordering.{int_cmp, is_gt, is_lt}
 use Rattle.std.specs.BTreeMap.{BTreeMap}
 use Rattle.std.specs.BTreeMap.Range.{IsRangeOf}
 use Rattle.std.specs.declared.ops.Bound.TheVariants.{Included, Unbounded}
 use Rattle.std.proofs.lemmas.Int.{ints}
+use Rattle.std.proofs.lemmas.Option.{none-some}
 use Rattle.std.proofs.lemmas.Cmp.{int_ranked}
 use Rattle.std.proofs.lemmas.List.Folds.{list_any_none, list_any_at}
 use Rattle.std.proofs.lemmas.List.Elements.{Contains-get_or, All-contains}
@@ -34,9 +35,6 @@ latest-from_last m day r t first range part last = record {
   early = le-from_cmp first day (part.3 (first, range) t last).0.1;
   latest = λ other early has. not_below first other (part.4 (first, range) t last other (tt, cmp-from_le other day early) has);
 }
-
-absurd-option : {A : Type 0} {x : A} → Some x ≡ None → ⊥
-absurd-option e = cc
 
 IsSome-Some : {A : Type 0} {o : Option A} {x : A} → o ≡ Some x → IsSome o
 IsSome-Some e = rw e (search rules)
@@ -80,7 +78,7 @@ pub overlap-none : (ranges : List RateRange) (m : BTreeMap ℤ RateRange) (range
 overlap-none ranges m range index none =
     list_any_none (overlap range) ranges (λ k d short.
     let other = get_or ranges k d in
-    overlap-false range other (λ _ early. absurd-option (sym (index.entries.has other (Contains-get_or ranges k d short)) ∙ none other.from early)))
+    overlap-false range other (λ _ early. none-some other (sym (none other.from early) ∙ index.entries.has other (Contains-get_or ranges k d short))))
 
 -- the latest that begins by the end of another ends after it begins
 overlap-late : (ranges : List RateRange) (m : BTreeMap ℤ RateRange) (range latest : RateRange) → IsRateIndex ranges m → IsLatest m range.to latest → range.from ≤ℤ latest.to → list_any (overlap range) ranges ≡ true
