@@ -157,4 +157,3 @@ pub start-near : (pass : YearsPass) (none : NoYearsPass) (start day : ℤ) → p
 start-near pass none start day low high order recent =
     let beyond = near-of pass none start (omega (arith, signed_arith, ints, low, recent)) (omega (arith, ints, order, high)) in
     omega (arith, ints, recent, beyond)
-
