@@ -1,7 +1,7 @@
 -- Present value without roots: discount factors are fractions of whole numbers.
 use Rattle.std.specs.Prelude.{ℕ, ◌+◌, ◌-◌, ◌*◌, ◌^◌, ◌≤◌, ◌<◌, max, List, sum_by, [], ◌∷◌}
 
--- an amount of cents that falls on an index day, counted from settlement by the 30/360 index
+-- an amount of cents that falls on an index day, counted from settlement by the 30E/360 index
 pub record IndexedFlow : Type 0 where
   pub index : ℕ
   pub cents : ℕ
@@ -32,7 +32,7 @@ abbrev pub AtMostDayFactor : ℕ → ℕ → ℕ → Type 0
 AtMostDayFactor n a b = a ^ half_year * (two_hundred_percent + n) ≤ b ^ half_year * two_hundred_percent
 
 -- the exact present value of the flows at the yield n is at least the cost: semiannual compounding on a
--- 30/360 index (26 CFR 1.148-4(a) permits both), said of every fraction that is at least the day's factor
+-- 30E/360 index (26 CFR 1.148-4(a) permits both), said of every fraction that is at least the day's factor
 abbrev pub PresentValueAtLeast : ℕ → List IndexedFlow → ℕ → Type 0
 PresentValueAtLeast n flows cost =
     (a b : ℕ) → 0 < b → AtLeastDayFactor n a b → cost * b ^ last_index flows ≤ discounted a b flows

@@ -47,7 +47,7 @@ fn thirty_day_place(day: Day) -> u32
     360 * date.year as u32 + 30 * date.month as u32 + (date.day as u32).min(30)
 }
 
-/// The index of a day: how many days it comes after settlement, by years of twelve months of thirty days (30/360).
+/// The index of a day: how many days it comes after settlement, by years of twelve months of thirty days (30E/360).
 ///
 /// A 31st counts as the 30th, so the index of a later day can be the same. Settlement isn't after the day, and the day
 /// isn't later than 40 years after settlement.

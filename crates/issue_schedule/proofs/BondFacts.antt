@@ -1,8 +1,8 @@
 -- Where a bond stands in its series, and its half-coupons date by date.
-use Rattle.std.proofs.Common.{◌≡◌, ◌∙◌, refl, sym, ap, arith, ℕ, zero, suc, ◌+◌, ◌-◌, ◌<◌, ◌≤◌, List, [], ◌∷◌, ◌++◌, map, take, length, get_or, Bool, true, false, ℤ, pos, ◌+ℤ◌, ◌≤ℤ◌, ◌<ℤ◌, inl, inr, append_assoc, if◌then◌else◌, filter}
-use Rattle.std.specs.Prelude.{Contains, int_le, int_lt, unsigned_abs, ◌&&◌}
+use Rattle.std.proofs.Common.{◌≡◌, ◌∙◌, refl, sym, ap, arith, ℕ, zero, suc, ◌+◌, ◌-◌, ◌<◌, ◌≤◌, List, [], ◌∷◌, ◌++◌, map, take, length, get_or, Bool, true, false, ℤ, pos, ◌+ℤ◌, ◌≤ℤ◌, inl, inr, append_assoc, if◌then◌else◌, filter}
+use Rattle.std.specs.Prelude.{int_le, int_lt, unsigned_abs, ◌&&◌}
 use Rattle.std.proofs.lemmas.Int.{ints}
-use Rattle.std.proofs.lemmas.List.{append-nil, map-append, take_all}
+use Rattle.std.proofs.lemmas.List.{map-append, take_all}
 use Rattle.std.proofs.lemmas.List.Elements.{filter_more}
 use Rattle.std.proofs.lemmas.Bool.{cases_lt, cases_Bool}
 use Rattle.jiff_core.proofs.SignedLemmas.{signed_arith}
@@ -157,4 +157,3 @@ pub start-near : (pass : YearsPass) (none : NoYearsPass) (start day : ℤ) → p
 start-near pass none start day low high order recent =
     let beyond = near-of pass none start (omega (arith, signed_arith, ints, low, recent)) (omega (arith, ints, order, high)) in
     omega (arith, ints, recent, beyond)
-

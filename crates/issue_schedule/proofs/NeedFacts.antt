@@ -1,6 +1,6 @@
 -- What direct needs and bonds need, together.
 use Rattle.std.proofs.Common.{◌≡◌, ◌∙◌, refl, sym, ap, arith, ℕ, ◌+◌, ◌<◌, ◌≤◌, List, [], ◌∷◌, ◌++◌, length, take, get_or, append_assoc, Bool, true, false, ℤ}
-use Rattle.std.specs.Prelude.{All, IfSome, Option, Some, None, int_le, int_lt, sum_by, ◌≤ℤ◌, ◌&&◌, if◌then◌else◌}
+use Rattle.std.specs.Prelude.{All, IfSome, Option, Some, None, int_le, int_lt, sum_by, ◌≤ℤ◌, if◌then◌else◌}
 use Rattle.std.specs.List.{flat_map}
 use Rattle.std.specs.Ordering.{int_eq}
 use Rattle.std.proofs.lemmas.Int.{ints}

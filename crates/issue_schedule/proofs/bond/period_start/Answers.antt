@@ -1,9 +1,6 @@
-use Rattle.std.proofs.Common.{◌≡◌, ◌∙◌, ◌<◌, ◌≤◌, ◌≤ℤ◌, length, get_or, sym, subst, arith, ℤ, inl, inr}
-use Rattle.std.proofs.lemmas.Int.{ints}
+use Rattle.std.proofs.Common.{◌≡◌, ◌∙◌, get_or, sym, subst, ℤ, inl, inr}
 use Rattle.std.proofs.lemmas.List.{get_or_default}
-use Rattle.jiff_core.proofs.SignedLemmas.{signed_arith}
 use Rattle.escrow_units.specs.Calendar.{IsSeriesDate}
-use Rattle.escrow_units.specs.Series.{IsLastBy}
 use Rattle.escrow_units.specs.declared.security.StepRule.TheVariants as rule
 use Rattle.escrow_units.proofs.SeriesAround.{last-unique}
 use Rattle.issue_schedule.proofs.BondFacts.{start-first, start-more, start-end}

@@ -1,6 +1,4 @@
-use Rattle.std.proofs.Common.{◌≡◌, ◌∙◌, ◌<◌, ◌≤◌, ◌++◌, [], ◌∷◌, length, get_or, sym, arith, ℤ, if◌then◌else◌}
-use Rattle.std.specs.Prelude.{int_le}
-use Rattle.day_sums.specs.Summed.{on}
+use Rattle.std.proofs.Common.{◌≡◌, get_or, arith}
 use Rattle.issue_schedule.specs.Needs.{half_coupon}
 use Rattle.issue_schedule.proofs.BondFacts.{paid-more, paid-all}
 use Rattle.issue_schedule.proofs.bond.push_interest.Goals as goal
