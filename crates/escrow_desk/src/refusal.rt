@@ -1,6 +1,7 @@
 //! Why a case, a file or a step wasn't carried out, and how want of memory becomes each.
 
 ghost use Rattle.std.specs.Prelude.{◌≡◌};
+ghost use Rattle.escrow_desk.specs.declared.refusal.CaseError.TheVariants.{NoMemory as CaseNoMemory};
 ghost use Rattle.escrow_desk.specs.declared.refusal.ReadRefusal.TheVariants.{NoMemory as ReadNoMemory};
 
 use std::alloc::{AllocError, AllocFailed};
@@ -118,5 +119,22 @@ impl From<AllocError> for ReadRefusal {
 
     fn from(_error: AllocError) -> ReadRefusal {
         ReadRefusal::NoMemory
+    }
+}
+
+impl From<NoMemory> for CaseError {
+    ghost from_gives = { λ _ error. error ≡ CaseNoMemory };
+
+    fn from(_memory: NoMemory) -> CaseError {
+        CaseError::NoMemory
+    }
+}
+
+impl<T: Drop> From<AllocFailed<T>> for CaseError {
+    ghost from_gives = { λ _ error. error ≡ CaseNoMemory };
+
+    /// What could not be stored is let go.
+    fn from(_failed: AllocFailed<T>) -> CaseError {
+        CaseError::NoMemory
     }
 }

@@ -19,7 +19,8 @@ fn is_low_enough(factor: u64, units: u64) -> bool
     requires units { units ≤ GREATEST_YIELD + 1 }
     ensures { IsTrue result ↔ (up factor half_year * (two_hundred_percent + units) ≤ one * two_hundred_percent) }
 {
-    power_up(factor, HALF_YEAR) as u128 * (TWO_HUNDRED_PERCENT + units) as u128 <= ONE as u128 * TWO_HUNDRED_PERCENT as u128
+    power_up(factor, HALF_YEAR) as u128 * (TWO_HUNDRED_PERCENT + units) as u128
+        <= ONE as u128 * TWO_HUNDRED_PERCENT as u128
 }
 
 // Whether the half-year's power of a factor, rounded down, is at least the half-year's discount factor.
@@ -28,7 +29,8 @@ fn is_high_enough(factor: u64, units: u64) -> bool
     requires units { units ≤ GREATEST_YIELD + 1 }
     ensures { IsTrue result ↔ (one * two_hundred_percent ≤ down factor half_year * (two_hundred_percent + units)) }
 {
-    power_down(factor, HALF_YEAR) as u128 * (TWO_HUNDRED_PERCENT + units) as u128 >= ONE as u128 * TWO_HUNDRED_PERCENT as u128
+    power_down(factor, HALF_YEAR) as u128 * (TWO_HUNDRED_PERCENT + units) as u128
+        >= ONE as u128 * TWO_HUNDRED_PERCENT as u128
 }
 
 /// The factor of one index day at a yield of at most 3,000,000,001 units, rounded down: the greatest number of 62

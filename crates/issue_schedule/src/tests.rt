@@ -1,3 +1,5 @@
+//! Worked figures.
+
 ghost use Rattle.std.specs.Prelude.{IfOk};
 ghost use Rattle.escrow_units.specs.DayNumber.{IsDayNumber};
 ghost use Rattle.issue_schedule.specs.IssueTerms.{IsIssue};

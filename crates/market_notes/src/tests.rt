@@ -1,3 +1,5 @@
+//! Worked figures.
+
 ghost use Rattle.std.specs.Prelude.{IfOk};
 ghost use Rattle.escrow_units.specs.SlgsTerms.{IsSettlement};
 ghost use Rattle.market_notes.specs.NoteTerms.{IsNoteFile};

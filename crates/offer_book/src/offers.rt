@@ -85,16 +85,12 @@ pub fn slgs_lines(alloc: Global, settle: Day, rates: &RateFile) -> Result<Vec<Li
     let Some(terms) = rates.terms else {
         return Ok(lines);
     };
-    let Ok(index) = RateIndex::make(alloc, rates) else {
-        return Err(CaseError::NoMemory);
-    };
+    let index = RateIndex::make(alloc, rates)?;
     for offer in rates.offers.as_slice() {
         let sold = offered_line(settle, &index, terms, offer);
         let line = at_row(FileKind::Rates, offer.row, sold)?;
         // Its fields are copied one by one, since the proof of the push reads their types.
-        if lines.push(Line { ..line }).is_err() {
-            return Err(CaseError::NoMemory);
-        }
+        lines.push(Line { ..line })?;
     }
     Ok(lines)
 }

@@ -1,3 +1,5 @@
+//! Worked figures.
+
 ghost use Rattle.std.specs.Prelude.{IfOk};
 ghost use Rattle.rate_table.specs.Table.{IsRateFile};
 

@@ -1,3 +1,5 @@
+//! Worked figures.
+
 ghost use Rattle.std.specs.Prelude.{◌≡◌, ◌+◌, ◌≤◌, ◌^◌, true};
 ghost use Rattle.escrow_units.specs.Calendar.{IsBaseDay};
 ghost use Rattle.escrow_units.specs.DayNumber.{IsDayNumber};

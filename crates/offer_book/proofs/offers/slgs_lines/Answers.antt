@@ -15,10 +15,10 @@ returns-in_default-clause-count c = lines-count c.args.settle c.args.rates.now c
 
 pub returns-in_err-line-clause-lines : goal.returns-in_err-line-clause-lines
 returns-in_err-line-clause-lines c =
-    let p = err_from_is_err_and c.from_residual.result c.from_residual.ensures.1 in
+    let p = err_from_is_err_and c.from_residual-in_err-line.result c.from_residual-in_err-line.ensures.1 in
     let short : c.loop-offer.offer-index < length c.args.rates.now.offers = omega (arith, ap length c.as_slice-offer-items.ensures) in
     let is = rw c.as_slice-offer-items.ensures at c.offer-item.is in
-    let answer = rw (c.offered_line-sold.ensures, c.in-Ok.ensures) at c.in_err-line.ensures.answer in
+    let answer = rw (c.offered_line-sold.ensures, c.in_ok-index.ensures) at c.in_err-line.ensures.answer in
     rw (p.1, p.2) (refused-answers c.args.settle c.args.rates.now c.in-Some.terms c.loop-offer.offer-index c.loop-offer.lines.items c.offer-item.result c.in_err-line.field-0.0
     c.in-Some.is short is c.loop-offer.invariant answer)
 
