@@ -1,5 +1,5 @@
 -- What the sums of amounts by day are.
-use Rattle.std.specs.Prelude.{◌≡◌, ◌≤◌, List, [], ◌++◌, All, ℤ, ◌≤ℤ◌}
+use Rattle.std.specs.Prelude.{◌≡◌, ◌≤◌, List, [], ◌++◌, All, ℤ}
 use Rattle.escrow_units.specs.Flows.{FallWithin, Rise, total}
 use Rattle.escrow_units.specs.declared.security.Flow.{Flow}
 use Rattle.day_sums.specs.Summed.{summed, cents_on, total_by}

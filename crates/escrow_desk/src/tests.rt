@@ -2,6 +2,7 @@
 
 ghost use Rattle.std.specs.Prelude.{◌≡◌, ◌≤◌, length, IfOk, string_bytes};
 
+use crate::limits::FILE_LIMIT;
 use crate::{
     MemoryDesk, NamedBytes, NeverFails, ReadRefusal, read_all, read_rows, say_all, write_all,
 };

@@ -1,9 +1,6 @@
 -- The yield of flows for a cost, as an interval: this project's own, over the exact yield of 26 CFR 1.148-5(b).
-use Rattle.std.specs.Prelude.{◌≡◌, ℕ, ◌+◌, ◌-◌, ◌*◌, ◌<◌, ◌≤◌, Bool, true, false, nat_lt, nat_le, ◌==◌, ◌&&◌, if◌then◌else◌, List, [], length, ℤ, ◌≤ℤ◌}
-use Rattle.std.specs.List.{All}
-use Rattle.escrow_units.specs.Calendar.{years_after_of}
+use Rattle.std.specs.Prelude.{◌≡◌, ℕ, ◌+◌, ◌-◌, ◌*◌, ◌<◌, ◌≤◌, Bool, true, false, nat_lt, nat_le, ◌==◌, ◌&&◌, if◌then◌else◌, List, [], length}
 use Rattle.escrow_units.specs.PresentValue.{IndexedFlow, PresentValueAtLeast, PresentValueAtMost, YieldLiesIn}
-use Rattle.escrow_units.specs.declared.security.Flow.{Flow}
 use Rattle.fixed_powers.specs.DiscountPowers.{one}
 use Rattle.fixed_powers.specs.PresentValues.{total_cents, present_value}
 use Rattle.fixed_powers.specs.Searches.{greatest_passing, least_passing}
