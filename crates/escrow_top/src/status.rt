@@ -13,7 +13,8 @@ pub enum Status {
     Refused,
     /// No permitted portfolio meets the needs.
     Infeasible,
-    /// No portfolio within the limit on the yield meets the needs.
+    /// There is no rival: each permitted portfolio that meets the needs is worth more than it costs one unit of yield below
+    /// the limit. One whose yield lies in the last unit up to the limit may be there.
     NoneWithinYield,
     /// The search spent its budget.
     BudgetSpent,

@@ -8,6 +8,7 @@ use Rattle.std.proofs.lemmas.List.{append-nil, take_all, take_more}
 use Rattle.std.proofs.lemmas.List.Concat.{flat_map-append}
 use Rattle.std.proofs.lemmas.List.Elements.{All-nil, All-cons, All-head, All-tail, All-append, All-filter, All-map, All-weaker, filter_passes}
 use Rattle.std.proofs.lemmas.List.Sums.{sum_by-append, sum_by-cons, sum_by_more_le}
+use Rattle.escrow_units.specs.declared.limits.TheConstants.{AMOUNT_LIMIT}
 use Rattle.escrow_units.specs.Calendar.{years_after_of}
 use Rattle.escrow_units.specs.Flows.{total, FallWithin}
 use Rattle.escrow_units.specs.Series.{dates_after_of, series_of}
@@ -19,7 +20,6 @@ use Rattle.issue_schedule.specs.declared.issue.Bond.{Bond}
 use Rattle.issue_schedule.specs.declared.issue.Call.{Call}
 use Rattle.issue_schedule.specs.declared.issue.Issue.{Issue}
 use Rattle.issue_schedule.specs.IssueTerms.{HasNeeds, IsBond, IsCall, IsDirect}
-use Rattle.issue_schedule.specs.Limits.{total_limit}
 use Rattle.issue_schedule.specs.NeedLaws.{NeedsAreAboveZero, NeedsFallWithin, NeedsKeepTotal, NeedsRise}
 use Rattle.issue_schedule.specs.Needs.{accrued, accrued_since, all_needs, bond_needs, call_price, called_needs, held_needs, half_coupon, interest, interest_dates, needs_of, period_start}
 
@@ -138,6 +138,6 @@ needs-within issue has =
     (All-weaker (IsDirect issue.settle) (λ (f : Flow). IsWithin issue.settle to f.day) (λ f is. (is.from, is.by)) issue.direct has.direct)
     (bonds-within issue.settle issue.call issue.bonds has.call has.bonds))
 
-pub needs-limit : (issue : Issue) → HasNeeds issue → total (needs_of issue.settle issue.call issue.direct issue.bonds) ≤ total_limit
+pub needs-limit : (issue : Issue) → HasNeeds issue → total (needs_of issue.settle issue.call issue.direct issue.bonds) ≤ AMOUNT_LIMIT
 unfolding needs_of
 needs-limit issue has = rw (keep-total (all_needs issue.settle issue.call issue.direct issue.bonds)) has.limit

@@ -1,5 +1,6 @@
 -- The issue file: its rows, and what they give or where they are refused. The rows are this project's own.
 use Rattle.std.specs.Prelude.{ℕ, ◌==◌, ◌||◌, ◌&&◌, Bool, nat_lt, nat_le, int_lt, int_le, if◌then◌else◌, List, [], ◌∷◌, ◌++◌, length, is_some, unwrap_or, Option, Some, None, Result, Ok, Err, codes, ℤ}
+use Rattle.escrow_units.specs.declared.limits.TheConstants.{AMOUNT_LIMIT}
 use Rattle.escrow_desk.specs.declared.refusal.FileKind.TheVariants as file
 use Rattle.escrow_desk.specs.declared.refusal.Refusal.{Refusal}
 use Rattle.escrow_desk.specs.declared.refusal.RefusalKind.{RefusalKind}
@@ -11,7 +12,6 @@ use Rattle.escrow_units.specs.SlgsTerms.{is_settlement}
 use Rattle.escrow_units.specs.declared.amount.Cents.{Cents}
 use Rattle.escrow_units.specs.declared.amount.YieldUnits.{YieldUnits}
 use Rattle.escrow_units.specs.declared.security.Flow.{Flow}
-use Rattle.issue_schedule.specs.Limits.{total_limit}
 use Rattle.issue_schedule.specs.IssueTerms.{needs_total, need_dates}
 use Rattle.escrow_units.specs.Flows.{total}
 use Rattle.row_fields.specs.RowForm.{Row, field_of, is_word, ◌>>=◌, or_refused, day_field_of, day_by_of, of_width, answer_of_row, with_rows}
@@ -201,7 +201,7 @@ issue_with_of read restricted = record {
 
 -- the needs, and the payments, are at most 10^13 cents together
 abbrev pub is_within_limit_of : Issue → Bool
-is_within_limit_of issue = nat_le (needs_total issue) total_limit && nat_le (total issue.pays) total_limit
+is_within_limit_of issue = nat_le (needs_total issue) AMOUNT_LIMIT && nat_le (total issue.pays) AMOUNT_LIMIT
 
 -- and there are at most 480 need dates
 abbrev pub within_limits_of : Issue → Result Issue RefusalKind

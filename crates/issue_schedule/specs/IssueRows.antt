@@ -1,5 +1,6 @@
 -- What each row of an issue file that is read keeps, whatever stands before it. The limits are this project's own.
 use Rattle.std.specs.Prelude.{ℕ, ◌^◌, ◌≤◌, ◌≤ℤ◌, ℤ}
+use Rattle.escrow_units.specs.declared.limits.TheConstants.{AMOUNT_LIMIT, GREATEST_GIVEN_YIELD, GREATEST_PRICE, GREATEST_RATE, LEAST_PRICE}
 use Rattle.escrow_units.specs.SlgsTerms.{IsSettlement}
 use Rattle.escrow_units.specs.declared.amount.Cents.{Cents}
 use Rattle.escrow_units.specs.declared.amount.YieldUnits.{YieldUnits}
@@ -12,11 +13,11 @@ use Rattle.issue_schedule.specs.declared.row.IssueRow.TheVariants as issue_row
 
 -- an amount of at most 10^13 cents
 abbrev pub IsCents : Cents → Type 0
-IsCents cents = cents.0 ≤ 10 ^ 13
+IsCents cents = cents.0 ≤ AMOUNT_LIMIT
 
 -- a yield of at most 29.99 percent
 abbrev pub IsGivenYield : YieldUnits → Type 0
-IsGivenYield units = units.0 ≤ 2_999_000_000
+IsGivenYield units = units.0 ≤ GREATEST_GIVEN_YIELD
 
 -- an issue price of at least one cent
 pub record IsIssuePrice (price : IssuePrice) : Type 0 where
@@ -31,14 +32,14 @@ pub record IsBudget (budget : ℕ) : Type 0 where
 -- a call up to a last day, at a price from 10 to 300 percent of par
 pub record IsCallRow (last : ℤ) (call : Call) : Type 0 where
   pub by : call.day ≤ℤ last
-  pub least : 1_000_000_000 ≤ call.price.0
-  pub most : call.price.0 ≤ 30_000_000_000
+  pub least : LEAST_PRICE ≤ call.price.0
+  pub most : call.price.0 ≤ GREATEST_PRICE
 
 -- an old bond that matures by a last day, with a coupon of at most 30 percent
 pub record IsBondRow (last : ℤ) (bond : Bond) : Type 0 where
   pub by : bond.maturity ≤ℤ last
   pub principal : IsCents bond.principal
-  pub coupon : bond.coupon.0 ≤ 30_000
+  pub coupon : bond.coupon.0 ≤ GREATEST_RATE
 
 -- an amount by a last day
 pub record IsFlowRow (last : ℤ) (flow : Flow) : Type 0 where

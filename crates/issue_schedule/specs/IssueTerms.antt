@@ -2,9 +2,8 @@
 use Rattle.std.specs.Prelude.{◌≡◌, ℕ, ◌^◌, ◌≤◌, ◌<ℤ◌, ◌≤ℤ◌, ℤ, length, All, IfSome}
 use Rattle.escrow_units.specs.Calendar.{years_after_of}
 use Rattle.escrow_units.specs.SlgsTerms.{IsSettlement}
-use Rattle.escrow_units.specs.declared.limits.TheConstants.{AMOUNT_LIMIT, GREATEST_PRICE, GREATEST_RATE, LEAST_PRICE, MOST_NEED_DATES}
+use Rattle.escrow_units.specs.declared.limits.TheConstants.{AMOUNT_LIMIT, GREATEST_GIVEN_YIELD, GREATEST_PRICE, GREATEST_RATE, LEAST_PRICE, MOST_NEED_DATES}
 use Rattle.escrow_units.specs.declared.security.Flow.{Flow}
-use Rattle.issue_schedule.specs.Limits.{total_limit}
 use Rattle.escrow_units.specs.Flows.{total}
 use Rattle.issue_schedule.specs.IssueRows.{IsBudget, IsCents, IsGivenYield, IsIssuePrice}
 use Rattle.issue_schedule.specs.Needs.{all_needs, needs_of}
@@ -75,20 +74,20 @@ pub record HasNeeds (issue : Issue) : Type 0 where
   pub call : IfSome issue.call (IsCall issue.settle)
   pub bonds : All (IsBond issue.settle) issue.bonds
   pub direct : All (IsDirect issue.settle) issue.direct
-  pub limit : needs_total issue ≤ total_limit
+  pub limit : needs_total issue ≤ AMOUNT_LIMIT
 
 -- at most 29.99 percent, or a price of at least one cent
 abbrev pub IsRestricted : Restricted → Type 0
-IsRestricted (Given units) = units.0 ≤ 2_999_000_000
-IsRestricted (Computed row price) = (1 ≤ price.0) × (price.0 ≤ 10 ^ 13)
+IsRestricted (Given units) = units.0 ≤ GREATEST_GIVEN_YIELD
+IsRestricted (Computed row price) = (1 ≤ price.0) × (price.0 ≤ AMOUNT_LIMIT)
 
 -- what each issue that is read keeps
 pub record IsIssue (issue : Issue) : Type 0 where
   pub needs : HasNeeds issue
   pub dates : need_dates issue ≤ MOST_NEED_DATES
-  pub cash : issue.cash.0 ≤ 10 ^ 13
+  pub cash : issue.cash.0 ≤ AMOUNT_LIMIT
   pub restricted : IsRestricted issue.restricted
   pub pays : All (IsPay issue.settle) issue.pays
-  pub pays_limit : total issue.pays ≤ total_limit
-  pub allowance : issue.allowance.0 ≤ 10 ^ 13
+  pub pays_limit : total issue.pays ≤ AMOUNT_LIMIT
+  pub allowance : issue.allowance.0 ≤ AMOUNT_LIMIT
   pub budget : IsBudget issue.budget

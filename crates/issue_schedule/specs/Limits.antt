@@ -2,10 +2,6 @@
 use Rattle.std.specs.Prelude.{ℕ, nat_le, if◌then◌else◌, Option, Some, None}
 use Rattle.escrow_units.specs.declared.limits.TheConstants.{AMOUNT_LIMIT}
 
--- all needs together, and all payments together, are at most 10^13 cents: as one amount
-abbrev pub total_limit : ℕ
-total_limit = AMOUNT_LIMIT
-
--- a sum that keeps to the limit
+-- a sum that keeps to the limit of amounts, which all needs together, and all payments together, keep to
 abbrev pub limited : ℕ → Option ℕ
-limited sum = if nat_le sum total_limit then Some sum else None
+limited sum = if nat_le sum AMOUNT_LIMIT then Some sum else None

@@ -4,7 +4,7 @@ ghost use Rattle.std.specs.List.{flat_map};
 ghost use Rattle.escrow_units.specs.Flows.{total};
 ghost use Rattle.escrow_units.specs.SlgsTerms.{IsSettlement};
 ghost use Rattle.issue_schedule.specs.IssueTerms.{IsBond, IsCall};
-ghost use Rattle.issue_schedule.specs.Limits.{limited, total_limit};
+ghost use Rattle.issue_schedule.specs.Limits.{limited};
 ghost use Rattle.issue_schedule.specs.Needs.{bond_needs as bond_needs_of};
 
 use crate::bond::bond_needs;
@@ -13,7 +13,7 @@ use escrow_units::{AMOUNT_LIMIT, Flow};
 
 /// A sum with amounts added, where it keeps to the limit.
 pub(crate) fn limited_sum(sum: u64, flows: &[Flow]) -> Option<u64>
-    requires { sum ≤ total_limit }
+    requires { sum ≤ AMOUNT_LIMIT }
     ensures { result ≡ limited (sum + total flows.now) }
 {
     let mut sum = sum;
@@ -28,7 +28,7 @@ pub(crate) fn limited_sum(sum: u64, flows: &[Flow]) -> Option<u64>
 
 /// A sum with the needs of bonds added, where it keeps to the limit.
 pub(crate) fn limited_bonds(sum: u64, issue: &Issue) -> Option<u64>
-    requires limit { sum ≤ total_limit }
+    requires limit { sum ≤ AMOUNT_LIMIT }
     requires settle { IsSettlement issue.now.settle }
     requires call { IfSome issue.now.call (IsCall issue.now.settle) }
     requires bonds { All (IsBond issue.now.settle) issue.now.bonds }

@@ -6,7 +6,6 @@ ghost use Rattle.escrow_units.specs.SlgsTerms.{IsSettlement};
 ghost use Rattle.row_fields.specs.RowForm.{Answers, RowAnswers, with_rows};
 ghost use Rattle.issue_schedule.specs.IssueForm.{bare_read, draft_of, finished_of, is_within_limit_of, issue_of, issue_with_of, restricted_of, with_row, within_limits_of};
 ghost use Rattle.issue_schedule.specs.IssueTerms.{HasNeeds, IsBond, IsCall, IsDirect, IsIssue, IsRead, IsRestricted, need_dates};
-ghost use Rattle.issue_schedule.specs.Limits.{total_limit};
 
 use crate::draft::{Draft, IssueRead};
 use crate::issue::{Issue, Restricted};
@@ -14,7 +13,7 @@ use crate::limits::{limited_bonds, limited_sum};
 use crate::row::first_settle;
 use crate::schedule::needs;
 use escrow_desk::{CaseError, FileKind, RefusalKind, Rows};
-use escrow_units::{Cents, Day};
+use escrow_units::{AMOUNT_LIMIT, Cents, Day};
 use row_fields::{Row, RowFault, at_row, row_answer};
 use std::alloc::Global;
 
@@ -102,7 +101,7 @@ fn within_limits(alloc: Global, issue: Issue) -> Result<Issue, RowFault>
     ensures same { IfOk result (λ answer. answer ≡ issue) }
     ensures needs { OnOk result (HasNeeds issue) }
     ensures dates { OnOk result (need_dates issue ≤ 480) }
-    ensures pays { OnOk result (total issue.pays ≤ total_limit) }
+    ensures pays { OnOk result (total issue.pays ≤ AMOUNT_LIMIT) }
 {
     if !is_within_limit(&issue) {
         return Err(RowFault::Refused(RefusalKind::NeedsTooLarge));

@@ -4,14 +4,13 @@ ghost use Rattle.escrow_units.specs.Calendar.{years_after_of};
 ghost use Rattle.escrow_units.specs.Flows.{Rise, total, FallWithin};
 ghost use Rattle.day_sums.specs.SummedLaws.{AreAboveZero};
 ghost use Rattle.issue_schedule.specs.IssueTerms.{HasNeeds};
-ghost use Rattle.issue_schedule.specs.Limits.{total_limit};
 ghost use Rattle.issue_schedule.specs.Needs.{bond_needs as bond_needs_of, needs_of};
 
 use crate::bond::bond_needs;
 use crate::issue::Issue;
 use day_sums::DaySums;
 use escrow_desk::NoMemory;
-use escrow_units::{Flow, years_after};
+use escrow_units::{AMOUNT_LIMIT, Flow, years_after};
 use std::alloc::Global;
 
 // What is needed on each day.
@@ -45,7 +44,7 @@ pub fn needs(alloc: Global, issue: &Issue) -> Result<Vec<Flow>, NoMemory>
     ensures rise { IfOk result (λ needs. Rise needs.items) }
     ensures above { IfOk result (λ needs. AreAboveZero needs.items) }
     ensures total { IfOk result (λ needs. total needs.items ≡ total issue.now.direct + sum_by (λ bond. total (bond_needs_of issue.now.settle issue.now.call bond)) issue.now.bonds) }
-    ensures limit { IfOk result (λ needs. total needs.items ≤ total_limit) }
+    ensures limit { IfOk result (λ needs. total needs.items ≤ AMOUNT_LIMIT) }
 {
     needs_by_day(alloc, issue)?.into_flows(alloc)
 }

@@ -1,10 +1,10 @@
 use Rattle.std.proofs.Common.{◌≡◌, ◌+◌, ◌≤◌, drop}
-use Rattle.issue_schedule.specs.Limits.{total_limit}
+use Rattle.escrow_units.specs.declared.limits.TheConstants.{AMOUNT_LIMIT}
 use Rattle.escrow_units.specs.Flows.{total}
 use Rattle.issue_schedule.proofs.limits.limited_sum.Given as goal
 
 abbrev pub invariant-loop-flow : goal.invariant-loop-flow
 invariant-loop-flow l = record {
-  limit : l.sum ≤ total_limit;
+  limit : l.sum ≤ AMOUNT_LIMIT;
   rest : l.fn.sum + total l.flows ≡ l.sum + total (drop l.flow-index l.flows);
 }

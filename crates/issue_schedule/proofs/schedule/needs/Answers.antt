@@ -1,11 +1,11 @@
 use Rattle.std.proofs.Common.{◌≡◌, ◌∙◌, ◌+◌, ◌≤◌, ap, sym, subst, List}
 use Rattle.std.specs.Prelude.{sum_by}
 use Rattle.std.proofs.lemmas.Result.{IfOk-weaker}
+use Rattle.escrow_units.specs.declared.limits.TheConstants.{AMOUNT_LIMIT}
 use Rattle.escrow_units.specs.Calendar.{years_after_of}
 use Rattle.escrow_units.specs.Flows.{total, FallWithin}
 use Rattle.escrow_units.specs.declared.security.Flow.{Flow}
 use Rattle.day_sums.specs.Table.{SpanSums}
-use Rattle.issue_schedule.specs.Limits.{total_limit}
 use Rattle.issue_schedule.specs.Needs.{bond_needs}
 use Rattle.issue_schedule.proofs.NeedFacts.{needs-total, needs-limit, needs-within}
 use Rattle.issue_schedule.proofs.schedule.needs.Goals as goal
@@ -29,6 +29,6 @@ returns-clause-total c =
 pub returns-clause-limit : goal.returns-clause-limit
 returns-clause-limit c =
     let issue = c.args.issue.now in
-    IfOk-weaker c.into_flows.result (λ needs. needs.items ≡ c.in_ok-needs_by_day.field-0.sums) (λ needs. total needs.items ≤ total_limit)
+    IfOk-weaker c.into_flows.result (λ needs. needs.items ≡ c.in_ok-needs_by_day.field-0.sums) (λ needs. total needs.items ≤ AMOUNT_LIMIT)
     (λ needs is. rw (is ∙ ap (λ (s : SpanSums). s.sums) c.in_ok-needs_by_day.ensures) (needs-limit issue c.requires))
     c.into_flows.ensures.value

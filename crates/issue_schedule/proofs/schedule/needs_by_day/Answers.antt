@@ -1,4 +1,5 @@
 use Rattle.std.proofs.Common.{◌≡◌, ◌∙◌, ◌+◌, ◌<◌, ◌≤◌, ◌++◌, arith, rules, ap, sym, subst, length, get_or, List}
+use Rattle.escrow_units.specs.declared.limits.TheConstants.{AMOUNT_LIMIT}
 use Rattle.escrow_units.specs.Flows.{FallWithin, total}
 use Rattle.escrow_units.proofs.YearFacts.{years-follow}
 use Rattle.issue_schedule.specs.IssueTerms.{IsBond}
@@ -6,7 +7,6 @@ use Rattle.escrow_units.specs.declared.security.Flow.{Flow}
 use Rattle.day_sums.specs.Table.{SpanSums}
 use Rattle.day_sums.proofs.TableFacts.{span_sums}
 use Rattle.day_sums.specs.Summed.{summed}
-use Rattle.issue_schedule.specs.Limits.{total_limit}
 use Rattle.issue_schedule.specs.Needs.{bond_needs}
 use Rattle.issue_schedule.proofs.NeedFacts.{all-summed, bond-fits, bond-more, bond-within}
 use Rattle.issue_schedule.proofs.schedule.needs_by_day.Goals as goal
@@ -56,7 +56,7 @@ add-requires-in-loop-bond-clause-room c =
     let before = ap (λ (s : SpanSums). s.sums) c.loop-bond.invariant in
     let pays : c.as_slice-in-loop-bond.result.now ≡ f c.bond-item.result = c.as_slice-in-loop-bond.ensures.value ∙ c.bond_needs.ensures in
     let one : f (get_or bonds c.loop-bond.bond-index c.bond-item.result) ≡ f c.bond-item.result = search rules in
-    let fits : total c.loop-bond.sums.sums + total (f (get_or bonds c.loop-bond.bond-index c.bond-item.result)) ≤ total_limit =
-    bond-fits f issue.direct bonds c.loop-bond.bond-index c.bond-item.result c.loop-bond.sums.sums total_limit short before (search rules) in
+    let fits : total c.loop-bond.sums.sums + total (f (get_or bonds c.loop-bond.bond-index c.bond-item.result)) ≤ AMOUNT_LIMIT =
+    bond-fits f issue.direct bonds c.loop-bond.bond-index c.bond-item.result c.loop-bond.sums.sums AMOUNT_LIMIT short before (search rules) in
     let same : total c.as_slice-in-loop-bond.result.now ≡ total (f c.bond-item.result) = ap total pays in
     omega (arith, fits, same, ap total one)
