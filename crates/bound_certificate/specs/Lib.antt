@@ -1,2 +1,5 @@
 pub mod Certificate
 pub mod Text
+pub mod Due
+pub mod Scan
+pub mod Reading

@@ -2,9 +2,18 @@
 #![tactic(auto)]
 
 mod certificate;
+mod due;
+mod fault;
+mod item;
 mod limits;
+mod reader;
+mod reading;
+mod scan;
 mod write;
 
 pub use certificate::{Buy, Buys, Certificate, Nodes};
+pub use fault::{CertError, CertFault, FaultKind};
+pub use item::{Fed, Item};
 pub use limits::{GREATEST_GAP, GREATEST_UNITS, MOST_BUYS, MOST_DATES, MOST_NODES};
+pub use reader::CertReader;
 pub use write::write_cert;

@@ -14,3 +14,6 @@ pub const MOST_NODES: u64 = 10_000;
 
 /// The most need dates, for each of which a leaf has a price.
 pub const MOST_DATES: u16 = 480;
+
+/// One word more than a line may have.
+pub(crate) const MOST_WORDS: u16 = 484;
