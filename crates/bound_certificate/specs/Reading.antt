@@ -1,8 +1,7 @@
 -- What has come of a certificate, byte by byte.
-use Rattle.std.specs.Prelude.{◌≡◌, ◌≢◌, ℕ, ◌+◌, ◌≤◌, Bool, true, false, ◌==◌, if◌then◌else◌, ◌⊎◌, List, [], ◌∷◌, length, take, slice_index, replicate, All, Option, Some, None, Result, Ok, Err}
+use Rattle.std.specs.Prelude.{◌≡◌, ◌≢◌, ℕ, ◌+◌, ◌≤◌, false, ◌==◌, if◌then◌else◌, ◌⊎◌, List, length, take, slice_index, replicate, All, Option, Some, None, Result, Ok, Err}
 use Rattle.std.specs.List.{fold}
 use Rattle.dual_bound.specs.declared.tree.Leaf.{Leaf}
-use Rattle.bound_certificate.specs.declared.due.Due.{Due}
 use Rattle.bound_certificate.specs.declared.due.Due.TheVariants as due
 use Rattle.bound_certificate.specs.declared.reading.Reading.{Reading}
 use Rattle.bound_certificate.specs.declared.scan.Scan.{Scan}
@@ -59,12 +58,9 @@ ended_by (Some found) reading = failed found (record reading { scan = whole_line
 abbrev pub ended : Reading → Reading
 ended reading = ended_by (line_fault reading) reading
 
-abbrev pub answer_by : Option FaultKind → Reading → Result Item CertFault
-answer_by None reading = Ok (said reading)
-answer_by (Some found) reading = Err (fault_at reading found)
-
-abbrev pub ended_answer : Reading → Result Item CertFault
-ended_answer reading = answer_by (line_fault reading) reading
+-- what a line says that ends with a byte
+abbrev pub item_at : Reading → ℕ → Option Item
+item_at reading byte = if byte == 10 then Some (said reading) else None
 
 -- one more byte; after a fault nothing more is read
 abbrev pub after_byte_by : Option CertFault → Reading → ℕ → Reading

@@ -197,6 +197,13 @@ impl Due {
         }
     }
 
+    /// Whether the last line came.
+    pub(crate) fn is_over(self) -> bool
+        ensures { result ≡ is_over self }
+    {
+        matches!(self, Due::Nothing)
+    }
+
     /// Whether a node is due, but the tree has closed.
     pub(crate) fn is_closed_early(self) -> bool
         ensures { result ≡ is_closed_early self }

@@ -1,7 +1,7 @@
 //! What has come of a certificate.
-ghost use Rattle.std.specs.Prelude.{◌≡◌, ◌≤◌, Err, None, false, length, IfErr, IfOk};
+ghost use Rattle.std.specs.Prelude.{◌≡◌, ◌≤◌, Err, None, Some, false, length, IfErr, IfOk};
 ghost use Rattle.bound_certificate.specs.Due.{is_over};
-ghost use Rattle.bound_certificate.specs.Reading.{Feeds, IsReading, after_bytes, ended, ended_answer, failed, fault_at, finished, new_reading};
+ghost use Rattle.bound_certificate.specs.Reading.{Feeds, IsReading, after_byte, after_bytes, ended, failed, fault_at, finished, item_at, new_reading, said};
 
 use crate::due::Due;
 use crate::fault::{CertFault, FaultKind};
@@ -58,7 +58,8 @@ impl Reading {
         requires due { is_over self.old.due ≡ false }
         ensures value { self.new ≡ ended self.old }
         ensures kept { IsReading self.new }
-        ensures answer { result ≡ ended_answer self.old }
+        ensures item { IfOk result (λ item. (self.new.fault ≡ None) × (item ≡ said self.old)) }
+        ensures fault { IfErr result (λ fault. self.new.fault ≡ Some fault) }
     {
         self.scan.end_word(self.due);
         let dates = self.scan.leaf.prices.as_slice().len() as u16;
@@ -73,6 +74,25 @@ impl Reading {
         Ok(item)
     }
 
+    // One more byte; where it ends a line, what the line says.
+    fn take(&mut self, byte: u8) -> Result<Option<Item>, CertFault>
+        requires reading { IsReading self.old }
+        requires going { self.old.fault ≡ None }
+        ensures value { self.new ≡ after_byte self.old byte }
+        ensures kept { IsReading self.new }
+        ensures item { IfOk result (λ item. (self.new.fault ≡ None) × (item ≡ item_at self.old byte)) }
+        ensures fault { IfErr result (λ fault. self.new.fault ≡ Some fault) }
+    {
+        if self.due.is_over() {
+            return self.fail(FaultKind::Trailing);
+        }
+        if byte == b'\n' {
+            return self.end_line().map(Some);
+        }
+        self.scan.take(self.due, byte);
+        Ok(None)
+    }
+
     /// The next piece.
     pub(crate) fn feed(&mut self, piece: &[u8]) -> Result<Fed, CertFault>
         requires reading { IsReading self.old }
@@ -85,17 +105,12 @@ impl Reading {
             return Err(fault);
         }
         for (place, byte) in piece.iter().enumerate() {
-            if self.due == Due::Nothing {
-                return self.fail(FaultKind::Trailing);
-            }
-            if *byte == b'\n' {
-                let item = self.end_line()?;
+            if let Some(item) = self.take(*byte)? {
                 return Ok(Fed {
                     used: place as u32 + 1,
                     item,
                 });
             }
-            self.scan.take(self.due, *byte);
         }
         Ok(Fed {
             used: piece.len() as u32,
@@ -110,7 +125,7 @@ impl Reading {
         if let Some(fault) = self.fault {
             return Err(fault);
         }
-        if self.due == Due::Nothing {
+        if self.due.is_over() {
             return Ok(());
         }
         Err(CertFault {
