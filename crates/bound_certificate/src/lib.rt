@@ -9,6 +9,8 @@ mod limits;
 mod reader;
 mod reading;
 mod scan;
+#[cfg(test)]
+mod tests;
 mod write;
 
 pub use certificate::{Buy, Buys, Certificate, Nodes};
