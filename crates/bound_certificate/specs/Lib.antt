@@ -3,3 +3,4 @@ pub mod Text
 pub mod Due
 pub mod Scan
 pub mod Reading
+pub mod Laws
