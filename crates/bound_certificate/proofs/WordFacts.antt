@@ -1,6 +1,8 @@
 -- Words, byte by byte.
-use Rattle.std.proofs.Common.{◌≡◌, ◌≢◌, ◌∙◌, ◌⊎◌, ℕ, ◌+◌, ◌-◌, ◌*◌, ◌/◌, ◌%◌, ◌^◌, ◌<◌, ◌≤◌, Bool, true, false, ◌==◌, ◌&&◌, not, nat_lt, nat_le, if◌then◌else◌, List, [], ◌∷◌, ◌++◌, length, slice_index, refl, sym, ap, arith, Option, Some, None, decimal, append_assoc, inl, inr}
+use Rattle.std.proofs.Common.{◌≡◌, ◌≢◌, ◌∙◌, ◌⊎◌, ℕ, ◌+◌, ◌-◌, ◌*◌, ◌/◌, ◌%◌, ◌^◌, ◌<◌, ◌≤◌, Bool, true, false, ◌==◌, ◌&&◌, not, nat_lt, nat_le, if◌then◌else◌, List, [], ◌∷◌, ◌++◌, length, slice_index, nat_eq, length-append, refl, sym, ap, arith, Option, Some, None, decimal, append_assoc, inl, inr}
+use lib.Pointwise.{pointwise}
 use Rattle.std.specs.List.{fold}
+use Rattle.std.proofs.Math.Seq.{get_or-append_seam}
 use Rattle.std.specs.Char.{is_ascii_digit}
 use Rattle.std.proofs.lemmas.List.{append-nil}
 use Rattle.std.proofs.lemmas.List.Sums.{fold-append}
@@ -141,3 +143,40 @@ number-read d place n h limit =
         ∙ ap (λ (w : Word). longer d place w (48 + m % 10)) (before (omega arith))
         ∙ one_more_digit m ten within)
     n (omega arith) limit
+
+same_test : (m n : ℕ) → m ≡ n → (m == n) ≡ true
+same_test m n h = grind (arith, h)
+less_test : (m n : ℕ) → m < n → (m == n) ≡ false
+less_test m n h = grind (arith, h)
+full_test : (m n : ℕ) → m ≡ n → nat_lt m n ≡ false
+full_test m n h = grind (arith, h)
+within_test : (m n : ℕ) → m < n → nat_lt m n ≡ true
+within_test m n h = grind (arith, h)
+
+-- so many bytes of a name are the whole of it where the rest follows
+name_by : (d : Due) (place : ℕ) (n : Name) (count : ℕ) (bytes rest : List ℕ) →
+    name_of (fold (longer d place) (word.Part n (count + 1)) bytes) ≡ (if pointwise nat_eq rest bytes then Some n else None) →
+    (b : Bool) → name_of (fold (longer d place) (if b then word.Part n (count + 1) else word.Other) bytes) ≡ (if b && pointwise nat_eq rest bytes then Some n else None)
+name_by d place n count bytes rest more true = more
+name_by d place n count bytes rest more false = ap name_of (other-run d place bytes)
+
+pub name-run : (d : Due) (place : ℕ) (n : Name) (bytes rest front : List ℕ) (count : ℕ) → word_of n ≡ front ++ rest → count ≡ length front →
+    name_of (fold (longer d place) (word.Part n count) bytes) ≡ (if pointwise nat_eq rest bytes then Some n else None)
+name-run d place n [] [] front count e c =
+    let full : (count == length (word_of n)) ≡ true = same_test count (length (word_of n)) (c ∙ sym (ap length (e ∙ append-nil front))) in
+    ap (λ (b : Bool). if b then Some n else None) full
+name-run d place n [] (x ∷ rest) front count e c =
+    let more : (count == length (word_of n)) ≡ false = less_test count (length (word_of n)) (rw e (omega (arith, c, length-append front (x ∷ rest)))) in
+    ap (λ (b : Bool). if b then Some n else None) more
+name-run d place n (byte ∷ bytes) [] front count e c =
+    let over : nat_lt count (length (word_of n)) ≡ false = full_test count (length (word_of n)) (c ∙ sym (ap length (e ∙ append-nil front))) in
+    ap (λ (b : Bool). name_of (fold (longer d place) (if b && (slice_index (word_of n) count == byte) then word.Part n (count + 1) else word.Other) bytes)) over
+    ∙ ap name_of (other-run d place bytes)
+name-run d place n (byte ∷ bytes) (x ∷ rest) front count e c =
+    let within : nat_lt count (length (word_of n)) ≡ true = within_test count (length (word_of n)) (rw e (omega (arith, c, length-append front (x ∷ rest)))) in
+    let here : slice_index (word_of n) count ≡ x = ap (λ (k : ℕ). slice_index (word_of n) k) c ∙ ap (λ (w : List ℕ). slice_index w (length front)) e ∙ get_or-append_seam front x rest 0 in
+    let next : word_of n ≡ (front ++ x ∷ []) ++ rest = e ∙ sym (append_assoc front (x ∷ []) rest) in
+    let longer_front : count + 1 ≡ length (front ++ x ∷ []) = omega (arith, c, length-append front (x ∷ [])) in
+    ap (λ (b : Bool). name_of (fold (longer d place) (if b && (slice_index (word_of n) count == byte) then word.Part n (count + 1) else word.Other) bytes)) within
+    ∙ ap (λ (y : ℕ). name_of (fold (longer d place) (if y == byte then word.Part n (count + 1) else word.Other) bytes)) here
+    ∙ name_by d place n count bytes rest (name-run d place n bytes rest (front ++ x ∷ []) (count + 1) next longer_front) (x == byte)
