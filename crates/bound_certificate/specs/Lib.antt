@@ -4,3 +4,4 @@ pub mod Due
 pub mod Scan
 pub mod Reading
 pub mod Laws
+pub mod Grammar
