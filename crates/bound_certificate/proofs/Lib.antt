@@ -1,3 +1,4 @@
 mod LineFacts
 mod ReadingFacts
+mod ScanFacts
 mod WordFacts
