@@ -1,5 +1,5 @@
 -- What has come of a line after each of its words.
-use Rattle.std.proofs.Common.{◌≡◌, ◌∙◌, ℕ, ◌+◌, ◌-◌, ◌<◌, ◌≤◌, Bool, true, false, ◌==◌, ◌&&◌, ◌||◌, not, nat_lt, if◌then◌else◌, min, List, [], ◌∷◌, length, refl, sym, ap, arith, Option, Some, None, option_and_then, option_map}
+use Rattle.std.proofs.Common.{◌≡◌, ◌∙◌, ℕ, ◌+◌, ◌-◌, ◌<◌, ◌≤◌, Bool, true, false, ◌==◌, ◌&&◌, ◌||◌, not, nat_lt, if◌then◌else◌, min, List, [], ◌∷◌, length, refl, sym, subst, ap, arith, Option, Some, None, option_and_then, option_map}
 use Rattle.std.specs.List.{fold}
 use Rattle.bound_certificate.specs.declared.due.Due.{Due}
 use Rattle.bound_certificate.specs.declared.due.Name.{Name}
@@ -87,3 +87,106 @@ count-run d [] scan h limit = omega arith
 count-run d (first ∷ words) scan h limit =
     let here : (take_word d scan first).words ≡ min (scan.words + 1) MOST_WORDS = take-words d scan first h ∙ one_more-is scan.words limit in
     count-run d words (take_word d scan first) (omega arith) (omega arith) ∙ omega (arith, here)
+
+-- a number at its place, or a word that isn't one, and then the next word
+abbrev pub placed : Due → Name → Scan → Option ℕ → Scan
+placed d n scan (Some number) = record (with_number d n number scan) { word = word.Empty; words = one_more scan.words }
+placed d n scan None = record scan { misnumbered = true; word = word.Empty; words = one_more scan.words }
+
+-- the scan of a line that begins with a name, at the word of a place
+pub record IsAt (n : Name) (place : ℕ) (scan : Scan) : Type 0 where
+  pub name : scan.name ≡ Some n
+  pub words : scan.words ≡ place
+  pub word : scan.word ≡ word.Empty
+
+-- no name may stand behind the first word
+abbrev pub IsPlain : Due → Type 0
+IsPlain d = (place byte : ℕ) → 1 ≤ place → name_starting d place byte ≡ None
+
+settle_in : (d : Due) (n : Name) (scan : Scan) (w : Word) (number : ℕ) (b : Bool) →
+    record (if b then with_number d n number (record scan { word = w }) else record scan { word = w; misnumbered = true }) { word = word.Empty; words = one_more scan.words }
+    ≡ placed d n scan (if b then Some number else None)
+settle_in d n scan w number true = refl
+settle_in d n scan w number false = refl
+
+settle : (d : Due) (n : Name) (scan : Scan) (w : Word) (o : Option ℕ) →
+    record (with_word d n o (record scan { word = w })) { word = word.Empty; words = one_more scan.words }
+    ≡ placed d n scan (option_and_then (λ number. if is_in (range_at d n scan.words) number then Some number else None) o)
+settle d n scan w None = refl
+settle d n scan w (Some number) = settle_in d n scan w number (is_in (range_at d n scan.words) number)
+
+-- a word behind the first is placed as the number that it is
+pub word-step : (d : Due) (n : Name) (place : ℕ) (scan : Scan) (bytes : List ℕ) → IsPlain d → 1 ≤ place → IsAt n place scan →
+    take_word d scan bytes ≡ placed d n scan (number_in (range_at d n scan.words) bytes)
+word-step d n place scan bytes plain h at =
+    let all : Word = fold (longer d scan.words) scan.word bytes in
+    let some : 1 ≤ scan.words = omega (arith, at.words) in
+    let whole : Scan = record scan { word = all } in
+    let from_empty : all ≡ fold (longer d scan.words) word.Empty bytes = ap (λ (w : Word). fold (longer d scan.words) w bytes) at.word in
+    let no_name : name_of all ≡ None = ap name_of from_empty ∙ plain-word d scan.words (λ byte. plain scan.words byte some) bytes in
+    let number : number_of all ≡ whole_number bytes = ap number_of from_empty ∙ whole-read d scan.words bytes some in
+    later d whole some
+    ∙ ap (λ (o : Option Name). record (with_value_of d o whole) { word = word.Empty; words = one_more scan.words }) at.name
+    ∙ ap (λ (o : Option Name). record (with_value d n o whole) { word = word.Empty; words = one_more scan.words }) no_name
+    ∙ ap (λ (o : Option ℕ). record (with_word d n o whole) { word = word.Empty; words = one_more scan.words }) number
+    ∙ settle d n scan all (whole_number bytes)
+
+one_more-below : (words : ℕ) → words < MOST_WORDS → one_more words ≡ words + 1
+one_more-below words h = let low : nat_lt words MOST_WORDS ≡ true = grind (arith, h) in ap (λ (b : Bool). if b then words + 1 else words) low
+
+placed-at : (d : Due) (n : Name) (place : ℕ) (scan : Scan) (o : Option ℕ) → place < MOST_WORDS → IsAt n place scan → IsAt n (place + 1) (placed d n scan o)
+placed-at d n place scan (Some number) h at = record {
+  name = at.name;
+  words = ap one_more at.words ∙ one_more-below place h;
+  word = refl;
+}
+placed-at d n place scan None h at = record {
+  name = at.name;
+  words = ap one_more at.words ∙ one_more-below place h;
+  word = refl;
+}
+
+placed-misnumbered : (d : Due) (n : Name) (scan : Scan) (o : Option ℕ) → scan.misnumbered ≡ true → (placed d n scan o).misnumbered ≡ true
+placed-misnumbered d n scan (Some number) h = h
+placed-misnumbered d n scan None h = refl
+
+-- a line with a word that isn't a number stays so
+pub misnumbered-run : (d : Due) (n : Name) (words : List (List ℕ)) (place : ℕ) (scan : Scan) → IsPlain d → 1 ≤ place → place + length words ≤ MOST_WORDS →
+    IsAt n place scan → scan.misnumbered ≡ true → (fold (take_word d) scan words).misnumbered ≡ true
+misnumbered-run d n [] place scan plain h few at bad = bad
+misnumbered-run d n (first ∷ words) place scan plain h few at bad =
+    let o : Option ℕ = number_in (range_at d n scan.words) first in
+    let step : take_word d scan first ≡ placed d n scan o = word-step d n place scan first plain h at in
+    ap (λ (s : Scan). (fold (take_word d) s words).misnumbered) step
+    ∙ misnumbered-run d n words (place + 1) (placed d n scan o) plain (omega arith) (omega arith) (placed-at d n place scan o (omega arith) at)
+        (placed-misnumbered d n scan o bad)
+
+-- numbers at their places
+abbrev pub place_number : Due → Name → Scan → ℕ → Scan
+place_number d n scan number = placed d n scan (Some number)
+
+-- what has come of a line after all of its words: numbers at their places, or a word that isn't one
+abbrev pub Ran : Due → Name → Scan → Scan → Option (List ℕ) → Type 0
+Ran d n scan final None = final.misnumbered ≡ true
+Ran d n scan final (Some numbers) = final ≡ fold (place_number d n) scan numbers
+
+ran_by : (d : Due) (n : Name) (scan final : Scan) (o : Option ℕ) (rest : Option (List ℕ)) → Ran d n (placed d n scan o) final rest →
+    ((placed d n scan o).misnumbered ≡ true → final.misnumbered ≡ true) →
+    Ran d n scan final (option_and_then (λ number. option_map (λ numbers. number ∷ numbers) rest) o)
+ran_by d n scan final None rest ran stays = stays refl
+ran_by d n scan final (Some number) None ran stays = ran
+ran_by d n scan final (Some number) (Some numbers) ran stays = ran
+
+pub numbers-run : (d : Due) (n : Name) (words : List (List ℕ)) (place : ℕ) (scan : Scan) → IsPlain d → 1 ≤ place → place + length words ≤ MOST_WORDS →
+    IsAt n place scan → Ran d n scan (fold (take_word d) scan words) (numbers_in d n place words)
+numbers-run d n [] place scan plain h few at = refl
+numbers-run d n (first ∷ words) place scan plain h few at =
+    let o : Option ℕ = number_in (range_at d n place) first in
+    let step : take_word d scan first ≡ placed d n scan o =
+        word-step d n place scan first plain h at ∙ ap (λ (k : ℕ). placed d n scan (number_in (range_at d n k) first)) at.words in
+    let next : IsAt n (place + 1) (placed d n scan o) = placed-at d n place scan o (omega arith) at in
+    let P : Scan → Type 0 = λ s. Ran d n scan (fold (take_word d) s words) (numbers_in d n place (first ∷ words)) in
+    subst P (sym step)
+    (ran_by d n scan (fold (take_word d) (placed d n scan o) words) o (numbers_in d n (place + 1) words)
+        (numbers-run d n words (place + 1) (placed d n scan o) plain (omega arith) (omega arith) next)
+        (λ bad. misnumbered-run d n words (place + 1) (placed d n scan o) plain (omega arith) (omega arith) next bad))

@@ -3,7 +3,7 @@ use Rattle.std.specs.List.{fold}
 use Rattle.bound_certificate.specs.declared.scan.Word.TheVariants as word
 use Rattle.bound_certificate.specs.declared.scan.Word.{Word}
 use Rattle.bound_certificate.proofs.LineFacts.{line-words, first-word}
-use Rattle.bound_certificate.proofs.ScanFacts.{name-run, count-run}
+use Rattle.bound_certificate.proofs.ScanFacts.{name-run, count-run, numbers-run}
 use Rattle.bound_certificate.proofs.WordFacts.{number-found, number-read}
 use Rattle.bound_certificate.specs.Scan.{longer, number_of}
 use Rattle.bound_certificate.proofs.laws.reader_laws.Goals as goal
