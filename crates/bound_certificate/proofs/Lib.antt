@@ -1,3 +1,4 @@
+mod FaultFacts
 mod LineFacts
 mod ReadingFacts
 mod ScanFacts

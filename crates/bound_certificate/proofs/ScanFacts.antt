@@ -1,6 +1,7 @@
 -- What has come of a line after each of its words.
-use Rattle.std.proofs.Common.{◌≡◌, ◌∙◌, ℕ, ◌+◌, ◌-◌, ◌<◌, ◌≤◌, Bool, true, false, ◌==◌, ◌&&◌, ◌||◌, not, nat_lt, if◌then◌else◌, min, List, [], ◌∷◌, length, refl, sym, subst, ap, arith, Option, Some, None, option_and_then, option_map}
+use Rattle.std.proofs.Common.{◌≡◌, ◌∙◌, ℕ, ◌+◌, ◌-◌, ◌<◌, ◌≤◌, Bool, true, false, ◌==◌, ◌&&◌, ◌||◌, not, nat_lt, nat_le, if◌then◌else◌, min, List, [], ◌∷◌, length, refl, sym, subst, ap, slice_set, arith, Option, Some, None, option_and_then, option_map}
 use Rattle.std.specs.List.{fold}
+use Rattle.std.proofs.lemmas.List.{length-set}
 use Rattle.bound_certificate.specs.declared.due.Due.{Due}
 use Rattle.bound_certificate.specs.declared.due.Name.{Name}
 use Rattle.bound_certificate.specs.declared.due.Name.TheVariants as name
@@ -10,7 +11,7 @@ use Rattle.bound_certificate.specs.declared.scan.Word.TheVariants as word
 use Rattle.bound_certificate.specs.declared.limits.TheConstants.{MOST_WORDS}
 use Rattle.bound_certificate.specs.Due.{is_in, range_at}
 use Rattle.bound_certificate.specs.Grammar.{number_in, numbers_in, whole_number}
-use Rattle.bound_certificate.specs.Scan.{after_word, longer, name_of, name_starting, number_of, one_more, with_number, with_value, with_value_of, with_word}
+use Rattle.bound_certificate.specs.Scan.{after_word, is_leaf, longer, name_of, name_starting, number_of, one_more, with_number, with_value, with_value_of, with_word}
 use Rattle.bound_certificate.proofs.LineFacts.{plain-word, take_word, whole-read}
 
 -- behind the first word
@@ -25,18 +26,27 @@ later d scan h =
 pub record Keeps (old new : Scan) : Type 0 where
   pub name : new.name ≡ old.name
   pub words : new.words ≡ old.words
+  pub dates : length new.leaf.prices ≡ length old.leaf.prices
+
+same_dates : (prices : List ℕ) (place price : ℕ) (b : Bool) → length (if b then slice_set prices place price else prices) ≡ length prices
+same_dates prices place price true = length-set prices place price
+same_dates prices place price false = refl
 
 keeps_number : (d : Due) (n : Name) (number : ℕ) (scan : Scan) (b : Bool) → Keeps scan (if b then with_number d n number scan else record scan { misnumbered = true })
-keeps_number d n number scan true = record { name = refl; words = refl }
-keeps_number d n number scan false = record { name = refl; words = refl }
+keeps_number d n number scan true = record {
+  name = refl;
+  words = refl;
+  dates = same_dates scan.leaf.prices (scan.words - 3) number (is_leaf n && nat_le 3 scan.words && nat_lt (scan.words - 3) (length scan.leaf.prices));
+}
+keeps_number d n number scan false = record { name = refl; words = refl; dates = refl }
 
 keeps_word : (d : Due) (n : Name) (o : Option ℕ) (scan : Scan) → Keeps scan (with_word d n o scan)
-keeps_word d n None scan = record { name = refl; words = refl }
+keeps_word d n None scan = record { name = refl; words = refl; dates = refl }
 keeps_word d n (Some number) scan = keeps_number d n number scan (is_in (range_at d n scan.words) number)
 
 keeps_value : (d : Due) (n : Name) (o : Option Name) (scan : Scan) → Keeps scan (with_value d n o scan)
 keeps_value d n None scan = keeps_word d n (number_of scan.word) scan
-keeps_value d n (Some name.Absent) scan = record { name = refl; words = refl }
+keeps_value d n (Some name.Absent) scan = record { name = refl; words = refl; dates = refl }
 keeps_value d n (Some name.Title) scan = keeps_word d n (number_of scan.word) scan
 keeps_value d n (Some name.Portfolio) scan = keeps_word d n (number_of scan.word) scan
 keeps_value d n (Some name.Buy) scan = keeps_word d n (number_of scan.word) scan
@@ -48,7 +58,7 @@ keeps_value d n (Some name.Leaf) scan = keeps_word d n (number_of scan.word) sca
 keeps_value d n (Some name.End) scan = keeps_word d n (number_of scan.word) scan
 
 keeps_value_of : (d : Due) (o : Option Name) (scan : Scan) → Keeps scan (with_value_of d o scan)
-keeps_value_of d None scan = record { name = refl; words = refl }
+keeps_value_of d None scan = record { name = refl; words = refl; dates = refl }
 keeps_value_of d (Some n) scan = keeps_value d n (name_of scan.word) scan
 
 -- a whole word keeps the name, and counts
@@ -72,6 +82,11 @@ at_least_by words h false = h
 at_least_one : (words : ℕ) → 1 ≤ words → 1 ≤ one_more words
 at_least_one words h = at_least_by words h (nat_lt words MOST_WORDS)
 
+take-dates : (d : Due) (scan : Scan) (bytes : List ℕ) → 1 ≤ scan.words → length (take_word d scan bytes).leaf.prices ≡ length scan.leaf.prices
+take-dates d scan bytes h =
+    let all : Scan = record scan { word = fold (longer d scan.words) scan.word bytes } in
+    ap (λ (s : Scan). length s.leaf.prices) (later d all h) ∙ (keeps_value_of d scan.name all).dates
+
 one_more-is : (words : ℕ) → words ≤ MOST_WORDS → one_more words ≡ min (words + 1) MOST_WORDS
 one_more-is words h = more_by words h (nat_lt words MOST_WORDS) refl
 
@@ -80,6 +95,11 @@ pub name-run : (d : Due) (words : List (List ℕ)) (scan : Scan) → 1 ≤ scan.
 name-run d [] scan h = refl
 name-run d (first ∷ words) scan h =
     name-run d words (take_word d scan first) (let e : (take_word d scan first).words ≡ one_more scan.words = take-words d scan first h in rw e (at_least_one scan.words h)) ∙ take-name d scan first h
+
+pub dates-run : (d : Due) (words : List (List ℕ)) (scan : Scan) → 1 ≤ scan.words → length (fold (take_word d) scan words).leaf.prices ≡ length scan.leaf.prices
+dates-run d [] scan h = refl
+dates-run d (first ∷ words) scan h =
+    dates-run d words (take_word d scan first) (let e : (take_word d scan first).words ≡ one_more scan.words = take-words d scan first h in rw e (at_least_one scan.words h)) ∙ take-dates d scan first h
 
 pub count-run : (d : Due) (words : List (List ℕ)) (scan : Scan) → 1 ≤ scan.words → scan.words ≤ MOST_WORDS →
     (fold (take_word d) scan words).words ≡ min (scan.words + length words) MOST_WORDS

@@ -73,7 +73,7 @@ number-run d place (byte ∷ bytes) front value n e limit h =
     | inr other ↦ let none : None ≡ Some n = sym (ap number_of (other-run d place bytes)) ∙ other.1 in absurd (cc) ]
 
 -- a digit begins no name behind the first word
-no_first : (n : Name) (byte : ℕ) (b : Bool) → b ≡ false → beginning (if b then Some n else None) byte ≡ None
+pub no_first : (n : Name) (byte : ℕ) (b : Bool) → b ≡ false → beginning (if b then Some n else None) byte ≡ None
 no_first n byte true h = absurd (cc)
 no_first n byte false h = refl
 
