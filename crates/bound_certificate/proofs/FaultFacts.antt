@@ -1,6 +1,7 @@
 -- Why a line isn't one that is due.
 use Rattle.std.proofs.Common.{◌≡◌, ◌≢◌, ◌∙◌, ℕ, suc, ◌+◌, ◌-◌, ◌<◌, ◌≤◌, Bool, true, false, ◌==◌, ◌&&◌, ◌||◌, not, nat_lt, nat_le, nat_eq, cond, if◌then◌else◌, min, List, [], ◌∷◌, length, drop, slice_index, refl, sym, subst, ap, arith, Option, Some, None, option_and_then, option_map}
 use lib.Pointwise.{pointwise}
+use Rattle.std.specs.Char.{is_ascii_digit}
 use Rattle.std.specs.List.{find, fold}
 use Rattle.std.proofs.lemmas.List.Splits.{length-slice_split}
 use Rattle.dual_bound.specs.declared.tree.Leaf.{Leaf}
@@ -15,10 +16,12 @@ use Rattle.bound_certificate.specs.declared.scan.Word.{Word}
 use Rattle.bound_certificate.specs.declared.scan.Word.TheVariants as word
 use Rattle.bound_certificate.specs.declared.limits.TheConstants.{MOST_DATES, MOST_WORDS}
 use Rattle.bound_certificate.specs.Due.{first_names, is_closed_early, is_in, is_unclosed, range_at, width_of, word_of}
-use Rattle.bound_certificate.specs.Grammar.{are_disordered, is_name, is_space, line_fault, line_numbers, name_in, named_fault, number_in, numbers_fault, numbers_in, rises, words_fault, words_of}
-use Rattle.bound_certificate.specs.Scan.{after_byte, after_word, fault_by, fault_of, is_disordered, is_leaf, is_title, longer, name_of, name_starting, new_scan, number_of, one_more, with_value, with_word}
-use Rattle.bound_certificate.proofs.LineFacts.{first-word, line-words, take_word}
-use Rattle.bound_certificate.proofs.ScanFacts.{IsAt, IsPlain, Ran, count-run, name-run, numbers-run, place_number, placed}
+use Rattle.bound_certificate.specs.Grammar.{are_disordered, is_name, is_space, line_fault, line_numbers, name_in, named_fault, number_in, numbers_fault, numbers_in, rises, whole_number, words_fault, words_of}
+use Rattle.bound_certificate.specs.Scan.{after_byte, after_word, beginning, begun_by, fault_by, node_starting, fault_of, is_disordered, is_leaf, is_title, longer, name_of, name_starting, new_scan, number_of, one_more, with_value, with_word}
+use Rattle.bound_certificate.proofs.LineFacts.{first-word, line-words, plain_by, take_word, whole-read}
+use Rattle.bound_certificate.proofs.ScanFacts.{IsAt, IsPlain, Ran, count-run, name-run, numbers-run, place_number, placed, settle}
+use Rattle.bound_certificate.proofs.WordFacts.{no_first}
+use Rattle.bound_certificate.proofs.WordFacts as words
 
 -- a line that begins with a name, or with none that may stand
 abbrev pub named : Leaf → Option Name → Scan
@@ -216,3 +219,112 @@ fault-plain d n leaf others plain few same order =
           (numbers-run d n others 1 start plain (omega arith) within (record { name = refl; words = refl; word = refl }))
           (λ numbers e. order numbers (ap (λ (k : ℕ). 1 + k) (numbers-length d n 1 others numbers e) ∙ wide))
         ∙ sym (ap (λ (o : Option (List ℕ)). numbers_fault d n o) same))
+
+-- `none` in place of the count of purchases
+absent_by : (byte : ℕ) (bytes : List ℕ) (t : Bool) →
+    name_of (fold (longer due.Portfolio 1) (begun_by (if t then Some name.Absent else None) 1 byte) bytes)
+    ≡ (if t && pointwise nat_eq (drop 1 (word_of name.Absent)) bytes then Some name.Absent else None)
+absent_by byte bytes true = words.name-run due.Portfolio 1 name.Absent bytes (drop 1 (word_of name.Absent)) (110 ∷ []) 1 refl refl
+absent_by byte bytes false = plain_by due.Portfolio 1 byte bytes (is_ascii_digit byte)
+
+absent-word : (bytes : List ℕ) → name_of (fold (longer due.Portfolio 1) word.Empty bytes) ≡ (if is_name bytes name.Absent then Some name.Absent else None)
+absent-word [] = refl
+absent-word (byte ∷ bytes) = absent_by byte bytes (110 == byte)
+
+-- what is said of a line of one word behind `portfolio`
+abbrev pub inner_fault : Scan → Option FaultKind
+inner_fault final = if final.misnumbered then Some kind.Number else if final.disordered then Some kind.Order else None
+
+portfolio_in : (scan : Scan) (o : Option ℕ) → scan.misnumbered ≡ false → scan.disordered ≡ false →
+    inner_fault (placed due.Portfolio name.Portfolio scan o)
+    ≡ numbers_fault due.Portfolio name.Portfolio (option_and_then (λ number. option_map (λ numbers. number ∷ numbers) (Some [])) o)
+portfolio_in scan None good order = refl
+portfolio_in scan (Some number) good order =
+    ap (λ (b : Bool). if b then Some kind.Number else if (scan.disordered || false) then Some kind.Order else None) good
+    ∙ ap (λ (b : Bool). if (b || false) then Some kind.Order else None) order
+
+portfolio_by : (leaf : Leaf) (bytes : List ℕ) (t : Bool) →
+    inner_fault (record (with_value due.Portfolio name.Portfolio (if t then Some name.Absent else None)
+        (record (named leaf (Some name.Portfolio)) { word = fold (longer due.Portfolio 1) word.Empty bytes })) { word = word.Empty; words = 2 })
+    ≡ numbers_fault due.Portfolio name.Portfolio (if t then numbers_in due.Portfolio name.Portfolio 2 [] else numbers_in due.Portfolio name.Portfolio 1 (bytes ∷ []))
+portfolio_by leaf bytes true = refl
+portfolio_by leaf bytes false =
+    ap (λ (o : Option ℕ). inner_fault (record (with_word due.Portfolio name.Portfolio o
+        (record (named leaf (Some name.Portfolio)) { word = fold (longer due.Portfolio 1) word.Empty bytes })) { word = word.Empty; words = 2 }))
+      (whole-read due.Portfolio 1 bytes (omega arith))
+    ∙ ap (λ (s : Scan). inner_fault s) (settle due.Portfolio name.Portfolio (named leaf (Some name.Portfolio)) (fold (longer due.Portfolio 1) word.Empty bytes) (whole_number bytes))
+    ∙ portfolio_in (named leaf (Some name.Portfolio)) (number_in (range_at due.Portfolio name.Portfolio 1) bytes) refl refl
+
+portfolio_inner : (leaf : Leaf) (others : List (List ℕ)) → 1 + length others ≡ 2 →
+    inner_fault (fold (take_word due.Portfolio) (named leaf (Some name.Portfolio)) others)
+    ≡ numbers_fault due.Portfolio name.Portfolio (line_numbers due.Portfolio name.Portfolio others)
+portfolio_inner leaf [] wide = absurd (omega arith)
+portfolio_inner leaf (bytes ∷ more ∷ others) wide = absurd (omega arith)
+portfolio_inner leaf (bytes ∷ []) wide =
+    ap (λ (o : Option Name). inner_fault (record (with_value due.Portfolio name.Portfolio o
+        (record (named leaf (Some name.Portfolio)) { word = fold (longer due.Portfolio 1) word.Empty bytes })) { word = word.Empty; words = 2 }))
+      (absent-word bytes)
+    ∙ portfolio_by leaf bytes (is_name bytes name.Absent)
+
+fault-portfolio : (n : Name) (leaf : Leaf) (others : List (List ℕ)) → length leaf.prices ≤ MOST_DATES → n ≡ name.Portfolio →
+    fault_by (Some n) due.Portfolio (length leaf.prices) (fold (take_word due.Portfolio) (named leaf (Some n)) others)
+    ≡ named_fault (length leaf.prices) due.Portfolio (Some n) others
+fault-portfolio n leaf others few same =
+    let P : Name → Type 0 = λ m. fault_by (Some m) due.Portfolio (length leaf.prices) (fold (take_word due.Portfolio) (named leaf (Some m)) others)
+        ≡ named_fault (length leaf.prices) due.Portfolio (Some m) others in
+    subst P (sym same)
+    (fault_by_count (length leaf.prices) due.Portfolio name.Portfolio (fold (take_word due.Portfolio) (named leaf (Some name.Portfolio)) others) others
+      (count-run due.Portfolio others (named leaf (Some name.Portfolio)) (omega arith) (omega arith)) few (portfolio_inner leaf others))
+
+-- the one name that may begin a line
+only_name : (n m : Name) (b : Bool) → cond b (Some n) None ≡ Some m → m ≡ n
+only_name n m true h = cc
+only_name n m false h = absurd (cc)
+
+plain_none : (n : Name) (place byte : ℕ) → 1 ≤ place → beginning (if place == 0 then Some n else None) byte ≡ None
+plain_none n place byte h = no_first n byte (place == 0) (grind (arith, h))
+
+fault-named : (d : Due) → is_title d ≡ false → (first : List ℕ) (leaf : Leaf) (others : List (List ℕ)) → length leaf.prices ≤ MOST_DATES →
+    (n : Name) → name_in d first ≡ Some n →
+    fault_by (Some n) d (length leaf.prices) (fold (take_word d) (named leaf (Some n)) others) ≡ named_fault (length leaf.prices) d (Some n) others
+fault-named due.Title title first leaf others few n e = absurd (cc)
+fault-named due.Portfolio title first leaf others few n e = fault-portfolio n leaf others few (only_name name.Portfolio n (is_name first name.Portfolio) e)
+fault-named (due.Buy left least) title first leaf others few n e =
+    fault-plain (due.Buy left least) n leaf others (λ place byte h. plain_none name.Buy place byte h) few refl
+      (ordered-buy left least n leaf (only_name name.Buy n (is_name first name.Buy) e))
+fault-named (due.Gap most) title first leaf others few n e =
+    fault-plain (due.Gap most) n leaf others (λ place byte h. plain_none name.Gap place byte h) few refl (ordered-other (due.Gap most) n leaf refl few)
+fault-named due.Count title first leaf others few n e =
+    fault-plain due.Count n leaf others (λ place byte h. plain_none name.Nodes place byte h) few refl (ordered-other due.Count n leaf refl few)
+fault-named (due.Node left trees) title first leaf others few n e =
+    fault-plain (due.Node left trees) n leaf others (λ place byte h. plain_none (node_starting byte) place byte h) few refl (ordered-other (due.Node left trees) n leaf refl few)
+fault-named (due.End trees) title first leaf others few n e =
+    fault-plain (due.End trees) n leaf others (λ place byte h. plain_none name.End place byte h) few refl (ordered-other (due.End trees) n leaf refl few)
+fault-named due.Nothing title first leaf others few n e = absurd (cc)
+
+fault_cases : (d : Due) → is_title d ≡ false → (first : List ℕ) (leaf : Leaf) (others : List (List ℕ)) → length leaf.prices ≤ MOST_DATES →
+    (o : Option Name) → name_in d first ≡ o →
+    fault_by (fold (take_word d) (named leaf o) others).name d (length leaf.prices) (fold (take_word d) (named leaf o) others)
+    ≡ named_fault (length leaf.prices) d o others
+fault_cases d title first leaf others few None e =
+    let final : Scan = fold (take_word d) (named leaf None) others in
+    ap (λ (o : Option Name). fault_by o d (length leaf.prices) final) (name-run d others (named leaf None) (omega arith))
+fault_cases d title first leaf others few (Some n) e =
+    let final : Scan = fold (take_word d) (named leaf (Some n)) others in
+    ap (λ (o : Option Name). fault_by o d (length leaf.prices) final) (name-run d others (named leaf (Some n)) (omega arith))
+    ∙ fault-named d title first leaf others few n e
+
+words-fault : (d : Due) → is_title d ≡ false → (leaf : Leaf) (words : List (List ℕ)) → 0 < length words → length leaf.prices ≤ MOST_DATES →
+    fault_of d (length leaf.prices) (fold (take_word d) (new_scan leaf) words)
+    ≡ (if is_unclosed d then Some kind.Count else words_fault (length leaf.prices) d words)
+words-fault d title leaf [] some few = absurd (omega arith)
+words-fault d title leaf (first ∷ others) some few =
+    ap (λ (s : Scan). fault_of d (length leaf.prices) (fold (take_word d) s others)) (named-word d title leaf first)
+    ∙ ap (λ (found : Option FaultKind). if is_unclosed d then Some kind.Count else found) (fault_cases d title first leaf others few (name_in d first) refl)
+
+-- why a line behind the first isn't one that is due
+pub line-fault : (d : Due) → is_title d ≡ false → (leaf : Leaf) (line : List ℕ) → length leaf.prices ≤ MOST_DATES →
+    fault_of d (length leaf.prices) (after_word d (fold (after_byte d) (new_scan leaf) line)) ≡ line_fault (length leaf.prices) d line
+line-fault d title leaf line few =
+    ap (λ (s : Scan). fault_of d (length leaf.prices) s) (line-words d title line (new_scan leaf))
+    ∙ words-fault d title leaf (words_of line) (omega (arith, length-slice_split is_space line)) few

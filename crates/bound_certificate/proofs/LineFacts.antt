@@ -159,7 +159,7 @@ number_no_name d place (byte ∷ bytes) n =
     number_no_name_by d place bytes (10 * n + (byte - 48)) (number_no_name d place bytes (10 * n + (byte - 48)))
     (not (n == 0) && is_ascii_digit byte && nat_le (10 * n + (byte - 48)) GREATEST_GAP)
 
-plain_by : (d : Due) (place byte : ℕ) (bytes : List ℕ) (b : Bool) → name_of (fold (longer d place) (if b then word.Number (byte - 48) else word.Other) bytes) ≡ None
+pub plain_by : (d : Due) (place byte : ℕ) (bytes : List ℕ) (b : Bool) → name_of (fold (longer d place) (if b then word.Number (byte - 48) else word.Other) bytes) ≡ None
 plain_by d place byte bytes true = number_no_name d place bytes (byte - 48)
 plain_by d place byte bytes false = ap name_of (other-run d place bytes)
 

@@ -129,7 +129,7 @@ settle_in : (d : Due) (n : Name) (scan : Scan) (w : Word) (number : ℕ) (b : Bo
 settle_in d n scan w number true = refl
 settle_in d n scan w number false = refl
 
-settle : (d : Due) (n : Name) (scan : Scan) (w : Word) (o : Option ℕ) →
+pub settle : (d : Due) (n : Name) (scan : Scan) (w : Word) (o : Option ℕ) →
     record (with_word d n o (record scan { word = w })) { word = word.Empty; words = one_more scan.words }
     ≡ placed d n scan (option_and_then (λ number. if is_in (range_at d n scan.words) number then Some number else None) o)
 settle d n scan w None = refl

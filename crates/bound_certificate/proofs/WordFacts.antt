@@ -154,7 +154,7 @@ within_test : (m n : ℕ) → m < n → nat_lt m n ≡ true
 within_test m n h = grind (arith, h)
 
 -- so many bytes of a name are the whole of it where the rest follows
-name_by : (d : Due) (place : ℕ) (n : Name) (count : ℕ) (bytes rest : List ℕ) →
+pub name_by : (d : Due) (place : ℕ) (n : Name) (count : ℕ) (bytes rest : List ℕ) →
     name_of (fold (longer d place) (word.Part n (count + 1)) bytes) ≡ (if pointwise nat_eq rest bytes then Some n else None) →
     (b : Bool) → name_of (fold (longer d place) (if b then word.Part n (count + 1) else word.Other) bytes) ≡ (if b && pointwise nat_eq rest bytes then Some n else None)
 name_by d place n count bytes rest more true = more

@@ -2,7 +2,7 @@ use Rattle.std.proofs.Common.{◌≡◌, ◌∙◌, ℕ, List, ap}
 use Rattle.std.specs.List.{fold}
 use Rattle.bound_certificate.specs.declared.scan.Word.TheVariants as word
 use Rattle.bound_certificate.specs.declared.scan.Word.{Word}
-use Rattle.bound_certificate.proofs.FaultFacts.{named}
+use Rattle.bound_certificate.proofs.FaultFacts.{line-fault}
 use Rattle.bound_certificate.proofs.LineFacts.{line-words, first-word}
 use Rattle.bound_certificate.proofs.ScanFacts.{name-run, count-run, numbers-run}
 use Rattle.bound_certificate.proofs.WordFacts.{number-found, number-read}
