@@ -1,8 +1,8 @@
 -- Why a line isn't one that is due.
-use Rattle.std.proofs.Common.{◌≡◌, ◌≢◌, ◌∙◌, ℕ, suc, ◌+◌, ◌-◌, ◌<◌, ◌≤◌, Bool, true, false, ◌==◌, ◌&&◌, ◌||◌, not, nat_lt, nat_le, nat_eq, cond, if◌then◌else◌, min, List, [], ◌∷◌, length, drop, slice_index, refl, sym, subst, ap, arith, Option, Some, None, option_and_then, option_map}
+use Rattle.std.proofs.Common.{◌≡◌, ◌≢◌, ◌∙◌, ℕ, suc, ◌+◌, ◌-◌, ◌<◌, ◌≤◌, Bool, true, false, ◌==◌, ◌&&◌, ◌||◌, not, nat_lt, nat_eq, cond, if◌then◌else◌, min, List, [], ◌∷◌, length, drop, refl, sym, subst, ap, arith, Option, Some, None, option_and_then, option_map}
 use lib.Pointwise.{pointwise}
 use Rattle.std.specs.Char.{is_ascii_digit}
-use Rattle.std.specs.List.{find, fold}
+use Rattle.std.specs.List.{fold}
 use Rattle.std.proofs.lemmas.List.Splits.{length-slice_split}
 use Rattle.dual_bound.specs.declared.tree.Leaf.{Leaf}
 use Rattle.bound_certificate.specs.declared.due.Due.{Due}
@@ -12,14 +12,13 @@ use Rattle.bound_certificate.specs.declared.due.Name.TheVariants as name
 use Rattle.bound_certificate.specs.declared.fault.FaultKind.{FaultKind}
 use Rattle.bound_certificate.specs.declared.fault.FaultKind.TheVariants as kind
 use Rattle.bound_certificate.specs.declared.scan.Scan.{Scan}
-use Rattle.bound_certificate.specs.declared.scan.Word.{Word}
 use Rattle.bound_certificate.specs.declared.scan.Word.TheVariants as word
 use Rattle.bound_certificate.specs.declared.limits.TheConstants.{MOST_DATES, MOST_WORDS}
-use Rattle.bound_certificate.specs.Due.{first_names, is_closed_early, is_in, is_unclosed, range_at, width_of, word_of}
-use Rattle.bound_certificate.specs.Grammar.{are_disordered, is_name, is_space, line_fault, line_numbers, name_in, named_fault, number_in, numbers_fault, numbers_in, rises, whole_number, words_fault, words_of}
-use Rattle.bound_certificate.specs.Scan.{after_byte, after_word, beginning, begun_by, fault_by, node_starting, fault_of, is_disordered, is_leaf, is_title, longer, name_of, name_starting, new_scan, number_of, one_more, with_value, with_word}
-use Rattle.bound_certificate.proofs.LineFacts.{first-word, line-words, plain_by, take_word, whole-read}
-use Rattle.bound_certificate.proofs.ScanFacts.{IsAt, IsPlain, Ran, count-run, name-run, numbers-run, place_number, placed, settle}
+use Rattle.bound_certificate.specs.Due.{is_closed_early, is_title, is_unclosed, range_at, width_of, word_of}
+use Rattle.bound_certificate.specs.Grammar.{are_disordered, is_name, is_space, later_fault, line_fault, line_numbers, name_in, named_fault, number_in, numbers_fault, numbers_in, rises, whole_number, words_fault, words_of}
+use Rattle.bound_certificate.specs.Scan.{after_byte, after_word, beginning, begun_by, fault_by, node_starting, fault_of, is_disordered, is_leaf, longer, name_of, new_scan, one_more, with_value, with_word}
+use Rattle.bound_certificate.proofs.LineFacts.{first-word, first_name, line-words, plain_by, take_word, whole-read}
+use Rattle.bound_certificate.proofs.ScanFacts.{IsPlain, Ran, count-run, dates-run, name-run, numbers-run, place_number, placed, settle}
 use Rattle.bound_certificate.proofs.WordFacts.{no_first}
 use Rattle.bound_certificate.proofs.WordFacts as words
 
@@ -323,8 +322,72 @@ words-fault d title leaf (first ∷ others) some few =
     ∙ ap (λ (found : Option FaultKind). if is_unclosed d then Some kind.Count else found) (fault_cases d title first leaf others few (name_in d first) refl)
 
 -- why a line behind the first isn't one that is due
-pub line-fault : (d : Due) → is_title d ≡ false → (leaf : Leaf) (line : List ℕ) → length leaf.prices ≤ MOST_DATES →
-    fault_of d (length leaf.prices) (after_word d (fold (after_byte d) (new_scan leaf) line)) ≡ line_fault (length leaf.prices) d line
-line-fault d title leaf line few =
+pub later-fault : (d : Due) → is_title d ≡ false → (leaf : Leaf) (line : List ℕ) → length leaf.prices ≤ MOST_DATES →
+    fault_of d (length leaf.prices) (after_word d (fold (after_byte d) (new_scan leaf) line)) ≡ later_fault (length leaf.prices) d line
+later-fault d title leaf line few =
     ap (λ (s : Scan). fault_of d (length leaf.prices) s) (line-words d title line (new_scan leaf))
     ∙ words-fault d title leaf (words_of line) (omega (arith, length-slice_split is_space line)) few
+
+-- the first line is one word
+title_by : (scan : Scan) (byte : ℕ) (t : Bool) →
+    (if t && not true then after_word due.Title scan else record scan { word = longer due.Title scan.words scan.word byte })
+    ≡ record scan { word = longer due.Title scan.words scan.word byte }
+title_by scan byte true = refl
+title_by scan byte false = refl
+
+title-run : (line : List ℕ) (scan : Scan) → fold (after_byte due.Title) scan line ≡ record scan { word = fold (longer due.Title scan.words) scan.word line }
+title-run [] scan = refl
+title-run (byte ∷ line) scan =
+    ap (λ (s : Scan). fold (after_byte due.Title) s line) (title_by scan byte (byte == 32))
+    ∙ title-run line (record scan { word = longer due.Title scan.words scan.word byte })
+
+title-word : (line : List ℕ) → name_of (fold (longer due.Title 0) word.Empty line) ≡ (if is_name line name.Title then Some name.Title else None)
+title-word [] = refl
+title-word (byte ∷ line) = first_name due.Title name.Title byte line
+
+title_closing : (leaf : Leaf) (dates : ℕ) (t : Bool) →
+    fault_of due.Title dates (named leaf (if t then Some name.Title else None)) ≡ (if t then None else Some kind.Header)
+title_closing leaf dates true = refl
+title_closing leaf dates false = refl
+
+title-fault : (leaf : Leaf) (line : List ℕ) (dates : ℕ) →
+    fault_of due.Title dates (after_word due.Title (fold (after_byte due.Title) (new_scan leaf) line)) ≡ (if is_name line name.Title then None else Some kind.Header)
+title-fault leaf line dates =
+    ap (λ (s : Scan). fault_of due.Title dates (after_word due.Title s)) (title-run line (new_scan leaf))
+    ∙ ap (λ (o : Option Name). fault_of due.Title dates (named leaf o)) (title-word line)
+    ∙ title_closing leaf dates (is_name line name.Title)
+
+-- why a line isn't one that is due
+pub line-fault : (d : Due) (leaf : Leaf) (line : List ℕ) → length leaf.prices ≤ MOST_DATES →
+    fault_of d (length leaf.prices) (after_word d (fold (after_byte d) (new_scan leaf) line)) ≡ line_fault (length leaf.prices) d line
+line-fault due.Title leaf line few = title-fault leaf line (length leaf.prices)
+line-fault due.Portfolio leaf line few = later-fault due.Portfolio refl leaf line few
+line-fault (due.Buy left least) leaf line few = later-fault (due.Buy left least) refl leaf line few
+line-fault (due.Gap most) leaf line few = later-fault (due.Gap most) refl leaf line few
+line-fault due.Count leaf line few = later-fault due.Count refl leaf line few
+line-fault (due.Node left trees) leaf line few = later-fault (due.Node left trees) refl leaf line few
+line-fault (due.End trees) leaf line few = later-fault (due.End trees) refl leaf line few
+line-fault due.Nothing leaf line few = later-fault due.Nothing refl leaf line few
+
+-- the leaf keeps a price for each date
+dates-words : (d : Due) → is_title d ≡ false → (leaf : Leaf) (words : List (List ℕ)) →
+    length (fold (take_word d) (new_scan leaf) words).leaf.prices ≡ length leaf.prices
+dates-words d title leaf [] = refl
+dates-words d title leaf (first ∷ others) =
+    ap (λ (s : Scan). length (fold (take_word d) s others).leaf.prices) (named-word d title leaf first)
+    ∙ dates-run d others (named leaf (name_in d first)) (omega arith)
+
+later-dates : (d : Due) → is_title d ≡ false → (leaf : Leaf) (line : List ℕ) →
+    length (after_word d (fold (after_byte d) (new_scan leaf) line)).leaf.prices ≡ length leaf.prices
+later-dates d title leaf line =
+    ap (λ (s : Scan). length s.leaf.prices) (line-words d title line (new_scan leaf)) ∙ dates-words d title leaf (words_of line)
+
+pub line-dates : (d : Due) (leaf : Leaf) (line : List ℕ) → length (after_word d (fold (after_byte d) (new_scan leaf) line)).leaf.prices ≡ length leaf.prices
+line-dates due.Title leaf line = ap (λ (s : Scan). length (after_word due.Title s).leaf.prices) (title-run line (new_scan leaf))
+line-dates due.Portfolio leaf line = later-dates due.Portfolio refl leaf line
+line-dates (due.Buy left least) leaf line = later-dates (due.Buy left least) refl leaf line
+line-dates (due.Gap most) leaf line = later-dates (due.Gap most) refl leaf line
+line-dates due.Count leaf line = later-dates due.Count refl leaf line
+line-dates (due.Node left trees) leaf line = later-dates (due.Node left trees) refl leaf line
+line-dates (due.End trees) leaf line = later-dates (due.End trees) refl leaf line
+line-dates due.Nothing leaf line = later-dates due.Nothing refl leaf line

@@ -1,4 +1,5 @@
 mod FaultFacts
+mod LawFacts
 mod LineFacts
 mod ReadingFacts
 mod ScanFacts

@@ -1,12 +1,11 @@
 -- Lines, word by word.
-use Rattle.std.proofs.Common.{◌≡◌, ◌∙◌, ◌⊎◌, ℕ, ◌+◌, ◌-◌, ◌*◌, ◌<◌, ◌≤◌, Bool, true, false, ◌==◌, ◌&&◌, ◌||◌, not, nat_lt, nat_le, nat_eq, if◌then◌else◌, cond, List, [], ◌∷◌, ◌++◌, length, drop, slice_index, refl, sym, subst, ap, arith, Option, Some, None, decimal}
+use Rattle.std.proofs.Common.{◌≡◌, ◌∙◌, ℕ, ◌+◌, ◌-◌, ◌*◌, ◌<◌, ◌≤◌, Bool, true, false, ◌==◌, ◌&&◌, not, nat_lt, nat_le, nat_eq, if◌then◌else◌, cond, List, [], ◌∷◌, length, drop, slice_index, refl, sym, subst, ap, arith, Option, Some, None, decimal}
 use lib.Pointwise.{pointwise, bytes_decides}
-use Rattle.std.specs.List.{find, fold, onto_first, slice_split}
+use Rattle.std.specs.List.{find, fold, onto_first}
 use Rattle.std.specs.Char.{is_ascii_digit}
 use Rattle.std.specs.Str.Parse.{digits_value}
 use Rattle.std.proofs.lemmas.Fmt.{decimal_is_IsNumeral}
 use Rattle.std.proofs.lemmas.List.Splits.{length-slice_split}
-use Rattle.dual_bound.specs.declared.tree.Leaf.{Leaf}
 use Rattle.bound_certificate.specs.declared.due.Due.{Due}
 use Rattle.bound_certificate.specs.declared.due.Due.TheVariants as due
 use Rattle.bound_certificate.specs.declared.due.Name.{Name}
@@ -15,9 +14,9 @@ use Rattle.bound_certificate.specs.declared.scan.Scan.{Scan}
 use Rattle.bound_certificate.specs.declared.scan.Word.{Word}
 use Rattle.bound_certificate.specs.declared.scan.Word.TheVariants as word
 use Rattle.bound_certificate.specs.declared.limits.TheConstants.{GREATEST_GAP}
-use Rattle.bound_certificate.specs.Due.{first_names, is_in, range_at, width_of, word_of}
-use Rattle.bound_certificate.specs.Grammar.{is_name, is_space, name_in, number_in, numbers_in, whole_number, words_of}
-use Rattle.bound_certificate.specs.Scan.{after_byte, after_word, beginning, begun_by, is_title, name_starting, longer, longer_name, name_of, new_scan, node_starting, number_of, with_number, with_value, with_word}
+use Rattle.bound_certificate.specs.Due.{is_title, word_of}
+use Rattle.bound_certificate.specs.Grammar.{is_name, is_space, name_in, whole_number, words_of}
+use Rattle.bound_certificate.specs.Scan.{after_byte, after_word, beginning, begun_by, name_starting, longer, name_of, node_starting, number_of}
 use Rattle.bound_certificate.proofs.WordFacts.{name-run, number-found, number-read, other-run}
 
 -- a whole word, all at once
@@ -59,7 +58,7 @@ first_by : (d : Due) (n : Name) (byte : ℕ) (bytes : List ℕ) (t : Bool) →
 first_by d n byte bytes true = name-run d 0 n bytes (drop 1 (word_of n)) (slice_index (word_of n) 0 ∷ []) 1 (begins n) refl
 first_by d n byte bytes false = ap name_of (other-run d 0 bytes)
 
-first_name : (d : Due) (n : Name) (byte : ℕ) (bytes : List ℕ) →
+pub first_name : (d : Due) (n : Name) (byte : ℕ) (bytes : List ℕ) →
     name_of (fold (longer d 0) (begun_by (beginning (Some n) byte) 0 byte) bytes) ≡ (if is_name (byte ∷ bytes) n then Some n else None)
 first_name d n byte bytes =
     first_by d n byte bytes (slice_index (word_of n) 0 == byte)

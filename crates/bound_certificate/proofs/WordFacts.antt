@@ -1,5 +1,5 @@
 -- Words, byte by byte.
-use Rattle.std.proofs.Common.{◌≡◌, ◌≢◌, ◌∙◌, ◌⊎◌, ℕ, ◌+◌, ◌-◌, ◌*◌, ◌/◌, ◌%◌, ◌^◌, ◌<◌, ◌≤◌, Bool, true, false, ◌==◌, ◌&&◌, not, nat_lt, nat_le, if◌then◌else◌, List, [], ◌∷◌, ◌++◌, length, slice_index, nat_eq, length-append, refl, sym, ap, arith, Option, Some, None, decimal, append_assoc, inl, inr}
+use Rattle.std.proofs.Common.{◌≡◌, ◌∙◌, ◌⊎◌, ℕ, ◌+◌, ◌-◌, ◌*◌, ◌/◌, ◌%◌, ◌<◌, ◌≤◌, Bool, true, false, ◌==◌, ◌&&◌, not, nat_lt, nat_le, if◌then◌else◌, List, [], ◌∷◌, ◌++◌, length, slice_index, nat_eq, length-append, refl, sym, ap, arith, Option, Some, None, decimal, append_assoc, inl, inr}
 use lib.Pointwise.{pointwise}
 use Rattle.std.specs.List.{fold}
 use Rattle.std.proofs.Math.Seq.{get_or-append_seam}
@@ -15,7 +15,7 @@ use Rattle.bound_certificate.specs.declared.scan.Word.{Word}
 use Rattle.bound_certificate.specs.declared.scan.Word.TheVariants as word
 use Rattle.bound_certificate.specs.declared.limits.TheConstants.{GREATEST_GAP}
 use Rattle.bound_certificate.specs.Due.{word_of}
-use Rattle.bound_certificate.specs.Scan.{beginning, begun, begun_by, name_at, node_starting, longer, longer_name, longer_number, name_of, name_starting, number_of}
+use Rattle.bound_certificate.specs.Scan.{beginning, begun, begun_by, node_starting, longer, longer_number, name_of, name_starting, number_of}
 
 -- which way a test went
 pub tested : {X : Type 0} (P : X → Type 0) (x y : X) (b : Bool) → P (if b then x else y) → ((b ≡ true) × P x) ⊎ ((b ≡ false) × P y)

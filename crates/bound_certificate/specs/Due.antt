@@ -76,6 +76,11 @@ range_at d name.Absent place = from_to 0 0
 range_at d name.Point place = from_to 0 0
 range_at d name.End place = from_to 0 0
 
+-- the first line is one word, with a space in it
+abbrev pub is_title : Due → Bool
+is_title due.Title = true
+is_title other = false
+
 -- a node is due, but the tree has closed
 abbrev pub is_closed_early : Due → Bool
 is_closed_early (due.Node left trees) = trees == 0

@@ -1,5 +1,5 @@
 -- The lines of a certificate, by their words: what a line says, and why it isn't one that is due. The grammar is this project's own.
-use Rattle.std.specs.Prelude.{ℕ, ◌+◌, Bool, true, false, ◌==◌, ◌&&◌, ◌||◌, not, nat_eq, nat_lt, nat_le, if◌then◌else◌, List, [], ◌∷◌, length, drop, slice_index, slice_index_or, Option, Some, None, option_and_then, option_map}
+use Rattle.std.specs.Prelude.{ℕ, ◌+◌, Bool, false, ◌==◌, ◌&&◌, ◌||◌, not, nat_eq, nat_lt, nat_le, if◌then◌else◌, List, [], ◌∷◌, length, drop, slice_index, Option, Some, None, option_and_then, option_map}
 use Rattle.std.specs.Fmt.{decimal}
 use Rattle.std.specs.List.{find, slice_split}
 use Rattle.std.specs.Str.Parse.{digits_value}
@@ -9,12 +9,10 @@ use Rattle.bound_certificate.specs.declared.due.Due.TheVariants as due
 use Rattle.bound_certificate.specs.declared.due.Name.{Name}
 use Rattle.bound_certificate.specs.declared.due.Name.TheVariants as name
 use Rattle.bound_certificate.specs.declared.due.Range.{Range}
-use Rattle.bound_certificate.specs.declared.item.Item.{Item}
-use Rattle.bound_certificate.specs.declared.item.Item.TheVariants as item
 use Rattle.bound_certificate.specs.declared.fault.FaultKind.{FaultKind}
 use Rattle.bound_certificate.specs.declared.fault.FaultKind.TheVariants as kind
 use Rattle.bound_certificate.specs.declared.limits.TheConstants.{GREATEST_GAP}
-use Rattle.bound_certificate.specs.Due.{first_names, is_closed_early, is_in, is_unclosed, range_at, width_of, word_of}
+use Rattle.bound_certificate.specs.Due.{first_names, is_closed_early, is_in, is_title, is_unclosed, range_at, width_of, word_of}
 
 -- the words of a line: what stands between its spaces
 abbrev pub is_space : ℕ → Bool
@@ -82,7 +80,12 @@ abbrev pub words_fault : ℕ → Due → List (List ℕ) → Option FaultKind
 words_fault dates d [] = Some kind.Header
 words_fault dates d (first ∷ others) = named_fault dates d (name_in d first) others
 
--- why a line behind the first isn't one that is due: `Count` where the tree hasn't closed and should have, then `Header`,
--- `Count`, `Number` and `Order`
+-- why a line behind the first isn't one that is due
+abbrev pub later_fault : ℕ → Due → List ℕ → Option FaultKind
+later_fault dates d line = if is_unclosed d then Some kind.Count else words_fault dates d (words_of line)
+
+-- why a line isn't one that is due: where the tree hasn't closed and should have, `Count`; else the first of `Header`, `Count`,
+-- `Number` and `Order` that stands. The first line is one word, with a space in it.
 abbrev pub line_fault : ℕ → Due → List ℕ → Option FaultKind
-line_fault dates d line = if is_unclosed d then Some kind.Count else words_fault dates d (words_of line)
+line_fault dates d line =
+    if is_title d then (if is_name line name.Title then None else Some kind.Header) else later_fault dates d line

@@ -34,8 +34,8 @@ abbrev pub whole_line : Reading → Scan
 whole_line reading = line.after_word reading.due reading.scan
 
 -- why the line that is read, which ends here, isn't one that is due
-abbrev pub line_fault : Reading → Option FaultKind
-line_fault reading = line.fault_of reading.due (length (whole_line reading).leaf.prices) (whole_line reading)
+abbrev pub end_fault : Reading → Option FaultKind
+end_fault reading = line.fault_of reading.due (length (whole_line reading).leaf.prices) (whole_line reading)
 
 -- what it says
 abbrev pub said : Reading → Item
@@ -56,7 +56,7 @@ ended_by None reading = next_line reading
 ended_by (Some found) reading = failed found (record reading { scan = whole_line reading })
 
 abbrev pub ended : Reading → Reading
-ended reading = ended_by (line_fault reading) reading
+ended reading = ended_by (end_fault reading) reading
 
 -- what a line says that ends with a byte
 abbrev pub item_at : Reading → ℕ → Option Item

@@ -14,7 +14,7 @@ use Rattle.bound_certificate.specs.declared.item.Item.TheVariants as item
 use Rattle.bound_certificate.specs.declared.fault.FaultKind.{FaultKind}
 use Rattle.bound_certificate.specs.declared.fault.FaultKind.TheVariants as kind
 use Rattle.bound_certificate.specs.declared.limits.TheConstants.{GREATEST_GAP, MOST_BUYS, MOST_DATES, MOST_NODES, MOST_WORDS}
-use Rattle.bound_certificate.specs.Due.{is_in, is_closed_early, is_unclosed, range_at, width_of, word_of}
+use Rattle.bound_certificate.specs.Due.{is_in, is_closed_early, is_title, is_unclosed, range_at, width_of, word_of}
 
 -- the name of a node that begins with a byte, or else a name that doesn't
 abbrev pub node_starting : ℕ → Name
@@ -127,11 +127,6 @@ abbrev pub after_word : Due → Scan → Scan
 after_word d scan =
     let scanned = (if scan.words == 0 then record scan { name = name_of scan.word } else with_value_of d scan.name scan) in
     record scanned { word = word.Empty; words = one_more scan.words }
-
--- the first line is one word, with a space in it
-abbrev pub is_title : Due → Bool
-is_title due.Title = true
-is_title other = false
 
 -- one more byte
 abbrev pub after_byte : Due → Scan → ℕ → Scan
