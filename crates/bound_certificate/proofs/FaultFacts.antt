@@ -68,7 +68,7 @@ unordered-run d n [] scan other leaf = refl
 unordered-run d n (number ∷ numbers) scan other leaf =
     unordered-run d n numbers (place_number d n scan number) other leaf
     ∙ ap (λ (b : Bool). scan.disordered || b)
-      (is_disordered-other d n scan.words scan.last number other ∙ ap (λ (b : Bool). b && nat_lt 3 scan.words && nat_lt scan.last number) leaf)
+    (is_disordered-other d n scan.words scan.last number other ∙ ap (λ (b : Bool). b && nat_lt 3 scan.words && nat_lt scan.last number) leaf)
     ∙ or_false scan.disordered
 
 -- prices are in order where none is above the one before
@@ -80,7 +80,7 @@ prices-run d (price ∷ prices) scan other h few =
     let next : one_more scan.words ≡ scan.words + 1 = below_most scan.words (omega arith) in
     prices-run d prices (place_number d name.Leaf scan price) other (rw next (omega arith)) (rw next (omega arith))
     ∙ ap (λ (b : Bool). (scan.disordered || b) || rises (price ∷ prices))
-      (is_disordered-other d name.Leaf scan.words scan.last price other ∙ ap (λ (b : Bool). b && nat_lt scan.last price) behind)
+    (is_disordered-other d name.Leaf scan.words scan.last price other ∙ ap (λ (b : Bool). b && nat_lt scan.last price) behind)
     ∙ or_assoc scan.disordered (nat_lt scan.last price) (rises (price ∷ prices))
 
 -- the prices of a leaf behind its two weights
@@ -94,9 +94,9 @@ leaf-run d leaf (rho ∷ mu ∷ []) other few =
 leaf-run d leaf (rho ∷ mu ∷ price ∷ prices) other few =
     let scan : Scan = place_number d name.Leaf (place_number d name.Leaf (place_number d name.Leaf (named leaf (Some name.Leaf)) rho) mu) price in
     let none : scan.disordered ≡ false =
-        ap (λ (b : Bool). (b || is_disordered d name.Leaf 2 rho mu) || is_disordered d name.Leaf 3 mu price) (is_disordered-other d name.Leaf 1 0 rho other)
-        ∙ ap (λ (b : Bool). b || is_disordered d name.Leaf 3 mu price) (is_disordered-other d name.Leaf 2 rho mu other)
-        ∙ is_disordered-other d name.Leaf 3 mu price other in
+    ap (λ (b : Bool). (b || is_disordered d name.Leaf 2 rho mu) || is_disordered d name.Leaf 3 mu price) (is_disordered-other d name.Leaf 1 0 rho other)
+    ∙ ap (λ (b : Bool). b || is_disordered d name.Leaf 3 mu price) (is_disordered-other d name.Leaf 2 rho mu other)
+    ∙ is_disordered-other d name.Leaf 3 mu price other in
     prices-run d prices scan other (omega arith) (omega arith)
     ∙ ap (λ (b : Bool). b || rises (price ∷ prices)) none
 
@@ -131,7 +131,7 @@ ran-fault d n leaf final None ran order = ap (λ (b : Bool). if b then Some kind
 ran-fault d n leaf final (Some numbers) ran order =
     ap (λ (s : Scan). if s.misnumbered then Some kind.Number else if s.disordered then Some kind.Order else None) ran
     ∙ ap (λ (b : Bool). if b then Some kind.Number else if (fold (place_number d n) (named leaf (Some n)) numbers).disordered then Some kind.Order else None)
-      (place-misnumbered d n numbers (named leaf (Some n)))
+    (place-misnumbered d n numbers (named leaf (Some n)))
     ∙ ap (λ (b : Bool). if b then Some kind.Order else None) (order numbers refl)
 
 length_by : (o : Option ℕ) (rest : Option (List ℕ)) (words : List (List ℕ)) (numbers : List ℕ) →
@@ -195,14 +195,14 @@ count_closing false k w x y inner true e = inner (grind (arith, e))
 -- the fault of a line that begins with a name, where its words aren't of the right count
 fault_by_count : (dates : ℕ) (d : Due) (n : Name) (final : Scan) (others : List (List ℕ)) → final.words ≡ min (1 + length others) MOST_WORDS → dates ≤ MOST_DATES →
     (1 + length others ≡ width_of dates n →
-        (if final.misnumbered then Some kind.Number else if final.disordered then Some kind.Order else None) ≡ numbers_fault d n (line_numbers d n others)) →
+    (if final.misnumbered then Some kind.Number else if final.disordered then Some kind.Order else None) ≡ numbers_fault d n (line_numbers d n others)) →
     fault_by (Some n) d dates final ≡ named_fault dates d (Some n) others
 fault_by_count dates d n final others words few inner =
     let inside : Option FaultKind = if final.misnumbered then Some kind.Number else if final.disordered then Some kind.Order else None in
     ap (λ (b : Bool). if is_closed_early d || not b then Some kind.Count else inside)
-      (same_count final.words (1 + length others) (width_of dates n) words (below_width dates n few) (1 + length others == width_of dates n) refl)
+    (same_count final.words (1 + length others) (width_of dates n) words (below_width dates n few) (1 + length others == width_of dates n) refl)
     ∙ count_closing (is_closed_early d) (1 + length others) (width_of dates n) inside (numbers_fault d n (line_numbers d n others)) inner
-      (1 + length others == width_of dates n) refl
+    (1 + length others == width_of dates n) refl
 
 -- the fault of a line in which no name stands behind the first word
 fault-plain : (d : Due) (n : Name) (leaf : Leaf) (others : List (List ℕ)) → IsPlain d → length leaf.prices ≤ MOST_DATES →
@@ -213,11 +213,11 @@ fault-plain d n leaf others plain few same order =
     let final : Scan = fold (take_word d) start others in
     fault_by_count (length leaf.prices) d n final others (count-run d others start (omega arith) (omega arith)) few
     (λ wide.
-        let within : 1 + length others ≤ MOST_WORDS = omega (arith, wide, below_width (length leaf.prices) n few) in
-        ran-fault d n leaf final (numbers_in d n 1 others)
-          (numbers-run d n others 1 start plain (omega arith) within (record { name = refl; words = refl; word = refl }))
-          (λ numbers e. order numbers (ap (λ (k : ℕ). 1 + k) (numbers-length d n 1 others numbers e) ∙ wide))
-        ∙ sym (ap (λ (o : Option (List ℕ)). numbers_fault d n o) same))
+    let within : 1 + length others ≤ MOST_WORDS = omega (arith, wide, below_width (length leaf.prices) n few) in
+    ran-fault d n leaf final (numbers_in d n 1 others)
+    (numbers-run d n others 1 start plain (omega arith) within (record { name = refl; words = refl; word = refl }))
+    (λ numbers e. order numbers (ap (λ (k : ℕ). 1 + k) (numbers-length d n 1 others numbers e) ∙ wide))
+    ∙ sym (ap (λ (o : Option (List ℕ)). numbers_fault d n o) same))
 
 -- `none` in place of the count of purchases
 absent_by : (byte : ℕ) (bytes : List ℕ) (t : Bool) →
@@ -244,13 +244,13 @@ portfolio_in scan (Some number) good order =
 
 portfolio_by : (leaf : Leaf) (bytes : List ℕ) (t : Bool) →
     inner_fault (record (with_value due.Portfolio name.Portfolio (if t then Some name.Absent else None)
-        (record (named leaf (Some name.Portfolio)) { word = fold (longer due.Portfolio 1) word.Empty bytes })) { word = word.Empty; words = 2 })
+    (record (named leaf (Some name.Portfolio)) { word = fold (longer due.Portfolio 1) word.Empty bytes })) { word = word.Empty; words = 2 })
     ≡ numbers_fault due.Portfolio name.Portfolio (if t then numbers_in due.Portfolio name.Portfolio 2 [] else numbers_in due.Portfolio name.Portfolio 1 (bytes ∷ []))
 portfolio_by leaf bytes true = refl
 portfolio_by leaf bytes false =
     ap (λ (o : Option ℕ). inner_fault (record (with_word due.Portfolio name.Portfolio o
-        (record (named leaf (Some name.Portfolio)) { word = fold (longer due.Portfolio 1) word.Empty bytes })) { word = word.Empty; words = 2 }))
-      (whole-read due.Portfolio 1 bytes (omega arith))
+    (record (named leaf (Some name.Portfolio)) { word = fold (longer due.Portfolio 1) word.Empty bytes })) { word = word.Empty; words = 2 }))
+    (whole-read due.Portfolio 1 bytes (omega arith))
     ∙ ap (λ (s : Scan). inner_fault s) (settle due.Portfolio name.Portfolio (named leaf (Some name.Portfolio)) (fold (longer due.Portfolio 1) word.Empty bytes) (whole_number bytes))
     ∙ portfolio_in (named leaf (Some name.Portfolio)) (number_in (range_at due.Portfolio name.Portfolio 1) bytes) refl refl
 
@@ -261,8 +261,8 @@ portfolio_inner leaf [] wide = absurd (omega arith)
 portfolio_inner leaf (bytes ∷ more ∷ others) wide = absurd (omega arith)
 portfolio_inner leaf (bytes ∷ []) wide =
     ap (λ (o : Option Name). inner_fault (record (with_value due.Portfolio name.Portfolio o
-        (record (named leaf (Some name.Portfolio)) { word = fold (longer due.Portfolio 1) word.Empty bytes })) { word = word.Empty; words = 2 }))
-      (absent-word bytes)
+    (record (named leaf (Some name.Portfolio)) { word = fold (longer due.Portfolio 1) word.Empty bytes })) { word = word.Empty; words = 2 }))
+    (absent-word bytes)
     ∙ portfolio_by leaf bytes (is_name bytes name.Absent)
 
 fault-portfolio : (n : Name) (leaf : Leaf) (others : List (List ℕ)) → length leaf.prices ≤ MOST_DATES → n ≡ name.Portfolio →
@@ -270,10 +270,10 @@ fault-portfolio : (n : Name) (leaf : Leaf) (others : List (List ℕ)) → length
     ≡ named_fault (length leaf.prices) due.Portfolio (Some n) others
 fault-portfolio n leaf others few same =
     let P : Name → Type 0 = λ m. fault_by (Some m) due.Portfolio (length leaf.prices) (fold (take_word due.Portfolio) (named leaf (Some m)) others)
-        ≡ named_fault (length leaf.prices) due.Portfolio (Some m) others in
+    ≡ named_fault (length leaf.prices) due.Portfolio (Some m) others in
     subst P (sym same)
     (fault_by_count (length leaf.prices) due.Portfolio name.Portfolio (fold (take_word due.Portfolio) (named leaf (Some name.Portfolio)) others) others
-      (count-run due.Portfolio others (named leaf (Some name.Portfolio)) (omega arith) (omega arith)) few (portfolio_inner leaf others))
+    (count-run due.Portfolio others (named leaf (Some name.Portfolio)) (omega arith) (omega arith)) few (portfolio_inner leaf others))
 
 -- the one name that may begin a line
 only_name : (n m : Name) (b : Bool) → cond b (Some n) None ≡ Some m → m ≡ n
@@ -290,7 +290,7 @@ fault-named due.Title title first leaf others few n e = absurd (cc)
 fault-named due.Portfolio title first leaf others few n e = fault-portfolio n leaf others few (only_name name.Portfolio n (is_name first name.Portfolio) e)
 fault-named (due.Buy left least) title first leaf others few n e =
     fault-plain (due.Buy left least) n leaf others (λ place byte h. plain_none name.Buy place byte h) few refl
-      (ordered-buy left least n leaf (only_name name.Buy n (is_name first name.Buy) e))
+    (ordered-buy left least n leaf (only_name name.Buy n (is_name first name.Buy) e))
 fault-named (due.Gap most) title first leaf others few n e =
     fault-plain (due.Gap most) n leaf others (λ place byte h. plain_none name.Gap place byte h) few refl (ordered-other (due.Gap most) n leaf refl few)
 fault-named due.Count title first leaf others few n e =

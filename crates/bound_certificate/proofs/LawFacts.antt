@@ -61,8 +61,8 @@ faults-are-of-lines reading leaf bytes begins all =
       before = ap (λ (r : Reading). r.fault) came ∙ begins.going;
       at =
           ap (λ (r : Reading). r.fault)
-            (after_bytes-append reading bytes (10 ∷ []) ∙ ap (λ (r : Reading). after_bytes r (10 ∷ [])) came
-            ∙ after_bytes-one inside 10 [] ∙ after_bytes-none (after_byte inside 10) ∙ after_byte-feed inside 10 begins.going begins.more refl)
+          (after_bytes-append reading bytes (10 ∷ []) ∙ ap (λ (r : Reading). after_bytes r (10 ∷ [])) came
+          ∙ after_bytes-one inside 10 [] ∙ after_bytes-none (after_byte inside 10) ∙ after_byte-feed inside 10 begins.going begins.more refl)
           ∙ ended-fault inside (end_fault inside)
           ∙ ap (λ (o : Option FaultKind). option_map (fault_at reading) o) (end-fault reading leaf bytes begins);
     }

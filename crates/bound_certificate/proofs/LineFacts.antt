@@ -70,23 +70,23 @@ node_by : (byte : ℕ) (bytes : List ℕ) (s p : Bool) → (byte == 115) ≡ s �
 node_by byte bytes true p s_is p_is =
     let same : 115 ≡ byte = grind (arith, s_is) in
     let P : ℕ → Type 0 = λ b. (if is_name (b ∷ bytes) (node_starting b) then Some (node_starting b) else None)
-        ≡ find (is_name (b ∷ bytes)) (name.Split ∷ name.Point ∷ name.Leaf ∷ []) in
+    ≡ find (is_name (b ∷ bytes)) (name.Split ∷ name.Point ∷ name.Leaf ∷ []) in
     subst P same refl
 node_by byte bytes false true s_is p_is =
     let same : 112 ≡ byte = grind (arith, p_is) in
     let P : ℕ → Type 0 = λ b. (if is_name (b ∷ bytes) (node_starting b) then Some (node_starting b) else None)
-        ≡ find (is_name (b ∷ bytes)) (name.Split ∷ name.Point ∷ name.Leaf ∷ []) in
+    ≡ find (is_name (b ∷ bytes)) (name.Split ∷ name.Point ∷ name.Leaf ∷ []) in
     subst P same refl
 node_by byte bytes false false s_is p_is =
     let leaf : node_starting byte ≡ name.Leaf =
-        ap (λ (b : Bool). if b then name.Split else if byte == 112 then name.Point else name.Leaf) s_is
-        ∙ ap (λ (b : Bool). if b then name.Point else name.Leaf) p_is in
+    ap (λ (b : Bool). if b then name.Split else if byte == 112 then name.Point else name.Leaf) s_is
+    ∙ ap (λ (b : Bool). if b then name.Point else name.Leaf) p_is in
     let no_split : nat_eq 115 byte ≡ false = grind (arith, s_is) in
     let no_point : nat_eq 112 byte ≡ false = grind (arith, p_is) in
     let last : Option Name = cond (nat_eq 108 byte && pointwise nat_eq [] bytes) (Some name.Leaf) None in
     ap (λ (n : Name). if is_name (byte ∷ bytes) n then Some n else None) leaf
     ∙ sym (ap (λ (b : Bool). cond (b && pointwise nat_eq [] bytes) (Some name.Split) (cond (nat_eq 112 byte && pointwise nat_eq [] bytes) (Some name.Point) last)) no_split
-        ∙ ap (λ (b : Bool). cond (b && pointwise nat_eq [] bytes) (Some name.Point) last) no_point)
+    ∙ ap (λ (b : Bool). cond (b && pointwise nat_eq [] bytes) (Some name.Point) last) no_point)
 
 -- the first word is a name that may stand
 pub first-word : (d : Due) → is_title d ≡ false → (bytes : List ℕ) → name_of (fold (longer d 0) word.Empty bytes) ≡ name_in d bytes
@@ -112,7 +112,7 @@ whole-decimal : (n : ℕ) → n ≤ GREATEST_GAP → whole_number (decimal n) �
 whole-decimal n limit =
     let value : digits_value 10 (decimal n) ≡ n = (decimal_is_IsNumeral n (omega arith)).1 in
     let same : pointwise nat_eq (decimal (digits_value 10 (decimal n))) (decimal n) ≡ true =
-        (bytes_decides (decimal (digits_value 10 (decimal n))) (decimal n)).1 (ap (λ (m : ℕ). decimal m) value) in
+    (bytes_decides (decimal (digits_value 10 (decimal n))) (decimal n)).1 (ap (λ (m : ℕ). decimal m) value) in
     let within : nat_le (digits_value 10 (decimal n)) GREATEST_GAP ≡ true = rw value (grind (arith, limit)) in
     ap (λ (b : Bool). if b && nat_le (digits_value 10 (decimal n)) GREATEST_GAP then Some (digits_value 10 (decimal n)) else None) same
     ∙ ap (λ (b : Bool). if b then Some (digits_value 10 (decimal n)) else None) within
@@ -132,8 +132,8 @@ whole_by d place bytes h none true t_is =
     let written : decimal (digits_value 10 bytes) ≡ bytes = (bytes_decides (decimal (digits_value 10 bytes)) bytes).0 both.0 in
     let within : digits_value 10 bytes ≤ GREATEST_GAP = grind (arith, both.1) in
     let found : number_of (fold (longer d place) word.Empty bytes) ≡ Some (digits_value 10 bytes) =
-        ap (λ (bs : List ℕ). number_of (fold (longer d place) word.Empty bs)) (sym written)
-        ∙ ap (λ (w : Word). number_of w) (number-read d place (digits_value 10 bytes) h within) in
+    ap (λ (bs : List ℕ). number_of (fold (longer d place) word.Empty bs)) (sym written)
+    ∙ ap (λ (w : Word). number_of w) (number-read d place (digits_value 10 bytes) h within) in
     absurd (cc)
 
 whole_cases : (d : Due) (place : ℕ) (bytes : List ℕ) → 1 ≤ place → (o : Option ℕ) → number_of (fold (longer d place) word.Empty bytes) ≡ o →

@@ -20,7 +20,7 @@ later : (d : Due) (scan : Scan) → 1 ≤ scan.words →
 later d scan h =
     let some : (scan.words == 0) ≡ false = grind (arith, h) in
     ap (λ (b : Bool). let scanned = (if b then record scan { name = name_of scan.word } else with_value_of d scan.name scan) in
-        record scanned { word = word.Empty; words = one_more scan.words }) some
+    record scanned { word = word.Empty; words = one_more scan.words }) some
 
 -- a word changes neither the line's name nor, before it is whole, how many words there are
 pub record Keeps (old new : Scan) : Type 0 where
@@ -179,7 +179,7 @@ misnumbered-run d n (first ∷ words) place scan plain h few at bad =
     let step : take_word d scan first ≡ placed d n scan o = word-step d n place scan first plain h at in
     ap (λ (s : Scan). (fold (take_word d) s words).misnumbered) step
     ∙ misnumbered-run d n words (place + 1) (placed d n scan o) plain (omega arith) (omega arith) (placed-at d n place scan o (omega arith) at)
-        (placed-misnumbered d n scan o bad)
+    (placed-misnumbered d n scan o bad)
 
 -- numbers at their places
 abbrev pub place_number : Due → Name → Scan → ℕ → Scan
@@ -203,10 +203,10 @@ numbers-run d n [] place scan plain h few at = refl
 numbers-run d n (first ∷ words) place scan plain h few at =
     let o : Option ℕ = number_in (range_at d n place) first in
     let step : take_word d scan first ≡ placed d n scan o =
-        word-step d n place scan first plain h at ∙ ap (λ (k : ℕ). placed d n scan (number_in (range_at d n k) first)) at.words in
+    word-step d n place scan first plain h at ∙ ap (λ (k : ℕ). placed d n scan (number_in (range_at d n k) first)) at.words in
     let next : IsAt n (place + 1) (placed d n scan o) = placed-at d n place scan o (omega arith) at in
     let P : Scan → Type 0 = λ s. Ran d n scan (fold (take_word d) s words) (numbers_in d n place (first ∷ words)) in
     subst P (sym step)
     (ran_by d n scan (fold (take_word d) (placed d n scan o) words) o (numbers_in d n (place + 1) words)
-        (numbers-run d n words (place + 1) (placed d n scan o) plain (omega arith) (omega arith) next)
-        (λ bad. misnumbered-run d n words (place + 1) (placed d n scan o) plain (omega arith) (omega arith) next bad))
+    (numbers-run d n words (place + 1) (placed d n scan o) plain (omega arith) (omega arith) next)
+    (λ bad. misnumbered-run d n words (place + 1) (placed d n scan o) plain (omega arith) (omega arith) next bad))

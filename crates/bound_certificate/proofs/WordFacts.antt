@@ -64,13 +64,14 @@ number-run d place [] front value n e limit h =
     let same : value ≡ n = cc in (append-nil front ∙ e ∙ ap decimal same, omega arith)
 number-run d place (byte ∷ bytes) front value n e limit h =
     elim (tested (λ (w : Word). number_of (fold (longer d place) w bytes) ≡ Some n) (word.Number (10 * value + (byte - 48))) word.Other
-        (not (value == 0) && is_ascii_digit byte && nat_le (10 * value + (byte - 48)) GREATEST_GAP) h)
-    [ inl more ↦
-        let digit : IsDigitMore value byte = digit_more value byte more.0 in
-        let written : front ++ byte ∷ [] ≡ decimal (10 * value + (byte - 48)) = ap (λ (bs : List ℕ). bs ++ byte ∷ []) e ∙ sym (digit-step value byte digit) in
-        let rest = number-run d place bytes (front ++ byte ∷ []) (10 * value + (byte - 48)) n written digit.limit more.1 in
-        (sym (append_assoc front (byte ∷ []) bytes) ∙ rest.0, rest.1)
-    | inr other ↦ let none : None ≡ Some n = sym (ap number_of (other-run d place bytes)) ∙ other.1 in absurd (cc) ]
+    (not (value == 0) && is_ascii_digit byte && nat_le (10 * value + (byte - 48)) GREATEST_GAP) h) [
+      | inl more ↦
+          let digit : IsDigitMore value byte = digit_more value byte more.0 in
+          let written : front ++ byte ∷ [] ≡ decimal (10 * value + (byte - 48)) = ap (λ (bs : List ℕ). bs ++ byte ∷ []) e ∙ sym (digit-step value byte digit) in
+          let rest = number-run d place bytes (front ++ byte ∷ []) (10 * value + (byte - 48)) n written digit.limit more.1 in
+          (sym (append_assoc front (byte ∷ []) bytes) ∙ rest.0, rest.1)
+      | inr other ↦ let none : None ≡ Some n = sym (ap number_of (other-run d place bytes)) ∙ other.1 in absurd (cc)
+    ]
 
 -- a digit begins no name behind the first word
 pub no_first : (n : Name) (byte : ℕ) (b : Bool) → b ≡ false → beginning (if b then Some n else None) byte ≡ None
@@ -98,13 +99,14 @@ number-begun : (d : Due) (place byte : ℕ) (bytes : List ℕ) (n : ℕ) (o : Op
 number-begun d place byte bytes n (Some m) h = let none : None ≡ Some n = sym (part-run d place m 1 bytes) ∙ h in absurd (cc)
 number-begun d place byte bytes n None h =
     elim (tested (λ (w : Word). number_of (fold (longer d place) w bytes) ≡ Some n) (word.Number (byte - 48)) word.Other
-        (nat_lt 0 place && is_ascii_digit byte) h)
-    [ inl one ↦
-        let digit : (48 ≤ byte) × (byte ≤ 57) = (grind (arith, one.0), grind (arith, one.0)) in
-        let same : 48 + (byte - 48) ≡ byte = omega (arith, digit.0) in
-        let written : byte ∷ [] ≡ decimal (byte - 48) = sym (decimal_digit (byte - 48) (omega (arith, digit.0, digit.1)) ∙ ap (λ (c : ℕ). c ∷ []) same) in
-        number-run d place bytes (byte ∷ []) (byte - 48) n written (omega (arith, digit.0, digit.1)) one.1
-    | inr other ↦ let none : None ≡ Some n = sym (ap number_of (other-run d place bytes)) ∙ other.1 in absurd (cc) ]
+    (nat_lt 0 place && is_ascii_digit byte) h) [
+      | inl one ↦
+          let digit : (48 ≤ byte) × (byte ≤ 57) = (grind (arith, one.0), grind (arith, one.0)) in
+          let same : 48 + (byte - 48) ≡ byte = omega (arith, digit.0) in
+          let written : byte ∷ [] ≡ decimal (byte - 48) = sym (decimal_digit (byte - 48) (omega (arith, digit.0, digit.1)) ∙ ap (λ (c : ℕ). c ∷ []) same) in
+          number-run d place bytes (byte ∷ []) (byte - 48) n written (omega (arith, digit.0, digit.1)) one.1
+      | inr other ↦ let none : None ≡ Some n = sym (ap number_of (other-run d place bytes)) ∙ other.1 in absurd (cc)
+    ]
 
 pub number-found : (d : Due) (place : ℕ) (bytes : List ℕ) (n : ℕ) → number_of (fold (longer d place) word.Empty bytes) ≡ Some n →
     (bytes ≡ decimal n) × (n ≤ GREATEST_GAP)
@@ -130,7 +132,7 @@ one_more_digit n ten limit =
     let last : n % 10 < 10 = omega arith in
     let within : 10 * (n / 10) + (48 + n % 10 - 48) ≤ GREATEST_GAP = omega arith in
     let digit : (not (n / 10 == 0) && is_ascii_digit (48 + n % 10) && nat_le (10 * (n / 10) + (48 + n % 10 - 48)) GREATEST_GAP) ≡ true =
-        is_digit (n / 10) (n % 10) (10 * (n / 10) + (48 + n % 10 - 48)) above last within in
+    is_digit (n / 10) (n % 10) (10 * (n / 10) + (48 + n % 10 - 48)) above last within in
     ap (λ (b : Bool). if b then word.Number (10 * (n / 10) + (48 + n % 10 - 48)) else word.Other) digit
     ∙ ap (λ (m : ℕ). word.Number m) same
 
@@ -139,17 +141,20 @@ number-read d place n h limit =
     decimal_by_steps (λ (m : ℕ) (ds : List ℕ). m ≤ GREATEST_GAP → fold (longer d place) word.Empty ds ≡ word.Number m)
     (λ m low _. one_digit d place m h low)
     (λ m ds ten before within.
-        fold-append (longer d place) word.Empty ds ((48 + m % 10) ∷ [])
-        ∙ ap (λ (w : Word). longer d place w (48 + m % 10)) (before (omega arith))
-        ∙ one_more_digit m ten within)
+    fold-append (longer d place) word.Empty ds ((48 + m % 10) ∷ [])
+    ∙ ap (λ (w : Word). longer d place w (48 + m % 10)) (before (omega arith))
+    ∙ one_more_digit m ten within)
     n (omega arith) limit
 
 same_test : (m n : ℕ) → m ≡ n → (m == n) ≡ true
 same_test m n h = grind (arith, h)
+
 less_test : (m n : ℕ) → m < n → (m == n) ≡ false
 less_test m n h = grind (arith, h)
+
 full_test : (m n : ℕ) → m ≡ n → nat_lt m n ≡ false
 full_test m n h = grind (arith, h)
+
 within_test : (m n : ℕ) → m < n → nat_lt m n ≡ true
 within_test m n h = grind (arith, h)
 

@@ -137,8 +137,16 @@ after_byte d scan byte =
 -- nothing yet of a line
 abbrev pub new_scan : Leaf → Scan
 new_scan leaf = record {
-  name = None; words = 0; word = word.Empty; absent = false; first = 0; second = 0; last = 0;
-  misnumbered = false; disordered = false; leaf = leaf;
+  name = None;
+  words = 0;
+  word = word.Empty;
+  absent = false;
+  first = 0;
+  second = 0;
+  last = 0;
+  misnumbered = false;
+  disordered = false;
+  leaf = leaf;
 }
 
 -- why a line, all of whose words are whole, isn't one that is due

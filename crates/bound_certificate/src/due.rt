@@ -101,7 +101,11 @@ pub(crate) fn name_starting(due: Due, place: u16, byte: u8) -> Option<Name>
         Due::End { .. } if place == 0 => Name::End,
         _ => return None,
     };
-    if name.word()[0] == byte { Some(name) } else { None }
+    if name.word()[0] == byte {
+        Some(name)
+    } else {
+        None
+    }
 }
 
 // The name of a node that begins with a byte, or else a name that doesn't.

@@ -1,5 +1,5 @@
 //! A reader of certificates that come in pieces.
-ghost use Rattle.std.specs.Prelude.{◌≡◌, ◌≤◌, length, replicate, IfErr, IfOk};
+ghost use Rattle.std.specs.Prelude.{◌≡◌, ◌≤◌, ◌<◌, length, replicate, IfErr, IfOk};
 ghost use Rattle.bound_certificate.specs.Reading.{Feeds, after_bytes, finished, new_leaf, new_reading};
 
 use crate::fault::CertFault;
@@ -56,6 +56,7 @@ impl CertReader {
     /// the last line. After a fault every later call answers the same one.
     pub fn feed(&mut self, piece: &[u8]) -> Result<Fed, CertFault>
         requires { length piece.now ≤ 65_536 }
+        ensures used { IfOk result (λ fed. (fed.used ≤ length piece.now) × (0 < length piece.now → 0 < fed.used)) }
         ensures ok { IfOk result (λ fed. Feeds self.old piece.now fed self.new) }
         ensures err { IfErr result (λ fault. (self.new ≡ after_bytes self.old piece.now) × (self.new.fault ≡ Some fault)) }
     {

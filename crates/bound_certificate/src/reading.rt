@@ -1,5 +1,5 @@
 //! What has come of a certificate.
-ghost use Rattle.std.specs.Prelude.{◌≡◌, ◌≤◌, Err, None, Some, false, length, IfErr, IfOk};
+ghost use Rattle.std.specs.Prelude.{◌≡◌, ◌≤◌, ◌<◌, Err, None, Some, false, length, IfErr, IfOk};
 ghost use Rattle.bound_certificate.specs.Due.{is_over};
 ghost use Rattle.bound_certificate.specs.Reading.{Feeds, IsReading, after_byte, after_bytes, ended, failed, fault_at, finished, item_at, new_reading, said};
 
@@ -98,6 +98,7 @@ impl Reading {
         requires reading { IsReading self.old }
         requires piece { length piece.now ≤ 65_536 }
         ensures kept { IsReading self.new }
+        ensures used { IfOk result (λ fed. (fed.used ≤ length piece.now) × (0 < length piece.now → 0 < fed.used)) }
         ensures ok { IfOk result (λ fed. Feeds self.old piece.now fed self.new) }
         ensures err { IfErr result (λ fault. (self.new ≡ after_bytes self.old piece.now) × (self.new.fault ≡ Some fault)) }
     {

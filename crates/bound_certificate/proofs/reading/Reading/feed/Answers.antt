@@ -20,11 +20,12 @@ loop-place-init c = record {
 pub returns-in_err-item-clause-err : goal.returns-in_err-item-clause-err
 returns-in_err-item-clause-err c =
     let p = err_from_is_err_and c.from_residual.result c.from_residual.ensures.1 in
-    rw (p.1, p.2)
-    (sym (after_bytes-stop c.args.self.now c.take.new.self c.args.piece.now c.loop-place.place c.in_err-item.field-0.0 c.loop-place-test.true
-        (ap (λ (r : Reading). after_byte r (get_or c.args.piece.now c.loop-place.place 0)) (sym c.loop-place.invariant.taken) ∙ sym c.take.ensures.value)
-        c.in_err-item.ensures.fault),
-    c.in_err-item.ensures.fault)
+    rw (p.1, p.2) (
+      sym (after_bytes-stop c.args.self.now c.take.new.self c.args.piece.now c.loop-place.place c.in_err-item.field-0.0 c.loop-place-test.true
+          (ap (λ (r : Reading). after_byte r (get_or c.args.piece.now c.loop-place.place 0)) (sym c.loop-place.invariant.taken) ∙ sym c.take.ensures.value)
+          c.in_err-item.ensures.fault),
+      c.in_err-item.ensures.fault,
+    )
 
 pub loop-place-preserved : goal.loop-place-preserved
 loop-place-preserved c = record {
@@ -41,7 +42,7 @@ loop-place-preserved c = record {
 pub returns-in-Some-2-clause-ok : goal.returns-in-Some-2-clause-ok
 returns-in-Some-2-clause-ok c =
     let ended : (get_or c.args.piece.now c.loop-place.place 0 ≡ 10) × (c.in-Some-2.item ≡ said c.loop-place.self) =
-        item_at-some c.loop-place.self (get_or c.args.piece.now c.loop-place.place 0) c.in-Some-2.item (sym c.in_ok-item.ensures.item.1 ∙ c.in-Some-2.is) in
+    item_at-some c.loop-place.self (get_or c.args.piece.now c.loop-place.place 0) c.in-Some-2.item (sym c.in_ok-item.ensures.item.1 ∙ c.in-Some-2.is) in
     record {
       taken =
           c.take.ensures.value
