@@ -1,7 +1,10 @@
 //! Texts that are certificates, and the faults of those that aren't.
-ghost use Rattle.std.specs.Prelude.{◌≤◌};
+ghost use Rattle.std.specs.Prelude.{◌≡◌, ◌≤◌, [], ◌∷◌, IfOk, false, true};
 
-use crate::{CertFault, CertReader, FaultKind, MOST_DATES};
+use crate::{
+    Buy, Buys, CertFault, CertReader, Certificate, FaultKind, MOST_DATES, Nodes, write_cert,
+};
+use dual_bound::{Leaf, Prices, TreeNode};
 use escrow_desk::NoMemory;
 use std::alloc::Global;
 use std::process::Abort;
@@ -319,4 +322,47 @@ fn faults_are_the_first(rt: HostRuntime) -> Result<(), Fail> {
         ),
     ];
     are_found(&rt, rt.alloc(), &rows)
+}
+
+// A leaf of one price.
+fn leaf(alloc: Global, whole: bool, price: u64) -> Result<TreeNode, Fail>
+    ensures { IfOk result (λ node. node ≡ TreeNode.Closed (record { whole = whole; mu = 0; prices = price ∷ [] })) }
+{
+    let prices = Prices::new([price].to_vec(alloc)?);
+    Ok(TreeNode::Closed(Leaf {
+        whole,
+        mu: 0,
+        prices,
+    }))
+}
+
+// A tree of a split and two leaves.
+fn tree(alloc: Global) -> Result<Nodes, Fail>
+    ensures { IfOk result (λ nodes. nodes ≡ TreeNode.Split 1 1000 ∷ TreeNode.Closed (record { whole = false; mu = 0; prices = 1_000_000_000_000 ∷ [] })
+        ∷ TreeNode.Closed (record { whole = true; mu = 0; prices = 0 ∷ [] }) ∷ []) }
+{
+    let mut nodes = Vec::new(alloc);
+    nodes.push(TreeNode::Split { line: 1, at: 1000 })?;
+    nodes.push(leaf(alloc, false, 1_000_000_000_000)?)?;
+    nodes.push(leaf(alloc, true, 0)?)?;
+    Ok(Nodes::new(nodes))
+}
+
+#[test]
+fn a_certificate_is_written(rt: HostRuntime) -> Result<(), Fail> {
+    let alloc = rt.alloc();
+    let buys = [Buy {
+        line: 1,
+        units: 1001,
+    }];
+    let cert = Certificate {
+        buys: Some(Buys::new(buys.to_vec(alloc)?)),
+        gap: 0,
+        nodes: tree(alloc)?,
+    };
+    let text = write_cert(alloc, &cert)?;
+    let expected =
+        b"escrow-certificate 1\nportfolio 1\nbuy 1 1001\ngap 0\nnodes 3\ns 1 1000\nl 0 0 1000000000000\nl 1 0 0\nend\n";
+    assert_eq!(rt; text.as_slice(), expected.as_slice());
+    Ok(())
 }
