@@ -1,0 +1,68 @@
+-- Whole lines of a certificate.
+use Rattle.std.proofs.Common.{◌≡◌, ◌≢◌, ◌∙◌, ℕ, Bool, true, false, ◌==◌, if◌then◌else◌, List, [], ◌∷◌, length, All, refl, sym, ap, subst, arith, Option, Some, None, option_map}
+use Rattle.std.specs.List.{fold}
+use Rattle.std.proofs.lemmas.List.Elements.{All-head, All-tail}
+use Rattle.dual_bound.specs.declared.tree.Leaf.{Leaf}
+use Rattle.bound_certificate.specs.declared.fault.CertFault.{CertFault}
+use Rattle.bound_certificate.specs.declared.fault.FaultKind.{FaultKind}
+use Rattle.bound_certificate.specs.declared.fault.FaultKind.TheVariants as kind
+use Rattle.bound_certificate.specs.declared.reading.Reading.{Reading}
+use Rattle.bound_certificate.specs.declared.scan.Scan.{Scan}
+use Rattle.bound_certificate.specs.Due.{is_over}
+use Rattle.bound_certificate.specs.Grammar.{line_fault}
+use Rattle.bound_certificate.specs.Laws.{BeginsLine, ShowsFault}
+use Rattle.bound_certificate.specs.Reading.{after_byte, after_byte_by, after_bytes, end_fault, ended, ended_by, failed, fault_at}
+use Rattle.bound_certificate.specs.Scan as line
+use Rattle.bound_certificate.proofs.FaultFacts.{line-dates, line-fault}
+use Rattle.bound_certificate.proofs.ReadingFacts.{after_byte-feed, after_bytes-append, after_bytes-none, after_bytes-one}
+
+-- a byte within a line
+byte_by : (reading : Reading) (byte : ℕ) → (b : Bool) → (byte == 10) ≡ b → byte ≢ 10 →
+    (if b then ended reading else record reading { scan = line.after_byte reading.due reading.scan byte })
+    ≡ record reading { scan = line.after_byte reading.due reading.scan byte }
+byte_by reading byte true e other = absurd (other (grind (arith, e)))
+byte_by reading byte false e other = refl
+
+within-byte : (reading : Reading) (byte : ℕ) → reading.fault ≡ None → is_over reading.due ≡ false → byte ≢ 10 →
+    after_byte reading byte ≡ record reading { scan = line.after_byte reading.due reading.scan byte }
+within-byte reading byte going more other =
+    ap (λ (f : Option CertFault). after_byte_by f reading byte) going
+    ∙ ap (λ (b : Bool). if b then failed kind.Trailing reading else if byte == 10 then ended reading else record reading { scan = line.after_byte reading.due reading.scan byte }) more
+    ∙ byte_by reading byte (byte == 10) refl other
+
+-- the bytes of a line before its line feed
+within-line : (bytes : List ℕ) (reading : Reading) → reading.fault ≡ None → is_over reading.due ≡ false → All (λ byte. byte ≢ 10) bytes →
+    after_bytes reading bytes ≡ record reading { scan = fold (line.after_byte reading.due) reading.scan bytes }
+within-line [] reading going more all = after_bytes-none reading
+within-line (byte ∷ bytes) reading going more all =
+    after_bytes-one reading byte bytes
+    ∙ ap (λ (r : Reading). after_bytes r bytes) (within-byte reading byte going more (All-head (λ b. b ≢ 10) byte bytes all))
+    ∙ within-line bytes (record reading { scan = line.after_byte reading.due reading.scan byte }) going more (All-tail (λ b. b ≢ 10) byte bytes all)
+
+ended-fault : (reading : Reading) (o : Option FaultKind) → (ended_by o reading).fault ≡ option_map (fault_at reading) o
+ended-fault reading None = refl
+ended-fault reading (Some found) = refl
+
+-- the fault at a line feed is the line's
+end-fault : (reading : Reading) (leaf : Leaf) (bytes : List ℕ) → BeginsLine reading leaf →
+    end_fault (record reading { scan = fold (line.after_byte reading.due) reading.scan bytes }) ≡ line_fault (length leaf.prices) reading.due bytes
+end-fault reading leaf bytes begins =
+    let final : Scan → Scan = λ s. line.after_word reading.due (fold (line.after_byte reading.due) s bytes) in
+    let P : Scan → Type 0 = λ s. line.fault_of reading.due (length (final s).leaf.prices) (final s) ≡ line_fault (length leaf.prices) reading.due bytes in
+    subst P (sym begins.scan)
+    (ap (λ (dates : ℕ). line.fault_of reading.due dates (final (line.new_scan leaf))) (line-dates reading.due leaf bytes)
+    ∙ line-fault reading.due leaf bytes begins.dates)
+
+pub faults-are-of-lines : (reading : Reading) (leaf : Leaf) (bytes : List ℕ) → BeginsLine reading leaf → All (λ byte. byte ≢ 10) bytes → ShowsFault reading leaf bytes
+faults-are-of-lines reading leaf bytes begins all =
+    let inside : Reading = record reading { scan = fold (line.after_byte reading.due) reading.scan bytes } in
+    let came : after_bytes reading bytes ≡ inside = within-line bytes reading begins.going begins.more all in
+    record {
+      before = ap (λ (r : Reading). r.fault) came ∙ begins.going;
+      at =
+          ap (λ (r : Reading). r.fault)
+          (after_bytes-append reading bytes (10 ∷ []) ∙ ap (λ (r : Reading). after_bytes r (10 ∷ [])) came
+          ∙ after_bytes-one inside 10 [] ∙ after_bytes-none (after_byte inside 10) ∙ after_byte-feed inside 10 begins.going begins.more refl)
+          ∙ ended-fault inside (end_fault inside)
+          ∙ ap (λ (o : Option FaultKind). option_map (fault_at reading) o) (end-fault reading leaf bytes begins);
+    }

@@ -1,0 +1,6 @@
+mod FaultFacts
+mod LawFacts
+mod LineFacts
+mod ReadingFacts
+mod ScanFacts
+mod WordFacts

@@ -1,0 +1,91 @@
+-- The lines of a certificate, by their words: what a line says, and why it isn't one that is due. The grammar is this project's own.
+use Rattle.std.specs.Prelude.{ℕ, ◌+◌, Bool, false, ◌==◌, ◌&&◌, ◌||◌, not, nat_eq, nat_lt, nat_le, if◌then◌else◌, List, [], ◌∷◌, length, drop, slice_index, Option, Some, None, option_and_then, option_map}
+use Rattle.std.specs.Fmt.{decimal}
+use Rattle.std.specs.List.{find, slice_split}
+use Rattle.std.specs.Str.Parse.{digits_value}
+use lib.Pointwise.{pointwise}
+use Rattle.bound_certificate.specs.declared.due.Due.{Due}
+use Rattle.bound_certificate.specs.declared.due.Due.TheVariants as due
+use Rattle.bound_certificate.specs.declared.due.Name.{Name}
+use Rattle.bound_certificate.specs.declared.due.Name.TheVariants as name
+use Rattle.bound_certificate.specs.declared.due.Range.{Range}
+use Rattle.bound_certificate.specs.declared.fault.FaultKind.{FaultKind}
+use Rattle.bound_certificate.specs.declared.fault.FaultKind.TheVariants as kind
+use Rattle.bound_certificate.specs.declared.limits.TheConstants.{GREATEST_GAP}
+use Rattle.bound_certificate.specs.Due.{first_names, is_closed_early, is_in, is_title, is_unclosed, range_at, width_of, word_of}
+
+-- the words of a line: what stands between its spaces
+abbrev pub is_space : ℕ → Bool
+is_space byte = byte == 32
+
+abbrev pub words_of : List ℕ → List (List ℕ)
+words_of line = slice_split is_space line
+
+-- a word is this name
+abbrev pub is_name : List ℕ → Name → Bool
+is_name word n = pointwise nat_eq (word_of n) word
+
+-- the name that a line's first word is, where it may stand
+abbrev pub name_in : Due → List ℕ → Option Name
+name_in d word = find (is_name word) (first_names d)
+
+-- the number that a word is: it is what writes the number, so it has no leading zero; no number is above the greatest gap
+abbrev pub whole_number : List ℕ → Option ℕ
+whole_number word =
+    if pointwise nat_eq (decimal (digits_value 10 word)) word && nat_le (digits_value 10 word) GREATEST_GAP
+    then Some (digits_value 10 word) else None
+
+-- the number of a range that a word is
+abbrev pub number_in : Range → List ℕ → Option ℕ
+number_in range word = option_and_then (λ number. if is_in range number then Some number else None) (whole_number word)
+
+-- the numbers that words are, from a place of the line on
+abbrev pub numbers_in : Due → Name → ℕ → List (List ℕ) → Option (List ℕ)
+numbers_in d n place [] = Some []
+numbers_in d n place (word ∷ words) =
+    option_and_then (λ number. option_map (λ numbers. number ∷ numbers) (numbers_in d n (place + 1) words))
+    (number_in (range_at d n place) word)
+
+-- the numbers behind a line's first word; `portfolio none` has none
+abbrev pub line_numbers : Due → Name → List (List ℕ) → Option (List ℕ)
+line_numbers due.Portfolio n (word ∷ words) =
+    if is_name word name.Absent then numbers_in due.Portfolio n 2 words else numbers_in due.Portfolio n 1 (word ∷ words)
+line_numbers d n words = numbers_in d n 1 words
+
+-- a number is above the one before
+abbrev pub rises : List ℕ → Bool
+rises [] = false
+rises (x ∷ []) = false
+rises (x ∷ y ∷ ys) = nat_lt x y || rises (y ∷ ys)
+
+-- the line of a purchase isn't above the one before, or a price is above the one before
+abbrev pub are_disordered : Due → Name → List ℕ → Bool
+are_disordered (due.Buy left least) n numbers = nat_lt (slice_index numbers 0) least
+are_disordered d name.Leaf numbers = rises (drop 2 numbers)
+are_disordered d n numbers = false
+
+-- why the numbers of a line aren't those of one that is due
+abbrev pub numbers_fault : Due → Name → Option (List ℕ) → Option FaultKind
+numbers_fault d n None = Some kind.Number
+numbers_fault d n (Some numbers) = if are_disordered d n numbers then Some kind.Order else None
+
+-- why the words of a line aren't those of one that is due, where a leaf has a price for each of so many dates
+abbrev pub named_fault : ℕ → Due → Option Name → List (List ℕ) → Option FaultKind
+named_fault dates d None others = Some kind.Header
+named_fault dates d (Some n) others =
+    if is_closed_early d || not (1 + length others == width_of dates n) then Some kind.Count
+    else numbers_fault d n (line_numbers d n others)
+
+abbrev pub words_fault : ℕ → Due → List (List ℕ) → Option FaultKind
+words_fault dates d [] = Some kind.Header
+words_fault dates d (first ∷ others) = named_fault dates d (name_in d first) others
+
+-- why a line behind the first isn't one that is due
+abbrev pub later_fault : ℕ → Due → List ℕ → Option FaultKind
+later_fault dates d line = if is_unclosed d then Some kind.Count else words_fault dates d (words_of line)
+
+-- why a line isn't one that is due: where the tree hasn't closed and should have, `Count`; else the first of `Header`, `Count`,
+-- `Number` and `Order` that stands. The first line is one word, with a space in it.
+abbrev pub line_fault : ℕ → Due → List ℕ → Option FaultKind
+line_fault dates d line =
+    if is_title d then (if is_name line name.Title then None else Some kind.Header) else later_fault dates d line

@@ -1,0 +1,33 @@
+-- What the reader of certificates is.
+use Rattle.std.specs.Prelude.{◌≡◌, ◌≢◌, ℕ, ◌≤◌, List, [], ◌∷◌, ◌++◌, length, All, Some, None, option_map, false}
+use Rattle.bound_certificate.specs.declared.fault.CertFault.{CertFault}
+use Rattle.bound_certificate.specs.declared.reading.Reading.{Reading}
+use Rattle.dual_bound.specs.declared.tree.Leaf.{Leaf}
+use Rattle.bound_certificate.specs.declared.limits.TheConstants.{MOST_DATES}
+use Rattle.bound_certificate.specs.Due.{is_over}
+use Rattle.bound_certificate.specs.Grammar.{line_fault}
+use Rattle.bound_certificate.specs.Reading.{after_bytes, fault_at}
+use Rattle.bound_certificate.specs.Scan.{new_scan}
+
+-- however bytes are cut into pieces, the same has come of them
+abbrev pub EveryCutIsTheSame : Type 0
+EveryCutIsTheSame = (reading : Reading) (bytes more : List ℕ) → after_bytes reading (bytes ++ more) ≡ after_bytes (after_bytes reading bytes) more
+
+-- after a fault nothing more is read
+abbrev pub FaultsStay : Type 0
+FaultsStay = (reading : Reading) (fault : CertFault) (bytes : List ℕ) → reading.fault ≡ Some fault → after_bytes reading bytes ≡ reading
+
+-- a line begins: no fault came, and lines are still due
+pub record BeginsLine (reading : Reading) (leaf : Leaf) : Type 0 where
+  pub scan : reading.scan ≡ new_scan leaf
+  pub going : reading.fault ≡ None
+  pub more : is_over reading.due ≡ false
+  pub dates : length leaf.prices ≤ MOST_DATES
+
+-- the line feed of a line shows the fault that its words have, and no other; before it there is none
+pub record ShowsFault (reading : Reading) (leaf : Leaf) (line : List ℕ) : Type 0 where
+  pub before : (after_bytes reading line).fault ≡ None
+  pub at : (after_bytes reading (line ++ 10 ∷ [])).fault ≡ option_map (fault_at reading) (line_fault (length leaf.prices) reading.due line)
+
+abbrev pub FaultsAreOfLines : Type 0
+FaultsAreOfLines = (reading : Reading) (leaf : Leaf) (line : List ℕ) → BeginsLine reading leaf → All (λ byte. byte ≢ 10) line → ShowsFault reading leaf line

@@ -1,0 +1,74 @@
+//! Why bytes are no text of a certificate.
+ghost use Rattle.std.specs.Prelude.{◌≡◌};
+ghost use Rattle.bound_certificate.specs.declared.fault.CertError.TheVariants as error;
+
+use escrow_desk::NoMemory;
+use std::alloc::{AllocError, AllocFailed};
+
+/// Why a line isn't one of a certificate. Where several stand, the later of this order wins, but `Trailing` stands alone.
+#[derive(Clone, Copy, Debug, PartialEq, Eq)]
+pub enum FaultKind {
+    /// The first word isn't one that may stand here.
+    Header,
+    /// A word isn't a number of its range.
+    Number,
+    /// A line isn't above the one before, or a price is above the one before.
+    Order,
+    /// The line has another number of words, or the tree closes too early or too late.
+    Count,
+    /// The bytes end before the line's line feed.
+    Truncated,
+    /// Bytes follow the last line.
+    Trailing,
+}
+
+/// The first line that isn't one of a certificate.
+#[derive(Clone, Copy, Debug, PartialEq, Eq)]
+pub struct CertFault {
+    /// The line, from 1.
+    pub line: u32,
+    /// Why.
+    pub kind: FaultKind,
+}
+
+/// Why a certificate wasn't read.
+#[derive(Clone, Copy, Debug, PartialEq, Eq)]
+pub enum CertError {
+    /// The bytes are no text of a certificate.
+    Fault(CertFault),
+    /// Memory ran out.
+    NoMemory,
+}
+
+impl From<CertFault> for CertError {
+    ghost from_gives = { λ fault answer. answer ≡ error.Fault fault };
+
+    fn from(fault: CertFault) -> CertError {
+        CertError::Fault(fault)
+    }
+}
+
+impl From<NoMemory> for CertError {
+    ghost from_gives = { λ _ answer. answer ≡ error.NoMemory };
+
+    fn from(_no_memory: NoMemory) -> CertError {
+        CertError::NoMemory
+    }
+}
+
+impl From<AllocError> for CertError {
+    ghost from_gives = { λ _ answer. answer ≡ error.NoMemory };
+
+    fn from(_error: AllocError) -> CertError {
+        CertError::NoMemory
+    }
+}
+
+impl<T: Drop> From<AllocFailed<T>> for CertError {
+    ghost from_gives = { λ _ answer. answer ≡ error.NoMemory };
+
+    /// What could not be stored is let go.
+    fn from(_failed: AllocFailed<T>) -> CertError {
+        CertError::NoMemory
+    }
+}

@@ -1,0 +1,322 @@
+//! A line, byte by byte.
+ghost use Rattle.std.specs.Prelude.{◌≡◌, ◌≤◌, Some, length, true};
+ghost use Rattle.bound_certificate.specs.Due.{is_in, range_at as range_at_of};
+ghost use Rattle.bound_certificate.specs.Scan.{IsScan, after_byte, after_word, begun as begun_of, fault_of, is_disordered as is_disordered_of, item_of, kept_leaf, leaf_with, longer as longer_of, longer_name as longer_name_of, longer_number as longer_number_of, name_of, new_scan, number_of, with_number, with_value};
+
+use crate::certificate::Buy;
+use crate::due::{Due, Name, name_starting, range_at};
+use crate::fault::FaultKind;
+use crate::item::Item;
+use crate::limits::{GREATEST_GAP, MOST_DATES, MOST_WORDS};
+use dual_bound::Leaf;
+
+/// What has come of a word.
+#[derive(Clone, Copy, Debug, PartialEq, Eq)]
+pub(crate) enum Word {
+    /// Nothing.
+    Empty,
+    /// So many bytes of a name.
+    Part { name: Name, count: u8 },
+    /// A number, at most `GREATEST_GAP`.
+    Number(u64),
+    /// Neither the beginning of a name nor a number.
+    Other,
+}
+
+impl Word {
+    // A word of one byte, at a place of its line from 0.
+    fn begun(due: Due, place: u16, byte: u8) -> Word
+        ensures { result ≡ begun_of due place byte }
+    {
+        if let Some(name) = name_starting(due, place, byte) {
+            return Word::Part { name, count: 1 };
+        }
+        if place > 0 && byte.is_ascii_digit() {
+            return Word::Number(u64::from(byte - b'0'));
+        }
+        Word::Other
+    }
+
+    // The word with one more byte, at a place of its line from 0.
+    fn longer(self, due: Due, place: u16, byte: u8) -> Word
+        ensures { result ≡ longer_of due place self byte }
+    {
+        match self {
+            Word::Empty => Word::begun(due, place, byte),
+            Word::Part { name, count } => longer_name(name, count, byte),
+            Word::Number(number) => longer_number(number, byte),
+            Word::Other => Word::Other,
+        }
+    }
+
+    // The name that it is, whole.
+    fn name(self) -> Option<Name>
+        ensures { result ≡ name_of self }
+    {
+        match self {
+            Word::Part { name, count } if usize::from(count) == name.word().len() => Some(name),
+            _ => None,
+        }
+    }
+
+    // The number that it is.
+    fn number(self) -> Option<u64>
+        ensures { result ≡ number_of self }
+    {
+        match self {
+            Word::Number(number) => Some(number),
+            _ => None,
+        }
+    }
+}
+
+// So many bytes of a name, and one more byte.
+fn longer_name(name: Name, count: u8, byte: u8) -> Word
+    ensures { result ≡ longer_name_of name count byte }
+{
+    let word = name.word();
+    let place = usize::from(count);
+    if place < word.len() && word[place] == byte {
+        return Word::Part {
+            name,
+            count: count + 1,
+        };
+    }
+    Word::Other
+}
+
+// A number, and one more byte.
+fn longer_number(number: u64, byte: u8) -> Word
+    ensures { result ≡ longer_number_of number byte }
+{
+    if number == 0 || number > GREATEST_GAP / 10 || !byte.is_ascii_digit() {
+        return Word::Other;
+    }
+    let more = 10 * number + u64::from(byte - b'0');
+    if more > GREATEST_GAP {
+        return Word::Other;
+    }
+    Word::Number(more)
+}
+
+/// What has come of a line.
+#[derive(Debug, Drop)]
+pub(crate) struct Scan {
+    /// The line's first word, where it may stand there.
+    pub name: Option<Name>,
+    /// How many words are whole; it stands still at 484, one more than a line has.
+    pub words: u16,
+    /// The word that has not ended.
+    pub word: Word,
+    /// Whether the second word is `none`.
+    pub absent: bool,
+    /// The first number.
+    pub first: u64,
+    /// The second number.
+    pub second: u64,
+    /// The last number.
+    pub last: u64,
+    /// Whether a word isn't a number of its range.
+    pub misnumbered: bool,
+    /// Whether a line isn't above the one before, or a price is above the one before.
+    pub disordered: bool,
+    /// Where prices go.
+    pub leaf: Leaf,
+}
+
+impl Scan {
+    /// Nothing yet of a line.
+    pub(crate) fn new(leaf: Leaf) -> Scan
+        requires { length leaf.prices ≤ MOST_DATES }
+        ensures value { result ≡ new_scan leaf }
+        ensures kept { IsScan result }
+    {
+        Scan {
+            name: None,
+            words: 0,
+            word: Word::Empty,
+            absent: false,
+            first: 0,
+            second: 0,
+            last: 0,
+            misnumbered: false,
+            disordered: false,
+            leaf,
+        }
+    }
+
+    /// The next line begins.
+    pub(crate) fn restart(&mut self)
+        requires { IsScan self.old }
+        ensures value { self.new ≡ new_scan self.old.leaf }
+        ensures kept { IsScan self.new }
+    {
+        self.name = None;
+        self.words = 0;
+        self.word = Word::Empty;
+        self.absent = false;
+        self.first = 0;
+        self.second = 0;
+        self.last = 0;
+        self.misnumbered = false;
+        self.disordered = false;
+    }
+
+    /// One more byte of the line, which isn't a line feed.
+    pub(crate) fn take(&mut self, due: Due, byte: u8)
+        requires { IsScan self.old }
+        ensures value { self.new ≡ after_byte due self.old byte }
+        ensures kept { IsScan self.new }
+    {
+        if byte == b' ' && due != Due::Title {
+            self.end_word(due);
+        } else {
+            self.word = self.word.longer(due, self.words, byte);
+        }
+    }
+
+    /// The word ends.
+    pub(crate) fn end_word(&mut self, due: Due)
+        requires { IsScan self.old }
+        ensures value { self.new ≡ after_word due self.old }
+        ensures kept { IsScan self.new }
+    {
+        if self.words == 0 {
+            self.name = self.word.name();
+        } else if let Some(name) = self.name {
+            self.take_value(due, name);
+        }
+        self.word = Word::Empty;
+        if self.words < MOST_WORDS {
+            self.words += 1;
+        }
+    }
+
+    // The word is a number of its range, or `none` where that may stand.
+    fn take_value(&mut self, due: Due, name: Name)
+        requires kept { IsScan self.old }
+        requires name { self.old.name ≡ Some name }
+        requires words { 1 ≤ self.old.words }
+        ensures value { self.new ≡ with_value due name (name_of self.old.word) self.old }
+        ensures kept { IsScan self.new }
+    {
+        if self.word.name() == Some(Name::Absent) {
+            self.absent = true;
+            return;
+        }
+        match self.word.number() {
+            Some(number) if range_at(due, name, self.words).contains(number) => {
+                self.keep(due, name, number)
+            }
+            _ => self.misnumbered = true,
+        }
+    }
+
+    // A number of its range.
+    fn keep(&mut self, due: Due, name: Name, number: u64)
+        requires kept { IsScan self.old }
+        requires name { self.old.name ≡ Some name }
+        requires words { 1 ≤ self.old.words }
+        requires range { is_in (range_at_of due name self.old.words) number ≡ true }
+        ensures value { self.new ≡ with_number due name number self.old }
+        ensures kept { IsScan self.new }
+    {
+        let place = self.words;
+        if is_disordered(due, name, place, self.last, number) {
+            self.disordered = true;
+        }
+        self.last = number;
+        match place {
+            1 => self.first = number,
+            2 => self.second = number,
+            _ => self.put_price(name, number),
+        }
+    }
+
+    // The price of a leaf at its place.
+    fn put_price(&mut self, name: Name, price: u64)
+        ensures value { self.new ≡ record self.old { leaf = leaf_with name self.old.words price self.old.leaf } }
+        ensures dates { length self.new.leaf.prices ≡ length self.old.leaf.prices }
+    {
+        if name != Name::Leaf || self.words < 3 {
+            return;
+        }
+        let place = self.words - 3;
+        if usize::from(place) < self.leaf.prices.as_slice().len() {
+            self.leaf.prices.put(place, price);
+        }
+    }
+
+    /// Why the line, all of whose words are whole, isn't one that is due.
+    pub(crate) fn fault(&self, due: Due, dates: u16) -> Option<FaultKind>
+        requires { dates ≤ MOST_DATES }
+        ensures { result ≡ fault_of due dates self.now }
+    {
+        if due.is_unclosed() {
+            return Some(FaultKind::Count);
+        }
+        let Some(name) = self.name else {
+            return Some(FaultKind::Header);
+        };
+        if due.is_closed_early() || self.words != name.width(dates) {
+            return Some(FaultKind::Count);
+        }
+        if self.misnumbered {
+            return Some(FaultKind::Number);
+        }
+        if self.disordered {
+            return Some(FaultKind::Order);
+        }
+        None
+    }
+
+    /// What the line says.
+    pub(crate) fn item(&self) -> Item
+        requires { IsScan self.now }
+        ensures { result ≡ item_of self.now }
+    {
+        match self.name {
+            None | Some(Name::Absent) => Item::Nothing,
+            Some(Name::Title) => Item::Header,
+            Some(Name::Portfolio) if self.absent => Item::Portfolio(None),
+            Some(Name::Portfolio) => Item::Portfolio(Some(self.first as u32)),
+            Some(Name::Buy) => Item::Buy(Buy {
+                line: self.first as u16,
+                units: self.second,
+            }),
+            Some(Name::Gap) => Item::Gap(self.first),
+            Some(Name::Nodes) => Item::Nodes(self.first as u32),
+            Some(Name::Split) => Item::Split {
+                line: self.first as u16,
+                at: self.second,
+            },
+            Some(Name::Point) => Item::Point,
+            Some(Name::Leaf) => Item::Leaf,
+            Some(Name::End) => Item::End,
+        }
+    }
+}
+
+impl Scan {
+    /// The leaf has the weights that a line of it says.
+    pub(crate) fn keep_leaf(&mut self, item: Item)
+        requires { IsScan self.old }
+        ensures value { self.new ≡ record self.old { leaf = kept_leaf item self.old } }
+        ensures kept { IsScan self.new }
+    {
+        if item == Item::Leaf {
+            self.leaf.whole = self.first == 1;
+            self.leaf.mu = self.second;
+        }
+    }
+}
+
+// Whether a number at a place of its line isn't above that of the line before, or is a price above the one before.
+fn is_disordered(due: Due, name: Name, place: u16, last: u64, number: u64) -> bool
+    ensures { result ≡ is_disordered_of due name place last number }
+{
+    match due {
+        Due::Buy { least, .. } => place == 1 && number < u64::from(least),
+        _ => name == Name::Leaf && place > 3 && number > last,
+    }
+}

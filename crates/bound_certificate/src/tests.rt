@@ -1,0 +1,368 @@
+//! Texts that are certificates, and the faults of those that aren't.
+ghost use Rattle.std.specs.Prelude.{◌≡◌, ◌≤◌, [], ◌∷◌, IfOk, false, true};
+
+use crate::{
+    Buy, Buys, CertFault, CertReader, Certificate, FaultKind, MOST_DATES, Nodes, write_cert,
+};
+use dual_bound::{Leaf, Prices, TreeNode};
+use escrow_desk::NoMemory;
+use std::alloc::Global;
+use std::process::Abort;
+use std::test::Fail;
+
+// Why a text in pieces of so many bytes isn't a certificate for so many need dates.
+fn fault_of(
+    alloc: Global,
+    text: &[u8],
+    dates: u16,
+    size: usize,
+) -> Result<Option<CertFault>, NoMemory>
+    requires dates { dates ≤ MOST_DATES }
+    requires some { 1 ≤ size }
+    requires few { size ≤ 65_536 }
+{
+    let mut reader = CertReader::make(alloc, dates)?;
+    let mut rest = text;
+    while !rest.is_empty() {
+        match reader.feed(&rest[..size.min(rest.len())]) {
+            Err(fault) => return Ok(Some(fault)),
+            Ok(fed) => rest = &rest[fed.used as usize..],
+        }
+    }
+    Ok(reader.finish().err())
+}
+
+#[derive(Clone, Copy)]
+struct Row {
+    text: &'static [u8],
+    dates: u8,
+    fault: Option<CertFault>,
+}
+
+// A text that is a certificate for so many need dates.
+fn good(text: &'static [u8], dates: u8) -> Row {
+    Row {
+        text,
+        dates,
+        fault: None,
+    }
+}
+
+// A text whose line is at fault.
+fn bad(text: &'static [u8], dates: u8, line: u32, kind: FaultKind) -> Row {
+    Row {
+        text,
+        dates,
+        fault: Some(CertFault { line, kind }),
+    }
+}
+
+// In pieces of so many bytes the fault of a text is found.
+fn is_found(rt: &impl Abort, alloc: Global, row: &Row, size: usize) -> Result<(), Fail>
+    requires some { 1 ≤ size }
+    requires few { size ≤ 65_536 }
+{
+    let found = fault_of(alloc, row.text, u16::from(row.dates), size)?;
+    assert_eq!(rt; found, row.fault);
+    Ok(())
+}
+
+// However the texts are cut, their faults are found.
+fn are_found(rt: &impl Abort, alloc: Global, rows: &[Row]) -> Result<(), Fail> {
+    for row in rows {
+        is_found(rt, alloc, row, 1)?;
+        is_found(rt, alloc, row, 2)?;
+        is_found(rt, alloc, row, 7)?;
+        is_found(rt, alloc, row, 64)?;
+    }
+    Ok(())
+}
+
+#[test]
+fn faults_are_the_first(rt: HostRuntime) -> Result<(), Fail> {
+    use FaultKind::{Count, Header, Number, Order, Trailing, Truncated};
+    let rows = [
+        good(
+            b"escrow-certificate 1\nportfolio 1\nbuy 1 50\ngap 0\nnodes 1\nl 1 0 1000000000000\nend\n",
+            1,
+        ),
+        bad(
+            b"escrow-certificate 1\nportfolio 1\nbuy 1 50\ngap 0\nnodes 1\nl 1 0 1000000000000\n",
+            1,
+            7,
+            Truncated,
+        ),
+        bad(
+            b"escrow-certificate 1\nportfolio 1\nbuy 1 50\ngap 0\nnodes 1\nl 1 0 1000000000000\nend\nx\n",
+            1,
+            8,
+            Trailing,
+        ),
+        bad(
+            b"escrow-certificate 1\nportfolio none\ngap 0\nnodes 3\np\nend\n",
+            1,
+            6,
+            Header,
+        ),
+        bad(
+            b"escrow-certificate 1\nportfolio none\ngap 0\nnodes 3\np\np\n",
+            1,
+            6,
+            Count,
+        ),
+        bad(
+            b"escrow-certificate 1\nportfolio none\ngap 0\nnodes 1\np\np\n",
+            1,
+            6,
+            Header,
+        ),
+        good(
+            b"escrow-certificate 1\nportfolio none\ngap 0\nnodes 3\ns 1 2\np\np\nend\n",
+            1,
+        ),
+        bad(
+            b"escrow-certificate 1\nportfolio none\ngap 0\nnodes 3\ns 1 2\ns 1 3\np\nend\n",
+            1,
+            8,
+            Count,
+        ),
+        bad(
+            b"escrow-certificate 1\nportfolio none\ngap 0\nnodes 1\nl 1 0 5 5 5\n",
+            2,
+            5,
+            Count,
+        ),
+        bad(
+            b"escrow-certificate 1\nportfolio none\ngap 0\nnodes 1\nl 1 0 5\n",
+            2,
+            5,
+            Count,
+        ),
+        bad(
+            b"escrow-certificate 1\nportfolio none\ngap 0\nnodes 1\nl 1 0  5\n",
+            1,
+            5,
+            Count,
+        ),
+        bad(
+            b"escrow-certificate 1\nportfolio none\ngap 0\nnodes 1 \n",
+            1,
+            4,
+            Count,
+        ),
+        bad(
+            b"escrow-certificate 1\nportfolio none\ngap 0\nnodes 007\n",
+            1,
+            4,
+            Number,
+        ),
+        bad(
+            b"escrow-certificate 1\nportfolio none\ngap 0\nnodes -1\n",
+            1,
+            4,
+            Number,
+        ),
+        bad(
+            b"escrow-certificate 1\nportfolio none\ngap 0\n\n",
+            1,
+            4,
+            Header,
+        ),
+        bad(b"x", 1, 1, Truncated),
+        bad(b"", 1, 1, Truncated),
+        bad(b"x\n", 1, 1, Header),
+        bad(b"escrow-certificate 1 \n", 1, 1, Header),
+        bad(b"escrow-certificate 2\n", 1, 1, Header),
+        bad(
+            b"escrow-certificate 1\nportfolio none\ngap 0\nnodes 1\nl 1 0 5 6\n",
+            2,
+            5,
+            Order,
+        ),
+        good(
+            b"escrow-certificate 1\nportfolio none\ngap 0\nnodes 1\nl 1 0 6 5\nend\n",
+            2,
+        ),
+        bad(
+            b"escrow-certificate 1\nportfolio none\ngap 1\n",
+            1,
+            3,
+            Number,
+        ),
+        bad(
+            b"escrow-certificate 1\nportfolio 0\ngap 1000000000000000\n",
+            1,
+            4,
+            Truncated,
+        ),
+        bad(
+            b"escrow-certificate 1\nportfolio 0\ngap 1000000000000001\n",
+            1,
+            3,
+            Number,
+        ),
+        bad(b"escrow-certificate 1\nportfolio 257\n", 1, 3, Truncated),
+        bad(b"escrow-certificate 1\nportfolio 258\n", 1, 2, Number),
+        bad(b"escrow-certificate 1\nportfolio non\n", 1, 2, Number),
+        bad(
+            b"escrow-certificate 1\nportfolio 1\nbuy 65535 10000000000000\n",
+            1,
+            4,
+            Truncated,
+        ),
+        bad(
+            b"escrow-certificate 1\nportfolio 1\nbuy 65536 1\n",
+            1,
+            3,
+            Number,
+        ),
+        bad(
+            b"escrow-certificate 1\nportfolio 1\nbuy 0 0\n",
+            1,
+            3,
+            Number,
+        ),
+        bad(
+            b"escrow-certificate 1\nportfolio 1\nbuy 0 10000000000001\n",
+            1,
+            3,
+            Number,
+        ),
+        bad(
+            b"escrow-certificate 1\nportfolio 1\nbuy 0 x 1\n",
+            1,
+            3,
+            Count,
+        ),
+        bad(
+            b"escrow-certificate 1\nportfolio 2\nbuy 5 1\nbuy 5 1\n",
+            1,
+            4,
+            Order,
+        ),
+        bad(
+            b"escrow-certificate 1\nportfolio 2\nbuy 5 1\nbuy 4 0\n",
+            1,
+            4,
+            Number,
+        ),
+        bad(
+            b"escrow-certificate 1\nportfolio none\ngap 0\nnodes 0\n",
+            1,
+            4,
+            Number,
+        ),
+        bad(
+            b"escrow-certificate 1\nportfolio none\ngap 0\nnodes 10000\n",
+            1,
+            5,
+            Truncated,
+        ),
+        bad(
+            b"escrow-certificate 1\nportfolio none\ngap 0\nnodes 10001\n",
+            1,
+            4,
+            Number,
+        ),
+        bad(
+            b"escrow-certificate 1\nportfolio none\ngap 0\nnodes 1\ns 65535 10000000000000\n",
+            1,
+            6,
+            Truncated,
+        ),
+        bad(
+            b"escrow-certificate 1\nportfolio none\ngap 0\nnodes 1\ns 65535 10000000000000\nx\n",
+            1,
+            6,
+            Count,
+        ),
+        bad(
+            b"escrow-certificate 1\nportfolio none\ngap 0\nnodes 1\ns 65536 0\n",
+            1,
+            5,
+            Number,
+        ),
+        bad(
+            b"escrow-certificate 1\nportfolio none\ngap 0\nnodes 1\ns 0 10000000000001\n",
+            1,
+            5,
+            Number,
+        ),
+        bad(
+            b"escrow-certificate 1\nportfolio none\ngap 0\nnodes 1\nl 2 0 0\n",
+            1,
+            5,
+            Number,
+        ),
+        good(
+            b"escrow-certificate 1\nportfolio none\ngap 0\nnodes 1\nl 0 1000000000000 2000000000000\nend\n",
+            1,
+        ),
+        bad(
+            b"escrow-certificate 1\nportfolio none\ngap 0\nnodes 1\nl 0 1000000000001 0\n",
+            1,
+            5,
+            Number,
+        ),
+        bad(
+            b"escrow-certificate 1\nportfolio none\ngap 0\nnodes 1\nl 0 0 2000000000001\n",
+            1,
+            5,
+            Number,
+        ),
+        bad(
+            b"escrow-certificate 1\nportfolio none\ngap 0\nnodes 1\nl 0 0 3 x 4\n",
+            3,
+            5,
+            Number,
+        ),
+        good(
+            b"escrow-certificate 1\nportfolio none\ngap 0\nnodes 1\nl 0 0\nend\n",
+            0,
+        ),
+    ];
+    are_found(&rt, rt.alloc(), &rows)
+}
+
+// A leaf of one price.
+fn leaf(alloc: Global, whole: bool, price: u64) -> Result<TreeNode, Fail>
+    ensures { IfOk result (λ node. node ≡ TreeNode.Closed (record { whole = whole; mu = 0; prices = price ∷ [] })) }
+{
+    let prices = Prices::new([price].to_vec(alloc)?);
+    Ok(TreeNode::Closed(Leaf {
+        whole,
+        mu: 0,
+        prices,
+    }))
+}
+
+// A tree of a split and two leaves.
+fn tree(alloc: Global) -> Result<Nodes, Fail>
+    ensures { IfOk result (λ nodes. nodes ≡ TreeNode.Split 1 1000 ∷ TreeNode.Closed (record { whole = false; mu = 0; prices = 1_000_000_000_000 ∷ [] })
+        ∷ TreeNode.Closed (record { whole = true; mu = 0; prices = 0 ∷ [] }) ∷ []) }
+{
+    let mut nodes = Vec::new(alloc);
+    nodes.push(TreeNode::Split { line: 1, at: 1000 })?;
+    nodes.push(leaf(alloc, false, 1_000_000_000_000)?)?;
+    nodes.push(leaf(alloc, true, 0)?)?;
+    Ok(Nodes::new(nodes))
+}
+
+#[test]
+fn a_certificate_is_written(rt: HostRuntime) -> Result<(), Fail> {
+    let alloc = rt.alloc();
+    let buys = [Buy {
+        line: 1,
+        units: 1001,
+    }];
+    let cert = Certificate {
+        buys: Some(Buys::new(buys.to_vec(alloc)?)),
+        gap: 0,
+        nodes: tree(alloc)?,
+    };
+    let text = write_cert(alloc, &cert)?;
+    let expected =
+        b"escrow-certificate 1\nportfolio 1\nbuy 1 1001\ngap 0\nnodes 3\ns 1 1000\nl 0 0 1000000000000\nl 1 0 0\nend\n";
+    assert_eq!(rt; text.as_slice(), expected.as_slice());
+    Ok(())
+}
