@@ -9,10 +9,11 @@ use Rattle.bound_certificate.specs.declared.fault.FaultKind.TheVariants as kind
 use Rattle.bound_certificate.specs.declared.reading.Reading.{Reading}
 use Rattle.bound_certificate.specs.declared.scan.Scan.{Scan}
 use Rattle.bound_certificate.specs.Due.{is_over}
-use Rattle.bound_certificate.specs.Grammar.{line_fault}
+use Rattle.bound_certificate.specs.Grammar.{line_fault, line_item}
 use Rattle.bound_certificate.specs.Laws.{BeginsLine, ShowsFault}
-use Rattle.bound_certificate.specs.Reading.{after_byte, after_byte_by, after_bytes, end_fault, ended, ended_by, failed, fault_at}
+use Rattle.bound_certificate.specs.Reading.{after_byte, after_byte_by, after_bytes, end_fault, ended, ended_by, failed, fault_at, said}
 use Rattle.bound_certificate.specs.Scan as line
+use Rattle.bound_certificate.proofs.ItemFacts.{line-item}
 use Rattle.bound_certificate.proofs.FaultFacts.{line-dates, line-fault}
 use Rattle.bound_certificate.proofs.ReadingFacts.{after_byte-feed, after_bytes-append, after_bytes-none, after_bytes-one}
 
@@ -66,3 +67,11 @@ faults-are-of-lines reading leaf bytes begins all =
           ∙ ended-fault inside (end_fault inside)
           ∙ ap (λ (o : Option FaultKind). option_map (fault_at reading) o) (end-fault reading leaf bytes begins);
     }
+
+-- what a line says, at its line feed
+pub items-are-of-lines : (reading : Reading) (leaf : Leaf) (bytes : List ℕ) → BeginsLine reading leaf → All (λ byte. byte ≢ 10) bytes →
+    line_fault (length leaf.prices) reading.due bytes ≡ None → said (after_bytes reading bytes) ≡ line_item reading.due bytes
+items-are-of-lines reading leaf bytes begins all good =
+    let P : Scan → Type 0 = λ s. line.item_of (line.after_word reading.due (fold (line.after_byte reading.due) s bytes)) ≡ line_item reading.due bytes in
+    ap (λ (r : Reading). said r) (within-line bytes reading begins.going begins.more all)
+    ∙ subst P (sym begins.scan) (line-item reading.due leaf bytes begins.dates good)

@@ -5,8 +5,8 @@ use Rattle.bound_certificate.specs.declared.reading.Reading.{Reading}
 use Rattle.dual_bound.specs.declared.tree.Leaf.{Leaf}
 use Rattle.bound_certificate.specs.declared.limits.TheConstants.{MOST_DATES}
 use Rattle.bound_certificate.specs.Due.{is_over}
-use Rattle.bound_certificate.specs.Grammar.{line_fault}
-use Rattle.bound_certificate.specs.Reading.{after_bytes, fault_at}
+use Rattle.bound_certificate.specs.Grammar.{line_fault, line_item}
+use Rattle.bound_certificate.specs.Reading.{after_bytes, fault_at, said}
 use Rattle.bound_certificate.specs.Scan.{new_scan}
 
 -- however bytes are cut into pieces, the same has come of them
@@ -31,3 +31,8 @@ pub record ShowsFault (reading : Reading) (leaf : Leaf) (line : List ℕ) : Type
 
 abbrev pub FaultsAreOfLines : Type 0
 FaultsAreOfLines = (reading : Reading) (leaf : Leaf) (line : List ℕ) → BeginsLine reading leaf → All (λ byte. byte ≢ 10) line → ShowsFault reading leaf line
+
+-- a line without a fault says what its words say
+abbrev pub ItemsAreOfLines : Type 0
+ItemsAreOfLines = (reading : Reading) (leaf : Leaf) (line : List ℕ) → BeginsLine reading leaf → All (λ byte. byte ≢ 10) line →
+    line_fault (length leaf.prices) reading.due line ≡ None → said (after_bytes reading line) ≡ line_item reading.due line
