@@ -1,9 +1,6 @@
 -- What a line says.
-use Rattle.std.proofs.Common.{◌≡◌, ◌≢◌, ◌∙◌, ℕ, suc, ◌+◌, ◌-◌, ◌<◌, ◌≤◌, Bool, true, false, ◌==◌, ◌&&◌, ◌||◌, not, nat_lt, nat_eq, cond, if◌then◌else◌, min, List, [], ◌∷◌, length, drop, refl, sym, subst, ap, arith, Option, Some, None, option_and_then, option_map}
-use lib.Pointwise.{pointwise}
-use Rattle.std.specs.Char.{is_ascii_digit}
+use Rattle.std.proofs.Common.{◌≡◌, ◌∙◌, ℕ, ◌+◌, ◌≤◌, Bool, true, false, ◌==◌, ◌||◌, not, if◌then◌else◌, List, [], ◌∷◌, length, refl, sym, subst, ap, arith, Option, Some, None, option_and_then, option_map}
 use Rattle.std.specs.List.{fold}
-use Rattle.std.proofs.lemmas.List.Splits.{length-slice_split}
 use Rattle.dual_bound.specs.declared.tree.Leaf.{Leaf}
 use Rattle.bound_certificate.specs.declared.due.Due.{Due}
 use Rattle.bound_certificate.specs.declared.due.Due.TheVariants as due
@@ -14,16 +11,13 @@ use Rattle.bound_certificate.specs.declared.fault.FaultKind.TheVariants as kind
 use Rattle.bound_certificate.specs.declared.scan.Scan.{Scan}
 use Rattle.bound_certificate.specs.declared.scan.Word.TheVariants as word
 use Rattle.bound_certificate.specs.declared.limits.TheConstants.{MOST_DATES, MOST_WORDS}
-use Rattle.bound_certificate.specs.Due.{is_closed_early, is_title, is_unclosed, range_at, width_of, word_of}
-use Rattle.bound_certificate.specs.Grammar.{line_item, named_item, numbers_item, said_by, words_item, are_disordered, is_name, is_space, later_fault, line_fault, line_numbers, name_in, named_fault, number_in, numbers_fault, numbers_in, rises, whole_number, words_fault, words_of}
-use Rattle.bound_certificate.specs.Scan.{item_by, item_of, after_byte, after_word, beginning, begun_by, fault_by, node_starting, fault_of, is_disordered, is_leaf, longer, name_of, new_scan, one_more, with_value, with_word}
-use Rattle.bound_certificate.proofs.LineFacts.{first-word, first_name, line-words, plain_by, take_word, whole-read}
-use Rattle.bound_certificate.proofs.ScanFacts.{IsPlain, Ran, count-run, dates-run, name-run, numbers-run, place_number, placed, settle}
-use Rattle.bound_certificate.proofs.WordFacts.{no_first}
-use Rattle.bound_certificate.proofs.WordFacts as words
-
+use Rattle.bound_certificate.specs.Due.{is_closed_early, is_title, is_unclosed, range_at, width_of}
+use Rattle.bound_certificate.specs.Grammar.{line_item, named_item, numbers_item, said_by, words_item, is_name, later_fault, line_fault, line_numbers, name_in, named_fault, number_in, numbers_fault, numbers_in, whole_number, words_fault, words_of}
+use Rattle.bound_certificate.specs.Scan.{item_by, item_of, after_byte, after_word, node_starting, longer, new_scan, with_value, with_word}
+use Rattle.bound_certificate.proofs.LineFacts.{line-words, take_word, whole-read}
+use Rattle.bound_certificate.proofs.ScanFacts.{IsPlain, Ran, numbers-run, place_number, placed, settle}
 use Rattle.bound_certificate.specs.declared.item.Item.TheVariants as item
-use Rattle.bound_certificate.proofs.FaultFacts.{absent-word, below_width, fault_cases, named, named-word, numbers-length, only_name, plain_none, title-run, title-word}
+use Rattle.bound_certificate.proofs.FaultFacts.{absent-word, below_width, named, named-word, numbers-length, only_name, plain_none, title-run, title-word}
 
 place-name : (d : Due) (n : Name) (numbers : List ℕ) (scan : Scan) → (fold (place_number d n) scan numbers).name ≡ scan.name
 place-name d n [] scan = refl
@@ -85,14 +79,14 @@ item-plain : (d : Due) (n : Name) (leaf : Leaf) (others : List (List ℕ)) → I
     item_of (fold (take_word d) (named leaf (Some n)) others) ≡ named_item d (Some n) others
 item-plain d n leaf others plain few same good =
     let found : ((is_closed_early d || not (1 + length others == width_of (length leaf.prices) n)) ≡ false) × ((numbers : List ℕ) × (line_numbers d n others ≡ Some numbers)) =
-        numbers_of d n (is_closed_early d || not (1 + length others == width_of (length leaf.prices) n)) (line_numbers d n others) good in
+    numbers_of d n (is_closed_early d || not (1 + length others == width_of (length leaf.prices) n)) (line_numbers d n others) good in
     let counted : (1 + length others == width_of (length leaf.prices) n) ≡ true = or_not (is_closed_early d) (1 + length others == width_of (length leaf.prices) n) found.0 in
     let wide : 1 + length others ≡ width_of (length leaf.prices) n = grind (arith, counted) in
     let within : 1 + length others ≤ MOST_WORDS = omega (arith, wide, below_width (length leaf.prices) n few) in
     let e : numbers_in d n 1 others ≡ Some found.1.0 = sym same ∙ found.1.1 in
     item-ran d n (length leaf.prices) leaf (fold (take_word d) (named leaf (Some n)) others) (numbers_in d n 1 others) found.1.0
-      (numbers-run d n others 1 (named leaf (Some n)) plain (omega arith) within (record { name = refl; words = refl; word = refl }))
-      e (ap (λ (k : ℕ). 1 + k) (numbers-length d n 1 others found.1.0 e) ∙ wide)
+    (numbers-run d n others 1 (named leaf (Some n)) plain (omega arith) within (record { name = refl; words = refl; word = refl }))
+    e (ap (λ (k : ℕ). 1 + k) (numbers-length d n 1 others found.1.0 e) ∙ wide)
     ∙ sym (ap (λ (o : Option (List ℕ)). numbers_item n o) found.1.1)
 
 -- `portfolio` and its count, or `none`
@@ -104,13 +98,13 @@ portfolio_in leaf (Some number) numbers e = let same : number ∷ [] ≡ numbers
 portfolio_by : (leaf : Leaf) (bytes : List ℕ) (numbers : List ℕ) (t : Bool) →
     (if t then numbers_in due.Portfolio name.Portfolio 2 [] else numbers_in due.Portfolio name.Portfolio 1 (bytes ∷ [])) ≡ Some numbers →
     item_of (record (with_value due.Portfolio name.Portfolio (if t then Some name.Absent else None)
-        (record (named leaf (Some name.Portfolio)) { word = fold (longer due.Portfolio 1) word.Empty bytes })) { word = word.Empty; words = 2 })
+    (record (named leaf (Some name.Portfolio)) { word = fold (longer due.Portfolio 1) word.Empty bytes })) { word = word.Empty; words = 2 })
     ≡ said_by name.Portfolio numbers
 portfolio_by leaf bytes numbers true e = let same : [] ≡ numbers = cc in ap (λ (ns : List ℕ). said_by name.Portfolio ns) same
 portfolio_by leaf bytes numbers false e =
     ap (λ (o : Option ℕ). item_of (record (with_word due.Portfolio name.Portfolio o
-        (record (named leaf (Some name.Portfolio)) { word = fold (longer due.Portfolio 1) word.Empty bytes })) { word = word.Empty; words = 2 }))
-      (whole-read due.Portfolio 1 bytes (omega arith))
+    (record (named leaf (Some name.Portfolio)) { word = fold (longer due.Portfolio 1) word.Empty bytes })) { word = word.Empty; words = 2 }))
+    (whole-read due.Portfolio 1 bytes (omega arith))
     ∙ ap (λ (s : Scan). item_of s) (settle due.Portfolio name.Portfolio (named leaf (Some name.Portfolio)) (fold (longer due.Portfolio 1) word.Empty bytes) (whole_number bytes))
     ∙ portfolio_in leaf (number_in (range_at due.Portfolio name.Portfolio 1) bytes) numbers e
 
@@ -120,15 +114,15 @@ portfolio_inner leaf [] numbers wide e = absurd (omega arith)
 portfolio_inner leaf (bytes ∷ more ∷ others) numbers wide e = absurd (omega arith)
 portfolio_inner leaf (bytes ∷ []) numbers wide e =
     ap (λ (o : Option Name). item_of (record (with_value due.Portfolio name.Portfolio o
-        (record (named leaf (Some name.Portfolio)) { word = fold (longer due.Portfolio 1) word.Empty bytes })) { word = word.Empty; words = 2 }))
-      (absent-word bytes)
+    (record (named leaf (Some name.Portfolio)) { word = fold (longer due.Portfolio 1) word.Empty bytes })) { word = word.Empty; words = 2 }))
+    (absent-word bytes)
     ∙ portfolio_by leaf bytes numbers (is_name bytes name.Absent) e
 
 portfolio_good : (leaf : Leaf) (others : List (List ℕ)) → named_fault (length leaf.prices) due.Portfolio (Some name.Portfolio) others ≡ None →
     item_of (fold (take_word due.Portfolio) (named leaf (Some name.Portfolio)) others) ≡ named_item due.Portfolio (Some name.Portfolio) others
 portfolio_good leaf others good =
     let found : ((false || not (1 + length others == 2)) ≡ false) × ((numbers : List ℕ) × (line_numbers due.Portfolio name.Portfolio others ≡ Some numbers)) =
-        numbers_of due.Portfolio name.Portfolio (false || not (1 + length others == 2)) (line_numbers due.Portfolio name.Portfolio others) good in
+    numbers_of due.Portfolio name.Portfolio (false || not (1 + length others == 2)) (line_numbers due.Portfolio name.Portfolio others) good in
     let counted : (1 + length others == 2) ≡ true = or_not false (1 + length others == 2) found.0 in
     let wide : 1 + length others ≡ 2 = grind (arith, counted) in
     portfolio_inner leaf others found.1.0 wide found.1.1
@@ -138,7 +132,7 @@ item-portfolio : (n : Name) (leaf : Leaf) (others : List (List ℕ)) → n ≡ n
     item_of (fold (take_word due.Portfolio) (named leaf (Some n)) others) ≡ named_item due.Portfolio (Some n) others
 item-portfolio n leaf others same good =
     let P : Name → Type 0 = λ m. named_fault (length leaf.prices) due.Portfolio (Some m) others ≡ None →
-        item_of (fold (take_word due.Portfolio) (named leaf (Some m)) others) ≡ named_item due.Portfolio (Some m) others in
+    item_of (fold (take_word due.Portfolio) (named leaf (Some m)) others) ≡ named_item due.Portfolio (Some m) others in
     subst P (sym same) (portfolio_good leaf others) good
 
 item-named : (d : Due) → is_title d ≡ false → (first : List ℕ) (leaf : Leaf) (others : List (List ℕ)) → length leaf.prices ≤ MOST_DATES →
