@@ -42,7 +42,7 @@ place-misnumbered : (d : Due) (n : Name) (numbers : List ℕ) (scan : Scan) → 
 place-misnumbered d n [] scan = refl
 place-misnumbered d n (number ∷ numbers) scan = place-misnumbered d n numbers (place_number d n scan number)
 
-below_most : (words : ℕ) → words < MOST_WORDS → one_more words ≡ words + 1
+pub below_most : (words : ℕ) → words < MOST_WORDS → one_more words ≡ words + 1
 below_most words h = let low : nat_lt words MOST_WORDS ≡ true = grind (arith, h) in ap (λ (b : Bool). if b then words + 1 else words) low
 
 -- a due that isn't a purchase's

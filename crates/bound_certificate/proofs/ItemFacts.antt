@@ -1,5 +1,6 @@
 -- What a line says.
-use Rattle.std.proofs.Common.{◌≡◌, ◌∙◌, ℕ, ◌+◌, ◌≤◌, Bool, true, false, ◌==◌, ◌||◌, not, if◌then◌else◌, List, [], ◌∷◌, length, refl, sym, subst, ap, arith, Option, Some, None, option_and_then, option_map}
+use Rattle.std.proofs.Common.{Bool, List, None, Option, Some, [], ap, append_assoc, arith, drop, false, if◌then◌else◌, length, length-append, nat_le, nat_lt, not, option_and_then, option_map, refl, slice_index, slice_set, subst, sym, true, ℕ, ◌&&◌, ◌++◌, ◌+◌, ◌-◌, ◌<◌, ◌==◌, ◌||◌, ◌∙◌, ◌∷◌, ◌≡◌, ◌≤◌}
+use Rattle.std.proofs.Math.Seq.{set-append_seam}
 use Rattle.std.specs.List.{fold}
 use Rattle.dual_bound.specs.declared.tree.Leaf.{Leaf}
 use Rattle.bound_certificate.specs.declared.due.Due.{Due}
@@ -12,12 +13,12 @@ use Rattle.bound_certificate.specs.declared.scan.Scan.{Scan}
 use Rattle.bound_certificate.specs.declared.scan.Word.TheVariants as word
 use Rattle.bound_certificate.specs.declared.limits.TheConstants.{MOST_DATES, MOST_WORDS}
 use Rattle.bound_certificate.specs.Due.{is_closed_early, is_title, is_unclosed, range_at, width_of}
-use Rattle.bound_certificate.specs.Grammar.{line_item, named_item, numbers_item, said_by, words_item, is_name, later_fault, line_fault, line_numbers, name_in, named_fault, number_in, numbers_fault, numbers_in, whole_number, words_fault, words_of}
-use Rattle.bound_certificate.specs.Scan.{item_by, item_of, after_byte, after_word, node_starting, longer, new_scan, with_value, with_word}
+use Rattle.bound_certificate.specs.Grammar.{leaf_of, line_item, named_item, numbers_item, said_by, words_item, is_name, later_fault, line_fault, line_numbers, name_in, named_fault, number_in, numbers_fault, numbers_in, whole_number, words_fault, words_of}
+use Rattle.bound_certificate.specs.Scan.{kept_leaf, one_more, item_by, item_of, after_byte, after_word, node_starting, longer, new_scan, with_value, with_word}
 use Rattle.bound_certificate.proofs.LineFacts.{line-words, take_word, whole-read}
 use Rattle.bound_certificate.proofs.ScanFacts.{IsPlain, Ran, numbers-run, place_number, placed, settle}
 use Rattle.bound_certificate.specs.declared.item.Item.TheVariants as item
-use Rattle.bound_certificate.proofs.FaultFacts.{absent-word, below_width, named, named-word, numbers-length, only_name, plain_none, title-run, title-word}
+use Rattle.bound_certificate.proofs.FaultFacts.{absent-word, below_most, below_width, named, named-word, numbers-length, only_name, plain_none, title-run, title-word}
 
 place-name : (d : Due) (n : Name) (numbers : List ℕ) (scan : Scan) → (fold (place_number d n) scan numbers).name ≡ scan.name
 place-name d n [] scan = refl
@@ -197,3 +198,63 @@ line-item due.Count leaf line few good = later-item due.Count refl leaf line few
 line-item (due.Node left trees) leaf line few good = later-item (due.Node left trees) refl leaf line few good
 line-item (due.End trees) leaf line few good = later-item (due.End trees) refl leaf line few good
 line-item due.Nothing leaf line few good = later-item due.Nothing refl leaf line few good
+
+-- prices go to their places
+same_prices : (prices : List ℕ) (place price : ℕ) (b : Bool) → b ≡ true → (if b then slice_set prices place price else prices) ≡ slice_set prices place price
+same_prices prices place price true h = refl
+same_prices prices place price false h = absurd (cc)
+
+prices-placed : (d : Due) (numbers done rest : List ℕ) (scan : Scan) → scan.words ≡ 3 + length done → scan.leaf.prices ≡ done ++ rest → length rest ≡ length numbers →
+    scan.words + length numbers ≤ MOST_WORDS → (fold (place_number d name.Leaf) scan numbers).leaf.prices ≡ done ++ numbers
+prices-placed d [] done [] scan at held same few = held
+prices-placed d [] done (old ∷ rest) scan at held same few = absurd (omega arith)
+prices-placed d (number ∷ numbers) done [] scan at held same few = absurd (omega arith)
+prices-placed d (number ∷ numbers) done (old ∷ rest) scan at held same few =
+    let place : scan.words - 3 ≡ length done = omega arith in
+    let behind : nat_le 3 scan.words ≡ true = grind (arith, at) in
+    let room : length done < length scan.leaf.prices = rw held (omega (arith, length-append done (old ∷ rest))) in
+    let within : nat_lt (scan.words - 3) (length scan.leaf.prices) ≡ true = rw place (grind (arith, room)) in
+    let test : (nat_le 3 scan.words && nat_lt (scan.words - 3) (length scan.leaf.prices)) ≡ true =
+        ap (λ (b : Bool). b && nat_lt (scan.words - 3) (length scan.leaf.prices)) behind ∙ within in
+    let put : (place_number d name.Leaf scan number).leaf.prices ≡ (done ++ number ∷ []) ++ rest =
+        same_prices scan.leaf.prices (scan.words - 3) number (nat_le 3 scan.words && nat_lt (scan.words - 3) (length scan.leaf.prices)) test
+        ∙ ap (λ (k : ℕ). slice_set scan.leaf.prices k number) place
+        ∙ ap (λ (ps : List ℕ). slice_set ps (length done) number) held
+        ∙ set-append_seam done old rest number
+        ∙ sym (append_assoc done (number ∷ []) rest) in
+    let next : one_more scan.words ≡ scan.words + 1 = below_most scan.words (omega arith) in
+    let after : one_more scan.words ≡ 3 + length (done ++ number ∷ []) = next ∙ omega (arith, at, length-append done (number ∷ [])) in
+    prices-placed d numbers (done ++ number ∷ []) rest (place_number d name.Leaf scan number) after put (omega arith) (rw next (omega arith))
+    ∙ append_assoc done (number ∷ []) numbers
+
+three_by : (words : ℕ) → 3 ≤ words → (b : Bool) → 3 ≤ (if b then words + 1 else words)
+three_by words h true = omega arith
+three_by words h false = h
+
+three_more : (words : ℕ) → 3 ≤ words → 3 ≤ one_more words
+three_more words h = three_by words h (nat_lt words MOST_WORDS)
+
+-- the weights stay
+weights-placed : (d : Due) (numbers : List ℕ) (scan : Scan) → 3 ≤ scan.words →
+    ((fold (place_number d name.Leaf) scan numbers).first ≡ scan.first) × ((fold (place_number d name.Leaf) scan numbers).second ≡ scan.second)
+weights-placed d [] scan h = (refl, refl)
+weights-placed d (number ∷ numbers) scan h =
+    let not_first : (scan.words == 1) ≡ false = grind (arith, h) in
+    let not_second : (scan.words == 2) ≡ false = grind (arith, h) in
+    let more : (3 ≤ one_more scan.words) = three_more scan.words h in
+    let rest = weights-placed d numbers (place_number d name.Leaf scan number) more in
+    (rest.0 ∙ ap (λ (b : Bool). if b then number else scan.first) not_first, rest.1 ∙ ap (λ (b : Bool). if b then number else scan.second) not_second)
+
+-- numbers at their places are the leaf that they say
+leaf-placed : (d : Due) (leaf : Leaf) (numbers : List ℕ) → length leaf.prices ≤ MOST_DATES → length numbers ≡ 2 + length leaf.prices →
+    kept_leaf item.Leaf (fold (place_number d name.Leaf) (named leaf (Some name.Leaf)) numbers) ≡ leaf_of numbers
+leaf-placed d leaf [] few wide = absurd (omega arith)
+leaf-placed d leaf (rho ∷ []) few wide = absurd (omega arith)
+leaf-placed d leaf (rho ∷ mu ∷ prices) few wide =
+    let scan : Scan = place_number d name.Leaf (place_number d name.Leaf (named leaf (Some name.Leaf)) rho) mu in
+    let final : Scan = fold (place_number d name.Leaf) scan prices in
+    let weights = weights-placed d prices scan (omega arith) in
+    let all : final.leaf.prices ≡ prices = prices-placed d prices [] leaf.prices scan refl refl (omega arith) (omega arith) in
+    ap (λ (n : ℕ). record { whole = n == 1; mu = final.second; prices = final.leaf.prices }) weights.0
+    ∙ ap (λ (n : ℕ). record { whole = rho == 1; mu = n; prices = final.leaf.prices }) weights.1
+    ∙ ap (λ (ps : List ℕ). record { whole = rho == 1; mu = mu; prices = ps }) all

@@ -4,6 +4,7 @@ use Rattle.std.specs.Fmt.{decimal}
 use Rattle.std.specs.List.{find, slice_split}
 use Rattle.std.specs.Str.Parse.{digits_value}
 use lib.Pointwise.{pointwise}
+use Rattle.dual_bound.specs.declared.tree.Leaf.{Leaf}
 use Rattle.bound_certificate.specs.declared.due.Due.{Due}
 use Rattle.bound_certificate.specs.declared.due.Due.TheVariants as due
 use Rattle.bound_certificate.specs.declared.due.Name.{Name}
@@ -121,3 +122,7 @@ words_item d (first ∷ others) = named_item d (name_in d first) others
 -- what a line says that has no fault
 abbrev pub line_item : Due → List ℕ → Item
 line_item d line = if is_title d then item.Header else words_item d (words_of line)
+
+-- the leaf that numbers say: whether the cost counts, the weight of the limit, and prices
+abbrev pub leaf_of : List ℕ → Leaf
+leaf_of numbers = record { whole = slice_index numbers 0 == 1; mu = slice_index numbers 1; prices = drop 2 numbers }
