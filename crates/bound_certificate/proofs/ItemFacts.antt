@@ -1,5 +1,5 @@
 -- What a line says.
-use Rattle.std.proofs.Common.{Bool, List, None, Option, Some, [], ap, append_assoc, arith, drop, false, if◌then◌else◌, length, length-append, nat_le, nat_lt, not, option_and_then, option_map, refl, slice_index, slice_set, subst, sym, true, ℕ, ◌&&◌, ◌++◌, ◌+◌, ◌-◌, ◌<◌, ◌==◌, ◌||◌, ◌∙◌, ◌∷◌, ◌≡◌, ◌≤◌}
+use Rattle.std.proofs.Common.{Bool, List, None, Option, Some, [], ap, append_assoc, arith, false, if◌then◌else◌, length, length-append, nat_le, nat_lt, not, option_and_then, option_map, refl, slice_set, subst, sym, true, ℕ, ◌&&◌, ◌++◌, ◌+◌, ◌-◌, ◌<◌, ◌==◌, ◌||◌, ◌∙◌, ◌∷◌, ◌≡◌, ◌≤◌}
 use Rattle.std.proofs.Math.Seq.{set-append_seam}
 use Rattle.std.specs.List.{fold}
 use Rattle.dual_bound.specs.declared.tree.Leaf.{Leaf}
@@ -13,7 +13,7 @@ use Rattle.bound_certificate.specs.declared.scan.Scan.{Scan}
 use Rattle.bound_certificate.specs.declared.scan.Word.TheVariants as word
 use Rattle.bound_certificate.specs.declared.limits.TheConstants.{MOST_DATES, MOST_WORDS}
 use Rattle.bound_certificate.specs.Due.{is_closed_early, is_title, is_unclosed, range_at, width_of}
-use Rattle.bound_certificate.specs.Grammar.{leaf_of, line_item, named_item, numbers_item, said_by, words_item, is_name, later_fault, line_fault, line_numbers, name_in, named_fault, number_in, numbers_fault, numbers_in, whole_number, words_fault, words_of}
+use Rattle.bound_certificate.specs.Grammar.{leaf_of, line_leaf, name_in, words_numbers, line_item, named_item, numbers_item, said_by, words_item, is_name, later_fault, line_fault, line_numbers, name_in, named_fault, number_in, numbers_fault, numbers_in, whole_number, words_fault, words_of}
 use Rattle.bound_certificate.specs.Scan.{kept_leaf, one_more, item_by, item_of, after_byte, after_word, node_starting, longer, new_scan, with_value, with_word}
 use Rattle.bound_certificate.proofs.LineFacts.{line-words, take_word, whole-read}
 use Rattle.bound_certificate.proofs.ScanFacts.{IsPlain, Ran, numbers-run, place_number, placed, settle}
@@ -215,13 +215,13 @@ prices-placed d (number ∷ numbers) done (old ∷ rest) scan at held same few =
     let room : length done < length scan.leaf.prices = rw held (omega (arith, length-append done (old ∷ rest))) in
     let within : nat_lt (scan.words - 3) (length scan.leaf.prices) ≡ true = rw place (grind (arith, room)) in
     let test : (nat_le 3 scan.words && nat_lt (scan.words - 3) (length scan.leaf.prices)) ≡ true =
-        ap (λ (b : Bool). b && nat_lt (scan.words - 3) (length scan.leaf.prices)) behind ∙ within in
+    ap (λ (b : Bool). b && nat_lt (scan.words - 3) (length scan.leaf.prices)) behind ∙ within in
     let put : (place_number d name.Leaf scan number).leaf.prices ≡ (done ++ number ∷ []) ++ rest =
-        same_prices scan.leaf.prices (scan.words - 3) number (nat_le 3 scan.words && nat_lt (scan.words - 3) (length scan.leaf.prices)) test
-        ∙ ap (λ (k : ℕ). slice_set scan.leaf.prices k number) place
-        ∙ ap (λ (ps : List ℕ). slice_set ps (length done) number) held
-        ∙ set-append_seam done old rest number
-        ∙ sym (append_assoc done (number ∷ []) rest) in
+    same_prices scan.leaf.prices (scan.words - 3) number (nat_le 3 scan.words && nat_lt (scan.words - 3) (length scan.leaf.prices)) test
+    ∙ ap (λ (k : ℕ). slice_set scan.leaf.prices k number) place
+    ∙ ap (λ (ps : List ℕ). slice_set ps (length done) number) held
+    ∙ set-append_seam done old rest number
+    ∙ sym (append_assoc done (number ∷ []) rest) in
     let next : one_more scan.words ≡ scan.words + 1 = below_most scan.words (omega arith) in
     let after : one_more scan.words ≡ 3 + length (done ++ number ∷ []) = next ∙ omega (arith, at, length-append done (number ∷ [])) in
     prices-placed d numbers (done ++ number ∷ []) rest (place_number d name.Leaf scan number) after put (omega arith) (rw next (omega arith))
@@ -258,3 +258,94 @@ leaf-placed d leaf (rho ∷ mu ∷ prices) few wide =
     ap (λ (n : ℕ). record { whole = n == 1; mu = final.second; prices = final.leaf.prices }) weights.0
     ∙ ap (λ (n : ℕ). record { whole = rho == 1; mu = n; prices = final.leaf.prices }) weights.1
     ∙ ap (λ (ps : List ℕ). record { whole = rho == 1; mu = mu; prices = ps }) all
+
+-- only `l` says a leaf
+leaf-name : (n : Name) (numbers : List ℕ) → said_by n numbers ≡ item.Leaf → n ≡ name.Leaf
+leaf-name name.Leaf numbers e = refl
+leaf-name name.Title numbers e = absurd (cc)
+leaf-name name.Portfolio [] e = absurd (cc)
+leaf-name name.Portfolio (a ∷ numbers) e = absurd (cc)
+leaf-name name.Absent numbers e = absurd (cc)
+leaf-name name.Buy [] e = absurd (cc)
+leaf-name name.Buy (a ∷ []) e = absurd (cc)
+leaf-name name.Buy (a ∷ b ∷ numbers) e = absurd (cc)
+leaf-name name.Gap [] e = absurd (cc)
+leaf-name name.Gap (a ∷ numbers) e = absurd (cc)
+leaf-name name.Nodes [] e = absurd (cc)
+leaf-name name.Nodes (a ∷ numbers) e = absurd (cc)
+leaf-name name.Split [] e = absurd (cc)
+leaf-name name.Split (a ∷ []) e = absurd (cc)
+leaf-name name.Split (a ∷ b ∷ numbers) e = absurd (cc)
+leaf-name name.Point numbers e = absurd (cc)
+leaf-name name.End numbers e = absurd (cc)
+
+leaf-numbers : (n : Name) (o : Option (List ℕ)) → numbers_item n o ≡ item.Leaf → n ≡ name.Leaf
+leaf-numbers n None e = absurd (cc)
+leaf-numbers n (Some numbers) e = leaf-name n numbers e
+
+-- the leaf of a line in which no name stands behind the first word
+leaf-plain : (d : Due) (leaf : Leaf) (others : List (List ℕ)) → IsPlain d → length leaf.prices ≤ MOST_DATES →
+    line_numbers d name.Leaf others ≡ numbers_in d name.Leaf 1 others → named_fault (length leaf.prices) d (Some name.Leaf) others ≡ None →
+    Some (kept_leaf item.Leaf (fold (take_word d) (named leaf (Some name.Leaf)) others)) ≡ option_map leaf_of (line_numbers d name.Leaf others)
+leaf-plain d leaf others plain few same good =
+    let found : ((is_closed_early d || not (1 + length others == 3 + length leaf.prices)) ≡ false) × ((numbers : List ℕ) × (line_numbers d name.Leaf others ≡ Some numbers)) =
+    numbers_of d name.Leaf (is_closed_early d || not (1 + length others == 3 + length leaf.prices)) (line_numbers d name.Leaf others) good in
+    let counted : (1 + length others == 3 + length leaf.prices) ≡ true = or_not (is_closed_early d) (1 + length others == 3 + length leaf.prices) found.0 in
+    let wide : 1 + length others ≡ 3 + length leaf.prices = grind (arith, counted) in
+    let e : numbers_in d name.Leaf 1 others ≡ Some found.1.0 = sym same ∙ found.1.1 in
+    let ran : Ran d name.Leaf (named leaf (Some name.Leaf)) (fold (take_word d) (named leaf (Some name.Leaf)) others) (numbers_in d name.Leaf 1 others) =
+    numbers-run d name.Leaf others 1 (named leaf (Some name.Leaf)) plain (omega arith) (omega arith) (record { name = refl; words = refl; word = refl }) in
+    let ends : fold (take_word d) (named leaf (Some name.Leaf)) others ≡ fold (place_number d name.Leaf) (named leaf (Some name.Leaf)) found.1.0 =
+    subst (λ (p : Option (List ℕ)). Ran d name.Leaf (named leaf (Some name.Leaf)) (fold (take_word d) (named leaf (Some name.Leaf)) others) p) e ran in
+    ap (λ (s : Scan). Some (kept_leaf item.Leaf s)) ends
+    ∙ ap (λ (l : Leaf). Some l) (leaf-placed d leaf found.1.0 few (omega (arith, wide, numbers-length d name.Leaf 1 others found.1.0 e)))
+    ∙ sym (ap (λ (o : Option (List ℕ)). option_map leaf_of o) found.1.1)
+
+leaf-named : (d : Due) → is_title d ≡ false → (first : List ℕ) (leaf : Leaf) (others : List (List ℕ)) → length leaf.prices ≤ MOST_DATES →
+    name_in d first ≡ Some name.Leaf → named_fault (length leaf.prices) d (Some name.Leaf) others ≡ None →
+    Some (kept_leaf item.Leaf (fold (take_word d) (named leaf (Some name.Leaf)) others)) ≡ option_map leaf_of (line_numbers d name.Leaf others)
+leaf-named due.Title title first leaf others few e good = absurd (cc)
+leaf-named due.Portfolio title first leaf others few e good = let no : name.Leaf ≡ name.Portfolio = only_name name.Portfolio name.Leaf (is_name first name.Portfolio) e in absurd (cc)
+leaf-named (due.Buy left least) title first leaf others few e good = leaf-plain (due.Buy left least) leaf others (λ place byte h. plain_none name.Buy place byte h) few refl good
+leaf-named (due.Gap most) title first leaf others few e good = leaf-plain (due.Gap most) leaf others (λ place byte h. plain_none name.Gap place byte h) few refl good
+leaf-named due.Count title first leaf others few e good = leaf-plain due.Count leaf others (λ place byte h. plain_none name.Nodes place byte h) few refl good
+leaf-named (due.Node left trees) title first leaf others few e good =
+    leaf-plain (due.Node left trees) leaf others (λ place byte h. plain_none (node_starting byte) place byte h) few refl good
+leaf-named (due.End trees) title first leaf others few e good = leaf-plain (due.End trees) leaf others (λ place byte h. plain_none name.End place byte h) few refl good
+leaf-named due.Nothing title first leaf others few e good = absurd (cc)
+
+leaf_cases : (d : Due) → is_title d ≡ false → (first : List ℕ) (leaf : Leaf) (others : List (List ℕ)) → length leaf.prices ≤ MOST_DATES →
+    (o : Option Name) → name_in d first ≡ o → named_fault (length leaf.prices) d o others ≡ None → named_item d o others ≡ item.Leaf →
+    Some (kept_leaf item.Leaf (fold (take_word d) (named leaf o) others)) ≡ option_map leaf_of (option_and_then (λ n. line_numbers d n others) o)
+leaf_cases d title first leaf others few None e good says = absurd (cc)
+leaf_cases d title first leaf others few (Some n) e good says =
+    let same : n ≡ name.Leaf = leaf-numbers n (line_numbers d n others) says in
+    let P : Name → Type 0 = λ m. name_in d first ≡ Some m → named_fault (length leaf.prices) d (Some m) others ≡ None →
+    Some (kept_leaf item.Leaf (fold (take_word d) (named leaf (Some m)) others)) ≡ option_map leaf_of (line_numbers d m others) in
+    subst P (sym same) (leaf-named d title first leaf others few) e good
+
+words-leaf : (d : Due) → is_title d ≡ false → (leaf : Leaf) (words : List (List ℕ)) → length leaf.prices ≤ MOST_DATES →
+    words_fault (length leaf.prices) d words ≡ None → words_item d words ≡ item.Leaf →
+    Some (kept_leaf item.Leaf (fold (take_word d) (new_scan leaf) words)) ≡ option_map leaf_of (words_numbers d words)
+words-leaf d title leaf [] few good says = absurd (cc)
+words-leaf d title leaf (first ∷ others) few good says =
+    ap (λ (s : Scan). Some (kept_leaf item.Leaf (fold (take_word d) s others))) (named-word d title leaf first)
+    ∙ leaf_cases d title first leaf others few (name_in d first) refl good says
+
+later-leaf : (d : Due) → is_title d ≡ false → (leaf : Leaf) (line : List ℕ) → length leaf.prices ≤ MOST_DATES → later_fault (length leaf.prices) d line ≡ None →
+    words_item d (words_of line) ≡ item.Leaf → Some (kept_leaf item.Leaf (after_word d (fold (after_byte d) (new_scan leaf) line))) ≡ line_leaf d line
+later-leaf d title leaf line few good says =
+    ap (λ (s : Scan). Some (kept_leaf item.Leaf s)) (line-words d title line (new_scan leaf))
+    ∙ words-leaf d title leaf (words_of line) few (closed_tree (is_unclosed d) (words_fault (length leaf.prices) d (words_of line)) good) says
+
+-- the leaf that a line says
+pub line-leaf : (d : Due) (leaf : Leaf) (line : List ℕ) → length leaf.prices ≤ MOST_DATES → line_fault (length leaf.prices) d line ≡ None →
+    line_item d line ≡ item.Leaf → Some (kept_leaf item.Leaf (after_word d (fold (after_byte d) (new_scan leaf) line))) ≡ line_leaf d line
+line-leaf due.Title leaf line few good says = absurd (cc)
+line-leaf due.Portfolio leaf line few good says = later-leaf due.Portfolio refl leaf line few good says
+line-leaf (due.Buy left least) leaf line few good says = later-leaf (due.Buy left least) refl leaf line few good says
+line-leaf (due.Gap most) leaf line few good says = later-leaf (due.Gap most) refl leaf line few good says
+line-leaf due.Count leaf line few good says = later-leaf due.Count refl leaf line few good says
+line-leaf (due.Node left trees) leaf line few good says = later-leaf (due.Node left trees) refl leaf line few good says
+line-leaf (due.End trees) leaf line few good says = later-leaf (due.End trees) refl leaf line few good says
+line-leaf due.Nothing leaf line few good says = later-leaf due.Nothing refl leaf line few good says

@@ -11,11 +11,11 @@ use Rattle.bound_certificate.specs.declared.item.Item.TheVariants as item
 use Rattle.bound_certificate.specs.declared.reading.Reading.{Reading}
 use Rattle.bound_certificate.specs.declared.scan.Scan.{Scan}
 use Rattle.bound_certificate.specs.Due.{is_over, next_due}
-use Rattle.bound_certificate.specs.Grammar.{line_fault, line_item}
+use Rattle.bound_certificate.specs.Grammar.{line_fault, line_item, line_leaf}
 use Rattle.bound_certificate.specs.Laws.{BeginsLine, GoesOn, ShowsFault}
 use Rattle.bound_certificate.specs.Reading.{after_byte, after_byte_by, after_bytes, end_fault, ended, ended_by, failed, fault_at, said}
 use Rattle.bound_certificate.specs.Scan as line
-use Rattle.bound_certificate.proofs.ItemFacts.{line-item}
+use Rattle.bound_certificate.proofs.ItemFacts.{line-item, line-leaf}
 use Rattle.bound_certificate.proofs.FaultFacts.{line-dates, line-fault}
 use Rattle.bound_certificate.proofs.ReadingFacts.{after_byte-feed, after_bytes-append, after_bytes-none, after_bytes-one}
 
@@ -117,3 +117,18 @@ lines-follow reading leaf bytes begins all good =
           ∙ ap (λ (o : Option FaultKind). ended_by o inside) (end-fault reading leaf bytes begins ∙ good)
           ∙ ap (λ (i : Item). record { line = reading.line + 1; due = next_due reading.due i; scan = line.new_scan next; fault = None }) says;
     }
+
+-- behind a leaf's line the leaf is the line's
+pub leaves-are-of-lines : (reading : Reading) (leaf : Leaf) (bytes : List ℕ) → BeginsLine reading leaf → All (λ byte. byte ≢ 10) bytes →
+    line_fault (length leaf.prices) reading.due bytes ≡ None → line_item reading.due bytes ≡ item.Leaf →
+    Some (after_bytes reading (bytes ++ 10 ∷ [])).scan.leaf ≡ line_leaf reading.due bytes
+leaves-are-of-lines reading leaf bytes begins all good says =
+    let inside : Reading = record reading { scan = fold (line.after_byte reading.due) reading.scan bytes } in
+    let whole : Scan → Scan = λ s. line.after_word reading.due (fold (line.after_byte reading.due) s bytes) in
+    let Q : Scan → Type 0 = λ s. line.item_of (whole s) ≡ line_item reading.due bytes in
+    let said_leaf : said inside ≡ item.Leaf = subst Q (sym begins.scan) (line-item reading.due leaf bytes begins.dates good) ∙ says in
+    let R : Scan → Type 0 = λ s. Some (line.kept_leaf item.Leaf (whole s)) ≡ line_leaf reading.due bytes in
+    ap (λ (r : Reading). Some r.scan.leaf) (line-feed reading leaf bytes begins all)
+    ∙ ap (λ (o : Option FaultKind). Some (ended_by o inside).scan.leaf) (end-fault reading leaf bytes begins ∙ good)
+    ∙ ap (λ (i : Item). Some (line.kept_leaf i (whole reading.scan))) said_leaf
+    ∙ subst R (sym begins.scan) (line-leaf reading.due leaf bytes begins.dates good says)

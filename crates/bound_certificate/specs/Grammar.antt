@@ -126,3 +126,12 @@ line_item d line = if is_title d then item.Header else words_item d (words_of li
 -- the leaf that numbers say: whether the cost counts, the weight of the limit, and prices
 abbrev pub leaf_of : List ℕ → Leaf
 leaf_of numbers = record { whole = slice_index numbers 0 == 1; mu = slice_index numbers 1; prices = drop 2 numbers }
+
+-- the numbers of a line that begins with a name
+abbrev pub words_numbers : Due → List (List ℕ) → Option (List ℕ)
+words_numbers d [] = None
+words_numbers d (first ∷ others) = option_and_then (λ n. line_numbers d n others) (name_in d first)
+
+-- the leaf that a line says
+abbrev pub line_leaf : Due → List ℕ → Option Leaf
+line_leaf d line = option_map leaf_of (words_numbers d (words_of line))

@@ -1,11 +1,12 @@
 -- What the reader of certificates is.
 use Rattle.std.specs.Prelude.{◌≡◌, ◌≢◌, ℕ, ◌+◌, ◌≤◌, List, [], ◌∷◌, ◌++◌, length, All, Some, None, option_map, false}
 use Rattle.bound_certificate.specs.declared.fault.CertFault.{CertFault}
+use Rattle.bound_certificate.specs.declared.item.Item.TheVariants as item
 use Rattle.bound_certificate.specs.declared.reading.Reading.{Reading}
 use Rattle.dual_bound.specs.declared.tree.Leaf.{Leaf}
 use Rattle.bound_certificate.specs.declared.limits.TheConstants.{MOST_DATES}
 use Rattle.bound_certificate.specs.Due.{is_over, next_due}
-use Rattle.bound_certificate.specs.Grammar.{line_fault, line_item}
+use Rattle.bound_certificate.specs.Grammar.{line_fault, line_item, line_leaf}
 use Rattle.bound_certificate.specs.Reading.{after_bytes, fault_at, said}
 use Rattle.bound_certificate.specs.Scan.{new_scan}
 
@@ -51,3 +52,9 @@ pub record GoesOn (reading : Reading) (leaf : Leaf) (line : List ℕ) : Type 0 w
 abbrev pub LinesFollow : Type 0
 LinesFollow = (reading : Reading) (leaf : Leaf) (line : List ℕ) → BeginsLine reading leaf → All (λ byte. byte ≢ 10) line →
     line_fault (length leaf.prices) reading.due line ≡ None → GoesOn reading leaf line
+
+-- behind a leaf's line the reader lends the leaf that the line says
+abbrev pub LeavesAreOfLines : Type 0
+LeavesAreOfLines = (reading : Reading) (leaf : Leaf) (line : List ℕ) → BeginsLine reading leaf → All (λ byte. byte ≢ 10) line →
+    line_fault (length leaf.prices) reading.due line ≡ None → line_item reading.due line ≡ item.Leaf →
+    Some (after_bytes reading (line ++ 10 ∷ [])).scan.leaf ≡ line_leaf reading.due line
