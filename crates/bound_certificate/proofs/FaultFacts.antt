@@ -26,7 +26,7 @@ use Rattle.bound_certificate.proofs.WordFacts as words
 abbrev pub named : Leaf → Option Name → Scan
 named leaf o = record (new_scan leaf) { name = o; words = 1 }
 
-named-word : (d : Due) → is_title d ≡ false → (leaf : Leaf) (first : List ℕ) → take_word d (new_scan leaf) first ≡ named leaf (name_in d first)
+pub named-word : (d : Due) → is_title d ≡ false → (leaf : Leaf) (first : List ℕ) → take_word d (new_scan leaf) first ≡ named leaf (name_in d first)
 named-word d title leaf first = ap (λ (o : Option Name). named leaf o) (first-word d title first)
 
 or_false : (b : Bool) → (b || false) ≡ b
@@ -42,7 +42,7 @@ place-misnumbered : (d : Due) (n : Name) (numbers : List ℕ) (scan : Scan) → 
 place-misnumbered d n [] scan = refl
 place-misnumbered d n (number ∷ numbers) scan = place-misnumbered d n numbers (place_number d n scan number)
 
-below_most : (words : ℕ) → words < MOST_WORDS → one_more words ≡ words + 1
+pub below_most : (words : ℕ) → words < MOST_WORDS → one_more words ≡ words + 1
 below_most words h = let low : nat_lt words MOST_WORDS ≡ true = grind (arith, h) in ap (λ (b : Bool). if b then words + 1 else words) low
 
 -- a due that isn't a purchase's
@@ -143,7 +143,7 @@ length_by (Some number) (Some others) words numbers same e =
     let all : number ∷ others ≡ numbers = cc in ap length (sym all) ∙ ap suc (same others refl)
 
 -- as many numbers as words
-numbers-length : (d : Due) (n : Name) (place : ℕ) (words : List (List ℕ)) (numbers : List ℕ) → numbers_in d n place words ≡ Some numbers → length numbers ≡ length words
+pub numbers-length : (d : Due) (n : Name) (place : ℕ) (words : List (List ℕ)) (numbers : List ℕ) → numbers_in d n place words ≡ Some numbers → length numbers ≡ length words
 numbers-length d n place [] numbers e = let none : [] ≡ numbers = cc in ap length (sym none)
 numbers-length d n place (first ∷ words) numbers e =
     length_by (number_in (range_at d n place) first) (numbers_in d n (place + 1) words) words numbers (numbers-length d n (place + 1) words) e
@@ -152,7 +152,7 @@ same_count : (m k w : ℕ) → m ≡ min k MOST_WORDS → w < MOST_WORDS → (b 
 same_count m k w e low true t = let same : k ≡ w = grind (arith, t) in let here : m ≡ w = omega arith in grind (arith, here)
 same_count m k w e low false t = let other : k ≢ w = (λ h. absurd (grind (arith, t, h))) in let here : m ≢ w = (λ h. other (omega arith)) in grind (arith, here)
 
-below_width : (dates : ℕ) (n : Name) → dates ≤ MOST_DATES → width_of dates n < MOST_WORDS
+pub below_width : (dates : ℕ) (n : Name) → dates ≤ MOST_DATES → width_of dates n < MOST_WORDS
 below_width dates name.Leaf h = omega arith
 below_width dates name.Title h = omega arith
 below_width dates name.Portfolio h = omega arith
@@ -226,7 +226,7 @@ absent_by : (byte : ℕ) (bytes : List ℕ) (t : Bool) →
 absent_by byte bytes true = words.name-run due.Portfolio 1 name.Absent bytes (drop 1 (word_of name.Absent)) (110 ∷ []) 1 refl refl
 absent_by byte bytes false = plain_by due.Portfolio 1 byte bytes (is_ascii_digit byte)
 
-absent-word : (bytes : List ℕ) → name_of (fold (longer due.Portfolio 1) word.Empty bytes) ≡ (if is_name bytes name.Absent then Some name.Absent else None)
+pub absent-word : (bytes : List ℕ) → name_of (fold (longer due.Portfolio 1) word.Empty bytes) ≡ (if is_name bytes name.Absent then Some name.Absent else None)
 absent-word [] = refl
 absent-word (byte ∷ bytes) = absent_by byte bytes (110 == byte)
 
@@ -276,11 +276,11 @@ fault-portfolio n leaf others few same =
     (count-run due.Portfolio others (named leaf (Some name.Portfolio)) (omega arith) (omega arith)) few (portfolio_inner leaf others))
 
 -- the one name that may begin a line
-only_name : (n m : Name) (b : Bool) → cond b (Some n) None ≡ Some m → m ≡ n
+pub only_name : (n m : Name) (b : Bool) → cond b (Some n) None ≡ Some m → m ≡ n
 only_name n m true h = cc
 only_name n m false h = absurd (cc)
 
-plain_none : (n : Name) (place byte : ℕ) → 1 ≤ place → beginning (if place == 0 then Some n else None) byte ≡ None
+pub plain_none : (n : Name) (place byte : ℕ) → 1 ≤ place → beginning (if place == 0 then Some n else None) byte ≡ None
 plain_none n place byte h = no_first n byte (place == 0) (grind (arith, h))
 
 fault-named : (d : Due) → is_title d ≡ false → (first : List ℕ) (leaf : Leaf) (others : List (List ℕ)) → length leaf.prices ≤ MOST_DATES →
@@ -301,7 +301,7 @@ fault-named (due.End trees) title first leaf others few n e =
     fault-plain (due.End trees) n leaf others (λ place byte h. plain_none name.End place byte h) few refl (ordered-other (due.End trees) n leaf refl few)
 fault-named due.Nothing title first leaf others few n e = absurd (cc)
 
-fault_cases : (d : Due) → is_title d ≡ false → (first : List ℕ) (leaf : Leaf) (others : List (List ℕ)) → length leaf.prices ≤ MOST_DATES →
+pub fault_cases : (d : Due) → is_title d ≡ false → (first : List ℕ) (leaf : Leaf) (others : List (List ℕ)) → length leaf.prices ≤ MOST_DATES →
     (o : Option Name) → name_in d first ≡ o →
     fault_by (fold (take_word d) (named leaf o) others).name d (length leaf.prices) (fold (take_word d) (named leaf o) others)
     ≡ named_fault (length leaf.prices) d o others
@@ -335,13 +335,13 @@ title_by : (scan : Scan) (byte : ℕ) (t : Bool) →
 title_by scan byte true = refl
 title_by scan byte false = refl
 
-title-run : (line : List ℕ) (scan : Scan) → fold (after_byte due.Title) scan line ≡ record scan { word = fold (longer due.Title scan.words) scan.word line }
+pub title-run : (line : List ℕ) (scan : Scan) → fold (after_byte due.Title) scan line ≡ record scan { word = fold (longer due.Title scan.words) scan.word line }
 title-run [] scan = refl
 title-run (byte ∷ line) scan =
     ap (λ (s : Scan). fold (after_byte due.Title) s line) (title_by scan byte (byte == 32))
     ∙ title-run line (record scan { word = longer due.Title scan.words scan.word byte })
 
-title-word : (line : List ℕ) → name_of (fold (longer due.Title 0) word.Empty line) ≡ (if is_name line name.Title then Some name.Title else None)
+pub title-word : (line : List ℕ) → name_of (fold (longer due.Title 0) word.Empty line) ≡ (if is_name line name.Title then Some name.Title else None)
 title-word [] = refl
 title-word (byte ∷ line) = first_name due.Title name.Title byte line
 

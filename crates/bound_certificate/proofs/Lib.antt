@@ -1,4 +1,5 @@
 mod FaultFacts
+mod ItemFacts
 mod LawFacts
 mod LineFacts
 mod ReadingFacts

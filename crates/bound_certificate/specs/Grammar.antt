@@ -4,11 +4,14 @@ use Rattle.std.specs.Fmt.{decimal}
 use Rattle.std.specs.List.{find, slice_split}
 use Rattle.std.specs.Str.Parse.{digits_value}
 use lib.Pointwise.{pointwise}
+use Rattle.dual_bound.specs.declared.tree.Leaf.{Leaf}
 use Rattle.bound_certificate.specs.declared.due.Due.{Due}
 use Rattle.bound_certificate.specs.declared.due.Due.TheVariants as due
 use Rattle.bound_certificate.specs.declared.due.Name.{Name}
 use Rattle.bound_certificate.specs.declared.due.Name.TheVariants as name
 use Rattle.bound_certificate.specs.declared.due.Range.{Range}
+use Rattle.bound_certificate.specs.declared.item.Item.{Item}
+use Rattle.bound_certificate.specs.declared.item.Item.TheVariants as item
 use Rattle.bound_certificate.specs.declared.fault.FaultKind.{FaultKind}
 use Rattle.bound_certificate.specs.declared.fault.FaultKind.TheVariants as kind
 use Rattle.bound_certificate.specs.declared.limits.TheConstants.{GREATEST_GAP}
@@ -89,3 +92,46 @@ later_fault dates d line = if is_unclosed d then Some kind.Count else words_faul
 abbrev pub line_fault : ℕ → Due → List ℕ → Option FaultKind
 line_fault dates d line =
     if is_title d then (if is_name line name.Title then None else Some kind.Header) else later_fault dates d line
+
+-- what a line says that begins with a name and has these numbers
+abbrev pub said_by : Name → List ℕ → Item
+said_by name.Title _ = item.Header
+said_by name.Portfolio [] = item.Portfolio None
+said_by name.Portfolio (count ∷ _) = item.Portfolio (Some count)
+said_by name.Buy (line ∷ units ∷ _) = item.Buy (record { line = line; units = units })
+said_by name.Gap (cents ∷ _) = item.Gap cents
+said_by name.Nodes (count ∷ _) = item.Nodes count
+said_by name.Split (line ∷ at ∷ _) = item.Split line at
+said_by name.Point _ = item.Point
+said_by name.Leaf _ = item.Leaf
+said_by name.End _ = item.End
+said_by _ _ = item.Nothing
+
+abbrev pub numbers_item : Name → Option (List ℕ) → Item
+numbers_item n None = item.Nothing
+numbers_item n (Some numbers) = said_by n numbers
+
+abbrev pub named_item : Due → Option Name → List (List ℕ) → Item
+named_item d None others = item.Nothing
+named_item d (Some n) others = numbers_item n (line_numbers d n others)
+
+abbrev pub words_item : Due → List (List ℕ) → Item
+words_item d [] = item.Nothing
+words_item d (first ∷ others) = named_item d (name_in d first) others
+
+-- what a line says that has no fault
+abbrev pub line_item : Due → List ℕ → Item
+line_item d line = if is_title d then item.Header else words_item d (words_of line)
+
+-- the leaf that numbers say: whether the cost counts, the weight of the limit, and prices
+abbrev pub leaf_of : List ℕ → Leaf
+leaf_of numbers = record { whole = slice_index numbers 0 == 1; mu = slice_index numbers 1; prices = drop 2 numbers }
+
+-- the numbers of a line that begins with a name
+abbrev pub words_numbers : Due → List (List ℕ) → Option (List ℕ)
+words_numbers d [] = None
+words_numbers d (first ∷ others) = option_and_then (λ n. line_numbers d n others) (name_in d first)
+
+-- the leaf that a line says
+abbrev pub line_leaf : Due → List ℕ → Option Leaf
+line_leaf d line = option_map leaf_of (words_numbers d (words_of line))

@@ -1,12 +1,13 @@
 -- What the reader of certificates is.
-use Rattle.std.specs.Prelude.{◌≡◌, ◌≢◌, ℕ, ◌≤◌, List, [], ◌∷◌, ◌++◌, length, All, Some, None, option_map, false}
+use Rattle.std.specs.Prelude.{◌≡◌, ◌≢◌, ℕ, ◌+◌, ◌≤◌, List, [], ◌∷◌, ◌++◌, length, All, Some, None, option_map, false}
 use Rattle.bound_certificate.specs.declared.fault.CertFault.{CertFault}
+use Rattle.bound_certificate.specs.declared.item.Item.TheVariants as item
 use Rattle.bound_certificate.specs.declared.reading.Reading.{Reading}
 use Rattle.dual_bound.specs.declared.tree.Leaf.{Leaf}
 use Rattle.bound_certificate.specs.declared.limits.TheConstants.{MOST_DATES}
-use Rattle.bound_certificate.specs.Due.{is_over}
-use Rattle.bound_certificate.specs.Grammar.{line_fault}
-use Rattle.bound_certificate.specs.Reading.{after_bytes, fault_at}
+use Rattle.bound_certificate.specs.Due.{is_over, next_due}
+use Rattle.bound_certificate.specs.Grammar.{line_fault, line_item, line_leaf}
+use Rattle.bound_certificate.specs.Reading.{after_bytes, fault_at, said}
 use Rattle.bound_certificate.specs.Scan.{new_scan}
 
 -- however bytes are cut into pieces, the same has come of them
@@ -31,3 +32,29 @@ pub record ShowsFault (reading : Reading) (leaf : Leaf) (line : List ℕ) : Type
 
 abbrev pub FaultsAreOfLines : Type 0
 FaultsAreOfLines = (reading : Reading) (leaf : Leaf) (line : List ℕ) → BeginsLine reading leaf → All (λ byte. byte ≢ 10) line → ShowsFault reading leaf line
+
+-- a line without a fault says what its words say
+abbrev pub ItemsAreOfLines : Type 0
+ItemsAreOfLines = (reading : Reading) (leaf : Leaf) (line : List ℕ) → BeginsLine reading leaf → All (λ byte. byte ≢ 10) line →
+    line_fault (length leaf.prices) reading.due line ≡ None → said (after_bytes reading line) ≡ line_item reading.due line
+
+-- behind a line without a fault the next line begins, and what the line says tells what is due on it
+pub record GoesOn (reading : Reading) (leaf : Leaf) (line : List ℕ) : Type 0 where
+  pub next : Leaf
+  pub dates : length next.prices ≡ length leaf.prices
+  pub came : after_bytes reading (line ++ 10 ∷ []) ≡ record {
+    line = reading.line + 1;
+    due = next_due reading.due (line_item reading.due line);
+    scan = new_scan next;
+    fault = None;
+  }
+
+abbrev pub LinesFollow : Type 0
+LinesFollow = (reading : Reading) (leaf : Leaf) (line : List ℕ) → BeginsLine reading leaf → All (λ byte. byte ≢ 10) line →
+    line_fault (length leaf.prices) reading.due line ≡ None → GoesOn reading leaf line
+
+-- behind a leaf's line the reader lends the leaf that the line says
+abbrev pub LeavesAreOfLines : Type 0
+LeavesAreOfLines = (reading : Reading) (leaf : Leaf) (line : List ℕ) → BeginsLine reading leaf → All (λ byte. byte ≢ 10) line →
+    line_fault (length leaf.prices) reading.due line ≡ None → line_item reading.due line ≡ item.Leaf →
+    Some (after_bytes reading (line ++ 10 ∷ [])).scan.leaf ≡ line_leaf reading.due line

@@ -5,7 +5,8 @@ ghost use Rattle.bound_certificate.specs.declared.fault.CertError.TheVariants as
 use escrow_desk::NoMemory;
 use std::alloc::{AllocError, AllocFailed};
 
-/// Why a line isn't one of a certificate. Where several stand, the later of this order wins, but `Trailing` stands alone.
+/// Why a line isn't one of a certificate. Where several stand for a line, the first of `Truncated`, `Trailing`, `Header`, `Count`,
+/// `Number` and `Order` is answered; of a tree that closes too late, `Count` comes before `Header`.
 #[derive(Clone, Copy, Debug, PartialEq, Eq)]
 pub enum FaultKind {
     /// The first word isn't one that may stand here.

@@ -1,8 +1,8 @@
 //! Texts that are certificates, and the faults of those that aren't.
-ghost use Rattle.std.specs.Prelude.{◌≡◌, ◌≤◌, [], ◌∷◌, IfOk, false, true};
+ghost use Rattle.std.specs.Prelude.{◌≡◌, ◌≤◌, [], ◌∷◌, IfOk, false, length, true};
 
 use crate::{
-    Buy, Buys, CertFault, CertReader, Certificate, FaultKind, MOST_DATES, Nodes, write_cert,
+    Buy, Buys, CertFault, CertReader, Certificate, FaultKind, Item, MOST_DATES, Nodes, write_cert,
 };
 use dual_bound::{Leaf, Prices, TreeNode};
 use escrow_desk::NoMemory;
@@ -364,5 +364,32 @@ fn a_certificate_is_written(rt: HostRuntime) -> Result<(), Fail> {
     let expected =
         b"escrow-certificate 1\nportfolio 1\nbuy 1 1001\ngap 0\nnodes 3\ns 1 1000\nl 0 0 1000000000000\nl 1 0 0\nend\n";
     assert_eq!(rt; text.as_slice(), expected.as_slice());
+    Ok(())
+}
+
+// The next line says this.
+fn says(rt: &impl Abort, reader: &mut CertReader, line: &[u8], item: Item) -> Result<(), Fail>
+    requires { length line.now ≤ 65_536 }
+{
+    let fed = reader.feed(line)?;
+    assert_eq!(rt; fed.item, item);
+    Ok(())
+}
+
+#[test]
+fn lines_say_items(rt: HostRuntime) -> Result<(), Fail> {
+    let mut reader = CertReader::make(rt.alloc(), 1)?;
+    let buy = Buy { line: 1, units: 50 };
+    says(&rt, &mut reader, b"escrow-certificate 1\n", Item::Header)?;
+    says(&rt, &mut reader, b"portfolio 1\n", Item::Portfolio(Some(1)))?;
+    says(&rt, &mut reader, b"buy 1 50\n", Item::Buy(buy))?;
+    says(&rt, &mut reader, b"gap 7\n", Item::Gap(7))?;
+    says(&rt, &mut reader, b"nodes 1\n", Item::Nodes(1))?;
+    says(&rt, &mut reader, b"l 1 3 ", Item::Nothing)?;
+    says(&rt, &mut reader, b"12\n", Item::Leaf)?;
+    assert_eq!(rt; reader.leaf().mu, 3);
+    assert_eq!(rt; reader.leaf().prices.as_slice(), [12].as_slice());
+    says(&rt, &mut reader, b"end\n", Item::End)?;
+    assert_eq!(rt; reader.finish(), Ok(()));
     Ok(())
 }
