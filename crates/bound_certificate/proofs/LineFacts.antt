@@ -4,6 +4,7 @@ use lib.Pointwise.{pointwise, bytes_decides}
 use Rattle.std.specs.List.{find, fold, onto_first}
 use Rattle.std.specs.Char.{is_ascii_digit}
 use Rattle.std.specs.Str.Parse.{digits_value}
+use Rattle.std.proofs.lemmas.Bool.{and_parts}
 use Rattle.std.proofs.lemmas.Fmt.{decimal_is_IsNumeral}
 use Rattle.std.proofs.lemmas.List.Splits.{length-slice_split}
 use Rattle.bound_certificate.specs.declared.due.Due.{Due}
@@ -118,17 +119,12 @@ whole-decimal n limit =
     ∙ ap (λ (b : Bool). if b then Some (digits_value 10 (decimal n)) else None) within
     ∙ ap (λ (m : ℕ). Some m) value
 
-both_true : (b c : Bool) → (b && c) ≡ true → (b ≡ true) × (c ≡ true)
-both_true true true h = (refl, refl)
-both_true true false h = absurd (cc)
-both_true false c h = absurd (cc)
-
 whole_by : (d : Due) (place : ℕ) (bytes : List ℕ) → 1 ≤ place → number_of (fold (longer d place) word.Empty bytes) ≡ None →
     (t : Bool) → (pointwise nat_eq (decimal (digits_value 10 bytes)) bytes && nat_le (digits_value 10 bytes) GREATEST_GAP) ≡ t →
     None ≡ (if t then Some (digits_value 10 bytes) else None)
 whole_by d place bytes h none false t_is = refl
 whole_by d place bytes h none true t_is =
-    let both : (pointwise nat_eq (decimal (digits_value 10 bytes)) bytes ≡ true) × (nat_le (digits_value 10 bytes) GREATEST_GAP ≡ true) = both_true _ _ t_is in
+    let both : (pointwise nat_eq (decimal (digits_value 10 bytes)) bytes ≡ true) × (nat_le (digits_value 10 bytes) GREATEST_GAP ≡ true) = and_parts _ _ t_is in
     let written : decimal (digits_value 10 bytes) ≡ bytes = (bytes_decides (decimal (digits_value 10 bytes)) bytes).0 both.0 in
     let within : digits_value 10 bytes ≤ GREATEST_GAP = grind (arith, both.1) in
     let found : number_of (fold (longer d place) word.Empty bytes) ≡ Some (digits_value 10 bytes) =
