@@ -19,7 +19,7 @@ use Rattle.escrow_units.specs.declared.security.SlgsKind.{SlgsKind}
 use Rattle.escrow_units.specs.declared.security.SlgsKind.TheVariants as kind
 use Rattle.escrow_units.proofs.SeriesFacts.{years_after_of-none}
 use Rattle.escrow_units.proofs.YearFacts.{years_after_of-passes}
-use Rattle.slgs_interest.specs.Payments.{payment_dates, payments_of, payment_on, interest_on, principal_on, first_interest, first_interest_of_kind, first_period_interest, before_first, second_before_first}
+use Rattle.slgs_interest.specs.Payments.{payment_dates, payments_of, payment_on, interest_on, principal_on, first_interest, first_accrual_of, before_first, second_before_first}
 use Rattle.escrow_units.specs.Series.{days_between_of}
 use Rattle.slgs_interest.specs.PaymentLaws.{AreSmall, AreWithinTerm}
 use Rattle.escrow_units.proofs.RoundingFacts.{near-zero}
@@ -87,19 +87,7 @@ choice-none true a b e f = e
 choice-none false a b e f = f
 
 first_interest-none : (slgs : Slgs) (face : ℕ) → face ≡ 0 → first_interest slgs face ≡ 0
-unfolding first_interest
-first_interest-none slgs face none = at slgs.kind
-  where
-    of_period : first_period_interest slgs face ≡ 0
-    of_period =
-        choice-none (int_lt slgs.settle (before_first slgs)) _ _
-        (near-nothing _ _ (no-face face slgs.rate.0 (days_between_of (second_before_first slgs) (before_first slgs) + days_between_of slgs.settle (before_first slgs)) none))
-        (near-nothing _ _ (no-face face slgs.rate.0 (days_between_of slgs.settle slgs.first) none))
-
-    at : (k : SlgsKind) → first_interest_of_kind k slgs face ≡ 0
-    at kind.Certificate = near-nothing _ _ (no-face face slgs.rate.0 (days_between_of slgs.settle slgs.maturity) none)
-    at kind.Note = of_period
-    at kind.Bond = of_period
+first_interest-none slgs face none = near-nothing _ _ (no-face face slgs.rate.0 (first_accrual_of slgs).parts none)
 
 payment-none : (slgs : Slgs) (face : ℕ) → face ≡ 0 → (day : ℤ) → interest_on slgs face day + principal_on slgs face day ≡ 0
 payment-none slgs face none day =
