@@ -2,10 +2,12 @@
 #![tactic(auto)]
 
 mod book;
+mod coefficients;
 mod line;
 mod offers;
 
 pub use book::Book;
+pub use coefficients::{COEFFICIENT_SCALE, Coefficients, PayCoefficients};
 pub use line::{Line, LineKind};
 pub use offers::{offer_laws, slgs_lines};
 
