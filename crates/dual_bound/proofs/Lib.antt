@@ -1,1 +1,4 @@
-mod Scratch
+pub mod Coverage
+pub mod LineBound
+pub mod Signed
+pub mod Soundness

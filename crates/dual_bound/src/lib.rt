@@ -2,9 +2,11 @@
 #![tactic(auto)]
 
 mod prices;
+mod ranges;
 #[cfg(test)]
 mod tests;
 mod tree;
 
 pub use prices::{PRICE_SCALE, Prices};
+pub use ranges::Interval;
 pub use tree::{Leaf, TreeNode};
