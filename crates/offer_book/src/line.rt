@@ -3,7 +3,7 @@
 ghost use Rattle.std.specs.Prelude.{◌≡◌, ◌*◌, ◌^◌, ◌<◌, ◌≤◌};
 
 use arrayvec::ArrayVec;
-use escrow_units::{Cents, Day, Flow, Slgs};
+use escrow_units::{Cents, Day, Flow, Slgs, Terms};
 use market_notes::{Note, note_cost, note_payments};
 
 /// What a line offers.
@@ -33,11 +33,26 @@ pub struct Line {
 }
 
 impl Line {
+    ghost use Rattle.escrow_units.specs.Denomination.{AreTerms};
     ghost use Rattle.escrow_units.specs.Flows.{total, FallWithinFortyYears};
     ghost use Rattle.escrow_units.specs.SlgsTerms.{IsSettlement};
     ghost use Rattle.std.specs.Prelude.{ℤ};
     ghost use Rattle.offer_book.specs.Book.{IsLine};
+    ghost use Rattle.offer_book.specs.Denominations.{line_of};
     ghost use Rattle.offer_book.specs.Portfolio.{line_cost, line_payments, par as par_of, permits as permits_of};
+
+    // The line of what is bought, of which at most `cap` dollars are sold, by the denominations of its file.
+    pub(crate) fn of(terms: Terms, kind: LineKind, cap: u64) -> Line
+        requires { AreTerms terms }
+        ensures { result ≡ line_of terms kind cap }
+    {
+        Line {
+            kind,
+            step: 100 * terms.step,
+            least: terms.minimum / terms.step,
+            most: cap / terms.step,
+        }
+    }
 
     /// Whether a number of units of the line is permitted: 0, or from `least` to `most`.
     pub fn permits(&self, units: u64) -> bool
