@@ -6,3 +6,4 @@ pub mod MarketLines
 pub mod Offers
 pub mod Portfolio
 pub mod Rival
+pub mod ScaledInterest

@@ -6,7 +6,8 @@ ghost use Rattle.escrow_units.specs.SlgsTerms.{IsSettlement, IsSlgs};
 ghost use Rattle.market_notes.specs.NoteFlows.{payment_dates as note_payment_dates};
 ghost use Rattle.market_notes.specs.NoteTerms.{IsNote};
 ghost use Rattle.slgs_interest.specs.Payments.{first_accrual_of, payment_dates as slgs_payment_dates};
-ghost use Rattle.offer_book.specs.Coefficients.{CoefficientsEnclose, interest_high, interest_low, interest_slack as interest_slack_of, half_year_accrual, kind_costs, kind_pays, note_paid_on as note_paid_on_of, slgs_paid_on as slgs_paid_on_of};
+ghost use Rattle.offer_book.specs.ScaledInterest.{IsInterest};
+ghost use Rattle.offer_book.specs.Coefficients.{CoefficientsEnclose, interest_slack as interest_slack_of, half_year_accrual, kind_costs, kind_pays, note_paid_on as note_paid_on_of, slgs_paid_on as slgs_paid_on_of};
 ghost use Rattle.offer_book.specs.declared.line.LineKind.TheVariants.{Cash, Market, Security};
 
 use arrayvec::ArrayVec;
@@ -79,10 +80,7 @@ fn scaled_interest(step: Cents, rate: Rate, accrual: Accrual) -> Scaled
     requires rate { rate.0 ≤ GREATEST_RATE }
     requires parts { accrual.parts ≤ 732 }
     requires year { 0 < accrual.year }
-    ensures low { result.low ≡ interest_low step.0 rate.0 accrual }
-    ensures high { result.high ≡ interest_high step.0 rate.0 accrual }
-    ensures low_bound { result.low < 2 ^ 93 }
-    ensures high_bound { result.high < 2 ^ 93 }
+    ensures { IsInterest step.0 rate.0 accrual result }
 {
     scaled_quotient(
         step.0 as u128 * rate.0 as u128 * accrual.parts as u128,
@@ -120,10 +118,8 @@ fn paid_on(day: Day, interest: Scaled, slack: u128, principal: u64) -> PayCoeffi
 // What a step of a SLGS security pays on a date.
 fn slgs_paid_on(slgs: &Slgs, step: Cents, day: Day, first: Scaled, later: Scaled) -> PayCoefficients
     requires step { step.0 ≤ 10 ^ 8 }
-    requires first { (first.low ≡ interest_low step.0 slgs.now.rate.0 (first_accrual_of slgs.now)) × (first.high ≡ interest_high step.0 slgs.now.rate.0 (first_accrual_of slgs.now)) }
-    requires later { (later.low ≡ interest_low step.0 slgs.now.rate.0 half_year_accrual) × (later.high ≡ interest_high step.0 slgs.now.rate.0 half_year_accrual) }
-    requires first_room { (first.low < 2 ^ 93) × (first.high < 2 ^ 93) }
-    requires later_room { (later.low < 2 ^ 93) × (later.high < 2 ^ 93) }
+    requires first { IsInterest step.0 slgs.now.rate.0 (first_accrual_of slgs.now) first }
+    requires later { IsInterest step.0 slgs.now.rate.0 half_year_accrual later }
     ensures { result ≡ slgs_paid_on_of slgs.now step.0 day }
 {
     let principal = if day == slgs.maturity { step.0 } else { 0 };
@@ -152,8 +148,7 @@ fn slgs_pays(slgs: &Slgs, step: Cents) -> ArrayVec<PayCoefficients, 84>
 // What a step of a note pays on a date.
 fn note_paid_on(note: &Note, step: Cents, day: Day, interest: Scaled) -> PayCoefficients
     requires step { step.0 ≤ 10 ^ 8 }
-    requires interest { (interest.low ≡ interest_low step.0 note.now.coupon.0 half_year_accrual) × (interest.high ≡ interest_high step.0 note.now.coupon.0 half_year_accrual) }
-    requires room { (interest.low < 2 ^ 93) × (interest.high < 2 ^ 93) }
+    requires interest { IsInterest step.0 note.now.coupon.0 half_year_accrual interest }
     ensures { result ≡ note_paid_on_of note.now step.0 day }
 {
     let principal = if day == note.maturity { step.0 } else { 0 };

@@ -18,4 +18,6 @@ pub use offers::{offer_laws, slgs_lines};
 #[cfg(test)]
 mod book_tests;
 #[cfg(test)]
+mod files_tests;
+#[cfg(test)]
 mod offer_tests;
