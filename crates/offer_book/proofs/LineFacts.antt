@@ -26,7 +26,6 @@ use Rattle.escrow_units.proofs.RoundingFacts.{near-zero}
 use Rattle.slgs_interest.proofs.PaymentFacts.{first-short, payments-face, payments-interest, payments-principal, payments-small, payments-within}
 use Rattle.slgs_interest.proofs.Series.{IsPaid, paid, certificate-first}
 use Rattle.market_notes.specs.NoteFlows as market
-use Rattle.market_notes.specs.NoteTerms.{IsNote}
 use Rattle.market_notes.proofs.AmountFacts as notes
 use Rattle.offer_book.specs.declared.line.LineKind.{LineKind}
 use Rattle.offer_book.specs.declared.line.LineKind.TheVariants.{Cash, Market, Security}
