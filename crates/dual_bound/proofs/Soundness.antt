@@ -17,8 +17,9 @@ use Rattle.fixed_powers.proofs.PresentValueFacts.{low_value-excludes}
 use Rattle.fixed_powers.specs.DiscountPowers.{low, one}
 use Rattle.fixed_powers.specs.PresentValues.{present_value}
 use Rattle.fixed_powers.specs.declared.side.Side.TheVariants.{Low}
+use Rattle.offer_book.proofs.CoefficientFacts.{coefficients-enclose}
 use Rattle.offer_book.specs.Book.{AreLines, BookContents, IsBook, IsCashLine, IsLine, IsSecurity, IsSecurityLine}
-use Rattle.offer_book.specs.Coefficients.{CoefficientsEnclose, EnclosesUnits}
+use Rattle.offer_book.specs.Coefficients.{EnclosesUnits}
 use Rattle.offer_book.specs.Portfolio.{IsPermitted, IsPermittedUnits, Meets, cost, line_cost, line_payments, payments, security_cost, security_flows}
 use Rattle.offer_book.specs.Rival.{IsRival}
 use Rattle.offer_book.specs.declared.coefficients.TheConstants.{COEFFICIENT_SCALE}
@@ -141,19 +142,19 @@ credited-sum book leaf (p ∷ pairs) =
     )
 
 -- a portfolio whose limit is credited at least what it takes costs at least the bound
-bound-le : CoefficientsEnclose → (n : ℕ) (book : BookContents) (ranges : List Interval) (leaf : Leaf) (plan : List ℕ) → IsBook book → IsLeaf (length book.needs) leaf
+bound-le : (n : ℕ) (book : BookContents) (ranges : List Interval) (leaf : Leaf) (plan : List ℕ) → IsBook book → IsLeaf (length book.needs) leaf
     → IsPermitted book plan → Meets book plan → IsWithin ranges plan
     → sum_by (limited n book leaf) (zip book.lines plan) ≤ sum_by (limit_credit leaf) (zip book.lines plan)
     → CostsAtLeast (bound_of n book ranges leaf) book leaf plan
 unfolding bound_of
-bound-le enclose n book ranges leaf plan limits well permitted covered inside granted =
+bound-le n book ranges leaf plan limits well permitted covered inside granted =
     let pairs = zip book.lines plan in
     let worth = covered-worth book.needs leaf.prices (payments book plan) limits.needs.rising well.falling (sym well.every_date) covered in
     let by_line : paid_at book.needs leaf.prices (payments book plan) ≡ sum_by (priced book leaf) pairs =
         sum-flat_map (at_rate (price_on book.needs leaf.prices)) (λ (p : Line × ℕ). line_payments book.settle p.0 p.1) pairs in
     let charges = charged-sum n book leaf pairs in
     let credits = credited-sum book leaf pairs in
-    let least = least-sum n book leaf book.lines ranges plan (λ line units is. enclose book.settle line limits.settlement is units) (all-lines book.settle book.lines limits.lines)
+    let least = least-sum n book leaf book.lines ranges plan (λ line units is. coefficients-enclose book.settle line limits.settlement is units) (all-lines book.settle book.lines limits.lines)
         permitted.units permitted.same_length inside in
     let exact = reduced-sum n book leaf pairs in
     let whole : priced_needs book.needs leaf.prices + sum_by (charged n book leaf) pairs ≤ cost_weight leaf * cost book plan + sum_by (credited book leaf) pairs = omega arith in
@@ -190,9 +191,9 @@ limited-none n book leaf [] none = refl
 limited-none n book leaf (p ∷ pairs) none =
     omega (arith, sum_by-cons (limited n book leaf) p pairs, limited-free n book leaf p.0 p.1 (weightless leaf p.0.kind none), limited-none n book leaf pairs none)
 
-pub bounds-all : CoefficientsEnclose → BoundsAll
-bounds-all enclose n book ranges leaf limits well none plan permitted covered inside =
-    bound-le enclose n book ranges leaf plan limits well permitted covered inside (omega (arith, limited-none n book leaf (zip book.lines plan) none))
+pub bounds-all : BoundsAll
+bounds-all n book ranges leaf limits well none plan permitted covered inside =
+    bound-le n book ranges leaf plan limits well permitted covered inside (omega (arith, limited-none n book leaf (zip book.lines plan) none))
 
 -- of each cent that is paid the limit takes at most its weight times the low power of the day
 limited-le : (n : ℕ) (settle : ℤ) (weight : ℕ) (flows : List Flow)
@@ -298,6 +299,6 @@ rival-limited limit book leaf rival limits is =
           sum_by-cons (limit_credit leaf) (cash, units) (zip lines plan), securities-limited n book leaf lines plan are.1, securities-credit book leaf lines plan are.1,
         )
 
-pub bounds-rivals : CoefficientsEnclose → BoundsRivals
-bounds-rivals enclose limit book ranges leaf limits well rival is inside =
-    bound-le enclose (limit - 1) book ranges leaf rival limits well is.permitted is.covered inside (rival-limited limit book leaf rival limits is)
+pub bounds-rivals : BoundsRivals
+bounds-rivals limit book ranges leaf limits well rival is inside =
+    bound-le (limit - 1) book ranges leaf rival limits well is.permitted is.covered inside (rival-limited limit book leaf rival limits is)

@@ -8,7 +8,7 @@ mod ranges;
 mod tests;
 mod tree;
 
-pub use laws::range_laws;
+pub use laws::{bound_laws, range_laws};
 pub use prices::{PRICE_SCALE, Prices};
 pub use ranges::{Interval, Ranges};
 pub use tree::{Leaf, TreeNode};
