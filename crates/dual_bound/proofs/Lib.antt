@@ -3,4 +3,5 @@ pub mod LineBound
 pub mod RangeFacts
 pub mod RangeLaws
 pub mod Signed
+pub mod Sizes
 pub mod Soundness

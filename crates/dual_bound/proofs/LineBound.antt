@@ -15,10 +15,12 @@ use Rattle.offer_book.specs.Portfolio.{IsPermittedUnits, line_cost, line_payment
 use Rattle.offer_book.specs.declared.coefficients.PayCoefficients.{PayCoefficients}
 use Rattle.offer_book.specs.declared.coefficients.TheConstants.{COEFFICIENT_SCALE}
 use Rattle.offer_book.specs.declared.line.Line.{Line}
-use Rattle.dual_bound.specs.LeafBound.{AffineForm, cost_worth, form_at, form_of, least_side, least_within, paid_worth, reduced_cost, signed_sum}
+use Rattle.dual_bound.specs.LeafBound.{cost_worth, form_at, form_of, least_side, least_within, paid_worth, reduced_cost, signed_sum}
 use Rattle.dual_bound.specs.Ranges.{LieIn}
+use Rattle.dual_bound.specs.declared.form.Form.{Form}
 use Rattle.dual_bound.specs.declared.ranges.Interval.{Interval}
 use Rattle.dual_bound.specs.declared.tree.Leaf.{Leaf}
+use Rattle.dual_bound.proofs.Sizes.{abs-neg, pay_slack, pays_slope}
 use Rattle.dual_bound.proofs.Signed.{add-mul, mul-add, mul-comm, mul-neg, mul-sub, neg-mul, pos-mul, scale-in}
 
 -- the side of a coefficient by the sign of its weight
@@ -53,18 +55,6 @@ side-le (negsuc m) low high slack units cents least most =
 -- what payments are worth by a weight for each day
 abbrev worth : (ℤ → ℤ) → List Flow → ℤ
 worth weight flows = signed_sum (λ flow. weight flow.day *ℤ pos flow.cents.0) flows
-
--- the slope of a line's payments, and their slack
-abbrev pays_slope : (ℤ → ℤ) → List PayCoefficients → ℤ
-pays_slope weight pays = signed_sum (λ pay. least_side (neg_ℤ (weight pay.day)) pay.low pay.high) pays
-
-abbrev pay_slack : (ℤ → ℤ) → PayCoefficients → ℕ
-pay_slack weight pay = unsigned_abs (weight pay.day) * pay.slack
-
-abs-neg : (z : ℤ) → unsigned_abs (neg_ℤ z) ≡ unsigned_abs z
-abs-neg (pos zero) = refl
-abs-neg (pos (suc n)) = refl
-abs-neg (negsuc n) = refl
 
 pay-le : (weight : ℤ → ℤ) (units : ℕ) (pay : PayCoefficients) (flow : Flow) → EnclosesPayment units pay flow
     → (least_side (neg_ℤ (weight pay.day)) pay.low pay.high *ℤ pos units)
@@ -122,7 +112,7 @@ form-le n book leaf line units encloses =
     joined whole a b c d e f now later side paid slope exact scaled = omega (arith, ints)
 
 -- an affine form between two numbers is at least the least at them
-affine-least : (form : AffineForm) (a x b : ℕ) → a ≤ x → x ≤ b → int_min (form_at form a) (form_at form b) ≤ℤ form_at form x
+affine-least : (form : Form) (a x b : ℕ) → a ≤ x → x ≤ b → int_min (form_at form a) (form_at form b) ≤ℤ form_at form x
 affine-least form a x b from to = at form.slope
   where
     at : (slope : ℤ) → int_min (slope *ℤ pos a -ℤ pos form.slack) (slope *ℤ pos b -ℤ pos form.slack) ≤ℤ (slope *ℤ pos x -ℤ pos form.slack)
@@ -151,7 +141,7 @@ pub least-le : (n : ℕ) (book : BookContents) (leaf : Leaf) (line : Line) (inte
     → least_within n book leaf line interval ≤ℤ reduced_cost n book leaf line units
 least-le n book leaf line interval units encloses permitted inside = at (interval.low == interval.high) refl (interval.low == 0) refl
   where
-    form : AffineForm
+    form : Form
     form = form_of n book leaf line
 
     exact : form_at form units ≤ℤ reduced_cost n book leaf line units

@@ -1,6 +1,8 @@
 //! Trees of lower bounds on the cost of a portfolio: their nodes, and the prices of a leaf.
 #![tactic(auto)]
 
+mod bound;
+mod form;
 mod laws;
 mod prices;
 mod ranges;
@@ -8,6 +10,7 @@ mod ranges;
 mod tests;
 mod tree;
 
+pub use form::Form;
 pub use laws::{bound_laws, range_laws};
 pub use prices::{PRICE_SCALE, Prices};
 pub use ranges::{Interval, Ranges};
