@@ -25,12 +25,13 @@ use Rattle.slgs_interest.specs.PaymentLaws.{IsShort}
 use Rattle.slgs_interest.specs.Payments as slgs
 use Rattle.offer_book.specs.Book.{BookContents, IsCashLine, IsLine, IsSecurity, IsSecurityLine}
 use Rattle.offer_book.specs.Coefficients.{cost_coefficients, half_year_accrual, interest_high, interest_low, interest_slack, kind_costs, kind_pays, note_paid_on, paid_on, pay_coefficients, slgs_paid_on}
+use Rattle.offer_book.specs.Portfolio.{line_cost}
 use Rattle.offer_book.specs.declared.coefficients.PayCoefficients.{PayCoefficients}
 use Rattle.offer_book.specs.declared.coefficients.TheConstants.{COEFFICIENT_SCALE}
 use Rattle.offer_book.specs.declared.line.Line.{Line}
 use Rattle.offer_book.specs.declared.line.LineKind.{LineKind}
 use Rattle.offer_book.specs.declared.line.LineKind.TheVariants.{Cash, Market, Security}
-use Rattle.offer_book.proofs.LineFacts.{dates-few, is_paid, is_short}
+use Rattle.offer_book.proofs.LineFacts.{cash-at_most, security-at_most, dates-few, is_paid, is_short}
 use Rattle.dual_bound.specs.LeafBound.{cost_weight, cost_worth, least_side, limit_price, limit_weight, paid_worth, price_on, signed_sum}
 use Rattle.dual_bound.specs.Tree.{IsLeaf}
 use Rattle.dual_bound.specs.declared.prices.TheConstants.{PRICE_SCALE}
@@ -71,7 +72,18 @@ limit_price-small n settle weight day small =
 pub abs-difference : (a b most : ℕ) → a ≤ most → b ≤ most → unsigned_abs (pos a -ℤ pos b) ≤ most
 abs-difference a b most first second = omega (arith, ints)
 
-abs-sum : (a b : ℤ) → unsigned_abs (a +ℤ b) ≤ unsigned_abs a + unsigned_abs b
+-- what a cent is worth is at most 2, and what it costs counts at most 1
+pub paid_worth-light : (n : ℕ) (book : BookContents) (leaf : Leaf) (kind : LineKind) → IsLeaf (length book.needs) leaf → (day : ℤ) → unsigned_abs (paid_worth n book leaf kind day) ≤ 2 * PRICE_SCALE
+paid_worth-light n book leaf kind well day =
+    abs-difference (price_on book.needs leaf.prices day) (limit_price n book.settle (limit_weight leaf kind) day) (2 * PRICE_SCALE)
+    (price_on-small book.needs leaf.prices day well.range)
+    (omega (arith, limit_price-small n book.settle (limit_weight leaf kind) day (limit_weight-small leaf kind well.limit)))
+
+pub cost_worth-light : (leaf : Leaf) (kind : LineKind) → leaf.mu ≤ PRICE_SCALE → unsigned_abs (cost_worth leaf kind) ≤ PRICE_SCALE
+cost_worth-light leaf kind small =
+    abs-difference (cost_weight leaf) (limit_weight leaf kind) PRICE_SCALE (cost_weight-small leaf) (limit_weight-small leaf kind small)
+
+pub abs-sum : (a b : ℤ) → unsigned_abs (a +ℤ b) ≤ unsigned_abs a + unsigned_abs b
 abs-sum a b = omega (arith, ints)
 
 -- ---- coefficients of one unit
@@ -87,6 +99,11 @@ div-le a b most some within = elim (cases_lt most (a / b)) [
   | inl more ↦ absurd (omega (arith, mul-div-le a b, mul-le-mul_right b more, within))
   | inr at_most ↦ at_most
 ]
+
+-- a step is at most 1,000,000 dollars
+pub step-small : (settle : ℤ) (line : Line) → IsLine settle line → line.step ≤ 10 ^ 8
+step-small settle line (inl cash) = omega (arith, cash.step)
+step-small settle line (inr security) = security.step_at_most
 
 -- what a date pays of a step: at most fourteen tenths of it, scaled
 pub record IsSized (step : ℕ) (pay : PayCoefficients) : Type 0 where
@@ -258,3 +275,8 @@ pays_slack-small weight step (pay ∷ pays) light sized =
     let first = mul-le-mul (light pay.day) own.slack in
     let rest = pays_slack-small weight step pays light (All-tail (IsSized step) pay pays sized) in
     omega (arith, first, rest, sum_by-cons (pay_slack weight) pay pays)
+
+-- ---- reduced costs
+pub line_cost-small : (settle : ℤ) (line : Line) (units : ℕ) → IsLine settle line → units ≤ line.most → line_cost line units ≤ 10 ^ 13
+line_cost-small settle line units (inl cash) few = cash-at_most line units cash few
+line_cost-small settle line units (inr security) few = omega (arith, security-at_most settle line units security few)

@@ -98,7 +98,7 @@ reduced-sum n book leaf pairs =
     each (p ∷ xs) = (λ i. reduced-parts n book leaf p i +ℤ each xs i)
 
 -- the lines of a book
-all-lines : (settle : ℤ) (lines : List Line) → AreLines settle lines → All (IsLine settle) lines
+pub all-lines : (settle : ℤ) (lines : List Line) → AreLines settle lines → All (IsLine settle) lines
 all-lines settle [] are = absurd are
 all-lines settle (cash ∷ securities) are =
     All-cons (IsLine settle) cash securities (inl are.0) (All-weaker (IsSecurityLine settle) (IsLine settle) (λ line is. inr is) securities are.1)

@@ -19,6 +19,10 @@ pub record LieIn (interval : Interval) (units : ℕ) : Type 0 where
   pub low : interval.low ≤ units
   pub high : units ≤ interval.high
 
+-- an interval of a line: its high end is at most the most of the line
+abbrev pub HasRoomFor : Line → Interval → Type 0
+HasRoomFor line interval = interval.high ≤ line.most
+
 -- a portfolio lies within ranges: each line's units lie in its interval
 abbrev pub IsWithin : List Interval → List ℕ → Type 0
 IsWithin ranges plan = AllZip LieIn ranges plan

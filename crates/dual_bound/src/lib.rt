@@ -1,7 +1,7 @@
 //! Trees of lower bounds on the cost of a portfolio: their nodes, and the prices of a leaf.
 #![tactic(auto)]
 
-mod bound;
+mod leaf_bound;
 mod form;
 mod laws;
 mod prices;
@@ -10,6 +10,7 @@ mod ranges;
 mod tests;
 mod tree;
 
+pub use leaf_bound::bound;
 pub use form::Form;
 pub use laws::{bound_laws, range_laws};
 pub use prices::{PRICE_SCALE, Prices};
