@@ -7,3 +7,4 @@ pub mod FlowFacts
 pub mod DayFacts
 pub mod YieldFacts
 pub mod PortfolioLaws
+pub mod ReachFacts

@@ -5,6 +5,7 @@ mod cash;
 mod costs;
 mod laws;
 mod plan;
+mod reach;
 mod security_flows;
 
 pub use cash::first_short;
@@ -13,6 +14,7 @@ pub use laws::{
     bounds, cost_parts, empty_flows, flow_days, meets_cost, zero_interest_total, zero_yield,
 };
 pub use plan::{Plan, first_unpermitted};
+pub use reach::out_of_reach;
 pub use security_flows::flows;
 
 #[cfg(test)]
