@@ -19,7 +19,7 @@ use Rattle.day_sums.specs.Summed.{summed}
 use Rattle.day_sums.proofs.SumFacts.{count, counted, counted-zero, count-append, days-summed}
 use Rattle.day_sums.proofs.Uniqueness.{keep-total, same-sums, in-steps}
 use Rattle.offer_book.specs.declared.line.Line.{Line}
-use Rattle.offer_book.specs.Book.{AreLines, BookContents, IsBook, IsSecurityLine}
+use Rattle.offer_book.specs.Book.{AreLines, BookContents, IsBook, IsLine, IsSecurityLine}
 use Rattle.offer_book.specs.Portfolio.{IsPermitted, security_flows}
 use Rattle.offer_book.proofs.LineFacts.{line_payments-little, line_payments-none, line_payments-within, line_payments-late}
 use Rattle.cash_table.proofs.CostFacts.{PairIsPermitted, permitted_few}
@@ -103,9 +103,9 @@ flows_later book plan limits =
         omega (arith, thirty_day_place_of-apart settle day own is_day (omega (arith, ints, late.0)))
 
 -- the lines after opening cash
-pub lines_after_cash : (settle : ℤ) (lines : List Line) → AreLines settle lines → All (IsSecurityLine settle) (drop 1 lines)
+pub lines_after_cash : (settle : ℤ) (lines : List Line) → AreLines settle lines → All (IsLine settle) (drop 1 lines)
 lines_after_cash settle [] lines = absurd lines
-lines_after_cash settle (cash ∷ securities) lines = lines.1
+lines_after_cash settle (cash ∷ securities) lines = All-weaker (IsSecurityLine settle) (IsLine settle) (λ line security. inr security) securities lines.1
 
 -- parts of a permitted portfolio: its securities
 pub securities_permitted : (lines : List Line) (plan : List ℕ) → All PairIsPermitted (zip lines plan) → All PairIsPermitted (drop 1 (zip lines plan))

@@ -8,3 +8,5 @@ pub mod DayFacts
 pub mod YieldFacts
 pub mod PortfolioLaws
 pub mod ReachFacts
+pub mod BalanceFacts
+pub mod BalanceLaws

@@ -1,6 +1,7 @@
 //! Portfolios of the lines of a book: whether one is permitted, what it costs and pays, and whether it meets the needs.
 #![tactic(auto)]
 
+mod day_balances;
 mod cash;
 mod costs;
 mod laws;
@@ -8,6 +9,7 @@ mod plan;
 mod reach;
 mod security_flows;
 
+pub use day_balances::{Balance, balances};
 pub use cash::first_short;
 pub use costs::{cost, security_cost};
 pub use laws::{
