@@ -1,25 +1,23 @@
 -- Receipts, needs and what is left, from one day to the next.
-use Rattle.std.proofs.Common.{◌≡◌, ◌∙◌, ℕ, zero, suc, ◌+◌, ◌-◌, ◌<◌, ◌≤◌, refl, sym, ap, arith, ℤ, pos, ◌+ℤ◌, ◌≤ℤ◌, ◌<ℤ◌, inl, inr, ◌⊎◌, Bool, true, false, if◌then◌else◌, List, [], ◌∷◌, ◌++◌, map, filter, length, take, get_or, int_le, int_lt}
+use Rattle.std.proofs.Common.{◌≡◌, ◌∙◌, ℕ, ◌+◌, ◌-◌, ◌<◌, ◌≤◌, refl, sym, ap, arith, ℤ, pos, ◌+ℤ◌, ◌≤ℤ◌, ◌<ℤ◌, true, false, if◌then◌else◌, List, [], ◌∷◌, ◌++◌, map, filter, length, take, get_or, int_lt}
 use Rattle.std.specs.Ordering.{int_eq}
-use Rattle.std.specs.List.{All, sum_by, range_with_len}
-use Rattle.std.proofs.lemmas.Bool.{cases_Bool}
+use Rattle.std.specs.List.{range_with_len}
 use Rattle.std.proofs.lemmas.Int.{ints, by_lt_z}
 use Rattle.std.proofs.lemmas.List.{append-nil, take_more, take_all, length-map, get_or-map, map-append}
-use Rattle.std.proofs.lemmas.List.Elements.{All-head, All-tail, filter-append}
+use Rattle.std.proofs.lemmas.List.Elements.{filter-append}
 use Rattle.std.proofs.lemmas.List.FromFn.{length-range_with_len, get_or-range_with_len}
 use Rattle.std.proofs.lemmas.List.Sums.{sum_by-cons}
 use Rattle.escrow_units.specs.Calendar.{years_after_of}
-use Rattle.escrow_units.specs.Flows.{FallWithin, total}
+use Rattle.escrow_units.specs.Flows.{FallWithin}
 use Rattle.escrow_units.specs.Series.{days_between_of}
 use Rattle.escrow_units.specs.declared.amount.Cents.{Cents}
 use Rattle.escrow_units.specs.declared.security.Flow.{Flow}
-use Rattle.escrow_units.proofs.FlowFacts.{int_le-test, int_le-not, int_lt-test, int_lt-not, days_between_of-count}
+use Rattle.escrow_units.proofs.FlowFacts.{int_lt-test, int_lt-not}
 use Rattle.day_sums.specs.Summed.{cents_on, total_by}
-use Rattle.day_sums.proofs.Uniqueness.{here, here-same, here-later, other-day}
+use Rattle.day_sums.proofs.Uniqueness.{here, here-same, here-later}
 use Rattle.cash_table.specs.Balances.{entry_on, entries_of, escrow_days, is_listed}
 use Rattle.cash_table.specs.Receipts.{cents_by, total_before}
 use Rattle.cash_table.specs.declared.day_balances.Balance.{Balance}
-use Rattle.cash_table.proofs.DayFacts.{total_by-at_most}
 use Rattle.cash_table.proofs.ReceiptFacts.{cents_by-due, cents_by-later}
 use Rattle.cash_table.proofs.ZipFacts.{sum_by-zero}
 

@@ -1,27 +1,27 @@
 -- What balances are.
-use Rattle.std.proofs.Common.{◌≡◌, ◌∙◌, ℕ, zero, suc, ◌+◌, ◌-◌, ◌<◌, ◌≤◌, refl, sym, ap, arith, ℤ, pos, ◌+ℤ◌, ◌≤ℤ◌, ◌<ℤ◌, inl, inr, ◌⊎◌, Bool, true, false, cond, if◌then◌else◌, List, [], ◌∷◌, ◌++◌, map, filter, length, drop, get_or, nat_lt, ◌||◌}
+use Rattle.std.proofs.Common.{◌≡◌, ◌∙◌, ℕ, zero, suc, ◌<◌, ◌≤◌, refl, sym, ap, arith, ℤ, ◌≤ℤ◌, ◌<ℤ◌, inl, inr, ◌⊎◌, Bool, true, false, if◌then◌else◌, List, [], ◌∷◌, map, filter, length, drop, get_or, nat_lt, ◌||◌}
 use Rattle.std.specs.Ordering.{int_eq}
-use Rattle.std.specs.List.{All, AllPairs, Any, flat_map, sum_by, zip, range_with_len}
+use Rattle.std.specs.List.{All, AllPairs, Any, flat_map, zip}
 use Rattle.std.proofs.lemmas.Bool.{cases_Bool, ltb-true, lt-ltb}
 use Rattle.std.proofs.lemmas.Int.{ints}
 use Rattle.std.proofs.lemmas.List.{length-map, get_or-map}
-use Rattle.std.proofs.lemmas.List.Elements.{All-head, All-tail, All-cons, All-nil, All-append, All-map, All-filter, filter_passes}
+use Rattle.std.proofs.lemmas.List.Elements.{All-head, All-tail, All-nil, All-append, All-map, All-filter, filter_passes}
 use Rattle.std.proofs.lemmas.List.Kept.{AllPairs-filter}
 use Rattle.std.proofs.lemmas.List.Sums.{sum_by-cons, sum_by-append}
 use Rattle.escrow_units.specs.Calendar.{years_after_of}
-use Rattle.escrow_units.specs.Flows.{FallWithinFortyYears, Rise, total}
+use Rattle.escrow_units.specs.Flows.{FallWithinFortyYears}
 use Rattle.escrow_units.specs.Series.{days_between_of}
 use Rattle.escrow_units.specs.SlgsTerms.{IsSettlement}
 use Rattle.escrow_units.specs.declared.security.Flow.{Flow}
 use Rattle.escrow_units.proofs.FlowFacts.{days_between_of-whole}
 use Rattle.escrow_units.proofs.YearFacts.{years-follow}
-use Rattle.day_sums.specs.Summed.{cents_on, total_by, summed}
+use Rattle.day_sums.specs.Summed.{cents_on, summed}
 use Rattle.day_sums.specs.SummedLaws.{AreAboveZero}
 use Rattle.day_sums.proofs.SumFacts.{count-summed, above-summed}
 use Rattle.day_sums.proofs.Uniqueness.{here, here-same, keep-total_by}
 use Rattle.offer_book.specs.declared.line.Line.{Line}
 use Rattle.offer_book.specs.Book.{AreLines, BookContents, IsBook, IsLine}
-use Rattle.offer_book.specs.Portfolio.{IsPermitted, line_cost, payments, security_flows}
+use Rattle.offer_book.specs.Portfolio.{line_cost, payments, security_flows}
 use Rattle.offer_book.proofs.LineFacts.{cash-payments, line_payments-within}
 use Rattle.cash_table.specs.Balances.{AreBalances, IsCashDay, balances_of, entry_on, entries_of, escrow_days, is_listed}
 use Rattle.cash_table.specs.declared.day_balances.Balance.{Balance}

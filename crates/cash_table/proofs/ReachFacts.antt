@@ -1,5 +1,5 @@
 -- The most of every line is permitted, and no permitted portfolio pays more by any day.
-use Rattle.std.proofs.Common.{◌≡◌, ◌∙◌, ◌↔◌, ℕ, zero, suc, ◌+◌, ◌*◌, ◌/◌, ◌<◌, ◌≤◌, refl, sym, ap, arith, ℤ, inl, inr, Bool, true, false, if◌then◌else◌, List, [], ◌∷◌, map, length, Option, Some, None, MatchOption, IfSome, IsNone, int_le, get_or, set, take, ◌++◌}
+use Rattle.std.proofs.Common.{◌≡◌, ◌∙◌, ◌↔◌, ℕ, zero, suc, ◌+◌, ◌*◌, ◌<◌, ◌≤◌, refl, sym, ap, arith, ℤ, inl, inr, Bool, true, false, if◌then◌else◌, List, [], ◌∷◌, map, length, Option, Some, None, MatchOption, IfSome, IsNone, int_le, get_or, set, take, ◌++◌}
 use Rattle.std.specs.Ordering.{int_eq}
 use Rattle.std.specs.List.{All, zip, flat_map}
 use Rattle.std.proofs.Math.Nat.{div-zero, mul-le-mul_left, mul-le-mul_right}
@@ -8,24 +8,21 @@ use Rattle.std.proofs.lemmas.List.Elements.{All-head, All-tail, All-cons, All-ni
 use Rattle.std.proofs.lemmas.List.Sums.{sum_by-cons, sum_by-append}
 use Rattle.escrow_units.specs.Interest.{half_coupon_of}
 use Rattle.escrow_units.specs.Rounding.{near}
-use Rattle.escrow_units.specs.Series.{days_between_of}
 use Rattle.escrow_units.specs.declared.security.Flow.{Flow}
 use Rattle.escrow_units.specs.declared.security.Slgs.{Slgs}
 use Rattle.escrow_units.specs.declared.security.SlgsKind.{SlgsKind}
 use Rattle.escrow_units.specs.declared.security.SlgsKind.TheVariants as kind
 use Rattle.escrow_units.proofs.RoundingFacts.{near-mono}
 use Rattle.day_sums.specs.Summed.{total_by}
-use Rattle.slgs_interest.specs.Payments.{payment_dates, payments_of, payment_on, interest_on, principal_on, first_interest, first_interest_of_kind, certificate_interest, first_period_interest, before_first, second_before_first, basis_of}
+use Rattle.slgs_interest.specs.Payments.{payment_dates, payments_of, payment_on, first_interest, first_interest_of_kind, first_period_interest}
 use Rattle.offer_book.specs.declared.line.LineKind.{LineKind}
 use Rattle.offer_book.specs.declared.line.LineKind.TheVariants.{Cash, Security}
 use Rattle.offer_book.specs.declared.line.Line.{Line}
 use Rattle.offer_book.specs.Book.{BookContents, IsBook, IsCashLine, IsSecurityLine, AreLines}
 use Rattle.offer_book.specs.Portfolio.{IsPermitted, IsPermittedUnits, IsFirstShort, Meets, kind_payments, line_cost, line_payments, payments}
-use Rattle.cash_table.specs.First.{first_short_of}
 use Rattle.cash_table.specs.Receipts.{cents_by}
 use Rattle.cash_table.specs.Reach.{AreAllShort, IsInReach, plan_of_most}
 use Rattle.cash_table.proofs.CostFacts.{PairIsPermitted, permitted_few}
-use Rattle.cash_table.proofs.DayFacts.{first_short_is}
 use Rattle.cash_table.proofs.PaymentFacts.{pair_payments}
 
 -- a greater amount is rounded to no less

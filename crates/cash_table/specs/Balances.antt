@@ -1,5 +1,5 @@
 -- The cash of an escrow, day by day. A receipt serves a need of its day, and carried cash earns nothing: this project's own.
-use Rattle.std.specs.Prelude.{◌≡◌, ◌⊎◌, ℕ, ◌+◌, ◌-◌, ◌<◌, Bool, ◌||◌, nat_lt, List, map, filter, ℤ, pos, ◌+ℤ◌, ◌<ℤ◌}
+use Rattle.std.specs.Prelude.{◌≡◌, ◌⊎◌, ℕ, ◌+◌, ◌-◌, Bool, ◌||◌, nat_lt, List, map, filter, ℤ, pos, ◌+ℤ◌, ◌<ℤ◌}
 use Rattle.std.specs.Ordering.{int_eq}
 use Rattle.std.specs.List.{All, AllPairs, Any, range_with_len}
 use Rattle.escrow_units.specs.Calendar.{years_after_of}

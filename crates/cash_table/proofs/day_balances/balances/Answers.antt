@@ -1,11 +1,9 @@
-use Rattle.std.proofs.Common.{◌≡◌, ◌∙◌, ◌++◌, ◌≤◌, [], ap, sym, subst, arith, ℤ, List}
-use Rattle.std.proofs.lemmas.Int.{ints}
+use Rattle.std.proofs.Common.{◌≡◌, ◌∙◌, ◌++◌, ap, sym, subst, arith, List}
 use Rattle.std.proofs.lemmas.Result.{IfOk-weaker}
 use Rattle.escrow_units.specs.Calendar.{years_after_of}
-use Rattle.escrow_units.specs.Flows.{FallWithinFortyYears, total}
 use Rattle.escrow_units.specs.declared.security.Flow.{Flow}
 use Rattle.escrow_units.proofs.YearFacts.{years-follow}
-use Rattle.day_sums.specs.Summed.{summed, total_by}
+use Rattle.day_sums.specs.Summed.{summed}
 use Rattle.day_sums.specs.Table.{SpanSums}
 use Rattle.day_sums.proofs.Uniqueness.{fall-within, keep-total, keep-total_by}
 use Rattle.offer_book.specs.Portfolio.{payments}

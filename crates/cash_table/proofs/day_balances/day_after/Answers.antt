@@ -1,4 +1,4 @@
-use Rattle.std.proofs.Common.{◌≡◌, ◌∙◌, ◌<◌, ◌≤◌, ◌^◌, ap, rules, arith, ℕ, ℤ, pos, ◌+ℤ◌, ◌≤ℤ◌, to_z, of_z, w32, FitsSigned}
+use Rattle.std.proofs.Common.{◌≡◌, ◌∙◌, ◌≤◌, ap, rules, arith, ℕ, ℤ, pos, ◌+ℤ◌, ◌≤ℤ◌, to_z, w32}
 use Rattle.std.proofs.lemmas.Int.{ints, to_z-of_z, to_z_pos}
 use mir.Val.{SFits}
 use Rattle.escrow_units.specs.Calendar.{years_after_of}

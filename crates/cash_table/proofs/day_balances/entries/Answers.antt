@@ -1,11 +1,10 @@
-use Rattle.std.proofs.Common.{◌≡◌, ◌∙◌, ◌+◌, ◌<◌, ◌≤◌, ◌^◌, ap, sym, rules, arith, refl, subst, ℤ, pos, ◌+ℤ◌, to_z, w32, length}
+use Rattle.std.proofs.Common.{◌≡◌, ◌∙◌, ◌+◌, ◌<◌, ap, sym, arith, pos, ◌+ℤ◌, length}
 use Rattle.std.proofs.lemmas.Int.{ints}
 use Rattle.escrow_units.specs.Calendar.{years_after_of}
 use Rattle.escrow_units.specs.Series.{days_between_of}
 use Rattle.escrow_units.proofs.FlowFacts.{days_between_of-count}
 use Rattle.escrow_units.proofs.YearFacts.{years-follow}
 use Rattle.cash_table.specs.Balances.{entry_on, escrow_days}
-use Rattle.cash_table.specs.Receipts.{total_before}
 use Rattle.cash_table.proofs.BalanceFacts.{entries_all, entries_more-left_out, entries_more-listed, left_after, length-escrow_days, total_before-first}
 use Rattle.cash_table.proofs.day_balances.entries.Goals as goal
 use Rattle.cash_table.proofs.day_balances.entries.Goals.{then-is_listed+in_ok-push, else-is_listed}
