@@ -1,2 +1,4 @@
+pub mod BookFacts
 pub mod LineFacts
+pub mod MarketFacts
 pub mod OfferFacts

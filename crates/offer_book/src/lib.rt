@@ -1,11 +1,15 @@
-//! The lines of an escrow: opening cash and the SLGS securities on offer, what they cost and pay, and the book of one case.
+//! The lines of an escrow: opening cash, and the SLGS securities and marketable notes on offer, what they cost and pay, and
+//! the book of one case.
 #![tactic(auto)]
 
 mod book;
+mod files;
 mod line;
+mod market;
 mod offers;
 
 pub use book::Book;
+pub use files::{book_laws, make_book};
 pub use line::{Line, LineKind};
 pub use offers::{offer_laws, slgs_lines};
 
