@@ -21,7 +21,7 @@ use Rattle.day_sums.proofs.SumFacts.{count-summed, above-summed}
 use Rattle.day_sums.proofs.Uniqueness.{here, here-same, keep-total_by}
 use Rattle.offer_book.specs.declared.line.Line.{Line}
 use Rattle.offer_book.specs.Book.{AreLines, BookContents, IsBook, IsLine}
-use Rattle.offer_book.specs.Portfolio.{line_cost, payments, security_flows}
+use Rattle.offer_book.specs.Portfolio.{par, payments, security_flows}
 use Rattle.offer_book.proofs.LineFacts.{cash-payments, line_payments-within}
 use Rattle.cash_table.specs.Balances.{AreBalances, IsCashDay, balances_of, entry_on, entries_of, escrow_days, is_listed}
 use Rattle.cash_table.specs.declared.day_balances.Balance.{Balance}
@@ -81,16 +81,16 @@ pub entries_listed : (settle : ℤ) (receipts needs : List Flow) → All (λ ent
 entries_listed settle receipts needs = filter_passes (is_listed settle) (map (entry_on receipts needs) (escrow_days settle))
 
 -- an amount on a day is that of some flow of the day
-any_later : {X : Type 0} (P : X → Type 0) (x : X) (xs : List X) → Any P xs → Any P (x ∷ xs)
+pub any_later : {X : Type 0} (P : X → Type 0) (x : X) (xs : List X) → Any P xs → Any P (x ∷ xs)
 any_later P x xs (k, y, within, at, holds) = (suc k, y, omega (arith, within), at, holds)
 
-any_here : {X : Type 0} (P : X → Type 0) (x : X) (xs : List X) → P x → Any P (x ∷ xs)
+pub any_here : {X : Type 0} (P : X → Type 0) (x : X) (xs : List X) → P x → Any P (x ∷ xs)
 any_here P x xs holds = (0, x, omega arith, refl, holds)
 
 eq_from_test : (a b : ℤ) → int_eq a b ≡ true → a ≡ b
 eq_from_test a b h = grind (arith, ints)
 
-eq_test : (a b : ℤ) → a ≡ b → int_eq a b ≡ true
+pub eq_test : (a b : ℤ) → a ≡ b → int_eq a b ≡ true
 eq_test a b h = grind (arith, ints)
 
 pub some_on : (day : ℤ) (flows : List Flow) → 0 < cents_on day flows → Any (λ flow. flow.day ≡ day) flows
@@ -116,7 +116,7 @@ securities_on : (settle day : ℤ) (lines : List Line) (plan : List ℕ) → Are
 securities_on settle day [] plan lines other = absurd lines
 securities_on settle day (cash ∷ securities) [] lines other = refl
 securities_on settle day (cash ∷ securities) (units ∷ plan) lines other =
-    let flow : Flow = record { day = settle; cents = record { 0 = line_cost cash units } } in
+    let flow : Flow = record { day = settle; cents = record { 0 = par cash units } } in
     let opening = ap (cents_on day) (cash-payments settle cash units lines.0) in
     let alone = sum_by-cons (here day) flow [] in
     omega (arith, sum_by-append (here day) (pair_payments settle (cash, units)) (flat_map (pair_payments settle) (zip securities plan)), opening, alone, none flow.cents.0 (int_eq settle day) refl)
@@ -231,6 +231,8 @@ are_balances book plan limits = record {
   amounts = entries_amounts book.settle (payments book plan) book.needs;
 }
 
-pub entries_are_balances : (book : BookContents) (plan : List ℕ) → entries_of book.settle (summed (payments book plan)) (summed book.needs) ≡ balances_of book plan
+-- entries of the sums of receipts and needs are the balances
+pub entries_of_book : (settle : ℤ) (receipts needs : List Flow) (entries : List Balance) (book : BookContents) (plan : List ℕ) → settle ≡ book.settle → receipts ≡ summed (payments book plan) → needs ≡ summed book.needs
+    → entries ≡ entries_of settle receipts needs → entries ≡ balances_of book plan
 unfolding balances_of
-entries_are_balances book plan = entries_of_sums book.settle (payments book plan) book.needs
+entries_of_book settle receipts needs entries book plan a b e is = rw (a, b, e) at is ∙ entries_of_sums book.settle (payments book plan) book.needs

@@ -10,3 +10,4 @@ pub mod PortfolioLaws
 pub mod ReachFacts
 pub mod BalanceFacts
 pub mod BalanceLaws
+pub mod LaterFacts

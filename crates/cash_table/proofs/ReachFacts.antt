@@ -15,11 +15,13 @@ use Rattle.escrow_units.specs.declared.security.SlgsKind.TheVariants as kind
 use Rattle.escrow_units.proofs.RoundingFacts.{near-mono}
 use Rattle.day_sums.specs.Summed.{total_by}
 use Rattle.slgs_interest.specs.Payments.{payment_dates, payments_of, payment_on, first_interest, first_interest_of_kind, first_period_interest}
+use Rattle.market_notes.specs.NoteFlows as market
+use Rattle.market_notes.specs.declared.note.Note.{Note}
 use Rattle.offer_book.specs.declared.line.LineKind.{LineKind}
-use Rattle.offer_book.specs.declared.line.LineKind.TheVariants.{Cash, Security}
+use Rattle.offer_book.specs.declared.line.LineKind.TheVariants.{Cash, Market, Security}
 use Rattle.offer_book.specs.declared.line.Line.{Line}
 use Rattle.offer_book.specs.Book.{BookContents, IsBook, IsCashLine, IsSecurityLine, AreLines}
-use Rattle.offer_book.specs.Portfolio.{IsPermitted, IsPermittedUnits, IsFirstShort, Meets, kind_payments, line_cost, line_payments, payments}
+use Rattle.offer_book.specs.Portfolio.{IsPermitted, IsPermittedUnits, IsFirstShort, Meets, kind_payments, line_payments, par, payments}
 use Rattle.cash_table.specs.Receipts.{cents_by}
 use Rattle.cash_table.specs.Reach.{AreAllShort, IsInReach, plan_of_most}
 use Rattle.cash_table.proofs.CostFacts.{PairIsPermitted, permitted_few}
@@ -60,6 +62,11 @@ slgs_payment_more slgs face more day le =
     let principal = choice_more (int_eq day slgs.maturity) face 0 more 0 le (omega arith) in
     omega (arith, interest, principal)
 
+note_payment_more : (note : Note) (face more : ℕ) (day : ℤ) → face ≤ more → (market.payment_on note face day).cents.0 ≤ (market.payment_on note more day).cents.0
+note_payment_more note face more day le =
+    let principal = choice_more (int_eq day note.maturity) face 0 more 0 le (omega arith) in
+    omega (arith, half_coupon_more face more note.coupon.0 le, principal)
+
 -- payments on the same days, none of them less
 total_by_more : (t : ℤ) (f g : ℤ → Flow) (days : List ℤ) → ((day : ℤ) → (f day).day ≡ (g day).day) → ((day : ℤ) → (f day).cents.0 ≤ (g day).cents.0)
     → total_by t (map f days) ≤ total_by t (map g days)
@@ -70,15 +77,17 @@ total_by_more t f g (day ∷ days) same more =
     omega (arith, sum_by-cons (cents_by t) (f day) (map f days), sum_by-cons (cents_by t) (g day) (map g days), here, total_by_more t f g days same more)
 
 kind_pays_more : (t settle : ℤ) (kind : LineKind) (amount more : ℕ) → amount ≤ more → total_by t (kind_payments settle kind amount) ≤ total_by t (kind_payments settle kind more)
-unfolding payments_of
+unfolding payments_of market.payments_of
 kind_pays_more t settle Cash amount more le =
     total_by_more t (λ day. record { day = day; cents = record { 0 = amount } }) (λ day. record { day = day; cents = record { 0 = more } }) (settle ∷ []) (λ day. refl) (λ day. le)
 kind_pays_more t settle (Security slgs) amount more le =
     total_by_more t (payment_on slgs amount) (payment_on slgs more) (payment_dates slgs) (λ day. refl) (λ day. slgs_payment_more slgs amount more day le)
+kind_pays_more t settle (Market note) amount more le =
+    total_by_more t (market.payment_on note amount) (market.payment_on note more) (market.payment_dates note) (λ day. refl) (λ day. note_payment_more note amount more day le)
 
 -- more units of a line pay no less by any day
 pub line_pays_more : (t settle : ℤ) (line : Line) (units more : ℕ) → units ≤ more → total_by t (line_payments settle line units) ≤ total_by t (line_payments settle line more)
-line_pays_more t settle line units more le = kind_pays_more t settle line.kind (line_cost line units) (line_cost line more) (mul-le-mul_left line.step le)
+line_pays_more t settle line units more le = kind_pays_more t settle line.kind (par line units) (par line more) (mul-le-mul_left line.step le)
 
 abbrev most_of : Line → ℕ
 most_of line = line.most

@@ -8,7 +8,7 @@ use Rattle.day_sums.specs.Table.{SpanSums}
 use Rattle.day_sums.proofs.Uniqueness.{fall-within, keep-total, keep-total_by}
 use Rattle.offer_book.specs.Portfolio.{payments}
 use Rattle.cash_table.specs.Balances.{AreBalances, balances_of, entries_of}
-use Rattle.cash_table.proofs.BalanceLaws.{are_balances, entries_are_balances, payments_within}
+use Rattle.cash_table.proofs.BalanceLaws.{are_balances, entries_of_book, payments_within}
 use Rattle.cash_table.proofs.PaymentFacts.{all_lines, payments_at_most}
 use Rattle.cash_table.proofs.day_balances.balances.Goals as goal
 
@@ -52,7 +52,7 @@ returns-clause-value c =
     let receipts : c.add_bought.new.sums.sums ≡ summed (payments c.args.book.now c.args.plan.now) = simp (c.settle-settle.ensures, c.lines-lines.ensures.value, c.units.ensures) at (ap (λ (s : SpanSums). s.sums) c.add_bought.ensures) in
     let needs : c.add.new.self.sums ≡ summed c.args.book.now.needs = ap (λ (s : SpanSums). s.sums) c.add.ensures ∙ ap (λ (s : SpanSums). summed (s.sums ++ c.needs.result.now)) (c.in_ok-needs.ensures) ∙ ap (λ (fs : List Flow). summed fs) c.needs.ensures.value in
     IfOk-weaker c.entries.result (λ entries. entries.items ≡ entries_of c.settle-settle.result c.add_bought.new.sums.sums c.add.new.self.sums) (λ entries. entries.items ≡ balances_of c.args.book.now c.args.plan.now)
-    (λ entries is. rw (receipts, needs, c.settle-settle.ensures) at is ∙ entries_are_balances c.args.book.now c.args.plan.now) c.entries.ensures
+    (λ entries is. entries_of_book c.settle-settle.result c.add_bought.new.sums.sums c.add.new.self.sums entries.items c.args.book.now c.args.plan.now c.settle-settle.ensures receipts needs is) c.entries.ensures
 
 pub returns-clause-meaning : goal.returns-clause-meaning
 returns-clause-meaning c =

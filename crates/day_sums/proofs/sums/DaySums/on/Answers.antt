@@ -1,4 +1,4 @@
-use Rattle.std.proofs.Common.{◌≡◌, ◌∙◌, ap, rules, arith, ◌-ℤ◌, w32, nat_abs, length, ◌<◌, ◌≤ℤ◌, ℤ}
+use Rattle.std.proofs.Common.{◌≡◌, ◌∙◌, ap, rules, arith, ◌-ℤ◌, w32, nat_abs, length, ◌<◌, ◌≤ℤ◌}
 use Rattle.std.proofs.lemmas.Int.{ints, to_z-of_z}
 use mir.Val.{SFits}
 use Rattle.day_sums.specs.Summed.{cents_on}
