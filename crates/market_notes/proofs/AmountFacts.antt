@@ -17,7 +17,7 @@ use Rattle.escrow_units.proofs.FlowFacts.{days_between_of-whole}
 use Rattle.escrow_units.proofs.LastDates.{half_back_of-reach, half_year-before}
 use Rattle.escrow_units.proofs.RoundingFacts.{near-at-most, near-IsNearest, near-zero}
 use Rattle.escrow_units.proofs.SeriesAround.{AreCounted, counted, last-recent}
-use Rattle.market_notes.specs.NoteFlows.{payment_dates, payments_of, payment_on, principal_on, accrued_interest, cost_of, previous_date, next_date}
+use Rattle.market_notes.specs.NoteFlows.{payment_dates, payments_of, payment_on, principal_on, accrual_of, accrued_interest, cost_of, previous_date, next_date}
 use Rattle.market_notes.specs.NoteLaws.{IsCouponDate}
 use Rattle.market_notes.specs.NoteTerms.{IsNote}
 use Rattle.market_notes.specs.declared.note.Note.{Note}
@@ -67,18 +67,32 @@ payments-little note face h few =
 price-small : (face price : ℕ) → face ≤ 10 ^ 11 → price ≤ 30_000_000_000 → face_price_of face price ≤ 3 * 10 ^ 11
 price-small face price few low = near-at-most (face * price) (10 ^ 10) (3 * 10 ^ 11) (omega arith) (omega (arith, mul-le-mul few low))
 
-accrued-small : (note : Note) (face : ℕ) → IsNote note → face ≤ 10 ^ 11 → accrued_interest note face ≤ 16 * 10 ^ 9
-unfolding accrued_interest
-accrued-small note face h few =
+-- the days of the half-year of settlement, of which at most 184 have passed
+record IsAccrued (note : Note) : Type 0 where
+  passed : (accrual_of note).parts ≤ 184
+  half : 181 ≤ days_between_of (previous_date note) (next_date note)
+
+accrued : (note : Note) → IsNote note → IsAccrued note
+accrued note h =
     let c = dates-counted note h in
     let t = term note h in
     let half = half_year-before note.maturity rule.MonthEnd c.count t.base c.has.some (omega (arith, c.has.few)) in
     let recent = last-recent note.maturity rule.MonthEnd note.settle (previous_date note) t.base h.after c.last in
     let elapsed = days_between_of-whole (previous_date note) note.settle c.last.by in
     let apart = days_between_of-whole (previous_date note) (next_date note) (omega (arith, signed_arith, half.least, c.has.previous, c.has.next)) in
-    let days : days_between_of (previous_date note) note.settle ≤ 184 = omega (arith, signed_arith, recent, elapsed) in
-    let least : 181 ≤ days_between_of (previous_date note) (next_date note) = omega (arith, signed_arith, half.least, c.has.previous, c.has.next, apart) in
-    near-at-most _ _ (16 * 10 ^ 9) (omega (arith, least)) (part (face * note.coupon.0) _ _ (omega (arith, mul-le-mul few h.coupon)) days least)
+    record {
+      passed = omega (arith, signed_arith, recent, elapsed);
+      half = omega (arith, signed_arith, half.least, c.has.previous, c.has.next, apart);
+    }
+
+pub accrual-some : (note : Note) → IsNote note → 0 < (accrual_of note).year
+accrual-some note h = omega (arith, (accrued note h).half)
+
+accrued-small : (note : Note) (face : ℕ) → IsNote note → face ≤ 10 ^ 11 → accrued_interest note face ≤ 16 * 10 ^ 9
+unfolding accrued_interest
+accrued-small note face h few =
+    let days = accrued note h in
+    near-at-most _ _ (16 * 10 ^ 9) (omega (arith, days.half)) (part (face * note.coupon.0) _ _ (omega (arith, mul-le-mul few h.coupon)) days.passed days.half)
   where
     part : (year days half : ℕ) → year ≤ 3_000_000_000_000_000 → days ≤ 184 → 181 ≤ half → year * days ≤ 16 * 10 ^ 9 * (100_000 * (2 * half))
     part year days half f d l = omega (arith, mul-le-mul f d)

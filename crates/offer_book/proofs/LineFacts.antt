@@ -1,5 +1,5 @@
 -- What units of a line cost and pay.
-use Rattle.std.proofs.Common.{◌≡◌, ℕ, ◌+◌, ◌*◌, ◌^◌, ◌≤◌, zero, suc, refl, sym, ap, subst, arith, inl, inr, ℤ, ◌≤ℤ◌, ◌<ℤ◌, Bool, true, false, if◌then◌else◌, List, [], ◌∷◌, length, get_or, pos, ◌+ℤ◌, int_le, int_lt}
+use Rattle.std.proofs.Common.{◌≡◌, ℕ, ◌+◌, ◌*◌, ◌^◌, ◌≤◌, zero, suc, refl, sym, ap, subst, arith, inl, inr, ℤ, ◌≤ℤ◌, ◌<ℤ◌, Bool, true, false, if◌then◌else◌, List, [], ◌∷◌, length, get_or, pos, ◌+ℤ◌, int_le}
 use Rattle.std.specs.List.{All}
 use Rattle.std.specs.Ordering.{int_eq}
 use Rattle.std.proofs.Math.Nat.{mul-le-mul, mul-le-mul_left, mul-le-mul_right}
@@ -15,15 +15,12 @@ use Rattle.escrow_units.specs.Rounding.{near}
 use Rattle.escrow_units.specs.SlgsTerms.{IsSettlement}
 use Rattle.escrow_units.specs.declared.security.Flow.{Flow}
 use Rattle.escrow_units.specs.declared.security.Slgs.{Slgs}
-use Rattle.escrow_units.specs.declared.security.SlgsKind.{SlgsKind}
-use Rattle.escrow_units.specs.declared.security.SlgsKind.TheVariants as kind
 use Rattle.escrow_units.proofs.SeriesFacts.{years_after_of-none}
 use Rattle.escrow_units.proofs.YearFacts.{years_after_of-passes}
-use Rattle.slgs_interest.specs.Payments.{payment_dates, payments_of, payment_on, interest_on, principal_on, first_interest, first_interest_of_kind, first_period_interest, before_first, second_before_first}
-use Rattle.escrow_units.specs.Series.{days_between_of}
-use Rattle.slgs_interest.specs.PaymentLaws.{AreSmall, AreWithinTerm}
+use Rattle.slgs_interest.specs.Payments.{payment_dates, payments_of, payment_on, interest_on, principal_on, first_interest, first_accrual_of}
+use Rattle.slgs_interest.specs.PaymentLaws.{AreSmall, AreWithinTerm, IsShort}
 use Rattle.escrow_units.proofs.RoundingFacts.{near-zero}
-use Rattle.slgs_interest.proofs.PaymentFacts.{payments-face, payments-interest, payments-principal, payments-small, payments-within}
+use Rattle.slgs_interest.proofs.PaymentFacts.{first-short, payments-face, payments-interest, payments-principal, payments-small, payments-within}
 use Rattle.slgs_interest.proofs.Series.{IsPaid, paid, certificate-first}
 use Rattle.market_notes.specs.NoteFlows as market
 use Rattle.market_notes.proofs.AmountFacts as notes
@@ -117,6 +114,10 @@ within settle slgs flows security h =
 pub is_paid : (settle : ℤ) (slgs : Slgs) → IsSettlement settle → IsSecurity settle (Security slgs) → IsPaid slgs
 is_paid settle slgs h security = paid slgs (subst IsSettlement (sym security.0) h) security.1
 
+-- its first interest is for at most sixteen months
+pub is_short : (settle : ℤ) (slgs : Slgs) → IsSettlement settle → IsSecurity settle (Security slgs) → IsShort (first_accrual_of slgs)
+is_short settle slgs h security = first-short slgs (is_paid settle slgs h security) (certificate-first slgs security.1)
+
 pub dates-few : (slgs : Slgs) → IsPaid slgs → length (payment_dates slgs) ≤ 84
 dates-few slgs p = omega (arith, p.count, p.few)
 
@@ -142,19 +143,7 @@ choice-none true a b e f = e
 choice-none false a b e f = f
 
 first_interest-none : (slgs : Slgs) (face : ℕ) → face ≡ 0 → first_interest slgs face ≡ 0
-unfolding first_interest
-first_interest-none slgs face none = at slgs.kind
-  where
-    of_period : first_period_interest slgs face ≡ 0
-    of_period =
-        choice-none (int_lt slgs.settle (before_first slgs)) _ _
-        (near-nothing _ _ (no-face face slgs.rate.0 (days_between_of (second_before_first slgs) (before_first slgs) + days_between_of slgs.settle (before_first slgs)) none))
-        (near-nothing _ _ (no-face face slgs.rate.0 (days_between_of slgs.settle slgs.first) none))
-
-    at : (k : SlgsKind) → first_interest_of_kind k slgs face ≡ 0
-    at kind.Certificate = near-nothing _ _ (no-face face slgs.rate.0 (days_between_of slgs.settle slgs.maturity) none)
-    at kind.Note = of_period
-    at kind.Bond = of_period
+first_interest-none slgs face none = near-nothing _ _ (no-face face slgs.rate.0 (first_accrual_of slgs).parts none)
 
 payment-none : (slgs : Slgs) (face : ℕ) → face ≡ 0 → (day : ℤ) → interest_on slgs face day + principal_on slgs face day ≡ 0
 payment-none slgs face none day =
@@ -184,7 +173,7 @@ kind-total : (settle : ℤ) (kind : LineKind) (amount : ℕ) → IsSettlement se
 kind-total settle Cash amount h security few = absurd security
 kind-total settle (Security slgs) amount h security few =
     let p = is_paid settle slgs h security in
-    small-total (payments_of slgs amount) (payments_of-few slgs amount p) (payments-small slgs amount p (certificate-first slgs security.1) few security.2)
+    small-total (payments_of slgs amount) (payments_of-few slgs amount p) (payments-small slgs amount (is_short settle slgs h security) few security.2)
 kind-total settle (Market note) face h security few = omega (arith, notes.payments-little note face security.1 few)
 
 parts-paid : (slgs : Slgs) (face : ℕ) → All (λ flow. flow.cents.0 ≡ interest_on slgs face flow.day + principal_on slgs face flow.day) (payments_of slgs face)
@@ -193,17 +182,17 @@ parts-paid slgs face =
     All-map (λ (flow : Flow). flow.cents.0 ≡ interest_on slgs face flow.day + principal_on slgs face flow.day) (payment_on slgs face) (payment_dates slgs) (λ k d lt. refl)
 
 -- the face once, and on each date at most four tenths of the greatest face
-pays-little : (slgs : Slgs) (face : ℕ) → IsPaid slgs → (slgs.kind ≡ kind.Certificate → slgs.first ≡ slgs.maturity) → face ≤ 10 ^ 11 → slgs.rate.0 ≤ 30_000
+pays-little : (slgs : Slgs) (face : ℕ) → IsPaid slgs → IsShort (first_accrual_of slgs) → face ≤ 10 ^ 11 → slgs.rate.0 ≤ 30_000
     → total (payments_of slgs face) ≤ 346 * 10 ^ 10
-pays-little slgs face p same few low =
-    let little = payments-interest slgs face p same few low in
+pays-little slgs face p short few low =
+    let little = payments-interest slgs face short few low in
     let interest = sum_by-le (λ (flow : Flow). interest_on slgs face flow.day) (4 * 10 ^ 10) (payments_of slgs face) (λ k d lt. omega (arith, parts-paid slgs face k d lt, little k d lt)) in
     omega (arith, payments-principal slgs face p, interest, mul-le-mul_right (4 * 10 ^ 10) (payments_of-few slgs face p))
 
 kind-little : (settle : ℤ) (kind : LineKind) (amount : ℕ) → IsSettlement settle → IsSecurity settle kind → amount ≤ 10 ^ 11 → total (kind_payments settle kind amount) ≤ 346 * 10 ^ 10
 kind-little settle Cash amount h security few = absurd security
 kind-little settle (Security slgs) amount h security few =
-    pays-little slgs amount (is_paid settle slgs h security) (certificate-first slgs security.1) few security.2
+    pays-little slgs amount (is_paid settle slgs h security) (is_short settle slgs h security) few security.2
 kind-little settle (Market note) face h security few = omega (arith, notes.payments-little note face security.1 few)
 
 kind-par : (settle : ℤ) (kind : LineKind) (amount : ℕ) → IsSettlement settle → IsSecurity settle kind → amount ≤ total (kind_payments settle kind amount)
@@ -214,7 +203,7 @@ kind-par settle (Market note) face h security = omega (arith, notes.payments-com
 
 kind-face : (settle : ℤ) (kind : LineKind) (amount : ℕ) → IsSettlement settle → IsSecurity settle kind → IsKindWithoutInterest kind → total (kind_payments settle kind amount) ≡ kind_cost kind amount
 kind-face settle Cash amount h security none = absurd security
-kind-face settle (Security slgs) amount h security none = payments-face slgs amount (is_paid settle slgs h security) none
+kind-face settle (Security slgs) amount h security none = payments-face slgs amount (is_paid settle slgs h security) (is_short settle slgs h security) none
 kind-face settle (Market note) face h security none = absurd none
 
 kind-none : (settle : ℤ) (kind : LineKind) (amount : ℕ) → amount ≡ 0 → All (λ flow. flow.cents.0 ≡ 0) (kind_payments settle kind amount)

@@ -3,17 +3,21 @@
 #![tactic(auto)]
 
 mod book;
+mod coefficients;
 mod files;
 mod line;
 mod market;
 mod offers;
 
 pub use book::Book;
+pub use coefficients::{COEFFICIENT_SCALE, Coefficients, PayCoefficients, coefficient_laws};
 pub use files::{book_laws, make_book};
 pub use line::{Line, LineKind};
 pub use offers::{offer_laws, slgs_lines};
 
 #[cfg(test)]
 mod book_tests;
+#[cfg(test)]
+mod files_tests;
 #[cfg(test)]
 mod offer_tests;

@@ -2,6 +2,7 @@
 
 ghost use Rattle.std.specs.Prelude.{◌≡◌, ◌*◌, ◌^◌, ◌<◌, ◌≤◌};
 
+use crate::coefficients::{Coefficients, cash_coefficients, note_coefficients, slgs_coefficients};
 use arrayvec::ArrayVec;
 use escrow_units::{Cents, Day, Flow, Slgs, Terms};
 use market_notes::{Note, note_cost, note_payments};
@@ -36,8 +37,9 @@ impl Line {
     ghost use Rattle.escrow_units.specs.Denomination.{AreTerms};
     ghost use Rattle.escrow_units.specs.Flows.{total, FallWithinFortyYears};
     ghost use Rattle.escrow_units.specs.SlgsTerms.{IsSettlement};
-    ghost use Rattle.std.specs.Prelude.{ℤ};
+    ghost use Rattle.std.specs.Prelude.{ℕ, ℤ};
     ghost use Rattle.offer_book.specs.Book.{IsLine};
+    ghost use Rattle.offer_book.specs.Coefficients.{EnclosesUnits, cost_coefficients, pay_coefficients};
     ghost use Rattle.offer_book.specs.Denominations.{line_of};
     ghost use Rattle.offer_book.specs.Portfolio.{line_cost, line_payments, par as par_of, permits as permits_of};
 
@@ -111,6 +113,27 @@ impl Line {
             }
             LineKind::Security(slgs) => slgs_interest::payments(&slgs, par),
             LineKind::Market(note) => note_payments(&note, par),
+        }
+    }
+
+    /// What one unit of the line costs and pays, scaled and rounded outward.
+    ///
+    /// For every number of units, `cost_low * units - cost_slack` to `cost_high * units + cost_slack` holds
+    /// [`COEFFICIENT_SCALE`](crate::COEFFICIENT_SCALE) times what they cost, in cents, and so for each payment, in order of
+    /// date. Settlement is from 2000-01-01 to 2150-01-01, and the line is one of a book with that settlement. It takes no
+    /// memory.
+    pub fn coefficients(&self, settle: Day) -> Coefficients
+        requires settlement { IsSettlement settle }
+        requires line { IsLine settle self.now }
+        ensures costs { cost_coefficients self.now ≡ record { low = result.cost_low; high = result.cost_high; slack = result.cost_slack } }
+        ensures pays { result.pays.items ≡ pay_coefficients settle self.now }
+        ensures enclosing { (units : ℕ) → EnclosesUnits settle self.now units }
+    {
+        let step = Cents(self.step);
+        match self.kind {
+            LineKind::Cash => cash_coefficients(settle, step),
+            LineKind::Security(slgs) => slgs_coefficients(settle, &slgs, step),
+            LineKind::Market(note) => note_coefficients(settle, &note, step),
         }
     }
 }
