@@ -11,3 +11,4 @@ pub mod ReachFacts
 pub mod BalanceFacts
 pub mod BalanceLaws
 pub mod LaterFacts
+pub mod PointFacts

@@ -5,6 +5,7 @@ ghost use Rattle.std.specs.List.{All};
 ghost use Rattle.escrow_units.specs.Flows.{indexed, total, FallWithinFortyYears};
 ghost use Rattle.escrow_units.specs.PresentValue.{YieldLiesIn};
 ghost use Rattle.cash_table.specs.First.{HaveLaterAmount};
+ghost use Rattle.cash_table.specs.Points.{BeyondLimitAreExcluded, BeyondLimitAreNoRivals, ExcludedAreNoRivals};
 ghost use Rattle.offer_book.specs.Book.{AreWithoutInterest, BookContents, IsBook};
 ghost use Rattle.offer_book.specs.Portfolio.{IsPermitted, Meets, cost, security_cost, security_flows, total_needs};
 
@@ -79,4 +80,13 @@ pub fn empty_flows()
         → IsBook book
         → IsPermitted book plan
         → (security_flows book plan ≡ []) ↔ (security_cost book plan ≡ 0) }
+{}
+
+/// Laws of points: a portfolio that is excluded one unit below a limit is no rival under the limit. Of books that keep every
+/// limit and of yield limits from one unit to 30 percent: a portfolio whose yield isn't within the limit is excluded one unit
+/// below it, and so is no rival.
+pub fn excluded_laws()
+    ensures rivals { ExcludedAreNoRivals }
+    ensures beyond { BeyondLimitAreExcluded }
+    ensures limit { BeyondLimitAreNoRivals }
 {}
