@@ -1,2 +1,5 @@
+pub mod Balances
 pub mod First
+pub mod Points
+pub mod Reach
 pub mod Receipts
