@@ -1,5 +1,6 @@
 mod FaultFacts
 mod ItemFacts
+mod RowFacts
 mod LawFacts
 mod LineFacts
 mod ReadingFacts
