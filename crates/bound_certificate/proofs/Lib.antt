@@ -1,6 +1,7 @@
 mod FaultFacts
 mod ItemFacts
 mod RowFacts
+mod SaidFacts
 mod LawFacts
 mod LineFacts
 mod ReadingFacts
