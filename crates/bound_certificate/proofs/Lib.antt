@@ -2,6 +2,7 @@ mod FaultFacts
 mod ItemFacts
 mod RowFacts
 mod SaidFacts
+mod FoundFacts
 mod LawFacts
 mod LineFacts
 mod ReadingFacts
