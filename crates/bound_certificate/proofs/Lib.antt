@@ -3,6 +3,7 @@ mod ItemFacts
 mod RowFacts
 mod SaidFacts
 mod FoundFacts
+mod DraftFacts
 mod LawFacts
 mod LineFacts
 mod ReadingFacts
