@@ -4,6 +4,7 @@ mod RowFacts
 mod SaidFacts
 mod FoundFacts
 mod DraftFacts
+mod TextFacts
 mod LawFacts
 mod LineFacts
 mod ReadingFacts

@@ -4,7 +4,7 @@ use lib.Pointwise.{pointwise, bytes_decides}
 use Rattle.std.specs.List.{find, join_with_byte, list_all, slice_split}
 use Rattle.std.proofs.lemmas.Bool.{and_parts}
 use Rattle.std.proofs.lemmas.List.{append-nil, length-map}
-use Rattle.std.proofs.lemmas.List.Elements.{All-cons, All-head, All-nil, All-tail}
+use Rattle.std.proofs.lemmas.List.Elements.{All-append, All-cons, All-head, All-nil, All-tail}
 use Rattle.std.proofs.lemmas.List.Kept.{AllPairs-cons}
 use Rattle.dual_bound.specs.declared.prices.TheConstants.{PRICE_SCALE}
 use Rattle.dual_bound.specs.declared.tree.Leaf.{Leaf}
@@ -111,11 +111,49 @@ pub record IsRow (dates : ℕ) (d : Due) (n : Name) (numbers : List ℕ) : Type 
   pub read : line_numbers d n (map decimal numbers) ≡ Some numbers
   pub order : are_disordered d n numbers ≡ false
 
+-- bytes without a line feed
+abbrev pub NotFeed : ℕ → Type 0
+NotFeed byte = byte ≢ 10
+
+abbrev pub IsOneLine : List ℕ → Type 0
+IsOneLine bytes = All NotFeed bytes
+
+not_feed : (byte : ℕ) → IsDigit byte → NotFeed byte
+not_feed byte h e = absurd (omega (arith, h.0, e))
+
+decimal_line : (n : ℕ) → n ≤ GREATEST_GAP → IsOneLine (decimal n)
+decimal_line n limit i d h = not_feed _ (decimal-digits n limit i d h)
+
+numbers_line : (numbers : List ℕ) → AreWritten numbers → IsOneLine (spaced_numbers numbers)
+numbers_line [] few = All-nil NotFeed
+numbers_line (number ∷ numbers) few =
+    All-cons NotFeed 32 (decimal number ++ spaced_numbers numbers) (λ e. absurd (omega (arith, e)))
+    (All-append NotFeed (decimal number) (spaced_numbers numbers) (decimal_line number few.0) (numbers_line numbers few.1))
+
+line_by : (word : List ℕ) → list_all (λ byte. not (byte == 10)) word ≡ true → IsOneLine word
+line_by [] h = All-nil NotFeed
+line_by (byte ∷ word) h =
+    let both : (not (byte == 10) ≡ true) × (list_all (λ b. not (b == 10)) word ≡ true) = and_parts _ _ h in
+    All-cons NotFeed byte word (λ e. absurd (grind (arith, both.0, e))) (line_by word both.1)
+
+name_line : (n : Name) → IsOneLine (word_of n)
+name_line name.Title = line_by (word_of name.Title) refl
+name_line name.Portfolio = line_by (word_of name.Portfolio) refl
+name_line name.Absent = line_by (word_of name.Absent) refl
+name_line name.Buy = line_by (word_of name.Buy) refl
+name_line name.Gap = line_by (word_of name.Gap) refl
+name_line name.Nodes = line_by (word_of name.Nodes) refl
+name_line name.Split = line_by (word_of name.Split) refl
+name_line name.Point = line_by (word_of name.Point) refl
+name_line name.Leaf = line_by (word_of name.Leaf) refl
+name_line name.End = line_by (word_of name.End) refl
+
 -- what its words show
 pub record ShowsRow (dates : ℕ) (d : Due) (n : Name) (numbers : List ℕ) : Type 0 where
   pub good : line_fault dates d (row n numbers) ≡ None
   pub item : line_item d (row n numbers) ≡ said_by n numbers
   pub leaf : line_leaf d (row n numbers) ≡ Some (leaf_of numbers)
+  pub one : IsOneLine (row n numbers)
 
 same_width : (words width : ℕ) → words ≡ width → (words == width) ≡ true
 same_width words width h = grind (arith, h)
@@ -145,6 +183,7 @@ row-shows dates d n numbers title is =
           ap (λ (ws : List (List ℕ)). option_map leaf_of (words_numbers d ws)) words
           ∙ ap (λ (o : Option Name). option_map leaf_of (option_and_then (λ m. line_numbers d m others) o)) is.first
           ∙ ap (λ (o : Option (List ℕ)). option_map leaf_of o) is.read;
+      one = All-append NotFeed (word_of n) (spaced_numbers numbers) (name_line n) (numbers_line numbers is.small);
     }
 
 -- the words of names have no space, but the first line's
@@ -159,6 +198,7 @@ pub record Shows (dates : ℕ) (d : Due) (line : Line) : Type 0 where
   pub good : line_fault dates d (body line) ≡ None
   pub item : line_item d (body line) ≡ item_of_line line
   pub leaf : HasLeaf line (line_leaf d (body line))
+  pub one : IsOneLine (body line)
 
 within : (least most number : ℕ) → least ≤ number → number ≤ most → is_in (record { least = least; most = most }) number ≡ true
 within least most number low high = grind (arith, low, high)
@@ -260,6 +300,7 @@ shows_row dates d line same shows says leaf =
       good = ap (λ (bs : List ℕ). line_fault dates d bs) same ∙ shows.good;
       item = ap (λ (bs : List ℕ). line_item d bs) same ∙ shows.item ∙ says;
       leaf = subst P (sym same) (subst Q (sym shows.leaf) leaf);
+      one = subst (λ (bs : List ℕ). IsOneLine bs) (sym same) shows.one;
     }
 
 -- `none` is no number
@@ -273,8 +314,8 @@ no_none count h true e =
     absurd (omega (arith, first.1))
 
 pub fits-shows : (dates : ℕ) (d : Due) (line : Line) → dates ≤ MOST_DATES → Fits dates d line → Shows dates d line
-fits-shows dates due.Title text.Title few fits = record { good = refl; item = refl; leaf = tt }
-fits-shows dates due.Portfolio (text.Portfolio None) few fits = record { good = refl; item = refl; leaf = tt }
+fits-shows dates due.Title text.Title few fits = record { good = refl; item = refl; leaf = tt; one = name_line name.Title }
+fits-shows dates due.Portfolio (text.Portfolio None) few fits = record { good = refl; item = refl; leaf = tt; one = line_by (codes "portfolio none") refl }
 fits-shows dates due.Portfolio (text.Portfolio (Some count)) few fits =
     let small : AreWritten (count ∷ []) = (omega (arith, fits), tt) in
     let inside : AreInRange due.Portfolio name.Portfolio 1 (count ∷ []) = (within 0 MOST_BUYS count (omega arith) fits, tt) in
@@ -347,3 +388,35 @@ fits-shows dates (due.End trees) text.End few fits =
       read = refl; order = refl;
     })) refl tt
 fits-shows dates d line few fits = absurd fits
+
+-- the one line that an item and a leaf say
+abbrev pub line_of : Item → Option Leaf → Line
+line_of item.Header leaf = text.Title
+line_of (item.Portfolio count) leaf = text.Portfolio count
+line_of (item.Buy buy) leaf = text.Purchase buy
+line_of (item.Gap cents) leaf = text.Gap cents
+line_of (item.Nodes nodes) leaf = text.Count nodes
+line_of (item.Split line at) leaf = text.Node (node.Split line at)
+line_of item.Point leaf = text.Node node.Point
+line_of item.Leaf (Some leaf) = text.Node (node.Closed leaf)
+line_of other leaf = text.End
+
+line_told : (line : Line) (leaf : Option Leaf) → HasLeaf line leaf → line_of (item_of_line line) leaf ≡ line
+line_told text.Title leaf has = refl
+line_told (text.Portfolio count) leaf has = refl
+line_told (text.Purchase buy) leaf has = refl
+line_told (text.Gap cents) leaf has = refl
+line_told (text.Count nodes) leaf has = refl
+line_told (text.Node (node.Split line at)) leaf has = refl
+line_told (text.Node node.Point) leaf has = refl
+line_told (text.Node (node.Closed said)) leaf has = ap (λ (o : Option Leaf). line_of item.Leaf o) has
+line_told text.End leaf has = refl
+
+-- a line that may stand is told by its bytes
+pub line-told : (dates : ℕ) (d : Due) (line : Line) → Shows dates d line → line_of (line_item d (body line)) (line_leaf d (body line)) ≡ line
+line-told dates d line shows =
+    ap (λ (i : Item). line_of i (line_leaf d (body line))) shows.item ∙ line_told line (line_leaf d (body line)) shows.leaf
+
+pub one-line : (dates : ℕ) (d : Due) (line other : Line) → Shows dates d line → Shows dates d other → body line ≡ body other → line ≡ other
+one-line dates d line other shows others same =
+    sym (line-told dates d line shows) ∙ ap (λ (bs : List ℕ). line_of (line_item d bs) (line_leaf d bs)) same ∙ line-told dates d other others
