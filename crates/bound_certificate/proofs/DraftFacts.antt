@@ -1,5 +1,5 @@
 -- A certificate as its lines come, one that may stand after another.
-use Rattle.std.proofs.Common.{◌≡◌, ◌≢◌, ◌∙◌, ◌⊎◌, ℕ, zero, suc, ◌+◌, ◌-◌, ◌*◌, ◌<◌, ◌≤◌, Bool, true, false, ◌==◌, cond, if◌then◌else◌, List, [], ◌∷◌, ◌++◌, length, map, All, AllPairs, refl, sym, subst, ap, arith, Option, Some, None, option_map, append_assoc, length-append, zero-add, get_or}
+use Rattle.std.proofs.Common.{◌≡◌, ◌∙◌, ℕ, zero, suc, ◌+◌, ◌-◌, ◌<◌, ◌≤◌, Bool, true, false, ◌==◌, if◌then◌else◌, List, [], ◌∷◌, ◌++◌, length, map, All, AllPairs, refl, sym, subst, ap, arith, Option, Some, None, option_map, append_assoc, length-append, zero-add, get_or}
 use Rattle.std.specs.List.{fold}
 use Rattle.std.proofs.lemmas.List.{append-nil, map-append}
 use Rattle.std.proofs.lemmas.List.Sums.{fold-append}
@@ -13,8 +13,6 @@ use Rattle.bound_certificate.specs.declared.certificate.Buy.{Buy}
 use Rattle.bound_certificate.specs.declared.certificate.Certificate.{Certificate}
 use Rattle.bound_certificate.specs.declared.due.Due.{Due}
 use Rattle.bound_certificate.specs.declared.due.Due.TheVariants as due
-use Rattle.bound_certificate.specs.declared.item.Item.{Item}
-use Rattle.bound_certificate.specs.declared.item.Item.TheVariants as item
 use Rattle.bound_certificate.specs.declared.limits.TheConstants.{GREATEST_GAP, MOST_BUYS, MOST_NODES}
 use Rattle.bound_certificate.specs.Certificate.{AreBuys, IsBuy, IsNode, IsPortfolio, IsWellFormed}
 use Rattle.bound_certificate.specs.Draft.{no_lines, with_item}
@@ -296,7 +294,7 @@ pub record IsWhole (dates : ℕ) (cert : Certificate) (lines : List Line) : Type
   pub well_formed : IsWellFormed dates cert
   pub lines_are : lines_of cert ≡ lines
 
-ends : (dates : ℕ) (d : Due) (cert : Certificate) → is_over d ≡ true → IsDraft dates d cert → IsWhole dates cert (draft_lines d cert)
+pub ends : (dates : ℕ) (d : Due) (cert : Certificate) → is_over d ≡ true → IsDraft dates d cert → IsWhole dates cert (draft_lines d cert)
 ends dates due.Nothing cert over draft = record { well_formed = draft; lines_are = refl }
 ends dates d cert over draft = absurd (cc)
 

@@ -1,6 +1,6 @@
 -- A line without a fault is the text of one that may stand.
-use Rattle.std.proofs.Common.{◌≡◌, ◌≢◌, ◌∙◌, ◌⊎◌, ℕ, zero, suc, ◌+◌, ◌*◌, ◌<◌, ◌≤◌, Bool, true, false, ◌==◌, ◌&&◌, ◌||◌, not, nat_lt, nat_le, nat_eq, cond, if◌then◌else◌, List, [], ◌∷◌, ◌++◌, length, map, drop, All, refl, sym, subst, ap, arith, Option, Some, None, option_and_then, option_map, decimal, inl, inr, codes}
-use lib.Pointwise.{pointwise, bytes_decides}
+use Rattle.std.proofs.Common.{◌≡◌, ◌∙◌, ◌⊎◌, ℕ, zero, suc, ◌+◌, ◌≤◌, Bool, true, false, ◌==◌, ◌||◌, not, nat_lt, cond, if◌then◌else◌, List, [], ◌∷◌, length, map, drop, refl, sym, subst, ap, arith, Option, Some, None, decimal, inl, inr, codes}
+use lib.Pointwise.{bytes_decides}
 use Rattle.std.specs.List.{find, join_with_byte}
 use Rattle.std.proofs.lemmas.List.{length-map}
 use Rattle.std.proofs.lemmas.List.Splits.{join_with_byte-slice_split}
@@ -10,10 +10,9 @@ use Rattle.bound_certificate.specs.declared.due.Due.{Due}
 use Rattle.bound_certificate.specs.declared.due.Due.TheVariants as due
 use Rattle.bound_certificate.specs.declared.due.Name.{Name}
 use Rattle.bound_certificate.specs.declared.due.Name.TheVariants as name
-use Rattle.bound_certificate.specs.declared.fault.FaultKind.{FaultKind}
 use Rattle.bound_certificate.specs.declared.fault.FaultKind.TheVariants as kind
-use Rattle.bound_certificate.specs.declared.limits.TheConstants.{GREATEST_GAP, GREATEST_UNITS, MOST_BUYS, MOST_DATES, MOST_NODES}
-use Rattle.bound_certificate.specs.Due.{first_names, is_closed_early, is_in, is_title, is_unclosed, range_at, width_of, word_of}
+use Rattle.bound_certificate.specs.declared.limits.TheConstants.{GREATEST_UNITS, MOST_BUYS, MOST_NODES}
+use Rattle.bound_certificate.specs.Due.{first_names, is_closed_early, is_in, is_title, is_unclosed, width_of, word_of}
 use Rattle.bound_certificate.specs.Grammar.{are_disordered, is_name, later_fault, line_fault, line_numbers, name_in, named_fault, numbers_fault, numbers_in, rises, words_fault, words_of}
 use Rattle.bound_certificate.specs.Text.{Line}
 use Rattle.bound_certificate.specs.Text as text
@@ -75,7 +74,15 @@ numbers_good : (dates : ℕ) (d : Due) (bytes : List ℕ) (n : Name) (others : L
     (o : Option (List ℕ)) → line_numbers d n others ≡ o → numbers_fault d n o ≡ None → Good dates d bytes
 numbers_good dates d bytes n others words first late wide None read h = absurd (cc)
 numbers_good dates d bytes n others words first late wide (Some numbers) read h = record {
-  n = n; others = others; numbers = numbers; words = words; first = first; early = wide.0; late = late; width = wide.1; read = read;
+  n = n;
+  others = others;
+  numbers = numbers;
+  words = words;
+  first = first;
+  early = wide.0;
+  late = late;
+  width = wide.1;
+  read = read;
   order = fault_if (are_disordered d n numbers) kind.Order h;
 }
 
@@ -170,12 +177,15 @@ leaf_found dates left trees bytes (rho ∷ mu ∷ prices) some same ranges wide 
     let second : (0 ≤ mu) × (mu ≤ PRICE_SCALE) = in_range 0 PRICE_SCALE mu ranges.1.0 in
     record {
       said = text.Node (node.Closed (record { whole = rho == 1; mu = mu; prices = prices }));
-      fits = (some, record {
-        limit = second.1;
-        every_date = omega (arith, wide);
-        range = prices-found (due.Node left trees) prices 3 (omega arith) ranges.1.1;
-        falling = order-falling prices order;
-      });
+      fits = (
+        some,
+        record {
+          limit = second.1;
+          every_date = omega (arith, wide);
+          range = prices-found (due.Node left trees) prices 3 (omega arith) ranges.1.1;
+          falling = order-falling prices order;
+        },
+      );
       bytes_of = same ∙ ap (λ (k : ℕ). row name.Leaf (k ∷ mu ∷ prices)) (sym (weight-found rho first.1));
     }
 

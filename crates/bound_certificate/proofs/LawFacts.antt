@@ -34,7 +34,7 @@ within-byte reading byte going more other =
     ∙ byte_by reading byte (byte == 10) refl other
 
 -- the bytes of a line before its line feed
-within-line : (bytes : List ℕ) (reading : Reading) → reading.fault ≡ None → is_over reading.due ≡ false → All (λ byte. byte ≢ 10) bytes →
+pub within-line : (bytes : List ℕ) (reading : Reading) → reading.fault ≡ None → is_over reading.due ≡ false → All (λ byte. byte ≢ 10) bytes →
     after_bytes reading bytes ≡ record reading { scan = fold (line.after_byte reading.due) reading.scan bytes }
 within-line [] reading going more all = after_bytes-none reading
 within-line (byte ∷ bytes) reading going more all =

@@ -5,6 +5,8 @@ mod SaidFacts
 mod FoundFacts
 mod DraftFacts
 mod TextFacts
+mod FirstFacts
+mod CertFacts
 mod LawFacts
 mod LineFacts
 mod ReadingFacts

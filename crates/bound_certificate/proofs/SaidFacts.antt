@@ -1,31 +1,29 @@
 -- Lines that may stand where something is due, and their texts.
-use Rattle.std.proofs.Common.{◌≡◌, ◌≢◌, ◌∙◌, ◌⊎◌, ℕ, ◌+◌, ◌*◌, ◌<◌, ◌≤◌, Bool, true, false, ◌==◌, ◌&&◌, ◌||◌, not, nat_lt, nat_le, nat_eq, cond, if◌then◌else◌, List, [], ◌∷◌, ◌++◌, length, map, drop, All, AllPairs, suc, refl, sym, subst, ap, arith, Option, Some, None, option_and_then, option_map, decimal, append_assoc, inl, inr, codes}
-use lib.Pointwise.{pointwise, bytes_decides}
-use Rattle.std.specs.List.{find, join_with_byte, list_all, slice_split}
+use Rattle.std.proofs.Common.{◌≡◌, ◌≢◌, ◌∙◌, ℕ, ◌+◌, ◌*◌, ◌≤◌, Bool, true, false, ◌==◌, ◌||◌, not, nat_lt, if◌then◌else◌, List, [], ◌∷◌, ◌++◌, length, map, All, AllPairs, suc, refl, sym, subst, ap, arith, Option, Some, None, option_and_then, option_map, decimal, codes}
+use lib.Pointwise.{bytes_decides}
+use Rattle.std.specs.List.{list_all}
 use Rattle.std.proofs.lemmas.Bool.{and_parts}
-use Rattle.std.proofs.lemmas.List.{append-nil, length-map}
+use Rattle.std.proofs.lemmas.List.{length-map}
 use Rattle.std.proofs.lemmas.List.Elements.{All-append, All-cons, All-head, All-nil, All-tail}
 use Rattle.std.proofs.lemmas.List.Kept.{AllPairs-cons}
 use Rattle.dual_bound.specs.declared.prices.TheConstants.{PRICE_SCALE}
 use Rattle.dual_bound.specs.declared.tree.Leaf.{Leaf}
 use Rattle.dual_bound.specs.declared.tree.TreeNode.TheVariants as node
 use Rattle.dual_bound.specs.Tree.{IsLeaf}
-use Rattle.bound_certificate.specs.declared.certificate.Buy.{Buy}
 use Rattle.bound_certificate.specs.declared.due.Due.{Due}
 use Rattle.bound_certificate.specs.declared.due.Due.TheVariants as due
 use Rattle.bound_certificate.specs.declared.due.Name.{Name}
 use Rattle.bound_certificate.specs.declared.due.Name.TheVariants as name
-use Rattle.bound_certificate.specs.declared.fault.FaultKind.{FaultKind}
 use Rattle.bound_certificate.specs.declared.fault.FaultKind.TheVariants as kind
 use Rattle.bound_certificate.specs.declared.item.Item.{Item}
 use Rattle.bound_certificate.specs.declared.item.Item.TheVariants as item
-use Rattle.bound_certificate.specs.declared.limits.TheConstants.{GREATEST_GAP, GREATEST_UNITS, MOST_BUYS, MOST_DATES, MOST_NODES}
+use Rattle.bound_certificate.specs.declared.limits.TheConstants.{GREATEST_GAP, GREATEST_UNITS, MOST_BUYS, MOST_NODES}
 use Rattle.bound_certificate.specs.Certificate.{IsBuy, IsNode}
-use Rattle.bound_certificate.specs.Due.{first_names, is_closed_early, is_in, is_title, is_unclosed, range_at, weight_range, width_of, word_of}
+use Rattle.bound_certificate.specs.Due.{is_closed_early, is_in, is_title, is_unclosed, weight_range, width_of, word_of}
 use Rattle.bound_certificate.specs.Grammar.{are_disordered, is_name, is_space, later_fault, leaf_of, line_fault, line_item, line_leaf, line_numbers, name_in, named_fault, named_item, numbers_fault, numbers_in, numbers_item, rises, said_by, words_fault, words_item, words_numbers, words_of}
 use Rattle.bound_certificate.specs.Text.{Line, line_text, numbered, spaced_numbers}
 use Rattle.bound_certificate.specs.Text as text
-use Rattle.bound_certificate.proofs.RowFacts.{AreInRange, AreNumbers, AreWritten, IsDigit, IsWord, decimal-digits, numbers-found, numbers-read, row-words, words-row}
+use Rattle.bound_certificate.proofs.RowFacts.{AreInRange, AreWritten, IsDigit, IsWord, decimal-digits, numbers-read, row-words}
 
 -- what a line says, as an item
 abbrev pub item_of_line : Line → Item
@@ -216,9 +214,10 @@ IsPrice price = price ≤ 2 * PRICE_SCALE
 
 pub prices-in : (d : Due) (prices : List ℕ) (place : ℕ) → 3 ≤ place → All IsPrice prices → AreInRange d name.Leaf place prices
 prices-in d [] place h all = tt
-prices-in d (price ∷ prices) place h all =
-    (prices_range place price h ∙ within 0 (2 * PRICE_SCALE) price (omega arith) (All-head IsPrice price prices all),
-    prices-in d prices (place + 1) (omega arith) (All-tail IsPrice price prices all))
+prices-in d (price ∷ prices) place h all = (
+  prices_range place price h ∙ within 0 (2 * PRICE_SCALE) price (omega arith) (All-head IsPrice price prices all),
+  prices-in d prices (place + 1) (omega arith) (All-tail IsPrice price prices all),
+)
 
 pub prices-found : (d : Due) (prices : List ℕ) (place : ℕ) → 3 ≤ place → AreInRange d name.Leaf place prices → All IsPrice prices
 prices-found d [] place h inside = All-nil IsPrice
@@ -313,62 +312,93 @@ no_none count h true e =
     let first : IsDigit 110 = All-head IsDigit 110 (111 ∷ 110 ∷ 101 ∷ []) (subst P (sym same) digits) in
     absurd (omega (arith, first.1))
 
-pub fits-shows : (dates : ℕ) (d : Due) (line : Line) → dates ≤ MOST_DATES → Fits dates d line → Shows dates d line
-fits-shows dates due.Title text.Title few fits = record { good = refl; item = refl; leaf = tt; one = name_line name.Title }
-fits-shows dates due.Portfolio (text.Portfolio None) few fits = record { good = refl; item = refl; leaf = tt; one = line_by (codes "portfolio none") refl }
-fits-shows dates due.Portfolio (text.Portfolio (Some count)) few fits =
+pub fits-shows : (dates : ℕ) (d : Due) (line : Line) → Fits dates d line → Shows dates d line
+fits-shows dates due.Title text.Title fits = record { good = refl; item = refl; leaf = tt; one = name_line name.Title }
+fits-shows dates due.Portfolio (text.Portfolio None) fits = record { good = refl; item = refl; leaf = tt; one = line_by (codes "portfolio none") refl }
+fits-shows dates due.Portfolio (text.Portfolio (Some count)) fits =
     let small : AreWritten (count ∷ []) = (omega (arith, fits), tt) in
     let inside : AreInRange due.Portfolio name.Portfolio 1 (count ∷ []) = (within 0 MOST_BUYS count (omega arith) fits, tt) in
     shows_row dates due.Portfolio (text.Portfolio (Some count)) refl
     (row-shows dates due.Portfolio name.Portfolio (count ∷ []) refl (record {
-      first = refl; whole = word_by (word_of name.Portfolio) refl; early = refl; late = refl; width = refl; small = small;
+      first = refl;
+      whole = word_by (word_of name.Portfolio) refl;
+      early = refl;
+      late = refl;
+      width = refl;
+      small = small;
       read = ap (λ (b : Bool). if b then Some [] else numbers_in due.Portfolio name.Portfolio 1 (decimal count ∷ [])) (no_none count small.0 _ refl)
           ∙ numbers-read due.Portfolio name.Portfolio 1 (count ∷ []) small inside;
       order = refl;
     })) refl tt
-fits-shows dates (due.Buy left least) (text.Purchase buy) few fits =
+fits-shows dates (due.Buy left least) (text.Purchase buy) fits =
     let small : AreWritten (buy.line ∷ buy.units ∷ []) = (omega (arith, fits.0.0), (omega (arith, fits.0.2), tt)) in
     let inside : AreInRange (due.Buy left least) name.Buy 1 (buy.line ∷ buy.units ∷ []) =
     (within 0 65_535 buy.line (omega arith) fits.0.0, (within 1 GREATEST_UNITS buy.units fits.0.1 fits.0.2, tt)) in
     shows_row dates (due.Buy left least) (text.Purchase buy) refl
     (row-shows dates (due.Buy left least) name.Buy (buy.line ∷ buy.units ∷ []) refl (record {
-      first = refl; whole = word_by (word_of name.Buy) refl; early = refl; late = refl; width = refl; small = small;
+      first = refl;
+      whole = word_by (word_of name.Buy) refl;
+      early = refl;
+      late = refl;
+      width = refl;
+      small = small;
       read = numbers-read (due.Buy left least) name.Buy 1 (buy.line ∷ buy.units ∷ []) small inside;
       order = grind (arith, fits.1);
     })) refl tt
-fits-shows dates (due.Gap most) (text.Gap cents) few fits =
+fits-shows dates (due.Gap most) (text.Gap cents) fits =
     let small : AreWritten (cents ∷ []) = (fits.1, tt) in
     shows_row dates (due.Gap most) (text.Gap cents) refl
     (row-shows dates (due.Gap most) name.Gap (cents ∷ []) refl (record {
-      first = refl; whole = word_by (word_of name.Gap) refl; early = refl; late = refl; width = refl; small = small;
+      first = refl;
+      whole = word_by (word_of name.Gap) refl;
+      early = refl;
+      late = refl;
+      width = refl;
+      small = small;
       read = numbers-read (due.Gap most) name.Gap 1 (cents ∷ []) small (within 0 most cents (omega arith) fits.0, tt);
       order = refl;
     })) refl tt
-fits-shows dates due.Count (text.Count nodes) few fits =
+fits-shows dates due.Count (text.Count nodes) fits =
     let small : AreWritten (nodes ∷ []) = (omega (arith, fits.1), tt) in
     shows_row dates due.Count (text.Count nodes) refl
     (row-shows dates due.Count name.Nodes (nodes ∷ []) refl (record {
-      first = refl; whole = word_by (word_of name.Nodes) refl; early = refl; late = refl; width = refl; small = small;
+      first = refl;
+      whole = word_by (word_of name.Nodes) refl;
+      early = refl;
+      late = refl;
+      width = refl;
+      small = small;
       read = numbers-read due.Count name.Nodes 1 (nodes ∷ []) small (within 1 MOST_NODES nodes fits.0 fits.1, tt);
       order = refl;
     })) refl tt
-fits-shows dates (due.Node left trees) (text.Node (node.Split line at)) few fits =
+fits-shows dates (due.Node left trees) (text.Node (node.Split line at)) fits =
     let small : AreWritten (line ∷ at ∷ []) = (omega (arith, fits.1.0), (omega (arith, fits.1.1), tt)) in
     let inside : AreInRange (due.Node left trees) name.Split 1 (line ∷ at ∷ []) =
     (within 0 65_535 line (omega arith) fits.1.0, (within 0 GREATEST_UNITS at (omega arith) fits.1.1, tt)) in
     shows_row dates (due.Node left trees) (text.Node (node.Split line at)) refl
     (row-shows dates (due.Node left trees) name.Split (line ∷ at ∷ []) refl (record {
-      first = refl; whole = word_by (word_of name.Split) refl; early = node_first name.Split left trees fits.0; late = refl; width = refl; small = small;
+      first = refl;
+      whole = word_by (word_of name.Split) refl;
+      early = node_first name.Split left trees fits.0;
+      late = refl;
+      width = refl;
+      small = small;
       read = numbers-read (due.Node left trees) name.Split 1 (line ∷ at ∷ []) small inside;
       order = refl;
     })) refl tt
-fits-shows dates (due.Node left trees) (text.Node node.Point) few fits =
+fits-shows dates (due.Node left trees) (text.Node node.Point) fits =
     shows_row dates (due.Node left trees) (text.Node node.Point) refl
     (row-shows dates (due.Node left trees) name.Point [] refl (record {
-      first = refl; whole = word_by (word_of name.Point) refl; early = node_first name.Point left trees fits.0; late = refl; width = refl; small = tt;
-      read = refl; order = refl;
+      first = refl;
+      whole = word_by (word_of name.Point) refl;
+      early = node_first name.Point left trees fits.0;
+      late = refl;
+      width = refl;
+      small = tt;
+      read = refl;
+      order = refl;
     })) refl tt
-fits-shows dates (due.Node left trees) (text.Node (node.Closed leaf)) few fits =
+fits-shows dates (due.Node left trees) (text.Node (node.Closed leaf)) fits =
     let numbers : List ℕ = (if leaf.whole then 1 else 0) ∷ leaf.mu ∷ leaf.prices in
     let is : IsLeaf dates leaf = fits.1 in
     let small : AreWritten numbers = (weight_written leaf.whole, (omega (arith, is.limit), prices-written leaf.prices is.range)) in
@@ -376,18 +406,28 @@ fits-shows dates (due.Node left trees) (text.Node (node.Closed leaf)) few fits =
     (weight_within leaf.whole, (within 0 PRICE_SCALE leaf.mu (omega arith) is.limit, prices-in (due.Node left trees) leaf.prices 3 (omega arith) is.range)) in
     shows_row dates (due.Node left trees) (text.Node (node.Closed leaf)) refl
     (row-shows dates (due.Node left trees) name.Leaf numbers refl (record {
-      first = refl; whole = word_by (word_of name.Leaf) refl; early = node_first name.Leaf left trees fits.0; late = refl;
-      width = omega (arith, is.every_date); small = small;
+      first = refl;
+      whole = word_by (word_of name.Leaf) refl;
+      early = node_first name.Leaf left trees fits.0;
+      late = refl;
+      width = omega (arith, is.every_date);
+      small = small;
       read = numbers-read (due.Node left trees) name.Leaf 1 numbers small inside;
       order = falling-order leaf.prices is.falling;
     })) refl (ap (λ (b : Bool). Some (record { whole = b; mu = leaf.mu; prices = leaf.prices })) (weight_read leaf.whole))
-fits-shows dates (due.End trees) text.End few fits =
+fits-shows dates (due.End trees) text.End fits =
     shows_row dates (due.End trees) text.End refl
     (row-shows dates (due.End trees) name.End [] refl (record {
-      first = refl; whole = word_by (word_of name.End) refl; early = refl; late = grind (arith, fits); width = refl; small = tt;
-      read = refl; order = refl;
+      first = refl;
+      whole = word_by (word_of name.End) refl;
+      early = refl;
+      late = grind (arith, fits);
+      width = refl;
+      small = tt;
+      read = refl;
+      order = refl;
     })) refl tt
-fits-shows dates d line few fits = absurd fits
+fits-shows dates d line fits = absurd fits
 
 -- the one line that an item and a leaf say
 abbrev pub line_of : Item → Option Leaf → Line

@@ -1,8 +1,7 @@
 -- Whole texts, line by line.
-use Rattle.std.proofs.Common.{◌≡◌, ◌≢◌, ◌∙◌, ◌⊎◌, ℕ, zero, suc, ◌+◌, ◌<◌, ◌≤◌, Bool, true, false, ◌==◌, not, if◌then◌else◌, List, [], ◌∷◌, ◌++◌, length, All, refl, sym, subst, ap, arith, Option, Some, None, option_map, append_assoc, get_or}
-use Rattle.std.specs.List.{flat_map, fold, join_with_byte, slice_split}
+use Rattle.std.proofs.Common.{◌≡◌, ◌∙◌, ℕ, ◌+◌, ◌<◌, Bool, true, false, List, [], ◌∷◌, ◌++◌, length, All, refl, sym, subst, ap, arith, Option, Some, None, append_assoc}
+use Rattle.std.specs.List.{flat_map, join_with_byte}
 use Rattle.std.specs.Option.{option_or}
-use Rattle.std.proofs.lemmas.List.Elements.{All-head, All-tail}
 use Rattle.std.proofs.lemmas.List.Splits.{join_with_byte-slice_split, length-slice_split, slice_split_at}
 use Rattle.bound_certificate.specs.declared.certificate.Certificate.{Certificate}
 use Rattle.bound_certificate.specs.declared.due.Due.{Due}
@@ -11,13 +10,11 @@ use Rattle.bound_certificate.specs.declared.fault.CertFault.{CertFault}
 use Rattle.bound_certificate.specs.declared.fault.FaultKind.{FaultKind}
 use Rattle.bound_certificate.specs.declared.fault.FaultKind.TheVariants as kind
 use Rattle.bound_certificate.specs.declared.item.Item.{Item}
-use Rattle.bound_certificate.specs.declared.limits.TheConstants.{MOST_DATES}
-use Rattle.bound_certificate.specs.Certificate.{IsWellFormed}
 use Rattle.bound_certificate.specs.Draft.{no_lines}
 use Rattle.bound_certificate.specs.Due.{is_over, next_due}
 use Rattle.bound_certificate.specs.Faults.{first_fault, is_feed, lines_in, on_line, rest_fault, text_fault, whole_fault}
 use Rattle.bound_certificate.specs.Grammar.{line_fault, line_item}
-use Rattle.bound_certificate.specs.Text.{IsTextOf, Line, line_text, lines_of, text_of}
+use Rattle.bound_certificate.specs.Text.{IsTextOf, Line, line_text, lines_of}
 use Rattle.bound_certificate.proofs.DraftFacts.{Follows, IsWhole, lines-fold, lines-follow, lines-whole, with_lines}
 use Rattle.bound_certificate.proofs.FoundFacts.{Found, line-found}
 use Rattle.bound_certificate.proofs.SaidFacts.{Fits, IsOneLine, NotFeed, Shows, body, body-text, fits-shows, item_of_line, one-line}
@@ -80,19 +77,19 @@ no_feeds bytes one i d inside = no_feed _ (one i d inside) _ refl
 pub lines-cons : (line rest : List ℕ) → IsOneLine line → lines_in (line ++ 10 ∷ rest) ≡ line ∷ lines_in rest
 lines-cons line rest one = slice_split_at is_feed line 10 rest (no_feeds line one) refl
 
-some-lines : (bytes : List ℕ) → 0 < length (lines_in bytes)
+pub some-lines : (bytes : List ℕ) → 0 < length (lines_in bytes)
 some-lines bytes = omega (arith, length-slice_split is_feed bytes)
 
 text_cons : (line : Line) (rest : List ℕ) → line_text line ++ rest ≡ body line ++ 10 ∷ rest
 text_cons line rest = ap (λ (bs : List ℕ). bs ++ rest) (body-text line) ∙ append_assoc (body line) (10 ∷ []) rest
 
 -- lines that may stand one after another have no fault
-pub follows-fault : (dates : ℕ) (lines : List Line) (number : ℕ) (d : Due) → dates ≤ MOST_DATES → Follows dates d lines →
+pub follows-fault : (dates : ℕ) (lines : List Line) (number : ℕ) (d : Due) → Follows dates d lines →
     first_fault dates number d (lines_in (flat_map line_text lines)) ≡ None
-follows-fault dates [] number d few follows = ap (λ (o : Option FaultKind). on_line number o) (over-rest d [] follows)
-follows-fault dates (line ∷ lines) number d few follows =
+follows-fault dates [] number d follows = ap (λ (o : Option FaultKind). on_line number o) (over-rest d [] follows)
+follows-fault dates (line ∷ lines) number d follows =
     let rest : List ℕ = flat_map line_text lines in
-    let shows : Shows dates d line = fits-shows dates d line few follows.0 in
+    let shows : Shows dates d line = fits-shows dates d line follows.0 in
     let next : Due = next_due d (line_item d (body line)) in
     let parts : lines_in (line_text line ++ rest) ≡ body line ∷ lines_in rest =
     ap (λ (bs : List ℕ). lines_in bs) (text_cons line rest) ∙ lines-cons (body line) rest shows.one in
@@ -101,7 +98,7 @@ follows-fault dates (line ∷ lines) number d few follows =
     ∙ ap (λ (o : Option FaultKind). option_or (on_line number o) (first_fault dates (number + 1) next (lines_in rest)))
     (whole-due dates d (body line) (fits-due dates d line follows.0) ∙ shows.good)
     ∙ ap (λ (i : Item). first_fault dates (number + 1) (next_due d i) (lines_in rest)) shows.item
-    ∙ follows-fault dates lines (number + 1) (next_due d (item_of_line line)) few follows.1
+    ∙ follows-fault dates lines (number + 1) (next_due d (item_of_line line)) follows.1
 
 -- and lines without a fault are such
 pub record AreLines (dates : ℕ) (d : Due) (bytes : List ℕ) : Type 0 where
@@ -124,17 +121,17 @@ rest_lines dates number d [] h true e = record { lines = []; follow = e; text = 
 rest_lines dates number d (byte ∷ rest) h true e =
     let bad : on_line number (Some kind.Trailing) ≡ None = ap (λ (o : Option FaultKind). on_line number o) (sym (over-rest d (byte ∷ rest) e)) ∙ h in absurd (cc)
 
-pub fault-lines : (dates : ℕ) (parts : List (List ℕ)) (number : ℕ) (d : Due) → dates ≤ MOST_DATES → 0 < length parts →
+pub fault-lines : (dates : ℕ) (parts : List (List ℕ)) (number : ℕ) (d : Due) → 0 < length parts →
     first_fault dates number d parts ≡ None → AreLines dates d (join_with_byte 10 parts)
-fault-lines dates [] number d few some h = absurd (omega arith)
-fault-lines dates (rest ∷ []) number d few some h = rest_lines dates number d rest h (is_over d) refl
-fault-lines dates (line ∷ next ∷ parts) number d few some h =
+fault-lines dates [] number d some h = absurd (omega arith)
+fault-lines dates (rest ∷ []) number d some h = rest_lines dates number d rest h (is_over d) refl
+fault-lines dates (line ∷ next ∷ parts) number d some h =
     let both : (whole_fault dates d line ≡ None) × (first_fault dates (number + 1) (next_due d (line_item d line)) (next ∷ parts) ≡ None) =
     neither_fault number (whole_fault dates d line) (first_fault dates (number + 1) (next_due d (line_item d line)) (next ∷ parts)) h in
     let found : Found dates d line = line-found dates d line (over_by dates d line both.0 (is_over d) refl) in
-    let shows : Shows dates d found.said = fits-shows dates d found.said few found.fits in
+    let shows : Shows dates d found.said = fits-shows dates d found.said found.fits in
     let behind : AreLines dates (next_due d (line_item d line)) (join_with_byte 10 (next ∷ parts)) =
-    fault-lines dates (next ∷ parts) (number + 1) (next_due d (line_item d line)) few (omega arith) both.1 in
+    fault-lines dates (next ∷ parts) (number + 1) (next_due d (line_item d line)) (omega arith) both.1 in
     let item : line_item d line ≡ item_of_line found.said = ap (λ (bs : List ℕ). line_item d bs) found.bytes_of ∙ shows.item in
     let P : Item → Type 0 = λ i. Follows dates (next_due d i) behind.lines in
     record {
@@ -147,22 +144,20 @@ fault-lines dates (line ∷ next ∷ parts) number d few some h =
     }
 
 -- a text without a fault is that of a certificate
-pub record IsSome (dates : ℕ) (bytes : List ℕ) : Type 0 where
-  pub cert : Certificate
-  pub text : IsTextOf dates cert bytes
+pub text-found : (dates : ℕ) (bytes : List ℕ) → text_fault dates bytes ≡ None → (cert : Certificate) × IsTextOf dates cert bytes
+text-found dates bytes h =
+    let are : AreLines dates due.Title (join_with_byte 10 (lines_in bytes)) = fault-lines dates (lines_in bytes) 1 due.Title (some-lines bytes) h in
+    let whole : IsWhole dates (with_lines no_lines are.lines) are.lines = lines-whole dates are.lines due.Title no_lines are.follow refl in (
+      with_lines no_lines are.lines,
+      record {
+        well_formed = whole.well_formed;
+        text = sym (join_with_byte-slice_split 10 bytes) ∙ are.text ∙ ap (λ (ls : List Line). flat_map line_text ls) (sym whole.lines_are);
+      },
+    )
 
-pub text-found : (dates : ℕ) (bytes : List ℕ) → dates ≤ MOST_DATES → text_fault dates bytes ≡ None → (cert : Certificate) × IsTextOf dates cert bytes
-text-found dates bytes few h =
-    let are : AreLines dates due.Title (join_with_byte 10 (lines_in bytes)) = fault-lines dates (lines_in bytes) 1 due.Title few (some-lines bytes) h in
-    let whole : IsWhole dates (with_lines no_lines are.lines) are.lines = lines-whole dates are.lines due.Title no_lines are.follow refl in
-    (with_lines no_lines are.lines, record {
-      well_formed = whole.well_formed;
-      text = sym (join_with_byte-slice_split 10 bytes) ∙ are.text ∙ ap (λ (ls : List Line). flat_map line_text ls) (sym whole.lines_are);
-    })
-
-pub text-good : (dates : ℕ) (cert : Certificate) (bytes : List ℕ) → dates ≤ MOST_DATES → IsTextOf dates cert bytes → text_fault dates bytes ≡ None
-text-good dates cert bytes few is =
-    ap (λ (bs : List ℕ). text_fault dates bs) is.text ∙ follows-fault dates (lines_of cert) 1 due.Title few (lines-follow dates cert is.well_formed)
+pub text-good : (dates : ℕ) (cert : Certificate) (bytes : List ℕ) → IsTextOf dates cert bytes → text_fault dates bytes ≡ None
+text-good dates cert bytes is =
+    ap (λ (bs : List ℕ). text_fault dates bs) is.text ∙ follows-fault dates (lines_of cert) 1 due.Title (lines-follow dates cert is.well_formed)
 
 -- a text is that of one certificate
 no_line : (dates : ℕ) (d : Due) (line : Line) → is_over d ≡ true → Fits dates d line → ⊥
@@ -172,16 +167,16 @@ no_line dates d line over fits = absurd (cc)
 head_same : (x y : List ℕ) (xs ys : List (List ℕ)) → x ∷ xs ≡ y ∷ ys → (x ≡ y) × (xs ≡ ys)
 head_same x y xs ys h = (cc, cc)
 
-pub lines-same : (dates : ℕ) (lines others : List Line) (d : Due) → dates ≤ MOST_DATES → Follows dates d lines → Follows dates d others →
+pub lines-same : (dates : ℕ) (lines others : List Line) (d : Due) → Follows dates d lines → Follows dates d others →
     flat_map line_text lines ≡ flat_map line_text others → lines ≡ others
-lines-same dates [] [] d few follows other h = refl
-lines-same dates [] (line ∷ lines) d few follows other h = absurd (no_line dates d line follows other.0)
-lines-same dates (line ∷ lines) [] d few follows other h = absurd (no_line dates d line other follows.0)
-lines-same dates (line ∷ lines) (second ∷ others) d few follows other h =
+lines-same dates [] [] d follows other h = refl
+lines-same dates [] (line ∷ lines) d follows other h = absurd (no_line dates d line follows other.0)
+lines-same dates (line ∷ lines) [] d follows other h = absurd (no_line dates d line other follows.0)
+lines-same dates (line ∷ lines) (second ∷ others) d follows other h =
     let rest : List ℕ = flat_map line_text lines in
     let behind : List ℕ = flat_map line_text others in
-    let shows : Shows dates d line = fits-shows dates d line few follows.0 in
-    let also : Shows dates d second = fits-shows dates d second few other.0 in
+    let shows : Shows dates d line = fits-shows dates d line follows.0 in
+    let also : Shows dates d second = fits-shows dates d second other.0 in
     let parts : body line ∷ lines_in rest ≡ body second ∷ lines_in behind =
     sym (lines-cons (body line) rest shows.one) ∙ ap (λ (bs : List ℕ). lines_in bs) (sym (text_cons line rest) ∙ h ∙ text_cons second behind)
     ∙ lines-cons (body second) behind also.one in
@@ -192,10 +187,10 @@ lines-same dates (line ∷ lines) (second ∷ others) d few follows other h =
     let P : Line → Type 0 = λ l. Follows dates (next_due d (item_of_line l)) others in
     ap (λ (l : Line). l ∷ lines) first
     ∙ ap (λ (ls : List Line). second ∷ ls)
-    (lines-same dates lines others (next_due d (item_of_line line)) few follows.1 (subst P (sym first) other.1) texts)
+    (lines-same dates lines others (next_due d (item_of_line line)) follows.1 (subst P (sym first) other.1) texts)
 
-pub text-one : (dates : ℕ) (bytes : List ℕ) (one other : Certificate) → dates ≤ MOST_DATES → IsTextOf dates one bytes → IsTextOf dates other bytes → one ≡ other
-text-one dates bytes one other few is also =
+pub text-one : (dates : ℕ) (bytes : List ℕ) (one other : Certificate) → IsTextOf dates one bytes → IsTextOf dates other bytes → one ≡ other
+text-one dates bytes one other is also =
     let same : lines_of one ≡ lines_of other =
-    lines-same dates (lines_of one) (lines_of other) due.Title few (lines-follow dates one is.well_formed) (lines-follow dates other also.well_formed) (sym is.text ∙ also.text) in
+    lines-same dates (lines_of one) (lines_of other) due.Title (lines-follow dates one is.well_formed) (lines-follow dates other also.well_formed) (sym is.text ∙ also.text) in
     sym (lines-fold one) ∙ ap (λ (ls : List Line). with_lines no_lines ls) same ∙ lines-fold other

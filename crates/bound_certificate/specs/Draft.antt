@@ -1,5 +1,5 @@
 -- A certificate as its lines come.
-use Rattle.std.specs.Prelude.{List, [], ◌∷◌, ◌++◌, Option, Some, None, option_map}
+use Rattle.std.specs.Prelude.{[], ◌∷◌, ◌++◌, Some, None, option_map}
 use Rattle.dual_bound.specs.declared.tree.Leaf.{Leaf}
 use Rattle.dual_bound.specs.declared.tree.TreeNode.TheVariants as node
 use Rattle.bound_certificate.specs.declared.certificate.Certificate.{Certificate}

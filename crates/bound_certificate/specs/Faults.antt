@@ -1,5 +1,5 @@
 -- The first fault of a text, by its lines. The grammar is this project's own.
-use Rattle.std.specs.Prelude.{◌≡◌, ℕ, ◌+◌, Bool, ◌==◌, List, [], ◌∷◌, Option, Some, None, option_map}
+use Rattle.std.specs.Prelude.{◌≡◌, ℕ, ◌+◌, Bool, ◌==◌, List, [], ◌∷◌, Option, Some, None, option_map, Result, Ok, Err}
 use Rattle.std.specs.List.{slice_split}
 use Rattle.std.specs.Option.{option_or}
 use Rattle.bound_certificate.specs.declared.due.Due.{Due}
@@ -44,6 +44,11 @@ first_fault dates number d (line ∷ next ∷ lines) =
 -- the first fault of a text, where a leaf has a price for each of so many dates
 abbrev pub text_fault : ℕ → List ℕ → Option CertFault
 text_fault dates bytes = first_fault dates 1 due.Title (lines_in bytes)
+
+-- what a reader answers at the end of a text
+abbrev pub answer_of : Option CertFault → Result (Unit {0}) CertFault
+answer_of None = Ok tt
+answer_of (Some fault) = Err fault
 
 -- why a text isn't read
 abbrev pub IsCause : ℕ → List ℕ → CertError → Type 0
