@@ -7,6 +7,7 @@ mod DraftFacts
 mod TextFacts
 mod FirstFacts
 mod CertFacts
+mod DigitFacts
 mod LawFacts
 mod LineFacts
 mod ReadingFacts

@@ -1,5 +1,5 @@
 //! What has come of a certificate.
-ghost use Rattle.std.specs.Prelude.{◌≡◌, ◌≤◌, ◌<◌, Err, None, Some, false, length, IfErr, IfOk};
+ghost use Rattle.std.specs.Prelude.{◌≡◌, ◌≢◌, ◌≤◌, ◌<◌, All, Err, None, Some, false, length, take, IfErr, IfOk};
 ghost use Rattle.bound_certificate.specs.Due.{is_over};
 ghost use Rattle.bound_certificate.specs.Reading.{Feeds, IsReading, after_byte, after_bytes, ended, failed, fault_at, finished, item_at, new_reading, said};
 
@@ -93,6 +93,22 @@ impl Reading {
         Ok(None)
     }
 
+    // The digits at the front of a piece by which a number gets longer; how many they are.
+    fn take_digits(&mut self, piece: &[u8]) -> usize
+        requires reading { IsReading self.old }
+        requires going { self.old.fault ≡ None }
+        ensures within { result ≤ length piece.now }
+        ensures value { self.new ≡ after_bytes self.old (take result piece.now) }
+        ensures no_feed { All (λ byte. byte ≢ 10) (take result piece.now) }
+        ensures kept { IsReading self.new }
+        ensures going { self.new.fault ≡ None }
+    {
+        if self.due.is_over() {
+            return 0;
+        }
+        self.scan.take_digits(piece)
+    }
+
     /// The next piece.
     pub(crate) fn feed(&mut self, piece: &[u8]) -> Result<Fed, CertFault>
         requires reading { IsReading self.old }
@@ -105,13 +121,16 @@ impl Reading {
         if let Some(fault) = self.fault {
             return Err(fault);
         }
-        for (place, byte) in piece.iter().enumerate() {
-            if let Some(item) = self.take(*byte)? {
+        let mut place = 0;
+        while place < piece.len() {
+            if let Some(item) = self.take(piece[place])? {
                 return Ok(Fed {
                     used: place as u32 + 1,
                     item,
                 });
             }
+            place += 1;
+            place += self.take_digits(&piece[place..]);
         }
         Ok(Fed {
             used: piece.len() as u32,
