@@ -4,7 +4,7 @@ use Rattle.std.specs.List.{fold}
 use Rattle.std.specs.Char.{is_ascii_digit}
 use Rattle.std.proofs.Math.Seq.{take-add, take-suc}
 use Rattle.std.proofs.lemmas.List.{take_all}
-use Rattle.std.proofs.lemmas.List.Elements.{All-head, All-tail}
+use Rattle.std.proofs.lemmas.List.Elements.{All-cons, All-head, All-tail}
 use Rattle.std.proofs.lemmas.List.Sums.{fold-append}
 use Rattle.bound_certificate.specs.declared.due.Due.{Due}
 use Rattle.bound_certificate.specs.declared.scan.Scan.{Scan}
@@ -71,3 +71,13 @@ piece-within piece place more inside fits =
     let left : length (take (length piece - place) (drop place piece)) ≡ length piece - place =
     ap length (take_all (length piece - place) (drop place piece) (omega (arith, length-drop place piece))) ∙ length-drop place piece in
     omega (arith, left, inside, fits)
+
+-- the first byte of a piece, and digits behind it
+pub first-more : (piece : List ℕ) (more : ℕ) → 0 < length piece → more ≤ length (take (length piece - 1) (drop 1 piece)) →
+    take (1 + more) piece ≡ get_or piece 0 0 ∷ take more (take (length piece - 1) (drop 1 piece))
+first-more piece more some fits =
+    piece-more piece 1 more (omega (arith, some)) fits
+    ∙ ap (λ (bytes : List ℕ). bytes ++ take more (take (length piece - 1) (drop 1 piece))) (take-suc piece 0 0 some)
+
+pub line-more : (byte : ℕ) (digits : List ℕ) → byte ≢ 10 → All Digit digits → All (λ b. b ≢ 10) (byte ∷ digits)
+line-more byte digits other all = All-cons (λ b. b ≢ 10) byte digits other (no-feeds digits all)

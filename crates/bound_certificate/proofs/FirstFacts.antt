@@ -20,7 +20,7 @@ use Rattle.bound_certificate.specs.Laws.{BeginsLine, GoesOn, ShowsFault}
 use Rattle.bound_certificate.specs.Reading.{after_byte, after_byte_by, after_bytes, end_answer, ended, failed, fault_at, finished, finished_by, new_leaf, new_reading}
 use Rattle.bound_certificate.specs.Scan as line
 use Rattle.bound_certificate.proofs.LawFacts.{faults-are-of-lines, lines-follow, within-line}
-use Rattle.bound_certificate.proofs.ReadingFacts.{after_bytes-append, after_bytes-fault, after_bytes-none, after_bytes-one}
+use Rattle.bound_certificate.proofs.ReadingFacts.{after_byte-over, after_bytes-append, after_bytes-fault, after_bytes-none, after_bytes-one}
 use Rattle.bound_certificate.proofs.SaidFacts.{IsOneLine, NotFeed}
 use Rattle.bound_certificate.proofs.TextFacts.{over-rest, over-whole, rest-due, some-lines, whole-due}
 
@@ -44,16 +44,11 @@ finished_stays : (reading : Reading) (fault : CertFault) (bytes : List ℕ) → 
 finished_stays reading fault bytes h = ap (λ (r : Reading). finished r) (after_bytes-fault reading fault bytes h) ∙ finished-fault reading fault h
 
 -- bytes behind the last line
-over_byte : (reading : Reading) (byte : ℕ) → reading.fault ≡ None → is_over reading.due ≡ true → after_byte reading byte ≡ failed kind.Trailing reading
-over_byte reading byte going over =
-    ap (λ (f : Option CertFault). after_byte_by f reading byte) going
-    ∙ ap (λ (b : Bool). if b then failed kind.Trailing reading else if byte == 10 then ended reading else record reading { scan = line.after_byte reading.due reading.scan byte }) over
-
 pub over-bytes : (reading : Reading) (byte : ℕ) (bytes : List ℕ) → reading.fault ≡ None → is_over reading.due ≡ true →
     (after_bytes reading (byte ∷ bytes)).fault ≡ Some (fault_at reading kind.Trailing)
 over-bytes reading byte bytes going over =
     ap (λ (r : Reading). r.fault)
-    (after_bytes-one reading byte bytes ∙ ap (λ (r : Reading). after_bytes r bytes) (over_byte reading byte going over)
+    (after_bytes-one reading byte bytes ∙ ap (λ (r : Reading). after_bytes r bytes) (after_byte-over reading byte going over)
     ∙ after_bytes-fault (failed kind.Trailing reading) (fault_at reading kind.Trailing) bytes refl)
 
 over_line : (reading : Reading) (bytes more : List ℕ) → reading.fault ≡ None → is_over reading.due ≡ true →
