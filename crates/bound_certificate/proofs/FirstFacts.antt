@@ -1,5 +1,5 @@
 -- What a reader answers is the first fault of the lines.
-use Rattle.std.proofs.Common.{◌≡◌, ◌∙◌, ℕ, ◌+◌, ◌<◌, ◌≤◌, Bool, true, false, ◌==◌, cond, if◌then◌else◌, List, [], ◌∷◌, ◌++◌, length, refl, sym, ap, arith, Option, Some, None, option_map, append_assoc, Ok, Err}
+use Rattle.std.proofs.Common.{◌≡◌, ◌∙◌, ℕ, ◌+◌, ◌<◌, ◌≤◌, Bool, true, false, cond, if◌then◌else◌, List, [], ◌∷◌, ◌++◌, length, refl, sym, ap, arith, Option, Some, None, option_map, append_assoc, Ok, Err}
 use Rattle.std.specs.List.{fold, join_with_byte, onto_first}
 use Rattle.std.specs.Option.{option_or}
 use Rattle.std.proofs.lemmas.List.{length-replicate}
@@ -17,7 +17,7 @@ use Rattle.bound_certificate.specs.Due.{is_over, next_due}
 use Rattle.bound_certificate.specs.Faults.{answer_of, first_fault, is_feed, lines_in, on_line, rest_fault, text_fault, whole_fault}
 use Rattle.bound_certificate.specs.Grammar.{line_fault, line_item}
 use Rattle.bound_certificate.specs.Laws.{BeginsLine, GoesOn, ShowsFault}
-use Rattle.bound_certificate.specs.Reading.{after_byte, after_byte_by, after_bytes, end_answer, ended, failed, fault_at, finished, finished_by, new_leaf, new_reading}
+use Rattle.bound_certificate.specs.Reading.{after_bytes, end_answer, failed, fault_at, finished, finished_by, new_leaf, new_reading}
 use Rattle.bound_certificate.specs.Scan as line
 use Rattle.bound_certificate.proofs.LawFacts.{faults-are-of-lines, lines-follow, within-line}
 use Rattle.bound_certificate.proofs.ReadingFacts.{after_byte-over, after_bytes-append, after_bytes-fault, after_bytes-none, after_bytes-one}

@@ -1,9 +1,9 @@
-use Rattle.std.proofs.Common.{◌≡◌, ◌≢◌, ◌∙◌, ◌+◌, ◌-◌, ◌++◌, All, List, Some, ap, arith, drop, get_or, inl, length, refl, subst, sym, take, true, ℕ}
+use Rattle.std.proofs.Common.{◌≡◌, ◌≢◌, ◌∙◌, ◌+◌, ◌-◌, ◌++◌, All, List, Some, ap, arith, drop, get_or, inl, length, refl, subst, sym, take, ℕ}
 use Rattle.std.proofs.lemmas.List.Elements.{All-append, All-nil}
 use Rattle.std.proofs.lemmas.Result.{err_from_is_err_and}
 use Rattle.bound_certificate.specs.declared.fault.FaultKind.TheVariants as kind
 use Rattle.bound_certificate.specs.declared.reading.Reading.{Reading}
-use Rattle.bound_certificate.specs.Reading.{after_byte, after_bytes, ended, fault_at, said}
+use Rattle.bound_certificate.specs.Reading.{after_byte, after_bytes, fault_at, said}
 use Rattle.bound_certificate.proofs.DigitFacts.{piece-more, piece-within}
 use Rattle.bound_certificate.proofs.ReadingFacts.{after_byte-feed, after_byte-over, after_bytes-append, after_bytes-fault, after_bytes-more, after_bytes-none, after_bytes-stop}
 use Rattle.bound_certificate.proofs.reading.Reading.feed.Goals as goal

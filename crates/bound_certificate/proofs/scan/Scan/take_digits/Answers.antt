@@ -1,4 +1,4 @@
-use Rattle.std.proofs.Common.{◌≡◌, ◌∙◌, ap, arith, get_or, sym, take, ◌+◌, ◌*◌, ℕ}
+use Rattle.std.proofs.Common.{◌∙◌, ap, arith, get_or, sym, take, ◌+◌, ◌*◌, ℕ}
 use Rattle.std.proofs.lemmas.List.Elements.{All-more}
 use Rattle.bound_certificate.specs.declared.scan.Word.{Word}
 use Rattle.bound_certificate.specs.declared.scan.Word.TheVariants as word
