@@ -6,6 +6,15 @@ use crate::amount::{Cents, Price8, Rate};
 use crate::limits::{AMOUNT_LIMIT, GREATEST_INDEX, GREATEST_PRICE, GREATEST_RATE};
 use crate::rounding::near;
 
+/// A part of a year for which interest is earned.
+#[derive(Clone, Copy, Debug, PartialEq, Eq)]
+pub struct Accrual {
+    /// For how many days it is earned.
+    pub parts: u32,
+    /// How many such days the year has: 360, 365 or 366, or twice those of a half-year.
+    pub year: u32,
+}
+
 /// What a face earns in so many parts of a year that has `year` of them, to the cent, halves up.
 ///
 /// A rate counts 100,000 to the face and a year: the interest is `face * rate * parts / (100,000 * year)`. The parts are

@@ -30,7 +30,7 @@ pub use day::Day;
 pub use decimal::whole_number;
 pub use denomination::{read_cap, read_terms};
 pub use fault::NumberFault;
-pub use interest::{earned, face_price, half_coupon};
+pub use interest::{Accrual, earned, face_price, half_coupon};
 pub use limits::{
     AMOUNT_LIMIT, FIRST_WAIT, FLOWS_LIMIT, GREATEST_GIVEN_YIELD, GREATEST_INDEX, GREATEST_PRICE,
     GREATEST_RATE, GREATEST_YIELD, LEAST_PRICE, MOST_LINES, MOST_NEED_DATES,

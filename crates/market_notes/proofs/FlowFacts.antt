@@ -15,10 +15,11 @@ use Rattle.escrow_units.specs.Calendar.{half_back_of}
 use Rattle.escrow_units.specs.Flows.{EndsOn, Rise, index360_of}
 use Rattle.escrow_units.specs.Interest.{earned_of, face_price_of, half_coupon_of}
 use Rattle.escrow_units.specs.Series.{days_between_of}
+use Rattle.escrow_units.specs.declared.interest.Accrual.{Accrual}
 use Rattle.escrow_units.specs.declared.security.Flow.{Flow}
 use Rattle.escrow_units.specs.declared.security.StepRule.{StepRule}
 use Rattle.escrow_units.specs.declared.security.StepRule.TheVariants as rule
-use Rattle.market_notes.specs.NoteFlows.{payment_dates, payments_of, payment_on, principal_on, accrued_interest, cost_of, previous_date, next_date}
+use Rattle.market_notes.specs.NoteFlows.{payment_dates, payments_of, payment_on, principal_on, accrual_of, accrued_interest, cost_of, previous_date, next_date}
 use Rattle.market_notes.specs.NoteLaws.{IsCouponDate, SettlesIn, CostsPriceOnCouponDate, AreAfterSettlement, PayFaceOnce, AreAtMost, PayNoLessForMore}
 use Rattle.market_notes.specs.PriceForm.{has_matured_of}
 use Rattle.market_notes.specs.declared.note.Note.{Note}
@@ -32,13 +33,16 @@ pub record IsLater (settle maturity : ℤ) : Type 0 where
 pub later : (settle maturity : ℤ) → has_matured_of settle maturity ≡ false → IsLater settle maturity
 later settle maturity h = record { after = grind (arith, ints); index = grind (arith, ints) }
 
--- the accrued interest, by the days of its half-year
-pub accrued-is : (note : Note) (face : ℕ) (from to : ℤ) (elapsed half : ℕ) → from ≡ previous_date note → to ≡ next_date note
-    → from +ℤ pos elapsed ≡ note.settle → from +ℤ pos half ≡ to
-    → earned_of face note.coupon.0 elapsed (2 * half) ≡ accrued_interest note face
-unfolding accrued_interest
-accrued-is note face from to elapsed half e f g h =
+-- the accrual up to settlement, by the days of its half-year
+pub accrual-is : (note : Note) (from to : ℤ) (elapsed half : ℕ) → from ≡ previous_date note → to ≡ next_date note
+    → from +ℤ pos elapsed ≡ note.settle → from +ℤ pos half ≡ to → record { parts = elapsed; year = 2 * half } ≡ accrual_of note
+accrual-is note from to elapsed half e f g h =
     rw (← e, ← f, days_between_of-count from note.settle elapsed g, days_between_of-count from to half h) refl
+
+-- and the interest of it
+pub accrued-is : (note : Note) (face : ℕ) (part : Accrual) → part ≡ accrual_of note → earned_of face note.coupon.0 part.parts part.year ≡ accrued_interest note face
+unfolding accrued_interest
+accrued-is note face part e = rw e refl
 
 none-accrued : (note : Note) (face : ℕ) → SettlesIn note (previous_date note) (next_date note) → IsCouponDate note note.settle → accrued_interest note face ≡ 0
 unfolding accrued_interest

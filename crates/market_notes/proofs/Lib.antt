@@ -1,3 +1,4 @@
+pub mod AmountFacts
 pub mod FlowFacts
 pub mod SeriesFacts
 pub mod TestTerms

@@ -4,6 +4,7 @@ use Rattle.std.specs.Prelude.{ℕ, ◌+◌, ◌*◌, if◌then◌else◌, List, 
 use Rattle.std.specs.Ordering.{int_eq}
 use Rattle.escrow_units.specs.Interest.{earned_of, face_price_of, half_coupon_of}
 use Rattle.escrow_units.specs.Series.{dates_after_of, days_between_of, next_date_of, previous_date_of}
+use Rattle.escrow_units.specs.declared.interest.Accrual.{Accrual}
 use Rattle.escrow_units.specs.declared.security.Flow.{Flow}
 use Rattle.escrow_units.specs.declared.security.StepRule.TheVariants as rule
 use Rattle.market_notes.specs.declared.note.Note.{Note}
@@ -20,11 +21,16 @@ previous_date note = previous_date_of note.maturity rule.MonthEnd note.settle
 abbrev pub next_date : Note → ℤ
 next_date note = next_date_of note.maturity rule.MonthEnd note.settle
 
--- the interest that a face has earned by settlement. A year is twice the half-year of settlement
+-- the part of a year for which interest has been earned by settlement. A year is twice the half-year of settlement
+abbrev pub accrual_of : Note → Accrual
+accrual_of note = record {
+  parts = days_between_of (previous_date note) note.settle;
+  year = 2 * days_between_of (previous_date note) (next_date note);
+}
+
+-- the interest that a face has earned by settlement
 unfoldable pub accrued_interest : Note → ℕ → ℕ
-accrued_interest note face =
-    earned_of face note.coupon.0 (days_between_of (previous_date note) note.settle)
-    (2 * days_between_of (previous_date note) (next_date note))
+accrued_interest note face = earned_of face note.coupon.0 (accrual_of note).parts (accrual_of note).year
 
 -- what a face of so many cents costs
 abbrev pub cost_of : Note → ℕ → ℕ

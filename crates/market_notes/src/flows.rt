@@ -1,15 +1,15 @@
 //! What a note costs and what it pays.
-ghost use Rattle.std.specs.Prelude.{◌≡◌, ◌^◌, ◌≤◌};
+ghost use Rattle.std.specs.Prelude.{◌≡◌, ◌^◌, ◌<◌, ◌≤◌};
 ghost use Rattle.escrow_units.specs.CalendarLaws.{IsHalfYear};
 ghost use Rattle.escrow_units.specs.Flows.{EndsOn, Rise};
-ghost use Rattle.market_notes.specs.NoteFlows.{accrued_interest, cost_of, next_date, payment_dates, payments_of, previous_date};
+ghost use Rattle.market_notes.specs.NoteFlows.{accrual_of, accrued_interest, cost_of, next_date, payment_dates, payments_of, previous_date};
 ghost use Rattle.market_notes.specs.NoteLaws.{AreAfterSettlement, CostsNoLessForMore, CostsPriceOnCouponDate, PayFaceOnce, PayNoLessForMore, SettlesIn};
 ghost use Rattle.market_notes.specs.NoteTerms.{IsNote};
 
 use crate::note::Note;
 use arrayvec::ArrayVec;
 use escrow_units::{
-    Cents, Flow, SeriesDates, StepRule, days_between, earned, face_price, half_coupon,
+    Accrual, Cents, Flow, SeriesDates, StepRule, days_between, earned, face_price, half_coupon,
     series_around,
 };
 
@@ -25,6 +25,24 @@ fn dates_of(note: &Note) -> SeriesDates
     series_around(note.maturity, StepRule::MonthEnd, note.settle)
 }
 
+/// For which part of a year a note has earned interest by settlement: the days from the last date of its series up to
+/// settlement, of a year that is twice the half-year from there to the next date. It is less than half a year, and none where
+/// settlement is on a date of the series.
+pub fn accrual(note: &Note) -> Accrual
+    requires { IsNote note.now }
+    ensures value { result ≡ accrual_of note.now }
+    ensures some_year { 0 < result.year }
+    ensures days { result.parts ≤ 184 }
+    ensures half_year { SettlesIn note.now (previous_date note.now) (next_date note.now) }
+{
+    let dates = dates_of(note);
+    let half_year = days_between(dates.previous, dates.next);
+    Accrual {
+        parts: days_between(dates.previous, note.settle),
+        year: 2 * half_year,
+    }
+}
+
 /// The cost of a face of a note, in cents: its price and the accrued interest, each rounded to the cent, halves up.
 ///
 /// The accrued interest is the half-coupon, by the days from the last date of its series up to settlement, of the days
@@ -38,10 +56,8 @@ pub fn note_cost(note: &Note, face: Cents) -> Cents
     ensures on_coupon_date { CostsPriceOnCouponDate note.now face.0 result.0 }
     ensures more_face { CostsNoLessForMore note.now face.0 result.0 }
 {
-    let dates = dates_of(note);
-    let elapsed = days_between(dates.previous, note.settle);
-    let half_year = days_between(dates.previous, dates.next);
-    let accrued = earned(face, note.coupon, elapsed, 2 * half_year);
+    let accrual = accrual(note);
+    let accrued = earned(face, note.coupon, accrual.parts, accrual.year);
     Cents(face_price(face, note.price).0 + accrued.0)
 }
 

@@ -1,2 +1,5 @@
+pub mod BookFacts
+pub mod CoefficientFacts
 pub mod LineFacts
+pub mod MarketFacts
 pub mod OfferFacts

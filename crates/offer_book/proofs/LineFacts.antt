@@ -2,7 +2,7 @@
 use Rattle.std.proofs.Common.{◌≡◌, ℕ, ◌+◌, ◌*◌, ◌^◌, ◌≤◌, zero, suc, refl, sym, ap, subst, arith, inl, inr, ℤ, ◌≤ℤ◌, ◌<ℤ◌, Bool, true, false, if◌then◌else◌, List, [], ◌∷◌, length, get_or, pos, ◌+ℤ◌, int_le, int_lt}
 use Rattle.std.specs.List.{All}
 use Rattle.std.specs.Ordering.{int_eq}
-use Rattle.std.proofs.Math.Nat.{mul-le-mul_left, mul-le-mul_right}
+use Rattle.std.proofs.Math.Nat.{mul-le-mul, mul-le-mul_left, mul-le-mul_right}
 use Rattle.std.proofs.lemmas.List.{length-map}
 use Rattle.std.proofs.lemmas.List.Elements.{All-cons, All-nil, All-map, All-weaker, filter_passes}
 use Rattle.std.proofs.lemmas.List.Sums.{sum_by-le}
@@ -19,17 +19,19 @@ use Rattle.escrow_units.specs.declared.security.SlgsKind.{SlgsKind}
 use Rattle.escrow_units.specs.declared.security.SlgsKind.TheVariants as kind
 use Rattle.escrow_units.proofs.SeriesFacts.{years_after_of-none}
 use Rattle.escrow_units.proofs.YearFacts.{years_after_of-passes}
-use Rattle.slgs_interest.specs.Payments.{payment_dates, payments_of, payment_on, interest_on, principal_on, first_interest, first_interest_of_kind, first_period_interest, before_first, second_before_first}
+use Rattle.slgs_interest.specs.Payments.{payment_dates, payments_of, payment_on, interest_on, principal_on, first_interest, first_accrual_of, before_first, second_before_first}
 use Rattle.escrow_units.specs.Series.{days_between_of}
-use Rattle.slgs_interest.specs.PaymentLaws.{AreSmall, AreWithinTerm}
+use Rattle.slgs_interest.specs.PaymentLaws.{AreSmall, AreWithinTerm, IsShort}
 use Rattle.escrow_units.proofs.RoundingFacts.{near-zero}
-use Rattle.slgs_interest.proofs.PaymentFacts.{payments-face, payments-interest, payments-principal, payments-small, payments-within}
+use Rattle.slgs_interest.proofs.PaymentFacts.{first-short, payments-face, payments-interest, payments-principal, payments-small, payments-within}
 use Rattle.slgs_interest.proofs.Series.{IsPaid, paid, certificate-first}
+use Rattle.market_notes.specs.NoteFlows as market
+use Rattle.market_notes.proofs.AmountFacts as notes
 use Rattle.offer_book.specs.declared.line.LineKind.{LineKind}
-use Rattle.offer_book.specs.declared.line.LineKind.TheVariants.{Cash, Security}
+use Rattle.offer_book.specs.declared.line.LineKind.TheVariants.{Cash, Market, Security}
 use Rattle.offer_book.specs.declared.line.Line.{Line}
 use Rattle.offer_book.specs.Book.{IsCashLine, IsSecurity, IsSecurityLine, IsLine, IsKindWithoutInterest, IsWithoutInterest}
-use Rattle.offer_book.specs.Portfolio.{line_cost, kind_payments, line_payments}
+use Rattle.offer_book.specs.Portfolio.{par, kind_cost, line_cost, kind_payments, line_payments}
 
 -- 40 years from a settlement have at least 365 days each
 pub forty-years : (settle : ℤ) → IsSettlement settle → (settle +ℤ pos 14_600) ≤ℤ years_after_of settle 40
@@ -40,14 +42,67 @@ forty-years settle h =
     let forty = years_after_of-passes settle 0 40 from (omega arith) in
     omega (arith, ints, none, forty.least)
 
--- what units up to the most of a line cost
-pub cash-at_most : (line : Line) (units : ℕ) → IsCashLine line → units ≤ line.most → line_cost line units ≤ 10 ^ 13
-cash-at_most line units cash few =
-    let one : line_cost line units ≡ 1 * units = ap (λ n. n * units) cash.step in
+-- what units up to the most of a line come to at par
+pub par-at_most : (settle : ℤ) (line : Line) (units : ℕ) → IsSecurityLine settle line → units ≤ line.most → par line units ≤ 10 ^ 11
+par-at_most settle line units security few = omega (arith, mul-le-mul_left line.step few, security.cap)
+
+cash_par-at_most : (line : Line) (units : ℕ) → IsCashLine line → units ≤ line.most → par line units ≤ 10 ^ 13
+cash_par-at_most line units cash few =
+    let one : par line units ≡ 1 * units = ap (λ n. n * units) cash.step in
     omega (arith, one, few, cash.most)
 
-pub security-at_most : (settle : ℤ) (line : Line) (units : ℕ) → IsSecurityLine settle line → units ≤ line.most → line_cost line units ≤ 10 ^ 11
-security-at_most settle line units security few = omega (arith, mul-le-mul_left line.step few, security.cap)
+pub line_par-at_most : (settle : ℤ) (line : Line) (units : ℕ) → IsLine settle line → units ≤ line.most → par line units ≤ 10 ^ 13
+line_par-at_most settle line units is_line few = elim is_line [
+  | inl cash ↦ cash_par-at_most line units cash few
+  | inr security ↦ omega (arith, par-at_most settle line units security few)
+]
+
+-- a line that isn't opening cash costs a face of at most 10^11 cents
+pub not_cash-par : (settle : ℤ) (line : Line) (units : ℕ) → IsLine settle line → units ≤ line.most → IsSecurity settle line.kind → par line units ≤ 10 ^ 11
+not_cash-par settle line units is_line few security = elim is_line [
+  | inl cash ↦ absurd (subst (IsSecurity settle) cash.kind security)
+  | inr own ↦ par-at_most settle line units own few
+]
+
+-- opening cash costs its amount
+pub cash-cost : (line : Line) (units : ℕ) → IsCashLine line → line_cost line units ≡ units
+cash-cost line units cash =
+    let at_par : line_cost line units ≡ par line units = ap (λ kind. kind_cost kind (par line units)) cash.kind in
+    let one : par line units ≡ 1 * units = ap (λ n. n * units) cash.step in
+    omega (arith, at_par, one)
+
+-- what units up to the most of a line cost
+pub cash-at_most : (line : Line) (units : ℕ) → IsCashLine line → units ≤ line.most → line_cost line units ≤ 10 ^ 13
+cash-at_most line units cash few = omega (arith, cash-cost line units cash, few, cash.most)
+
+kind_cost-at_most : (settle : ℤ) (kind : LineKind) (face : ℕ) → IsSecurity settle kind → face ≤ 10 ^ 11 → kind_cost kind face ≤ 316 * 10 ^ 9
+kind_cost-at_most settle Cash face security few = absurd security
+kind_cost-at_most settle (Security slgs) face security few = omega (arith, few)
+kind_cost-at_most settle (Market note) face security few = notes.cost-small note face security.1 few
+
+pub security-at_most : (settle : ℤ) (line : Line) (units : ℕ) → IsSecurityLine settle line → units ≤ line.most → line_cost line units ≤ 316 * 10 ^ 9
+security-at_most settle line units security few = kind_cost-at_most settle line.kind (par line units) security.security (par-at_most settle line units security few)
+
+-- units of a line of securities cost something
+kind_cost-some : (settle : ℤ) (kind : LineKind) (face : ℕ) → IsSecurity settle kind → 100 ≤ face → 1 ≤ kind_cost kind face
+kind_cost-some settle Cash face security some = absurd security
+kind_cost-some settle (Security slgs) face security some = omega (arith, some)
+kind_cost-some settle (Market note) face security some = notes.cost-some note face security.1 some
+
+pub par-some : (settle : ℤ) (line : Line) (units : ℕ) → IsSecurityLine settle line → 1 ≤ units → 100 ≤ par line units
+par-some settle line units security some = omega (arith, mul-le-mul security.step_at_least some)
+
+pub security_cost-some : (settle : ℤ) (line : Line) (units : ℕ) → IsSecurityLine settle line → 1 ≤ units → 1 ≤ line_cost line units
+security_cost-some settle line units security some = kind_cost-some settle line.kind (par line units) security.security (par-some settle line units security some)
+
+-- and none cost nothing
+kind_cost-none : (kind : LineKind) (amount : ℕ) → amount ≡ 0 → kind_cost kind amount ≡ 0
+kind_cost-none Cash amount none = none
+kind_cost-none (Security slgs) amount none = none
+kind_cost-none (Market note) amount none = notes.cost-none note amount none
+
+pub line_cost-none : (line : Line) (units : ℕ) → units ≡ 0 → line_cost line units ≡ 0
+line_cost-none line units none = kind_cost-none line.kind (par line units) (rw none (omega arith))
 
 -- the payments of a security of a book
 within : (settle : ℤ) (slgs : Slgs) (flows : List Flow) → IsSecurity settle (Security slgs) → AreWithinTerm slgs flows → FallWithinFortyYears settle flows
@@ -61,6 +116,10 @@ within settle slgs flows security h =
 
 pub is_paid : (settle : ℤ) (slgs : Slgs) → IsSettlement settle → IsSecurity settle (Security slgs) → IsPaid slgs
 is_paid settle slgs h security = paid slgs (subst IsSettlement (sym security.0) h) security.1
+
+-- its first interest is for at most sixteen months
+pub is_short : (settle : ℤ) (slgs : Slgs) → IsSettlement settle → IsSecurity settle (Security slgs) → IsShort (first_accrual_of slgs)
+is_short settle slgs h security = first-short slgs (is_paid settle slgs h security) (certificate-first slgs security.1)
 
 pub dates-few : (slgs : Slgs) → IsPaid slgs → length (payment_dates slgs) ≤ 84
 dates-few slgs p = omega (arith, p.count, p.few)
@@ -87,19 +146,7 @@ choice-none true a b e f = e
 choice-none false a b e f = f
 
 first_interest-none : (slgs : Slgs) (face : ℕ) → face ≡ 0 → first_interest slgs face ≡ 0
-unfolding first_interest
-first_interest-none slgs face none = at slgs.kind
-  where
-    of_period : first_period_interest slgs face ≡ 0
-    of_period =
-        choice-none (int_lt slgs.settle (before_first slgs)) _ _
-        (near-nothing _ _ (no-face face slgs.rate.0 (days_between_of (second_before_first slgs) (before_first slgs) + days_between_of slgs.settle (before_first slgs)) none))
-        (near-nothing _ _ (no-face face slgs.rate.0 (days_between_of slgs.settle slgs.first) none))
-
-    at : (k : SlgsKind) → first_interest_of_kind k slgs face ≡ 0
-    at kind.Certificate = near-nothing _ _ (no-face face slgs.rate.0 (days_between_of slgs.settle slgs.maturity) none)
-    at kind.Note = of_period
-    at kind.Bond = of_period
+first_interest-none slgs face none = near-nothing _ _ (no-face face slgs.rate.0 (first_accrual_of slgs).parts none)
 
 payment-none : (slgs : Slgs) (face : ℕ) → face ≡ 0 → (day : ℤ) → interest_on slgs face day + principal_on slgs face day ≡ 0
 payment-none slgs face none day =
@@ -122,12 +169,15 @@ kind-within : (settle : ℤ) (kind : LineKind) (amount : ℕ) → IsSettlement s
 kind-within settle Cash amount h security = absurd security
 kind-within settle (Security slgs) amount h security =
     within settle slgs (payments_of slgs amount) security (payments-within slgs amount (is_paid settle slgs h security))
+kind-within settle (Market note) face h security =
+    subst (λ day. FallWithinFortyYears day (market.payments_of note face)) security.0 (notes.payments-within note face security.1)
 
 kind-total : (settle : ℤ) (kind : LineKind) (amount : ℕ) → IsSettlement settle → IsSecurity settle kind → amount ≤ 10 ^ 11 → total (kind_payments settle kind amount) ≤ 2 * 10 ^ 13
 kind-total settle Cash amount h security few = absurd security
 kind-total settle (Security slgs) amount h security few =
     let p = is_paid settle slgs h security in
-    small-total (payments_of slgs amount) (payments_of-few slgs amount p) (payments-small slgs amount p (certificate-first slgs security.1) few security.2)
+    small-total (payments_of slgs amount) (payments_of-few slgs amount p) (payments-small slgs amount (is_short settle slgs h security) few security.2)
+kind-total settle (Market note) face h security few = omega (arith, notes.payments-little note face security.1 few)
 
 parts-paid : (slgs : Slgs) (face : ℕ) → All (λ flow. flow.cents.0 ≡ interest_on slgs face flow.day + principal_on slgs face flow.day) (payments_of slgs face)
 unfolding payments_of
@@ -135,34 +185,38 @@ parts-paid slgs face =
     All-map (λ (flow : Flow). flow.cents.0 ≡ interest_on slgs face flow.day + principal_on slgs face flow.day) (payment_on slgs face) (payment_dates slgs) (λ k d lt. refl)
 
 -- the face once, and on each date at most four tenths of the greatest face
-pays-little : (slgs : Slgs) (face : ℕ) → IsPaid slgs → (slgs.kind ≡ kind.Certificate → slgs.first ≡ slgs.maturity) → face ≤ 10 ^ 11 → slgs.rate.0 ≤ 30_000
+pays-little : (slgs : Slgs) (face : ℕ) → IsPaid slgs → IsShort (first_accrual_of slgs) → face ≤ 10 ^ 11 → slgs.rate.0 ≤ 30_000
     → total (payments_of slgs face) ≤ 346 * 10 ^ 10
-pays-little slgs face p same few low =
-    let little = payments-interest slgs face p same few low in
+pays-little slgs face p short few low =
+    let little = payments-interest slgs face short few low in
     let interest = sum_by-le (λ (flow : Flow). interest_on slgs face flow.day) (4 * 10 ^ 10) (payments_of slgs face) (λ k d lt. omega (arith, parts-paid slgs face k d lt, little k d lt)) in
     omega (arith, payments-principal slgs face p, interest, mul-le-mul_right (4 * 10 ^ 10) (payments_of-few slgs face p))
 
 kind-little : (settle : ℤ) (kind : LineKind) (amount : ℕ) → IsSettlement settle → IsSecurity settle kind → amount ≤ 10 ^ 11 → total (kind_payments settle kind amount) ≤ 346 * 10 ^ 10
 kind-little settle Cash amount h security few = absurd security
 kind-little settle (Security slgs) amount h security few =
-    pays-little slgs amount (is_paid settle slgs h security) (certificate-first slgs security.1) few security.2
+    pays-little slgs amount (is_paid settle slgs h security) (is_short settle slgs h security) few security.2
+kind-little settle (Market note) face h security few = omega (arith, notes.payments-little note face security.1 few)
 
-kind-cost : (settle : ℤ) (kind : LineKind) (amount : ℕ) → IsSettlement settle → IsSecurity settle kind → amount ≤ total (kind_payments settle kind amount)
-kind-cost settle Cash amount h security = absurd security
-kind-cost settle (Security slgs) amount h security =
+kind-par : (settle : ℤ) (kind : LineKind) (amount : ℕ) → IsSettlement settle → IsSecurity settle kind → amount ≤ total (kind_payments settle kind amount)
+kind-par settle Cash amount h security = absurd security
+kind-par settle (Security slgs) amount h security =
     omega (arith, payments-principal slgs amount (is_paid settle slgs h security))
+kind-par settle (Market note) face h security = omega (arith, notes.payments-come-to note face security.1)
 
-kind-face : (settle : ℤ) (kind : LineKind) (amount : ℕ) → IsSettlement settle → IsSecurity settle kind → IsKindWithoutInterest kind → total (kind_payments settle kind amount) ≡ amount
+kind-face : (settle : ℤ) (kind : LineKind) (amount : ℕ) → IsSettlement settle → IsSecurity settle kind → IsKindWithoutInterest kind → total (kind_payments settle kind amount) ≡ kind_cost kind amount
 kind-face settle Cash amount h security none = absurd security
-kind-face settle (Security slgs) amount h security none = payments-face slgs amount (is_paid settle slgs h security) none
+kind-face settle (Security slgs) amount h security none = payments-face slgs amount (is_paid settle slgs h security) (is_short settle slgs h security) none
+kind-face settle (Market note) face h security none = absurd none
 
 kind-none : (settle : ℤ) (kind : LineKind) (amount : ℕ) → amount ≡ 0 → All (λ flow. flow.cents.0 ≡ 0) (kind_payments settle kind amount)
 kind-none settle Cash amount none = All-cons (λ (flow : Flow). flow.cents.0 ≡ 0) _ [] none (All-nil (λ (flow : Flow). flow.cents.0 ≡ 0))
 kind-none settle (Security slgs) amount none = payments_of-none slgs amount none
+kind-none settle (Market note) face none = notes.payments-none note face none
 
 -- opening cash is there on the settlement day
-pub cash-payments : (settle : ℤ) (line : Line) (units : ℕ) → IsCashLine line → line_payments settle line units ≡ record { day = settle; cents = record { 0 = line_cost line units } } ∷ []
-cash-payments settle line units cash = ap (λ kind. kind_payments settle kind (line_cost line units)) cash.kind
+pub cash-payments : (settle : ℤ) (line : Line) (units : ℕ) → IsCashLine line → line_payments settle line units ≡ record { day = settle; cents = record { 0 = par line units } } ∷ []
+cash-payments settle line units cash = ap (λ kind. kind_payments settle kind (par line units)) cash.kind
 
 -- what units of a line pay
 pub line_payments-within : (settle : ℤ) (line : Line) (units : ℕ) → IsSettlement settle → IsLine settle line → FallWithinFortyYears settle (line_payments settle line units)
@@ -170,29 +224,29 @@ line_payments-within settle line units h is_line = elim is_line [
   | inl cash ↦ subst (FallWithinFortyYears settle) (sym (cash-payments settle line units cash))
       (All-cons (λ (flow : Flow). (settle ≤ℤ flow.day) × (flow.day ≤ℤ years_after_of settle 40)) _ [] (omega (arith, ints), omega (arith, ints, forty-years settle h))
       (All-nil (λ (flow : Flow). (settle ≤ℤ flow.day) × (flow.day ≤ℤ years_after_of settle 40))))
-  | inr security ↦ kind-within settle line.kind (line_cost line units) h security.security
+  | inr security ↦ kind-within settle line.kind (par line units) h security.security
 ]
 
 pub line_payments-total : (settle : ℤ) (line : Line) (units : ℕ) → IsSettlement settle → IsLine settle line → units ≤ line.most → total (line_payments settle line units) ≤ 2 * 10 ^ 13
 line_payments-total settle line units h is_line few = elim is_line [
-  | inl cash ↦ omega (arith, ap total (cash-payments settle line units cash), cash-at_most line units cash few)
-  | inr security ↦ kind-total settle line.kind (line_cost line units) h security.security (security-at_most settle line units security few)
+  | inl cash ↦ omega (arith, ap total (cash-payments settle line units cash), cash_par-at_most line units cash few)
+  | inr security ↦ kind-total settle line.kind (par line units) h security.security (par-at_most settle line units security few)
 ]
 
 pub line_payments-little : (settle : ℤ) (line : Line) (units : ℕ) → IsSettlement settle → IsSecurityLine settle line → units ≤ line.most → total (line_payments settle line units) ≤ 346 * 10 ^ 10
-line_payments-little settle line units h security few = kind-little settle line.kind (line_cost line units) h security.security (security-at_most settle line units security few)
+line_payments-little settle line units h security few = kind-little settle line.kind (par line units) h security.security (par-at_most settle line units security few)
 
--- no less than they cost
-pub line_payments-cost : (settle : ℤ) (line : Line) (units : ℕ) → IsSettlement settle → IsSecurityLine settle line → line_cost line units ≤ total (line_payments settle line units)
-line_payments-cost settle line units h security = kind-cost settle line.kind (line_cost line units) h security.security
+-- no less than their face
+pub line_payments-par : (settle : ℤ) (line : Line) (units : ℕ) → IsSettlement settle → IsSecurityLine settle line → par line units ≤ total (line_payments settle line units)
+line_payments-par settle line units h security = kind-par settle line.kind (par line units) h security.security
 
--- and just that without interest
+-- and just what they cost without interest
 pub line_payments-face : (settle : ℤ) (line : Line) (units : ℕ) → IsSettlement settle → IsSecurityLine settle line → IsWithoutInterest line → total (line_payments settle line units) ≡ line_cost line units
-line_payments-face settle line units h security none = kind-face settle line.kind (line_cost line units) h security.security none
+line_payments-face settle line units h security none = kind-face settle line.kind (par line units) h security.security none
 
 -- nothing where nothing is bought
 pub line_payments-none : (settle : ℤ) (line : Line) (units : ℕ) → units ≡ 0 → All (λ flow. flow.cents.0 ≡ 0) (line_payments settle line units)
-line_payments-none settle line units none = kind-none settle line.kind (line_cost line units) (rw none (omega arith))
+line_payments-none settle line units none = kind-none settle line.kind (par line units) (rw none (omega arith))
 
 -- a security first pays at least 15 days after settlement
 le_from_test : (a b : ℤ) → int_le a b ≡ true → a ≤ℤ b
@@ -209,10 +263,15 @@ payments_of-late slgs face p =
     (All-weaker (λ date. int_le slgs.first date ≡ true) (λ date. (slgs.settle +ℤ pos 15) ≤ℤ date)
     (λ date passes. let late = le_from_test slgs.first date passes in omega (arith, ints, late, p.late)) (payment_dates slgs) (dates-kept slgs))
 
-kind-late : (settle : ℤ) (kind : LineKind) (amount : ℕ) → IsSettlement settle → IsSecurity settle kind → All (λ flow. (settle +ℤ pos 15) ≤ℤ flow.day) (kind_payments settle kind amount)
+-- a SLGS security first pays at least 15 days after settlement, and a note after it
+kind-late : (settle : ℤ) (kind : LineKind) (amount : ℕ) → IsSettlement settle → IsSecurity settle kind → All (λ flow. settle <ℤ flow.day) (kind_payments settle kind amount)
 kind-late settle Cash amount h security = absurd security
 kind-late settle (Security slgs) amount h security =
-    rw (← security.0) (payments_of-late slgs amount (is_paid settle slgs h security))
+    All-weaker (λ (flow : Flow). (slgs.settle +ℤ pos 15) ≤ℤ flow.day) (λ flow. settle <ℤ flow.day) (λ flow late. omega (arith, ints, late, security.0))
+    (payments_of slgs amount) (payments_of-late slgs amount (is_paid settle slgs h security))
+kind-late settle (Market note) face h security =
+    All-weaker (λ (flow : Flow). note.settle <ℤ flow.day) (λ flow. settle <ℤ flow.day) (λ flow late. omega (arith, ints, late, security.0))
+    (market.payments_of note face) (notes.payments-later note face security.1)
 
-pub line_payments-late : (settle : ℤ) (line : Line) (units : ℕ) → IsSettlement settle → IsSecurityLine settle line → All (λ flow. (settle +ℤ pos 15) ≤ℤ flow.day) (line_payments settle line units)
-line_payments-late settle line units h security = kind-late settle line.kind (line_cost line units) h security.security
+pub line_payments-late : (settle : ℤ) (line : Line) (units : ℕ) → IsSettlement settle → IsSecurityLine settle line → All (λ flow. settle <ℤ flow.day) (line_payments settle line units)
+line_payments-late settle line units h security = kind-late settle line.kind (par line units) h security.security

@@ -30,15 +30,17 @@ use Rattle.rate_table.specs.declared.table.RateFile.{RateFile}
 use Rattle.rate_table.specs.declared.table.RateRange.{RateRange}
 use Rattle.rate_table.proofs.LookupFacts.{look}
 use Rattle.offer_book.specs.Book.{IsSecurity, IsSecurityLine}
-use Rattle.offer_book.specs.Offers.{AreLinesOf, IsDenominated, IsFirstFaulty, IsLineOf, line_of, line_or_refused, lines_of_terms, offered_line, offered_lines, request_of, rule_kind, slgs_lines_of}
+use Rattle.offer_book.specs.Denominations.{IsDenominated, line_of}
+use Rattle.offer_book.specs.Offers.{AreLinesOf, IsFirstFaulty, IsLineOf, line_or_refused, lines_of_terms, offered_line, offered_lines, request_of, rule_kind, slgs_lines_of}
 use Rattle.offer_book.specs.declared.line.Line.{Line}
+use Rattle.offer_book.specs.declared.line.LineKind.{LineKind}
 use Rattle.offer_book.specs.declared.line.LineKind.TheVariants.{Security}
 
 -- a security that an offer is sold as, and its line
 record IsSold (settle : ℤ) (ranges : List RateRange) (terms : Terms) (offer : Offer) (line : Line) : Type 0 where
   slgs : Slgs
   rules : IsSubscription (request_of settle ranges offer) slgs
-  is : line ≡ line_of terms slgs offer.cap
+  is : line ≡ line_of terms (Security slgs) offer.cap
 
 -- the rule that an offer breaks first, and its refusal
 record IsBroken (settle : ℤ) (ranges : List RateRange) (offer : Offer) (refusal : Refusal) : Type 0 where
@@ -84,8 +86,8 @@ borne-small (asked.At rate) most ranges day h e is has = is.limit
 borne-small asked.Max (Some most) ranges day h e is has = most-small ranges day most h e
 borne-small asked.Max None ranges day h e is has = absurd has
 
-pub denominated : (terms : Terms) (slgs : Slgs) (cap : ℕ) → AreTerms terms → IsDenominated terms cap (line_of terms slgs cap)
-denominated terms slgs cap h =
+pub denominated : (terms : Terms) (bought : LineKind) (cap : ℕ) → AreTerms terms → IsDenominated terms cap (line_of terms bought cap)
+denominated terms bought cap h =
     let some : 1 ≤ terms.step = h.step.0 in
     record {
       step = refl;
@@ -106,10 +108,10 @@ steps-ordered n most step cap within above = elim (cases_lt most n) [
   | inr at_most ↦ at_most
 ]
 
-security-line : (settle : ℤ) (terms : Terms) (slgs : Slgs) (cap : ℕ) → AreTerms terms → terms.minimum ≤ cap → cap ≤ 1_000_000_000
-    → IsSecurity settle (Security slgs) → IsSecurityLine settle (line_of terms slgs cap)
-security-line settle terms slgs cap h least most security =
-    let d = denominated terms slgs cap h in
+pub security-line : (settle : ℤ) (terms : Terms) (bought : LineKind) (cap : ℕ) → AreTerms terms → terms.minimum ≤ cap → cap ≤ 1_000_000_000
+    → IsSecurity settle bought → IsSecurityLine settle (line_of terms bought cap)
+security-line settle terms bought cap h least most security =
+    let d = denominated terms bought cap h in
     record {
       security = security;
       whole_dollars = omega arith;
@@ -140,27 +142,27 @@ sold-sound settle file terms offer line h stated good ranges is sold =
         rules = sold.rules;
         terms = terms;
         stated = stated;
-        denominated = rw sold.is (denominated terms sold.slgs offer.cap good);
+        denominated = rw sold.is (denominated terms (Security sold.slgs) offer.cap good);
       };
-      security = rw sold.is (security-line settle terms sold.slgs offer.cap good is.least is.most security);
+      security = rw sold.is (security-line settle terms (Security sold.slgs) offer.cap good is.least is.most security);
     }
 
 -- what a bind of answers came from
-record IsBound {T U E : Type 0} (answer : Result T E) (next : T → Result U E) (value : U) : Type 0 where
-  first : T
-  is : answer ≡ Ok first
-  rest : next first ≡ Ok value
+pub record IsBound {T U E : Type 0} (answer : Result T E) (next : T → Result U E) (value : U) : Type 0 where
+  pub first : T
+  pub is : answer ≡ Ok first
+  pub rest : next first ≡ Ok value
 
-bound-ok : {T U E : Type 0} (answer : Result T E) (next : T → Result U E) (value : U) → (answer >>= next) ≡ Ok value → IsBound answer next value
+pub bound-ok : {T U E : Type 0} (answer : Result T E) (next : T → Result U E) (value : U) → (answer >>= next) ≡ Ok value → IsBound answer next value
 bound-ok (Ok first) next value e = record { first = first; is = refl; rest = e }
 bound-ok (Err refusal) next value e = absurd (cc)
 
-record IsRefusedNext {T U E : Type 0} (answer : Result T E) (next : T → Result U E) (refusal : E) : Type 0 where
-  first : T
-  is : answer ≡ Ok first
-  rest : next first ≡ Err refusal
+pub record IsRefusedNext {T U E : Type 0} (answer : Result T E) (next : T → Result U E) (refusal : E) : Type 0 where
+  pub first : T
+  pub is : answer ≡ Ok first
+  pub rest : next first ≡ Err refusal
 
-bound-err : {T U E : Type 0} (answer : Result T E) (next : T → Result U E) (refusal : E) → (answer >>= next) ≡ Err refusal
+pub bound-err : {T U E : Type 0} (answer : Result T E) (next : T → Result U E) (refusal : E) → (answer >>= next) ≡ Err refusal
     → (answer ≡ Err refusal) ⊎ IsRefusedNext answer next refusal
 bound-err (Ok first) next refusal e = inr (record { first = first; is = refl; rest = e })
 bound-err (Err other) next refusal e = let same : other ≡ refusal = cc in inl (ap (λ name. Err name) same)
@@ -313,7 +315,7 @@ refused-answers settle file terms at lines offer (Refused refusal) stated short 
     file-lines settle file terms (Err refusal) stated (refused-at settle file.ranges terms file.offers at lines offer refusal short is sold e)
 refused-answers settle file terms at lines offer NoMemory stated short is sold e = tt
 
-zipped-length : {A B : Type 0} (R : A → B → Type 0) (xs : List A) (ys : List B) → AllZip R xs ys → length ys ≡ length xs
+pub zipped-length : {A B : Type 0} (R : A → B → Type 0) (xs : List A) (ys : List B) → AllZip R xs ys → length ys ≡ length xs
 zipped-length R [] [] h = refl
 zipped-length R [] (y ∷ ys) h = absurd h
 zipped-length R (x ∷ xs) [] h = absurd h

@@ -5,8 +5,9 @@ use Rattle.day_sums.specs.SummedLaws.{AreAboveZero}
 use Rattle.escrow_units.specs.Flows.{FallWithinFortyYears, Rise, total}
 use Rattle.escrow_units.specs.SlgsTerms.{IsSettlement, IsSlgs}
 use Rattle.escrow_units.specs.declared.security.Flow.{Flow}
+use Rattle.market_notes.specs.NoteTerms.{IsNote}
 use Rattle.offer_book.specs.declared.line.LineKind.{LineKind}
-use Rattle.offer_book.specs.declared.line.LineKind.TheVariants.{Cash, Security}
+use Rattle.offer_book.specs.declared.line.LineKind.TheVariants.{Cash, Market, Security}
 use Rattle.offer_book.specs.declared.line.Line.{Line}
 use Rattle.escrow_units.specs.declared.limits.TheConstants.{AMOUNT_LIMIT, MOST_LINES, MOST_NEED_DATES}
 
@@ -33,10 +34,12 @@ pub record IsCashLine (line : Line) : Type 0 where
   pub most : line.most ≤ AMOUNT_LIMIT
 
 -- what is bought is a SLGS security that keeps its terms (31 CFR part 344) and is issued on the settlement day, at a
--- rate of at most 30 percent (this project's own)
+-- rate of at most 30 percent (this project's own), or a marketable note that keeps the limits of notes and is bought on
+-- that day
 abbrev pub IsSecurity : ℤ → LineKind → Type 0
 IsSecurity settle Cash = ⊥
 IsSecurity settle (Security slgs) = (slgs.settle ≡ settle) × IsSlgs slgs × (slgs.rate.0 ≤ 30_000)
+IsSecurity settle (Market note) = (note.settle ≡ settle) × IsNote note
 
 -- a line of securities: its step, its least purchase and its cap as this project bounds them. The step is from 1 to
 -- 1,000,000 whole dollars, the least purchase at most 1,000,000 dollars and the greatest at most 1,000,000,000 dollars
@@ -66,10 +69,11 @@ pub record IsBook (book : BookContents) : Type 0 where
   pub needs : IsNeeds book.settle book.needs
   pub lines : AreLines book.settle book.lines
 
--- a security that bears no interest
+-- a SLGS security that bears no interest, which pays what it costs
 abbrev pub IsKindWithoutInterest : LineKind → Type 0
 IsKindWithoutInterest Cash = ⊥
 IsKindWithoutInterest (Security slgs) = slgs.rate.0 ≡ 0
+IsKindWithoutInterest (Market note) = ⊥
 
 abbrev pub IsWithoutInterest : Line → Type 0
 IsWithoutInterest line = IsKindWithoutInterest line.kind

@@ -1,5 +1,5 @@
 -- The lines of the offers of a rate file, or the refusal of its first faulty offer.
-use Rattle.std.specs.Prelude.{◌≡◌, ℕ, ◌+◌, ◌*◌, ◌/◌, ◌<◌, ◌≤◌, List, [], ◌∷◌, ◌++◌, length, All, Option, Some, None, Result, Ok, Err, ℤ}
+use Rattle.std.specs.Prelude.{◌≡◌, ℕ, List, [], ◌∷◌, ◌++◌, length, All, Option, Some, None, Result, Ok, Err, ℤ}
 use Rattle.std.specs.List.{AllZip}
 use Rattle.escrow_desk.specs.declared.refusal.FileKind.TheVariants.{Rates}
 use Rattle.escrow_desk.specs.declared.refusal.Refusal.{Refusal}
@@ -18,6 +18,7 @@ use Rattle.rate_table.specs.declared.table.Offer.{Offer}
 use Rattle.rate_table.specs.declared.table.RateFile.{RateFile}
 use Rattle.rate_table.specs.declared.table.RateRange.{RateRange}
 use Rattle.offer_book.specs.Book.{IsSecurityLine}
+use Rattle.offer_book.specs.Denominations.{IsDenominated, line_of}
 use Rattle.offer_book.specs.declared.line.Line.{Line}
 use Rattle.offer_book.specs.declared.line.LineKind.TheVariants.{Security}
 
@@ -31,15 +32,6 @@ request_of settle ranges offer = record {
   most = maximum_of ranges offer.maturity;
 }
 
--- the line of a security with a cap: denominations and cap are in dollars, and a step of the line in cents
-abbrev pub line_of : Terms → Slgs → ℕ → Line
-line_of terms slgs cap = record {
-  kind = Security slgs;
-  step = 100 * terms.step;
-  least = terms.minimum / terms.step;
-  most = cap / terms.step;
-}
-
 -- an offer is refused by the name of the rule that it breaks
 abbrev pub rule_kind : RuleFault → RefusalKind
 rule_kind fault.NoRate = kind.NoRate
@@ -50,7 +42,7 @@ rule_kind fault.FirstDate = kind.FirstDate
 
 -- the line of an offer's security, or the name of the rule that the offer breaks
 abbrev pub line_or_refused : Terms → ℕ → Result Slgs RuleFault → Result Line RefusalKind
-line_or_refused terms cap (Ok slgs) = Ok (line_of terms slgs cap)
+line_or_refused terms cap (Ok slgs) = Ok (line_of terms (Security slgs) cap)
 line_or_refused terms cap (Err fault) = Err (rule_kind fault)
 
 -- the line of an offer, or its refusal, which names its row
@@ -74,14 +66,6 @@ lines_of_terms settle (Some terms) ranges offers = offered_lines settle ranges t
 -- the lines of a rate file's offers, in the order of its rows, or the refusal of the first offer that breaks a rule
 unfoldable pub slgs_lines_of : ℤ → RateFile → Result (List Line) Refusal
 slgs_lines_of settle file = lines_of_terms settle file.terms file.ranges file.offers
-
--- the step and the least purchase of a line are the file's denominations, and its most is the greatest number of steps
--- within the cap (this project's own). Amounts in dollars are on the right
-pub record IsDenominated (terms : Terms) (cap : ℕ) (line : Line) : Type 0 where
-  pub step : line.step ≡ 100 * terms.step
-  pub least : line.least * terms.step ≡ terms.minimum
-  pub most : line.most * terms.step ≤ cap
-  pub greatest : cap < (line.most + 1) * terms.step
 
 -- a line is that of an offer: its security is the one that the offer's request is for, which keeps every rule of term and
 -- rate (31 CFR part 344)

@@ -5,9 +5,10 @@ use Rattle.std.specs.List.{All, sum_by, flat_map, zip}
 use Rattle.escrow_units.specs.Flows.{total}
 use Rattle.escrow_units.specs.declared.security.Flow.{Flow}
 use Rattle.day_sums.specs.Summed.{summed, total_by}
-use Rattle.slgs_interest.specs.Payments.{payments_of}
+use Rattle.market_notes.specs.NoteFlows.{cost_of as note_cost_of, payments_of as note_payments_of}
+use Rattle.slgs_interest.specs.Payments.{payments_of as slgs_payments_of}
 use Rattle.offer_book.specs.declared.line.LineKind.{LineKind}
-use Rattle.offer_book.specs.declared.line.LineKind.TheVariants.{Cash, Security}
+use Rattle.offer_book.specs.declared.line.LineKind.TheVariants.{Cash, Market, Security}
 use Rattle.offer_book.specs.declared.line.Line.{Line}
 use Rattle.offer_book.specs.Book.{BookContents}
 
@@ -24,19 +25,31 @@ pub record IsPermitted (book : BookContents) (plan : List ℕ) : Type 0 where
   pub same_length : length plan ≡ length book.lines
   pub units : All (λ p. IsPermittedUnits p.0 p.1) (zip book.lines plan)
 
--- what units of a line cost, in cents: opening cash its amount, and a SLGS security its face (31 CFR part 344)
-abbrev pub line_cost : Line → ℕ → ℕ
-line_cost line units = line.step * units
+-- what units of a line come to at par, in cents: an amount of opening cash, or a face
+abbrev pub par : Line → ℕ → ℕ
+par line units = line.step * units
 
--- what an amount of a kind pays: opening cash is there on the settlement day, and a SLGS security pays its interest and
--- its face
+-- what an amount at par of a kind costs: opening cash and a SLGS security (31 CFR part 344) cost just that, and a
+-- marketable note costs its price and its accrued interest, each rounded once over the whole face
+abbrev pub kind_cost : LineKind → ℕ → ℕ
+kind_cost Cash amount = amount
+kind_cost (Security slgs) face = face
+kind_cost (Market note) face = note_cost_of note face
+
+-- what units of a line cost, in cents
+abbrev pub line_cost : Line → ℕ → ℕ
+line_cost line units = kind_cost line.kind (par line units)
+
+-- what an amount at par of a kind pays: opening cash is there on the settlement day, and a SLGS security and a note pay
+-- their interest and their face
 abbrev pub kind_payments : ℤ → LineKind → ℕ → List Flow
 kind_payments settle Cash amount = record { day = settle; cents = record { 0 = amount } } ∷ []
-kind_payments settle (Security slgs) face = payments_of slgs face
+kind_payments settle (Security slgs) face = slgs_payments_of slgs face
+kind_payments settle (Market note) face = note_payments_of note face
 
 -- the payments of units of a line, in order of date
 abbrev pub line_payments : ℤ → Line → ℕ → List Flow
-line_payments settle line units = kind_payments settle line.kind (line_cost line units)
+line_payments settle line units = kind_payments settle line.kind (par line units)
 
 -- the payments of a portfolio, in the order of the lines
 abbrev pub payments : BookContents → List ℕ → List Flow

@@ -1,11 +1,13 @@
 //! Books.
 
-ghost use Rattle.std.specs.Prelude.{◌≡◌, ◌*◌, ◌^◌, ◌<◌, ◌≤◌, length, slice_index_or};
+ghost use Rattle.std.specs.Prelude.{◌≡◌, ◌*◌, ◌^◌, ◌<◌, ◌≤◌, length, slice_index_or, ℕ};
 ghost use Rattle.escrow_units.specs.Flows.{total, FallWithinFortyYears};
 ghost use Rattle.offer_book.specs.Book.{IsBook};
+ghost use Rattle.offer_book.specs.Coefficients.{EnclosesUnits, cost_coefficients, pay_coefficients};
 ghost use Rattle.offer_book.specs.Portfolio.{line_cost as line_cost_of, line_payments as line_payments_of};
 ghost use Rattle.offer_book.specs.declared.line.Line.{Line};
 
+use crate::coefficients::Coefficients;
 use crate::line::Line;
 use arrayvec::ArrayVec;
 use escrow_units::{Cents, Day, Flow};
@@ -120,5 +122,16 @@ impl Book {
         ensures bound { total result.items ≤ 2 * 10 ^ 13 }
     {
         self.lines[line as usize].payments(self.settle, units)
+    }
+
+    /// What one unit of a line costs and pays, scaled and rounded outward, as [`Line::coefficients`] says. The line is counted
+    /// from 0. It takes no memory.
+    pub fn coefficients(&self, line: u16) -> Coefficients
+        requires { line < length self.now.lines }
+        ensures costs { (d : Line) → cost_coefficients (slice_index_or self.now.lines line d) ≡ record { low = result.cost_low; high = result.cost_high; slack = result.cost_slack } }
+        ensures pays { (d : Line) → result.pays.items ≡ pay_coefficients self.now.settle (slice_index_or self.now.lines line d) }
+        ensures enclosing { (d : Line) (units : ℕ) → EnclosesUnits self.now.settle (slice_index_or self.now.lines line d) units }
+    {
+        self.lines[line as usize].coefficients(self.settle)
     }
 }

@@ -1,15 +1,23 @@
-//! The lines of an escrow: opening cash and the SLGS securities on offer, what they cost and pay, and the book of one case.
+//! The lines of an escrow: opening cash, and the SLGS securities and marketable notes on offer, what they cost and pay, and
+//! the book of one case.
 #![tactic(auto)]
 
 mod book;
+mod coefficients;
+mod files;
 mod line;
+mod market;
 mod offers;
 
 pub use book::Book;
+pub use coefficients::{COEFFICIENT_SCALE, Coefficients, PayCoefficients, coefficient_laws};
+pub use files::{book_laws, make_book};
 pub use line::{Line, LineKind};
 pub use offers::{offer_laws, slgs_lines};
 
 #[cfg(test)]
 mod book_tests;
+#[cfg(test)]
+mod files_tests;
 #[cfg(test)]
 mod offer_tests;

@@ -2,8 +2,10 @@
 
 ghost use Rattle.std.specs.Prelude.{◌≡◌, ◌*◌, ◌^◌, ◌<◌, ◌≤◌};
 
+use crate::coefficients::{Coefficients, cash_coefficients, note_coefficients, slgs_coefficients};
 use arrayvec::ArrayVec;
-use escrow_units::{Cents, Day, Flow, Slgs};
+use escrow_units::{Cents, Day, Flow, Slgs, Terms};
+use market_notes::{Note, note_cost, note_payments};
 
 /// What a line offers.
 #[derive(Clone, Copy, Debug, PartialEq, Eq)]
@@ -12,6 +14,8 @@ pub enum LineKind {
     Cash,
     /// A SLGS time deposit security.
     Security(Slgs),
+    /// A marketable Treasury note.
+    Market(Note),
 }
 
 /// A line of a book: what can be bought, in units.
@@ -30,10 +34,27 @@ pub struct Line {
 }
 
 impl Line {
+    ghost use Rattle.escrow_units.specs.Denomination.{AreTerms};
     ghost use Rattle.escrow_units.specs.Flows.{total, FallWithinFortyYears};
     ghost use Rattle.escrow_units.specs.SlgsTerms.{IsSettlement};
+    ghost use Rattle.std.specs.Prelude.{ℕ, ℤ};
     ghost use Rattle.offer_book.specs.Book.{IsLine};
-    ghost use Rattle.offer_book.specs.Portfolio.{line_cost, line_payments, permits as permits_of};
+    ghost use Rattle.offer_book.specs.Coefficients.{EnclosesUnits, cost_coefficients, pay_coefficients};
+    ghost use Rattle.offer_book.specs.Denominations.{line_of};
+    ghost use Rattle.offer_book.specs.Portfolio.{line_cost, line_payments, par as par_of, permits as permits_of};
+
+    // The line of what is bought, of which at most `cap` dollars are sold, by the denominations of its file.
+    pub(crate) fn of(terms: Terms, kind: LineKind, cap: u64) -> Line
+        requires { AreTerms terms }
+        ensures { result ≡ line_of terms kind cap }
+    {
+        Line {
+            kind,
+            step: 100 * terms.step,
+            least: terms.minimum / terms.step,
+            most: cap / terms.step,
+        }
+    }
 
     /// Whether a number of units of the line is permitted: 0, or from `least` to `most`.
     pub fn permits(&self, units: u64) -> bool
@@ -42,16 +63,33 @@ impl Line {
         units == 0 || (self.least <= units && units <= self.most)
     }
 
-    /// What units of the line cost, in cents: opening cash its amount, and a SLGS security its face.
-    pub fn cost(&self, units: u64) -> Cents
-        requires { line_cost self.now units < 2 ^ 64 }
-        ensures { result.0 ≡ line_cost self.now units }
+    // What units of the line come to at par, in cents.
+    fn par(&self, units: u64) -> Cents
+        requires { par_of self.now units < 2 ^ 64 }
+        ensures { result.0 ≡ par_of self.now units }
     {
         Cents(self.step * units)
     }
 
+    /// What units of the line cost, in cents: opening cash its amount, a SLGS security its face, and a marketable note its
+    /// price and its accrued interest, each rounded once over the whole face.
+    ///
+    /// The line is one of a book, and the units are at most its `most`.
+    pub fn cost(&self, units: u64) -> Cents
+        requires line { (settle : ℤ) × IsLine settle self.now }
+        requires units { units ≤ self.now.most }
+        ensures { result.0 ≡ line_cost self.now units }
+    {
+        let par = self.par(units);
+        match self.kind {
+            LineKind::Cash => par,
+            LineKind::Security(_) => par,
+            LineKind::Market(note) => note_cost(&note, par),
+        }
+    }
+
     /// What units of the line pay, in order of date: opening cash its amount on the settlement day, and a SLGS security
-    /// its interest and its face.
+    /// and a marketable note their interest and their face.
     ///
     /// Settlement is from 2000-01-01 to 2150-01-01, the line is one of a book with that settlement, and the units are at
     /// most its `most`. 0 units pay 0 cents on each date. It takes no memory.
@@ -63,17 +101,39 @@ impl Line {
         ensures within { FallWithinFortyYears settle result.items }
         ensures bound { total result.items ≤ 2 * 10 ^ 13 }
     {
-        let amount = self.cost(units);
+        let par = self.par(units);
         match self.kind {
             LineKind::Cash => {
                 let mut flows = ArrayVec::new();
                 flows.push(Flow {
                     day: settle,
-                    cents: amount,
+                    cents: par,
                 });
                 flows
             }
-            LineKind::Security(slgs) => slgs_interest::payments(&slgs, amount),
+            LineKind::Security(slgs) => slgs_interest::payments(&slgs, par),
+            LineKind::Market(note) => note_payments(&note, par),
+        }
+    }
+
+    /// What one unit of the line costs and pays, scaled and rounded outward.
+    ///
+    /// For every number of units, `cost_low * units - cost_slack` to `cost_high * units + cost_slack` holds
+    /// [`COEFFICIENT_SCALE`](crate::COEFFICIENT_SCALE) times what they cost, in cents, and so for each payment, in order of
+    /// date. Settlement is from 2000-01-01 to 2150-01-01, and the line is one of a book with that settlement. It takes no
+    /// memory.
+    pub fn coefficients(&self, settle: Day) -> Coefficients
+        requires settlement { IsSettlement settle }
+        requires line { IsLine settle self.now }
+        ensures costs { cost_coefficients self.now ≡ record { low = result.cost_low; high = result.cost_high; slack = result.cost_slack } }
+        ensures pays { result.pays.items ≡ pay_coefficients settle self.now }
+        ensures enclosing { (units : ℕ) → EnclosesUnits settle self.now units }
+    {
+        let step = Cents(self.step);
+        match self.kind {
+            LineKind::Cash => cash_coefficients(settle, step),
+            LineKind::Security(slgs) => slgs_coefficients(settle, &slgs, step),
+            LineKind::Market(note) => note_coefficients(settle, &note, step),
         }
     }
 }

@@ -8,11 +8,11 @@ ghost use Rattle.row_fields.specs.RowForm.{Answers};
 ghost use Rattle.slgs_rules.specs.Classification.{classified};
 ghost use Rattle.rate_table.specs.Table.{IsRateFile};
 ghost use Rattle.offer_book.specs.Book.{IsSecurityLine};
-ghost use Rattle.offer_book.specs.Offers.{AreLinesOf, EachOfferHasOneLine, LinesKeepRules, RefusalsNameFirstFault, line_of as line_of_terms, line_or_refused, request_of, rule_kind as kind_of_rule, slgs_lines_of};
+ghost use Rattle.offer_book.specs.Offers.{AreLinesOf, EachOfferHasOneLine, LinesKeepRules, RefusalsNameFirstFault, line_or_refused, request_of, rule_kind as kind_of_rule, slgs_lines_of};
 
 use crate::line::{Line, LineKind};
 use escrow_desk::{CaseError, FileKind, RefusalKind};
-use escrow_units::{Day, Slgs, Terms};
+use escrow_units::{Day, Terms};
 use rate_table::{Offer, RateFile, RateIndex};
 use row_fields::at_row;
 use slgs_rules::{RuleFault, classify};
@@ -31,19 +31,6 @@ fn rule_kind(fault: RuleFault) -> RefusalKind
     }
 }
 
-// The line of a security of which at most `cap` dollars are sold.
-fn line_of(terms: Terms, slgs: Slgs, cap: u64) -> Line
-    requires { AreTerms terms }
-    ensures { result ≡ line_of_terms terms slgs cap }
-{
-    Line {
-        kind: LineKind::Security(slgs),
-        step: 100 * terms.step,
-        least: terms.minimum / terms.step,
-        most: cap / terms.step,
-    }
-}
-
 // The line of an offer, by the terms of its file and an index of the file's ranges, or the name of the rule that it breaks.
 fn offered_line(
     settle: Day,
@@ -57,7 +44,7 @@ fn offered_line(
 {
     let most = index.maximum(offer.maturity);
     match classify(settle, offer.maturity, offer.rate, offer.first, most) {
-        Ok(slgs) => Ok(line_of(terms, slgs, offer.cap)),
+        Ok(slgs) => Ok(Line::of(terms, LineKind::Security(slgs), offer.cap)),
         Err(fault) => Err(rule_kind(fault)),
     }
 }

@@ -2,7 +2,7 @@
 use Rattle.std.proofs.Common.{◌≡◌, ◌∙◌, ℕ, ◌+◌, ◌*◌, ◌<◌, ◌≤◌, zero, suc, refl, sym, ap, subst, arith, ℤ, ◌≤ℤ◌, ◌<ℤ◌, Bool, true, false, if◌then◌else◌, List, [], ◌∷◌, ◌++◌, ◌-◌, map, length, take, sum_by, get_or, pos, ◌+ℤ◌, ◌^◌, int_lt}
 use Rattle.std.proofs.Math.Nat.{mul-le-mul}
 use Rattle.std.proofs.lemmas.Int.{ints}
-use Rattle.escrow_units.proofs.FlowFacts.{choice-false, choice-true, days_between_of-whole, rise-map}
+use Rattle.escrow_units.proofs.FlowFacts.{choice-false, choice-true, days_between_of-some, days_between_of-whole, int_lt-not, rise-map}
 use Rattle.escrow_units.proofs.RoundingFacts.{near-at-most, near-zero}
 use Rattle.escrow_units.proofs.LastDates.{last_dates, last_dates-all, last_dates-last, last_dates-rise, dates_before, half_back_of-order, half_back_of-reach, half_back_of-zero}
 use Rattle.escrow_units.specs.Flows.{EndsOn, Rise}
@@ -15,13 +15,14 @@ use Rattle.std.proofs.lemmas.List.Elements.{All-map, All-weaker, All-same}
 use Rattle.std.proofs.lemmas.List.Sums.{sum_by-cons}
 use Rattle.jiff_core.proofs.SignedLemmas.{signed_arith}
 use Rattle.escrow_units.specs.Calendar.{half_back_of}
+use Rattle.escrow_units.specs.declared.interest.Accrual.{Accrual}
 use Rattle.escrow_units.specs.declared.security.Flow.{Flow}
 use Rattle.escrow_units.specs.declared.security.Slgs.{Slgs}
 use Rattle.escrow_units.specs.declared.security.SlgsKind.{SlgsKind}
 use Rattle.escrow_units.specs.declared.security.SlgsKind.TheVariants as kind
 use Rattle.escrow_units.specs.declared.security.StepRule.TheVariants as rule
-use Rattle.slgs_interest.specs.Payments.{payment_dates, payments_of, payment_on, interest_on, principal_on, first_interest, first_interest_of_kind, first_period_interest, before_first, second_before_first, has_leap_day, basis_of}
-use Rattle.slgs_interest.specs.PaymentLaws.{AreSmall, EarnLittle, AreWithinTerm, PayPrincipalOnce, PayFaceAlone, PayEqualInterest}
+use Rattle.slgs_interest.specs.Payments.{payment_dates, payments_of, payment_on, interest_on, principal_on, first_interest, first_accrual_of, first_period_accrual, certificate_accrual, accrual_of_kind, before_first, second_before_first, has_leap_day, basis_of}
+use Rattle.slgs_interest.specs.PaymentLaws.{IsShort, AreSmall, EarnLittle, AreWithinTerm, PayPrincipalOnce, PayFaceAlone, PayEqualInterest}
 use Rattle.slgs_interest.proofs.Amounts.{interest-at-most, no-interest, whole-period}
 use Rattle.slgs_interest.proofs.Series.{IsPaid}
 
@@ -103,45 +104,85 @@ payments-principal slgs face p =
     choice-false (int_eq (half_back_of slgs.maturity j rule.SameDay) slgs.maturity) face 0
     (λ t. omega (arith, signed_arith, reach, (Decides-int_eq (half_back_of slgs.maturity j rule.SameDay) slgs.maturity).0 t))))
 
--- no interest without a rate
-basis-some : (settle maturity : ℤ) → 0 < basis_of settle maturity
-basis-some settle maturity = at (has_leap_day settle (days_between_of settle maturity))
+-- the first accrual is of at most sixteen months
+basis-least : (settle maturity : ℤ) → 365 ≤ basis_of settle maturity
+basis-least settle maturity = at (has_leap_day settle (days_between_of settle maturity))
   where
-    at : (t : Bool) → 0 < (if t then 366 else 365)
+    at : (t : Bool) → 365 ≤ (if t then 366 else 365)
     at true = omega arith
     at false = omega arith
 
-first-none : (slgs : Slgs) (face : ℕ) → IsPaid slgs → slgs.rate.0 ≡ 0 → first_interest slgs face ≡ 0
-unfolding first_interest
-first-none slgs face p none = at slgs.kind
+pub first-short : (slgs : Slgs) → IsPaid slgs → (slgs.kind ≡ kind.Certificate → slgs.first ≡ slgs.maturity) → IsShort (first_accrual_of slgs)
+unfolding first_accrual_of
+first-short slgs p same = at slgs.kind same
   where
-    nothing : (days : ℕ) → face * slgs.rate.0 * days ≡ 0
-    nothing days = rw none (omega arith)
+    before : before_first slgs +ℤ pos (days_between_of (before_first slgs) slgs.first) ≡ slgs.first
+    before = days_between_of-whole (before_first slgs) slgs.first (omega (arith, signed_arith, p.before.least))
 
-    of_period : first_period_interest slgs face ≡ 0
-    of_period = no-interest face slgs.rate.0 slgs.settle slgs.first (before_first slgs) (second_before_first slgs) none
-        (omega (arith, signed_arith, p.before.least)) (omega (arith, signed_arith, p.second_before.least))
+    second : second_before_first slgs +ℤ pos (days_between_of (second_before_first slgs) (before_first slgs)) ≡ before_first slgs
+    second = days_between_of-whole (second_before_first slgs) (before_first slgs) (omega (arith, signed_arith, p.second_before.least))
 
-    at : (k : SlgsKind) → first_interest_of_kind k slgs face ≡ 0
-    at kind.Certificate =
-        near-zero (face * slgs.rate.0 * days_between_of slgs.settle slgs.maturity) (100_000 * basis_of slgs.settle slgs.maturity) (nothing (days_between_of slgs.settle slgs.maturity))
-        (let some = basis-some slgs.settle slgs.maturity in omega arith)
-    at kind.Note = of_period
-    at kind.Bond = of_period
+    term : slgs.settle +ℤ pos (days_between_of slgs.settle slgs.first) ≡ slgs.first
+    term = days_between_of-whole slgs.settle slgs.first (omega (arith, signed_arith, p.late))
 
-interest-none : (slgs : Slgs) (face : ℕ) → IsPaid slgs → slgs.rate.0 ≡ 0 → (day : ℤ) → interest_on slgs face day ≡ 0
-interest-none slgs face p none day =
-    choice-both (int_eq day slgs.first) (first_interest slgs face) (half_coupon_of face slgs.rate.0) 0 (first-none slgs face p none)
+    of_period : (t : Bool) → int_lt slgs.settle (before_first slgs) ≡ t
+        → IsShort (if t
+        then record { parts = days_between_of (second_before_first slgs) (before_first slgs) + days_between_of slgs.settle (before_first slgs); year = 2 * days_between_of (second_before_first slgs) (before_first slgs) }
+        else record { parts = days_between_of slgs.settle slgs.first; year = 2 * days_between_of (before_first slgs) slgs.first })
+    of_period true e =
+        let less : slgs.settle <ℤ before_first slgs = omega (arith, ints) in
+        let days = days_between_of-whole slgs.settle (before_first slgs) (omega (arith, signed_arith, less)) in
+        record {
+          year = omega (arith, signed_arith, second, p.second_before.least);
+          parts = omega (arith, signed_arith, second, days, p.second_before.least, p.second_before.most, p.before.least, p.early);
+          days = omega (arith, signed_arith, second, days, p.second_before.least, p.second_before.most, p.before.least, p.early);
+        }
+    of_period false e = record {
+      year = omega (arith, signed_arith, before, p.before.least);
+      parts = omega (arith, signed_arith, before, term, p.before.least, p.early);
+      days = omega (arith, signed_arith, before, term, p.before.least, p.early);
+    }
+
+    at : (k : SlgsKind) → (k ≡ kind.Certificate → slgs.first ≡ slgs.maturity) → IsShort (accrual_of_kind k slgs)
+    at kind.Certificate same =
+        let e : days_between_of slgs.settle slgs.maturity ≡ days_between_of slgs.settle slgs.first = ap (λ (day : ℤ). days_between_of slgs.settle day) (sym (same refl)) in
+        record {
+          year = omega (arith, basis-least slgs.settle slgs.maturity);
+          parts = omega (arith, signed_arith, e, term, p.early, basis-least slgs.settle slgs.maturity);
+          days = omega (arith, signed_arith, e, term, p.early);
+        }
+    at kind.Note same = of_period (int_lt slgs.settle (before_first slgs)) refl
+    at kind.Bond same = of_period (int_lt slgs.settle (before_first slgs)) refl
+
+-- the first accrual, by kind
+pub first-of_certificate : (slgs : Slgs) → slgs.kind ≡ kind.Certificate → certificate_accrual slgs ≡ first_accrual_of slgs
+unfolding first_accrual_of
+first-of_certificate slgs e = ap (λ k. accrual_of_kind k slgs) (sym e)
+
+pub first-of_period : (slgs : Slgs) → ¬ (slgs.kind ≡ kind.Certificate) → first_period_accrual slgs ≡ first_accrual_of slgs
+unfolding first_accrual_of
+first-of_period slgs other = at slgs.kind other
+  where
+    at : (k : SlgsKind) → ¬ (k ≡ kind.Certificate) → first_period_accrual slgs ≡ accrual_of_kind k slgs
+    at kind.Certificate other = absurd (other refl)
+    at kind.Note other = refl
+    at kind.Bond other = refl
+
+-- no interest without a rate
+interest-none : (slgs : Slgs) (face : ℕ) → IsShort (first_accrual_of slgs) → slgs.rate.0 ≡ 0 → (day : ℤ) → interest_on slgs face day ≡ 0
+interest-none slgs face short none day =
+    choice-both (int_eq day slgs.first) (first_interest slgs face) (half_coupon_of face slgs.rate.0) 0
+    (no-interest face slgs.rate.0 (first_accrual_of slgs).parts (first_accrual_of slgs).year none short.year)
     (near-zero (face * slgs.rate.0) 200_000 (rw none (omega arith)) (omega arith))
 
 sum-none : (f : Flow → ℕ) → ((flow : Flow) → f flow ≡ 0) → (flows : List Flow) → sum_by f flows ≡ 0
 sum-none f none [] = refl
 sum-none f none (x ∷ xs) = omega (arith, sum_by-cons f x xs, none x, sum-none f none xs)
 
-pub payments-face : (slgs : Slgs) (face : ℕ) → IsPaid slgs → PayFaceAlone slgs face (payments_of slgs face)
-payments-face slgs face p = λ none.
+pub payments-face : (slgs : Slgs) (face : ℕ) → IsPaid slgs → IsShort (first_accrual_of slgs) → PayFaceAlone slgs face (payments_of slgs face)
+payments-face slgs face p short = λ none.
     let once = payments-principal slgs face p in
-    let zero_sum = sum-none (λ flow. interest_on slgs face flow.day) (λ flow. interest-none slgs face p none flow.day) (payments_of slgs face) in
+    let zero_sum = sum-none (λ flow. interest_on slgs face flow.day) (λ flow. interest-none slgs face short none flow.day) (payments_of slgs face) in
     once ∙ (ap (λ n. face + n) zero_sum ∙ plain face)
   where
     plain : (n : ℕ) → n + 0 ≡ n
@@ -149,16 +190,28 @@ payments-face slgs face p = λ none.
 
 -- equal interest
 first-whole : (slgs : Slgs) (face : ℕ) → IsPaid slgs → ¬ (slgs.kind ≡ kind.Certificate) → slgs.settle ≡ before_first slgs → first_interest slgs face ≡ half_coupon_of face slgs.rate.0
-unfolding first_interest
+unfolding first_accrual_of
 first-whole slgs face p other e = at slgs.kind other
   where
-    of_period : first_period_interest slgs face ≡ half_coupon_of face slgs.rate.0
-    of_period = whole-period face slgs.rate.0 slgs.settle slgs.first (before_first slgs) (second_before_first slgs) e (omega (arith, signed_arith, p.late))
+    half : ℕ
+    half = days_between_of slgs.settle slgs.first
 
-    at : (k : SlgsKind) → ¬ (k ≡ kind.Certificate) → first_interest_of_kind k slgs face ≡ half_coupon_of face slgs.rate.0
+    some : 0 < half
+    some = days_between_of-some slgs.settle slgs.first (omega (arith, signed_arith, p.late))
+
+    of_period : first_period_accrual slgs ≡ record { parts = half; year = 2 * half }
+    of_period =
+        let least : before_first slgs ≤ℤ slgs.settle = omega (arith, signed_arith, e) in
+        rw (int_lt-not slgs.settle (before_first slgs) least)
+        (ap (λ (day : ℤ). record { parts = half; year = 2 * days_between_of day slgs.first }) (sym e))
+
+    earns : (accrual : Accrual) → accrual ≡ record { parts = half; year = 2 * half } → earned_of face slgs.rate.0 accrual.parts accrual.year ≡ half_coupon_of face slgs.rate.0
+    earns accrual is = rw is (whole-period face slgs.rate.0 half some)
+
+    at : (k : SlgsKind) → ¬ (k ≡ kind.Certificate) → earned_of face slgs.rate.0 (accrual_of_kind k slgs).parts (accrual_of_kind k slgs).year ≡ half_coupon_of face slgs.rate.0
     at kind.Certificate other = absurd (other refl)
-    at kind.Note other = of_period
-    at kind.Bond other = of_period
+    at kind.Note other = earns (first_period_accrual slgs) of_period
+    at kind.Bond other = earns (first_period_accrual slgs) of_period
 
 pub payments-equal : (slgs : Slgs) (face : ℕ) → IsPaid slgs → PayEqualInterest slgs face (payments_of slgs face)
 unfolding payments_of
@@ -174,53 +227,12 @@ payments-equal slgs face p = λ other e.
     equal day f = ap (λ n. n + principal_on slgs face day) (choice-both (int_eq day slgs.first) (first_interest slgs face) (half_coupon_of face slgs.rate.0) (half_coupon_of face slgs.rate.0) f refl)
 
 -- no interest is above 400 million dollars
-basis-least : (settle maturity : ℤ) → 365 ≤ basis_of settle maturity
-basis-least settle maturity = at (has_leap_day settle (days_between_of settle maturity))
-  where
-    at : (t : Bool) → 365 ≤ (if t then 366 else 365)
-    at true = omega arith
-    at false = omega arith
-
 choice-most : (t : Bool) (a b c : ℕ) → a ≤ c → b ≤ c → (if t then a else b) ≤ c
 choice-most true a b c e f = e
 choice-most false a b c e f = f
 
-first-small : (slgs : Slgs) (face : ℕ) → IsPaid slgs → (slgs.kind ≡ kind.Certificate → slgs.first ≡ slgs.maturity) → face ≤ 10 ^ 11 → slgs.rate.0 ≤ 30_000
-    → first_interest slgs face ≤ 4 * 10 ^ 10
-unfolding first_interest
-first-small slgs face p same f r = at slgs.kind same
-  where
-    before : before_first slgs +ℤ pos (days_between_of (before_first slgs) slgs.first) ≡ slgs.first
-    before = days_between_of-whole (before_first slgs) slgs.first (omega (arith, signed_arith, p.before.least))
-
-    second : second_before_first slgs +ℤ pos (days_between_of (second_before_first slgs) (before_first slgs)) ≡ before_first slgs
-    second = days_between_of-whole (second_before_first slgs) (before_first slgs) (omega (arith, signed_arith, p.second_before.least))
-
-    term : slgs.settle +ℤ pos (days_between_of slgs.settle slgs.first) ≡ slgs.first
-    term = days_between_of-whole slgs.settle slgs.first (omega (arith, signed_arith, p.late))
-
-    long : (t : Bool) → int_lt slgs.settle (before_first slgs) ≡ t
-        → (if t
-        then earned_of face slgs.rate.0 (days_between_of (second_before_first slgs) (before_first slgs) + days_between_of slgs.settle (before_first slgs))
-        (2 * days_between_of (second_before_first slgs) (before_first slgs))
-        else earned_of face slgs.rate.0 (days_between_of slgs.settle slgs.first) (2 * days_between_of (before_first slgs) slgs.first)) ≤ 4 * 10 ^ 10
-    long true e =
-        let less : slgs.settle <ℤ before_first slgs = omega (arith, ints) in
-        let days = days_between_of-whole slgs.settle (before_first slgs) (omega (arith, signed_arith, less)) in
-        interest-at-most face slgs.rate.0 _ (2 * days_between_of (second_before_first slgs) (before_first slgs)) f r
-        (omega (arith, signed_arith, second, p.second_before.least))
-        (omega (arith, signed_arith, second, days, p.second_before.least, p.second_before.most, p.before.least, p.early))
-    long false e =
-        interest-at-most face slgs.rate.0 (days_between_of slgs.settle slgs.first) (2 * days_between_of (before_first slgs) slgs.first) f r
-        (omega (arith, signed_arith, before, p.before.least)) (omega (arith, signed_arith, before, term, p.before.least, p.early))
-
-    at : (k : SlgsKind) → (k ≡ kind.Certificate → slgs.first ≡ slgs.maturity) → first_interest_of_kind k slgs face ≤ 4 * 10 ^ 10
-    at kind.Certificate same =
-        let e : days_between_of slgs.settle slgs.maturity ≡ days_between_of slgs.settle slgs.first = ap (λ (day : ℤ). days_between_of slgs.settle day) (sym (same refl)) in
-        interest-at-most face slgs.rate.0 (days_between_of slgs.settle slgs.maturity) (basis_of slgs.settle slgs.maturity) f r
-        (basis-some slgs.settle slgs.maturity) (omega (arith, signed_arith, e, term, p.early, basis-least slgs.settle slgs.maturity))
-    at kind.Note same = long (int_lt slgs.settle (before_first slgs)) refl
-    at kind.Bond same = long (int_lt slgs.settle (before_first slgs)) refl
+first-small : (slgs : Slgs) (face : ℕ) → IsShort (first_accrual_of slgs) → face ≤ 10 ^ 11 → slgs.rate.0 ≤ 30_000 → first_interest slgs face ≤ 4 * 10 ^ 10
+first-small slgs face short f r = interest-at-most face slgs.rate.0 (first_accrual_of slgs).parts (first_accrual_of slgs).year f r short.year short.parts
 
 interest-small : (slgs : Slgs) (face : ℕ) → face ≤ 10 ^ 11 → slgs.rate.0 ≤ 30_000 → first_interest slgs face ≤ 4 * 10 ^ 10
     → (day : ℤ) → interest_on slgs face day ≤ 4 * 10 ^ 10
@@ -228,23 +240,23 @@ interest-small slgs face f r first day =
     let later = near-at-most (face * slgs.rate.0) 200_000 (4 * 10 ^ 10) (omega arith) (omega (arith, mul-le-mul f r)) in
     choice-most (int_eq day slgs.first) (first_interest slgs face) (half_coupon_of face slgs.rate.0) (4 * 10 ^ 10) first later
 
-pub payments-interest : (slgs : Slgs) (face : ℕ) → IsPaid slgs → (slgs.kind ≡ kind.Certificate → slgs.first ≡ slgs.maturity) → face ≤ 10 ^ 11 → slgs.rate.0 ≤ 30_000
+pub payments-interest : (slgs : Slgs) (face : ℕ) → IsShort (first_accrual_of slgs) → face ≤ 10 ^ 11 → slgs.rate.0 ≤ 30_000
     → EarnLittle slgs face (payments_of slgs face)
 unfolding payments_of
-payments-interest slgs face p same f r =
+payments-interest slgs face short f r =
     All-map (λ (flow : Flow). flow.cents.0 ≤ 4 * 10 ^ 10 + principal_on slgs face flow.day) (payment_on slgs face) (payment_dates slgs)
-    (λ k d lt. more _ _ (interest-small slgs face f r (first-small slgs face p same f r) (get_or (payment_dates slgs) k d)))
+    (λ k d lt. more _ _ (interest-small slgs face f r (first-small slgs face short f r) (get_or (payment_dates slgs) k d)))
   where
     more : (m n : ℕ) → m ≤ 4 * 10 ^ 10 → m + n ≤ 4 * 10 ^ 10 + n
     more m n a = omega arith
 
 -- and no principal above the greatest face
-pub payments-small : (slgs : Slgs) (face : ℕ) → IsPaid slgs → (slgs.kind ≡ kind.Certificate → slgs.first ≡ slgs.maturity) → face ≤ 10 ^ 11 → slgs.rate.0 ≤ 30_000
+pub payments-small : (slgs : Slgs) (face : ℕ) → IsShort (first_accrual_of slgs) → face ≤ 10 ^ 11 → slgs.rate.0 ≤ 30_000
     → AreSmall (payments_of slgs face)
-payments-small slgs face p same f r =
+payments-small slgs face short f r =
     All-weaker (λ (flow : Flow). flow.cents.0 ≤ 4 * 10 ^ 10 + principal_on slgs face flow.day) (λ (flow : Flow). flow.cents.0 ≤ 2 * 10 ^ 11)
     (λ flow little. sum_at_most _ _ little (choice-most (int_eq flow.day slgs.maturity) face 0 (10 ^ 11) f (omega arith)))
-    (payments_of slgs face) (payments-interest slgs face p same f r)
+    (payments_of slgs face) (payments-interest slgs face short f r)
   where
     sum_at_most : (m n : ℕ) → m ≤ 4 * 10 ^ 10 + n → n ≤ 10 ^ 11 → m ≤ 2 * 10 ^ 11
     sum_at_most m n a b = omega arith

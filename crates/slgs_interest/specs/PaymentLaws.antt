@@ -1,9 +1,10 @@
 -- What the payments of a SLGS security are, in the terms of bonds.
-use Rattle.std.specs.Prelude.{◌≡◌, ◌↔◌, ℕ, ◌+◌, ◌*◌, ◌^◌, ◌≤◌, IsTrue, List, All, sum_by, ℤ, ◌≤ℤ◌, ◌<ℤ◌}
+use Rattle.std.specs.Prelude.{◌≡◌, ◌↔◌, ℕ, ◌+◌, ◌*◌, ◌^◌, ◌<◌, ◌≤◌, IsTrue, List, All, sum_by, ℤ, ◌≤ℤ◌, ◌<ℤ◌}
 use Rattle.escrow_units.specs.Calendar.{IsSeriesDate}
 use Rattle.escrow_units.specs.Flows.{total}
 use Rattle.escrow_units.specs.Interest.{half_coupon_of}
 use Rattle.escrow_units.specs.SlgsTerms.{IsSettlement, IsSlgs}
+use Rattle.escrow_units.specs.declared.interest.Accrual.{Accrual}
 use Rattle.escrow_units.specs.declared.security.Flow.{Flow}
 use Rattle.escrow_units.specs.declared.security.Slgs.{Slgs}
 use Rattle.escrow_units.specs.declared.security.SlgsKind.TheVariants as kind
@@ -36,6 +37,12 @@ AreSmall flows = All (λ flow. flow.cents.0 ≤ 2 * 10 ^ 11) flows
 -- no payment of a permitted face has more than 400 million dollars of interest
 abbrev pub EarnLittle : Slgs → ℕ → List Flow → Type 0
 EarnLittle slgs face flows = All (λ flow. flow.cents.0 ≤ 4 * 10 ^ 10 + principal_on slgs face flow.day) flows
+
+-- an accrual is of at most sixteen months
+pub record IsShort (accrual : Accrual) : Type 0 where
+  pub year : 0 < accrual.year
+  pub parts : 3 * accrual.parts ≤ 4 * accrual.year
+  pub days : accrual.parts ≤ 732
 
 -- the latest date of the series before a day
 pub record IsLatestBefore (maturity day date : ℤ) : Type 0 where

@@ -5,6 +5,7 @@ use Rattle.std.specs.Ordering.{int_eq}
 use Rattle.escrow_units.specs.Calendar.{date_of, half_back_of}
 use Rattle.escrow_units.specs.Interest.{earned_of, half_coupon_of}
 use Rattle.escrow_units.specs.Series.{days_between_of, series_of}
+use Rattle.escrow_units.specs.declared.interest.Accrual.{Accrual}
 use Rattle.escrow_units.specs.declared.security.Flow.{Flow}
 use Rattle.escrow_units.specs.declared.security.Slgs.{Slgs}
 use Rattle.escrow_units.specs.declared.security.SlgsKind.{SlgsKind}
@@ -34,33 +35,36 @@ before_first slgs = half_back_of slgs.maturity (length (payment_dates slgs)) rul
 abbrev pub second_before_first : Slgs → ℤ
 second_before_first slgs = half_back_of slgs.maturity (length (payment_dates slgs) + 1) rule.SameDay
 
--- a certificate's interest, by days of a year of 365 or 366 days
-abbrev pub certificate_interest : Slgs → ℕ → ℕ
-certificate_interest slgs face =
-    earned_of face slgs.rate.0 (days_between_of slgs.settle slgs.maturity) (basis_of slgs.settle slgs.maturity)
+-- a certificate earns interest for its days of a year of 365 or 366
+abbrev pub certificate_accrual : Slgs → Accrual
+certificate_accrual slgs =
+    record { parts = days_between_of slgs.settle slgs.maturity; year = basis_of slgs.settle slgs.maturity }
 
--- the interest to a first payment date, where `before` is the date of the series before it and `second` the one before that:
+-- the accrual to a first payment date, where `before` is the date of the series before it and `second` the one before that:
 -- a short period earns its days of a half-year, and a long one a half-year and its days of the half-year before that. A year
 -- is twice that half-year
-abbrev pub interest_to : ℕ → ℕ → ℤ → ℤ → ℤ → ℤ → ℕ
-interest_to face rate settle first before second =
+abbrev pub accrual_to : ℤ → ℤ → ℤ → ℤ → Accrual
+accrual_to settle first before second =
     if int_lt settle before
-    then earned_of face rate (days_between_of second before + days_between_of settle before) (2 * days_between_of second before)
-    else earned_of face rate (days_between_of settle first) (2 * days_between_of before first)
+    then record { parts = days_between_of second before + days_between_of settle before; year = 2 * days_between_of second before }
+    else record { parts = days_between_of settle first; year = 2 * days_between_of before first }
 
--- the first interest of a note or bond
-abbrev pub first_period_interest : Slgs → ℕ → ℕ
-first_period_interest slgs face =
-    interest_to face slgs.rate.0 slgs.settle slgs.first (before_first slgs) (second_before_first slgs)
+-- the first accrual of a note or bond
+abbrev pub first_period_accrual : Slgs → Accrual
+first_period_accrual slgs = accrual_to slgs.settle slgs.first (before_first slgs) (second_before_first slgs)
 
-abbrev pub first_interest_of_kind : SlgsKind → Slgs → ℕ → ℕ
-first_interest_of_kind kind.Certificate slgs face = certificate_interest slgs face
-first_interest_of_kind kind.Note slgs face = first_period_interest slgs face
-first_interest_of_kind kind.Bond slgs face = first_period_interest slgs face
+abbrev pub accrual_of_kind : SlgsKind → Slgs → Accrual
+accrual_of_kind kind.Certificate slgs = certificate_accrual slgs
+accrual_of_kind kind.Note slgs = first_period_accrual slgs
+accrual_of_kind kind.Bond slgs = first_period_accrual slgs
+
+-- the part of a year that the first payment's interest is for
+unfoldable pub first_accrual_of : Slgs → Accrual
+first_accrual_of slgs = accrual_of_kind slgs.kind slgs
 
 -- the interest of the first payment
-unfoldable pub first_interest : Slgs → ℕ → ℕ
-first_interest slgs face = first_interest_of_kind slgs.kind slgs face
+abbrev pub first_interest : Slgs → ℕ → ℕ
+first_interest slgs face = earned_of face slgs.rate.0 (first_accrual_of slgs).parts (first_accrual_of slgs).year
 
 -- a day's interest: the first, or else half a coupon
 abbrev pub interest_on : Slgs → ℕ → ℤ → ℕ

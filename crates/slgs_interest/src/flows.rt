@@ -5,14 +5,14 @@ ghost use Rattle.escrow_units.specs.SlgsTerms.{IsSettlement, IsSlgs};
 ghost use Rattle.slgs_interest.specs.PaymentLaws.{AreSmall, AreWithinTerm, EarnLittle, PayEqualInterest, PayFaceAlone, PayPrincipalOnce};
 ghost use Rattle.slgs_interest.specs.Payments.{before_first, payment_dates, payments_of};
 
-use crate::interest::of_first_payment;
+use crate::interest::accrual_by;
 use arrayvec::ArrayVec;
 use escrow_units::{
-    Cents, Day, Flow, GREATEST_RATE, SeriesDates, Slgs, StepRule, half_coupon, series_around,
+    Cents, Day, Flow, GREATEST_RATE, SeriesDates, Slgs, StepRule, earned, half_coupon, series_around,
 };
 
-// The dates of a security's series around the day before its first payment: it pays on those after.
-fn dates_of(slgs: &Slgs) -> SeriesDates
+/// The dates of a security's series around the day before its first payment: it pays on those after.
+pub(crate) fn dates_of(slgs: &Slgs) -> SeriesDates
     requires settlement { IsSettlement slgs.now.settle }
     requires terms { IsSlgs slgs.now }
     ensures dates { result.after.items ≡ payment_dates slgs.now }
@@ -49,7 +49,8 @@ pub fn payments(slgs: &Slgs, face: Cents) -> ArrayVec<Flow, 84>
     ensures equal_interest { PayEqualInterest slgs.now face.0 result.items }
 {
     let dates = dates_of(slgs);
-    let first = of_first_payment(slgs, face, dates.previous, dates.after.len() as u32);
+    let accrual = accrual_by(slgs, &dates);
+    let first = earned(face, slgs.rate, accrual.parts, accrual.year);
     let later = half_coupon(face, slgs.rate);
     let mut flows = ArrayVec::new();
     for date in dates.after.as_slice() {

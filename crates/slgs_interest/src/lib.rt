@@ -9,4 +9,5 @@ mod leap_day;
 mod tests;
 
 pub use flows::payments;
+pub use interest::first_accrual;
 pub use laws::interest_laws;

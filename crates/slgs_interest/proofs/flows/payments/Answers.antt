@@ -1,8 +1,8 @@
 use Rattle.std.proofs.Common.{◌∙◌, sym, subst}
 use Rattle.escrow_units.specs.Flows.{EndsOn, Rise}
-use Rattle.slgs_interest.specs.PaymentLaws.{AreSmall, AreWithinTerm, EarnLittle, PayEqualInterest, PayFaceAlone, PayPrincipalOnce}
+use Rattle.slgs_interest.specs.PaymentLaws.{IsShort, AreSmall, AreWithinTerm, EarnLittle, PayEqualInterest, PayFaceAlone, PayPrincipalOnce}
 use Rattle.slgs_interest.proofs.PaymentFacts.{payments-are, payments-rise, payments-end, payments-within, payments-interest, payments-small, payments-principal, payments-face, payments-equal}
-use Rattle.slgs_interest.proofs.Series.{paid, certificate-first}
+use Rattle.slgs_interest.proofs.Series.{paid}
 use Rattle.slgs_interest.proofs.flows.payments.Goals as goal
 
 pub returns-clause-payments : goal.returns-clause-payments
@@ -28,7 +28,7 @@ returns-clause-principal_once c =
 
 pub returns-clause-face_alone : goal.returns-clause-face_alone
 returns-clause-face_alone c =
-    subst (PayFaceAlone c.args.slgs.now c.args.face.0) (sym (returns-clause-payments c)) (payments-face c.args.slgs.now c.args.face.0 (paid c.args.slgs.now c.requires.settlement c.requires.terms))
+    subst (PayFaceAlone c.args.slgs.now c.args.face.0) (sym (returns-clause-payments c)) (payments-face c.args.slgs.now c.args.face.0 (paid c.args.slgs.now c.requires.settlement c.requires.terms) (subst IsShort c.accrual_by-accrual.ensures.value c.accrual_by-accrual.ensures.short))
 
 pub returns-clause-equal_interest : goal.returns-clause-equal_interest
 returns-clause-equal_interest c =
@@ -37,9 +37,9 @@ returns-clause-equal_interest c =
 pub returns-clause-small : goal.returns-clause-small
 returns-clause-small c =
     subst AreSmall (sym (returns-clause-payments c))
-    (payments-small c.args.slgs.now c.args.face.0 (paid c.args.slgs.now c.requires.settlement c.requires.terms) (certificate-first c.args.slgs.now c.requires.terms) c.requires.face c.requires.rate)
+    (payments-small c.args.slgs.now c.args.face.0 (subst IsShort c.accrual_by-accrual.ensures.value c.accrual_by-accrual.ensures.short) c.requires.face c.requires.rate)
 
 pub returns-clause-interest_bound : goal.returns-clause-interest_bound
 returns-clause-interest_bound c =
     subst (EarnLittle c.args.slgs.now c.args.face.0) (sym (returns-clause-payments c))
-    (payments-interest c.args.slgs.now c.args.face.0 (paid c.args.slgs.now c.requires.settlement c.requires.terms) (certificate-first c.args.slgs.now c.requires.terms) c.requires.face c.requires.rate)
+    (payments-interest c.args.slgs.now c.args.face.0 (subst IsShort c.accrual_by-accrual.ensures.value c.accrual_by-accrual.ensures.short) c.requires.face c.requires.rate)

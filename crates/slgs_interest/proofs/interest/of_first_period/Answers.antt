@@ -2,7 +2,7 @@ use Rattle.std.proofs.Common.{arith, rules, ◌≡◌, ◌∙◌, ◌+◌, ap, �
 use Rattle.jiff_core.proofs.SignedLemmas.{signed_arith}
 use Rattle.escrow_units.specs.Calendar.{half_back_of}
 use Rattle.escrow_units.specs.declared.security.StepRule.TheVariants as rule
-use Rattle.slgs_interest.specs.Payments.{second_before_first, interest_to}
+use Rattle.slgs_interest.specs.Payments.{second_before_first, accrual_to}
 use Rattle.slgs_interest.proofs.Amounts.{long-period, short-period}
 use Rattle.slgs_interest.proofs.Series.{paid}
 use Rattle.slgs_interest.proofs.interest.of_first_period.Goals as goal
@@ -25,69 +25,31 @@ days_between-half_year-requires c =
     c.half_back-second_before.ensures ∙ ap (λ n. half_back_of c.args.slgs.now.maturity (n + 1) rule.SameDay) c.requires.dates in
     omega (arith, signed_arith, before, second, p.second_before.least)
 
-pub overflow_mul-half_year : goal.overflow_mul-half_year
-overflow_mul-half_year c =
-    let p = paid c.args.slgs.now c.requires.settlement c.requires.terms in
-    let before = c.requires.before in
-    let second : c.half_back-second_before.result ≡ second_before_first c.args.slgs.now =
-    c.half_back-second_before.ensures ∙ ap (λ n. half_back_of c.args.slgs.now.maturity (n + 1) rule.SameDay) c.requires.dates in
-    let few : c.days_between-half_year.result ≤ 184 = omega (arith, signed_arith, before, second, p.second_before.most, c.days_between-half_year.ensures) in
-    record { fits = omega arith }
-
-pub earned-requires-clause-parts : goal.earned-requires-clause-parts
-earned-requires-clause-parts c =
-    let p = paid c.args.slgs.now c.requires.settlement c.requires.terms in
-    let before = c.requires.before in
-    let second : c.half_back-second_before.result ≡ second_before_first c.args.slgs.now =
-    c.half_back-second_before.ensures ∙ ap (λ n. half_back_of c.args.slgs.now.maturity (n + 1) rule.SameDay) c.requires.dates in
-    omega (arith, signed_arith, before, second, p.second_before.most, p.before.least, p.early, c.days_between-half_year.ensures, c.days_between.ensures)
-
-pub earned-requires-clause-year : goal.earned-requires-clause-year
-earned-requires-clause-year c =
-    let p = paid c.args.slgs.now c.requires.settlement c.requires.terms in
-    let before = c.requires.before in
-    let second : c.half_back-second_before.result ≡ second_before_first c.args.slgs.now =
-    c.half_back-second_before.ensures ∙ ap (λ n. half_back_of c.args.slgs.now.maturity (n + 1) rule.SameDay) c.requires.dates in
-    omega (arith, signed_arith, before, second, p.second_before.least, c.days_between-half_year.ensures)
-
 pub days_between-half_year-requires-else-lt : goal.days_between-half_year-requires-else-lt
 days_between-half_year-requires-else-lt c =
     let p = paid c.args.slgs.now c.requires.settlement c.requires.terms in
     let before = c.requires.before in
     omega (arith, signed_arith, before, p.before.least)
 
-pub overflow_mul-half_year-else-lt : goal.overflow_mul-half_year-else-lt
-overflow_mul-half_year-else-lt c =
-    let p = paid c.args.slgs.now c.requires.settlement c.requires.terms in
-    let before = c.requires.before in
-    let few : c.days_between-half_year-else-lt.result ≤ 184 = omega (arith, signed_arith, before, p.before.most, c.days_between-half_year-else-lt.ensures) in
-    record { fits = omega arith }
-
-pub earned-requires-else-lt-clause-parts : goal.earned-requires-else-lt-clause-parts
-earned-requires-else-lt-clause-parts c =
-    let p = paid c.args.slgs.now c.requires.settlement c.requires.terms in
-    omega (arith, signed_arith, p.early, c.days_between-days.ensures)
-
-pub earned-requires-else-lt-clause-year : goal.earned-requires-else-lt-clause-year
-earned-requires-else-lt-clause-year c =
-    let p = paid c.args.slgs.now c.requires.settlement c.requires.terms in
-    let before = c.requires.before in
-    omega (arith, signed_arith, before, p.before.least, c.days_between-half_year-else-lt.ensures)
-
-pub returns-then-lt-clause-value : goal.returns-then-lt-clause-value
-returns-then-lt-clause-value c =
+pub returns-then-lt : goal.returns-then-lt
+returns-then-lt c =
     let before = c.requires.before in
     let second : c.half_back-second_before.result ≡ second_before_first c.args.slgs.now =
     c.half_back-second_before.ensures ∙ ap (λ n. half_back_of c.args.slgs.now.maturity (n + 1) rule.SameDay) c.requires.dates in
     let less : c.args.slgs.now.settle <ℤ c.args.before = search rules in
-    c.earned.ensures.value
-    ∙ long-period c.args.face.0 c.args.slgs.now.rate.0 c.args.slgs.now.settle c.args.slgs.now.first c.args.before c.half_back-second_before.result _ _ less c.days_between-half_year.ensures c.days_between.ensures
-    ∙ (λ i. interest_to c.args.face.0 c.args.slgs.now.rate.0 c.args.slgs.now.settle c.args.slgs.now.first (before i) (second i))
+    long-period c.args.slgs.now.settle c.args.slgs.now.first c.args.before c.half_back-second_before.result _ _ less c.days_between-half_year.ensures c.days_between.ensures
+    ∙ (λ i. accrual_to c.args.slgs.now.settle c.args.slgs.now.first (before i) (second i))
 
-pub returns-else-lt-clause-value : goal.returns-else-lt-clause-value
-returns-else-lt-clause-value c =
+pub returns-else-lt : goal.returns-else-lt
+returns-else-lt c =
     let before = c.requires.before in
     let least : c.args.before ≤ℤ c.args.slgs.now.settle = search rules in
-    c.earned-else-lt.ensures.value
-    ∙ short-period c.args.face.0 c.args.slgs.now.rate.0 c.args.slgs.now.settle c.args.slgs.now.first c.args.before (second_before_first c.args.slgs.now) _ _ least c.days_between-half_year-else-lt.ensures c.days_between-days.ensures
-    ∙ ap (λ (b : ℤ). interest_to c.args.face.0 c.args.slgs.now.rate.0 c.args.slgs.now.settle c.args.slgs.now.first b (second_before_first c.args.slgs.now)) before
+    short-period c.args.slgs.now.settle c.args.slgs.now.first c.args.before (second_before_first c.args.slgs.now) _ _ least c.days_between-half_year-else-lt.ensures c.days_between-else-lt.ensures
+    ∙ ap (λ (b : ℤ). accrual_to c.args.slgs.now.settle c.args.slgs.now.first b (second_before_first c.args.slgs.now)) before
+
+pub overflow_mul-result-else-lt : goal.overflow_mul-result-else-lt
+overflow_mul-result-else-lt c =
+    let before = c.requires.before in
+    let p = paid c.args.slgs.now c.requires.settlement c.requires.terms in
+    let few : c.days_between-half_year-else-lt.result ≤ 184 = omega (arith, signed_arith, before, p.before.most, c.days_between-half_year-else-lt.ensures) in
+    record { fits = omega arith }

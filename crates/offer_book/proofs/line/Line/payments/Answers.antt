@@ -18,3 +18,13 @@ pub returns-in-Security-clause-bound : goal.returns-in-Security-clause-bound
 returns-in-Security-clause-bound c =
     let value : c.payments.result.items ≡ line_payments c.args.settle c.args.self.now c.args.units = search rules in
     subst (λ flows. total flows ≤ 2 * 10 ^ 13) (sym value) (line_payments-total c.args.settle c.args.self.now c.args.units c.requires.settlement c.requires.line c.requires.units)
+
+pub returns-in-Market-clause-within : goal.returns-in-Market-clause-within
+returns-in-Market-clause-within c =
+    let value : c.note_payments.result.items ≡ line_payments c.args.settle c.args.self.now c.args.units = search rules in
+    subst (FallWithinFortyYears c.args.settle) (sym value) (line_payments-within c.args.settle c.args.self.now c.args.units c.requires.settlement c.requires.line)
+
+pub returns-in-Market-clause-bound : goal.returns-in-Market-clause-bound
+returns-in-Market-clause-bound c =
+    let value : c.note_payments.result.items ≡ line_payments c.args.settle c.args.self.now c.args.units = search rules in
+    subst (λ flows. total flows ≤ 2 * 10 ^ 13) (sym value) (line_payments-total c.args.settle c.args.self.now c.args.units c.requires.settlement c.requires.line c.requires.units)

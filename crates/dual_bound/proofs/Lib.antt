@@ -1,0 +1,6 @@
+pub mod Coverage
+pub mod LineBound
+pub mod RangeFacts
+pub mod RangeLaws
+pub mod Signed
+pub mod Soundness

@@ -1,0 +1,146 @@
+-- How much a note can cost and pay.
+use Rattle.std.proofs.Common.{◌≡◌, ◌∙◌, ℕ, ◌+◌, ◌*◌, ◌^◌, ◌<◌, ◌≤◌, zero, suc, refl, sym, ap, subst, arith, ℤ, pos, ◌+ℤ◌, ◌≤ℤ◌, ◌<ℤ◌, Bool, true, false, if◌then◌else◌, List, [], ◌∷◌, map, length, get_or}
+use Rattle.std.specs.Prelude.{All}
+use Rattle.std.specs.Ordering.{int_eq}
+use Rattle.std.proofs.Math.Nat.{mul-le-mul, mul-le-mul_right}
+use Rattle.std.proofs.lemmas.List.{length-map}
+use Rattle.std.proofs.lemmas.List.Elements.{All-map, All-weaker}
+use Rattle.jiff_core.proofs.SignedLemmas.{signed_arith}
+use Rattle.escrow_units.specs.Calendar.{years_after_of}
+use Rattle.escrow_units.specs.Flows.{total, FallWithinFortyYears}
+use Rattle.escrow_units.specs.Interest.{earned_of, face_price_of, half_coupon_of}
+use Rattle.escrow_units.specs.Rounding.{near}
+use Rattle.escrow_units.specs.Series.{days_between_of}
+use Rattle.escrow_units.specs.declared.security.Flow.{Flow}
+use Rattle.escrow_units.specs.declared.security.StepRule.TheVariants as rule
+use Rattle.escrow_units.proofs.FlowFacts.{days_between_of-whole}
+use Rattle.escrow_units.proofs.LastDates.{half_back_of-reach, half_year-before}
+use Rattle.escrow_units.proofs.RoundingFacts.{near-at-most, near-IsNearest, near-zero}
+use Rattle.escrow_units.proofs.SeriesAround.{AreCounted, counted, last-recent}
+use Rattle.market_notes.specs.NoteFlows.{payment_dates, payments_of, payment_on, principal_on, accrual_of, accrued_interest, cost_of, previous_date, next_date}
+use Rattle.market_notes.specs.NoteLaws.{IsCouponDate}
+use Rattle.market_notes.specs.NoteTerms.{IsNote}
+use Rattle.market_notes.specs.declared.note.Note.{Note}
+use Rattle.market_notes.proofs.FlowFacts.{payments-after, payments-face}
+use Rattle.market_notes.proofs.SeriesFacts.{term}
+
+-- the payment dates of a note, counted
+pub dates-counted : (note : Note) → IsNote note → AreCounted note.maturity rule.MonthEnd note.settle
+dates-counted note h = counted note.maturity rule.MonthEnd note.settle (term note h) h.after
+
+pub dates-few : (note : Note) → IsNote note → length (payment_dates note) ≤ 81
+dates-few note h = let c = dates-counted note h in omega (arith, c.has.few, c.has.count)
+
+pub payments-few : (note : Note) (face : ℕ) → IsNote note → length (payments_of note face) ≤ 81
+unfolding payments_of
+payments-few note face h = omega (arith, length-map (payment_dates note) (payment_on note face), dates-few note h)
+
+-- they fall within 40 years
+pub payments-within : (note : Note) (face : ℕ) → IsNote note → FallWithinFortyYears note.settle (payments_of note face)
+payments-within note face h =
+    All-weaker (λ (flow : Flow). IsCouponDate note flow.day × (note.settle <ℤ flow.day)) (λ flow. (note.settle ≤ℤ flow.day) × (flow.day ≤ℤ years_after_of note.settle 40))
+    (λ flow on.
+    let late = on.1 in
+    let back = on.0.back in
+    let reach = half_back_of-reach note.maturity rule.MonthEnd on.0.steps (term note h).base on.0.few in
+    (omega (arith, signed_arith, late), omega (arith, signed_arith, back, reach, h.term)))
+    (payments_of note face) (payments-after note face (term note h))
+
+-- and after settlement
+pub payments-later : (note : Note) (face : ℕ) → IsNote note → All (λ flow. note.settle <ℤ flow.day) (payments_of note face)
+payments-later note face h =
+    All-weaker (λ (flow : Flow). IsCouponDate note flow.day × (note.settle <ℤ flow.day)) (λ flow. note.settle <ℤ flow.day)
+    (λ flow on. on.1) (payments_of note face) (payments-after note face (term note h))
+
+-- what they come to: the face, and on each date at most 15 hundredths of the greatest face
+pub payments-come-to : (note : Note) (face : ℕ) → IsNote note → total (payments_of note face) ≡ face + length (payments_of note face) * half_coupon_of face note.coupon.0
+payments-come-to note face h = let c = dates-counted note h in payments-face note face c.count (term note h) c.has
+
+half_coupon-small : (face rate : ℕ) → face ≤ 10 ^ 11 → rate ≤ 30_000 → half_coupon_of face rate ≤ 15 * 10 ^ 9
+half_coupon-small face rate few low = near-at-most (face * rate) 200_000 (15 * 10 ^ 9) (omega arith) (omega (arith, mul-le-mul few low))
+
+pub payments-little : (note : Note) (face : ℕ) → IsNote note → face ≤ 10 ^ 11 → total (payments_of note face) ≤ 132 * 10 ^ 10
+payments-little note face h few =
+    omega (arith, payments-come-to note face h, mul-le-mul (payments-few note face h) (half_coupon-small face note.coupon.0 few h.coupon))
+
+-- what a note costs
+price-small : (face price : ℕ) → face ≤ 10 ^ 11 → price ≤ 30_000_000_000 → face_price_of face price ≤ 3 * 10 ^ 11
+price-small face price few low = near-at-most (face * price) (10 ^ 10) (3 * 10 ^ 11) (omega arith) (omega (arith, mul-le-mul few low))
+
+-- the days of the half-year of settlement, of which at most 184 have passed
+record IsAccrued (note : Note) : Type 0 where
+  passed : (accrual_of note).parts ≤ 184
+  half : 181 ≤ days_between_of (previous_date note) (next_date note)
+
+accrued : (note : Note) → IsNote note → IsAccrued note
+accrued note h =
+    let c = dates-counted note h in
+    let t = term note h in
+    let half = half_year-before note.maturity rule.MonthEnd c.count t.base c.has.some (omega (arith, c.has.few)) in
+    let recent = last-recent note.maturity rule.MonthEnd note.settle (previous_date note) t.base h.after c.last in
+    let elapsed = days_between_of-whole (previous_date note) note.settle c.last.by in
+    let apart = days_between_of-whole (previous_date note) (next_date note) (omega (arith, signed_arith, half.least, c.has.previous, c.has.next)) in
+    record {
+      passed = omega (arith, signed_arith, recent, elapsed);
+      half = omega (arith, signed_arith, half.least, c.has.previous, c.has.next, apart);
+    }
+
+pub accrual-some : (note : Note) → IsNote note → 0 < (accrual_of note).year
+accrual-some note h = omega (arith, (accrued note h).half)
+
+accrued-small : (note : Note) (face : ℕ) → IsNote note → face ≤ 10 ^ 11 → accrued_interest note face ≤ 16 * 10 ^ 9
+unfolding accrued_interest
+accrued-small note face h few =
+    let days = accrued note h in
+    near-at-most _ _ (16 * 10 ^ 9) (omega (arith, days.half)) (part (face * note.coupon.0) _ _ (omega (arith, mul-le-mul few h.coupon)) days.passed days.half)
+  where
+    part : (year days half : ℕ) → year ≤ 3_000_000_000_000_000 → days ≤ 184 → 181 ≤ half → year * days ≤ 16 * 10 ^ 9 * (100_000 * (2 * half))
+    part year days half f d l = omega (arith, mul-le-mul f d)
+
+pub cost-small : (note : Note) (face : ℕ) → IsNote note → face ≤ 10 ^ 11 → cost_of note face ≤ 316 * 10 ^ 9
+cost-small note face h few = omega (arith, price-small face note.price.0 few h.most_price, accrued-small note face h few)
+
+-- a face of at least a dollar costs something
+price-some : (face price : ℕ) → 100 ≤ face → 1_000_000_000 ≤ price → 1 ≤ face_price_of face price
+price-some face price some least =
+    let nearest = near-IsNearest (face * price) (10 ^ 10) (omega arith) in
+    at (face_price_of face price) (omega (arith, nearest.below, mul-le-mul some least))
+  where
+    at : (n : ℕ) → 2 * 100_000_000_000 < 2 * 10_000_000_000 * n + 10_000_000_000 → 1 ≤ n
+    at n h = omega arith
+
+pub cost-some : (note : Note) (face : ℕ) → IsNote note → 100 ≤ face → 1 ≤ cost_of note face
+cost-some note face h some = omega (arith, price-some face note.price.0 some h.least_price)
+
+-- and none costs and pays nothing
+near-nothing : (a b : ℕ) → a ≡ 0 → near a b ≡ 0
+unfolding near
+near-nothing a zero e = rw e refl
+near-nothing a (suc b) e = near-zero a (suc b) e (omega arith)
+
+none-accrued : (note : Note) (face : ℕ) → face ≡ 0 → accrued_interest note face ≡ 0
+unfolding accrued_interest
+none-accrued note face none = near-nothing _ _ (rw none (omega arith))
+
+pub cost-none : (note : Note) (face : ℕ) → face ≡ 0 → cost_of note face ≡ 0
+cost-none note face none =
+    let price : face_price_of face note.price.0 ≡ 0 = near-nothing (face * note.price.0) (10 ^ 10) (rw none (omega arith)) in
+    omega (arith, price, none-accrued note face none)
+
+choice-none : (t : Bool) (a b : ℕ) → a ≡ 0 → b ≡ 0 → (if t then a else b) ≡ 0
+choice-none true a b e f = e
+choice-none false a b e f = f
+
+payment-none : (note : Note) (face : ℕ) → face ≡ 0 → (day : ℤ) → half_coupon_of face note.coupon.0 + principal_on note face day ≡ 0
+payment-none note face none day =
+    let interest : half_coupon_of face note.coupon.0 ≡ 0 = near-nothing (face * note.coupon.0) 200_000 (rw none (omega arith)) in
+    let principal = choice-none (int_eq day note.maturity) face 0 none refl in
+    join _ _ interest principal
+  where
+    join : (m n : ℕ) → m ≡ 0 → n ≡ 0 → m + n ≡ 0
+    join m n a b = omega arith
+
+pub payments-none : (note : Note) (face : ℕ) → face ≡ 0 → All (λ flow. flow.cents.0 ≡ 0) (payments_of note face)
+unfolding payments_of
+payments-none note face none =
+    All-map (λ (flow : Flow). flow.cents.0 ≡ 0) (payment_on note face) (payment_dates note) (λ k d lt. payment-none note face none (get_or (payment_dates note) k d))
