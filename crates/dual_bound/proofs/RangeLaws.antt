@@ -110,7 +110,7 @@ pub splits_cover : SplitsCover
 splits_cover lines ranges line at tight proper plan = split-covers lines ranges line at tight proper plan
 
 -- ---- what tight ranges hold
-lows-held : (lines : List Line) (ranges : List Interval) → AreTight lines ranges → Hold lines ranges (map (λ (interval : Interval). interval.low) ranges)
+pub lows-held : (lines : List Line) (ranges : List Interval) → AreTight lines ranges → Hold lines ranges (map (λ (interval : Interval). interval.low) ranges)
 lows-held [] [] tight = record { permitted = tt; within = tt }
 lows-held [] (interval ∷ ranges) tight = absurd tight
 lows-held (line ∷ lines) [] tight = absurd tight
@@ -127,7 +127,7 @@ highs-held (line ∷ lines) [] tight = absurd tight
 highs-held (line ∷ lines) (interval ∷ ranges) tight =
     hold-more line lines interval ranges interval.high (map (λ (i : Interval). i.high) ranges) tight.0.high (record { low = tight.0.ordered; high = omega arith }) (highs-held lines ranges tight.1)
 
-only-one : (lines : List Line) (ranges : List Interval) → IsTrue (is_single ranges) → (plan other : List ℕ) → Hold lines ranges plan → Hold lines ranges other → plan ≡ other
+pub only-one : (lines : List Line) (ranges : List Interval) → IsTrue (is_single ranges) → (plan other : List ℕ) → Hold lines ranges plan → Hold lines ranges other → plan ≡ other
 only-one lines [] single [] [] hold holds = refl
 only-one lines [] single [] (units ∷ other) hold holds = absurd holds.within
 only-one lines [] single (units ∷ plan) other hold holds = absurd hold.within
