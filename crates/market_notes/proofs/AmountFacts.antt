@@ -88,6 +88,9 @@ accrued note h =
 pub accrual-some : (note : Note) → IsNote note → 0 < (accrual_of note).year
 accrual-some note h = omega (arith, (accrued note h).half)
 
+pub accrual-short : (note : Note) → IsNote note → 3 * (accrual_of note).parts ≤ 4 * (accrual_of note).year
+accrual-short note h = omega (arith, (accrued note h).passed, (accrued note h).half)
+
 accrued-small : (note : Note) (face : ℕ) → IsNote note → face ≤ 10 ^ 11 → accrued_interest note face ≤ 16 * 10 ^ 9
 unfolding accrued_interest
 accrued-small note face h few =
