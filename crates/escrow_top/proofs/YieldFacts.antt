@@ -1,7 +1,6 @@
 -- The yield that is printed of securities without interest, proved.
-use Rattle.std.proofs.Common.{◌≡◌, ◌∙◌, ℕ, ◌≤◌, ◌==◌, List, [], ◌∷◌, drop, ℤ, ◌≤ℤ◌, Bool, true, false, refl, sym, arith, subst, inl, inr}
+use Rattle.std.proofs.Common.{◌≡◌, ◌∙◌, ℕ, ◌≤◌, ◌==◌, List, [], ℤ, ◌≤ℤ◌, Bool, true, false, refl, sym, arith, subst, inl, inr}
 use Rattle.std.specs.Prelude.{All, if◌then◌else◌}
-use Rattle.std.specs.List.{flat_map, zip}
 use Rattle.std.proofs.lemmas.Int.{ints}
 use Rattle.std.proofs.lemmas.List.Elements.{All-map}
 use Rattle.escrow_units.specs.Calendar.{IsBaseDay, years_after_of}
@@ -12,11 +11,9 @@ use Rattle.escrow_units.specs.SlgsTerms.{IsSettlement}
 use Rattle.escrow_units.specs.declared.security.Flow.{Flow}
 use Rattle.escrow_units.proofs.DayFacts.{thirty_day_place_of-years}
 use Rattle.escrow_units.proofs.YearFacts.{settlement-base}
-use Rattle.day_sums.specs.SummedLaws.{AreAboveZero}
-use Rattle.day_sums.proofs.SumFacts.{above-summed}
 use Rattle.fixed_powers.specs.PresentValues.{HasLaterAmount}
 use Rattle.offer_book.specs.Book.{AreWithoutInterest, BookContents, IsBook}
-use Rattle.offer_book.specs.Portfolio.{IsPermitted, line_payments, security_cost, security_flows}
+use Rattle.offer_book.specs.Portfolio.{IsPermitted, security_cost, security_flows}
 use Rattle.cash_table.specs.First.{HaveLaterAmount}
 use Rattle.cash_table.proofs.FlowFacts.{flows_within}
 use Rattle.cash_table.proofs.LaterFacts.{flows_later}
