@@ -1,2 +1,4 @@
+pub mod Balances
 pub mod First
+pub mod Reach
 pub mod Receipts

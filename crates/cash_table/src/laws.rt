@@ -2,8 +2,9 @@
 
 ghost use Rattle.std.specs.Prelude.{◌≡◌, ℕ, ◌+◌, ◌*◌, ◌^◌, ◌≤◌, ◌↔◌, List, [], drop, slice_index};
 ghost use Rattle.std.specs.List.{All};
-ghost use Rattle.escrow_units.specs.Flows.{index360_of, indexed, total, FallWithinFortyYears};
+ghost use Rattle.escrow_units.specs.Flows.{indexed, total, FallWithinFortyYears};
 ghost use Rattle.escrow_units.specs.PresentValue.{YieldLiesIn};
+ghost use Rattle.cash_table.specs.First.{HaveLaterAmount};
 ghost use Rattle.offer_book.specs.Book.{AreWithoutInterest, BookContents, IsBook};
 ghost use Rattle.offer_book.specs.Portfolio.{IsPermitted, Meets, cost, security_cost, security_flows, total_needs};
 
@@ -36,23 +37,23 @@ pub fn zero_interest_total()
         → total (security_flows book plan) ≡ security_cost book plan }
 {}
 
-/// A law: security flows fall from settlement to 40 years after it, and have an index of at least 1, since no security
-/// pays in the first 15 days.
+/// A law: security flows fall from settlement to 40 years after it. Where there are any, one above 0 falls at an index of 1
+/// or more, since each security matures there; so the yield matters.
 pub fn flow_days()
     ensures within { (book : BookContents) (plan : List ℕ)
         → IsBook book
         → FallWithinFortyYears book.settle (security_flows book plan) }
     ensures later { (book : BookContents) (plan : List ℕ)
         → IsBook book
-        → All (λ flow. 1 ≤ index360_of book.settle flow.day) (security_flows book plan) }
+        → HaveLaterAmount book.settle (security_flows book plan) }
 {}
 
-/// A law: a permitted portfolio costs at most 360 billion dollars, and its securities pay at most 8,900 billion.
+/// A law: a permitted portfolio costs at most 910 billion dollars, and its securities pay at most 8,900 billion.
 pub fn bounds()
     ensures cost { (book : BookContents) (plan : List ℕ)
         → IsBook book
         → IsPermitted book plan
-        → cost book plan ≤ 36 * 10 ^ 12 }
+        → cost book plan ≤ 91 * 10 ^ 12 }
     ensures flows { (book : BookContents) (plan : List ℕ)
         → IsBook book
         → IsPermitted book plan

@@ -1,29 +1,32 @@
 //! Worked figures.
 
-ghost use Rattle.std.specs.Prelude.{◌≡◌, length, IfOk};
+ghost use Rattle.std.specs.Prelude.{◌≡◌, ◌≤◌, ◌^◌, pos, ◌≤ℤ◌, length, IfOk};
 ghost use Rattle.escrow_units.specs.SlgsTerms.{IsSettlement};
+ghost use Rattle.day_sums.specs.Summed.{on as on_day};
+ghost use Rattle.escrow_units.specs.DayNumber.{IsDayNumber};
 ghost use Rattle.offer_book.specs.Book.{IsCashLine, IsSecurityLine};
 
 use crate::{
-    Plan, bounds, cost, cost_parts, empty_flows, first_short, first_unpermitted, flow_days, flows,
-    meets_cost, security_cost, zero_interest_total, zero_yield,
+    Balance, Plan, balances, bounds, cost, cost_parts, empty_flows, first_short, first_unpermitted,
+    flow_days, flows, meets_cost, out_of_reach, security_cost, zero_interest_total, zero_yield,
 };
-use escrow_units::{AskedRate, Cents, Day, Flow, Rate};
+use escrow_units::{AMOUNT_LIMIT, AskedRate, Cents, Day, Flow, Rate};
 use offer_book::{Book, Line, LineKind};
 use slgs_rules::classify;
 use std::alloc::Global;
 use std::process::Abort;
 use std::test::Fail;
 
-// Opening cash up to 1,000.00 dollars.
-fn opening_cash() -> Line
+// Opening cash up to so many cents.
+fn opening_cash(most: u64) -> Line
+    requires { most ≤ AMOUNT_LIMIT }
     ensures { IsCashLine result }
 {
     Line {
         kind: LineKind::Cash,
         step: 1,
         least: 1,
-        most: 100_000,
+        most,
     }
 }
 
@@ -70,7 +73,7 @@ fn sample(rt: &impl Abort, alloc: Global) -> Result<Book, Fail> {
     let again = security_line(rt, settle, Day::new(20_164))?;
     let note = security_line(rt, settle, Day::new(20_469))?;
     let bond = security_line(rt, settle, Day::new(25_581))?;
-    let lines = vec![in alloc; opening_cash(), early, late, again, note, bond]?;
+    let lines = vec![in alloc; opening_cash(100_000), early, late, again, note, bond]?;
     Ok(Book::make(settle, needs, lines))
 }
 
@@ -302,6 +305,95 @@ fn rows(rt: HostRuntime) -> Result<(), Fail> {
         try_row(&rt, rt.alloc(), &book, row)?;
     }
     Ok(())
+}
+
+// Settlement on 2025-01-15, one need, opening cash up to so many cents, and a security that matures 90 days after settlement.
+fn one_need(rt: &impl Abort, alloc: Global, need: Flow, cash: u64) -> Result<Book, Fail>
+    requires from { pos 20_103 ≤ℤ need.day }
+    requires to { need.day ≤ℤ pos 34_703 }
+    requires some { 1 ≤ need.cents.0 }
+    requires small { need.cents.0 ≤ AMOUNT_LIMIT }
+    requires cash { cash ≤ AMOUNT_LIMIT }
+{
+    let settle = Day::new(20_103);
+    let needs = vec![in alloc; need]?;
+    let security = security_line(rt, settle, Day::new(20_193))?;
+    let lines = vec![in alloc; opening_cash(cash), security]?;
+    Ok(Book::make(settle, needs, lines))
+}
+
+fn due(day: i32, cents: u64) -> Flow
+    requires { IsDayNumber day }
+    ensures { result ≡ on_day day cents }
+{
+    Flow {
+        day: Day::new(day),
+        cents: Cents(cents),
+    }
+}
+
+#[test]
+fn most_is_in_reach_or_not(rt: HostRuntime) -> Result<(), Fail> {
+    let book = sample(&rt, rt.alloc())?;
+    assert!(&rt; out_of_reach(&book).is_none());
+    // Only 50.00 dollars of opening cash are there on 2025-01-20.
+    let early = one_need(&rt, rt.alloc(), due(20_108, 10_000), 5_000)?;
+    assert!(&rt; out_of_reach(&early) == Some(Day::new(20_108)));
+    // The most of both lines is 10,050.00 dollars.
+    let all = one_need(&rt, rt.alloc(), due(20_193, 1_005_000), 5_000)?;
+    assert!(&rt; out_of_reach(&all).is_none());
+    let more = one_need(&rt, rt.alloc(), due(20_193, 1_005_001), 5_000)?;
+    assert!(&rt; out_of_reach(&more) == Some(Day::new(20_193)));
+    Ok(())
+}
+
+// A day's receipts, needs and balance, in cents.
+fn entry(day: i32, receipts: u64, needs: u64, balance: u64) -> Balance
+    requires { IsDayNumber day }
+{
+    Balance {
+        day: Day::new(day),
+        receipts: Cents(receipts),
+        needs: Cents(needs),
+        balance: Cents(balance),
+    }
+}
+
+fn try_balances(
+    rt: &impl Abort,
+    alloc: Global,
+    book: &Book,
+    plan: &Plan,
+    expected: &[Balance],
+) -> Result<(), Fail>
+    requires { length plan.now ≡ length book.now.lines }
+{
+    assert!(rt; first_unpermitted(book, plan).is_none());
+    assert!(rt; first_short(book, plan).is_none());
+    assert_eq!(rt; balances(alloc, book, plan)?.as_slice(), expected);
+    Ok(())
+}
+
+#[test]
+fn cash_is_balanced_by_day(rt: HostRuntime) -> Result<(), Fail> {
+    let alone = one_need(&rt, rt.alloc(), due(20_193, 500_000), 0)?;
+    let mut plan = Plan::zero(rt.alloc(), &alone)?;
+    assert_eq!(&rt; alone.line_count(), 2);
+    plan.put(1, 50);
+    let expected = [entry(20_103, 0, 0, 0), entry(20_193, 500_000, 500_000, 0)];
+    try_balances(&rt, rt.alloc(), &alone, &plan, &expected)?;
+    let book = sample(&rt, rt.alloc())?;
+    let plan = plan_of(&rt, rt.alloc(), &book, &[50_000, 10, 10, 0, 10, 0])?;
+    let expected = [
+        entry(20_103, 50_000, 0, 50_000),
+        entry(20_133, 100_000, 100_000, 50_000),
+        entry(20_163, 0, 50_000, 0),
+        entry(20_164, 100_000, 0, 100_000),
+        entry(20_193, 0, 20_000, 80_000),
+        entry(20_469, 100_000, 0, 180_000),
+        entry(25_581, 0, 100_000, 80_000),
+    ];
+    try_balances(&rt, rt.alloc(), &book, &plan, &expected)
 }
 
 #[test]

@@ -17,26 +17,26 @@ use Rattle.day_sums.proofs.SumFacts.{IsAbove, DaysAre, Rising, counted-zero, cou
 abbrev pub here : ℤ → Flow → ℕ
 here day flow = if int_eq flow.day day then flow.cents.0 else 0
 
-on-cons : (day : ℤ) (flow : Flow) (flows : List Flow) → cents_on day (flow ∷ flows) ≡ here day flow + cents_on day flows
+pub on-cons : (day : ℤ) (flow : Flow) (flows : List Flow) → cents_on day (flow ∷ flows) ≡ here day flow + cents_on day flows
 on-cons day flow flows = sum_by-cons (here day) flow flows
 
-same-day : (a : ℤ) → int_eq a a ≡ true
+pub same-day : (a : ℤ) → int_eq a a ≡ true
 same-day a = grind (arith, ints)
 
-other-day : (a b : ℤ) → b <ℤ a → int_eq a b ≡ false
+pub other-day : (a b : ℤ) → b <ℤ a → int_eq a b ≡ false
 other-day a b h = grind (arith, ints)
 
-here-same : (day : ℤ) (flow : Flow) → flow.day ≡ day → here day flow ≡ flow.cents.0
+pub here-same : (day : ℤ) (flow : Flow) → flow.day ≡ day → here day flow ≡ flow.cents.0
 here-same day flow same = rw (same, same-day day) refl
 
-here-later : (day : ℤ) (flow : Flow) → day <ℤ flow.day → here day flow ≡ 0
+pub here-later : (day : ℤ) (flow : Flow) → day <ℤ flow.day → here day flow ≡ 0
 here-later day flow later = rw (other-day flow.day day later) refl
 
 nothing-here : (day : ℤ) (flow : Flow) → flow.cents.0 ≡ 0 → here day flow ≡ 0
 nothing-here day flow none = counted-zero (int_eq flow.day day) flow.cents.0 none
 
 -- nothing falls on a day before all
-on-earlier : (day : ℤ) (flows : List Flow) → DaysAre (λ d. day <ℤ d) flows → cents_on day flows ≡ 0
+pub on-earlier : (day : ℤ) (flows : List Flow) → DaysAre (λ d. day <ℤ d) flows → cents_on day flows ≡ 0
 on-earlier day [] all = refl
 on-earlier day (flow ∷ flows) all =
     let first = here-later day flow (All-head (λ f. day <ℤ f.day) flow flows all) in

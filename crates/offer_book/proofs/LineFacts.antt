@@ -253,7 +253,7 @@ dates-kept : (slgs : Slgs) → All (λ date. int_le slgs.first date ≡ true) (p
 unfolding payment_dates
 dates-kept slgs = filter_passes (λ date. int_le slgs.first date) _
 
-payments_of-late : (slgs : Slgs) (face : ℕ) → IsPaid slgs → All (λ flow. (slgs.settle +ℤ pos 15) ≤ℤ flow.day) (payments_of slgs face)
+pub payments_of-late : (slgs : Slgs) (face : ℕ) → IsPaid slgs → All (λ flow. (slgs.settle +ℤ pos 15) ≤ℤ flow.day) (payments_of slgs face)
 unfolding payments_of
 payments_of-late slgs face p =
     All-map (λ (flow : Flow). (slgs.settle +ℤ pos 15) ≤ℤ flow.day) (payment_on slgs face) (payment_dates slgs)
