@@ -2,10 +2,5 @@
 #![tactic(auto)]
 
 mod case;
-mod fault;
 
 pub use case::{Case, read_case};
-pub use fault::{CaseFault, NoCase};
-
-#[cfg(test)]
-mod tests;
