@@ -10,11 +10,9 @@ use Rattle.escrow_units.specs.Interest.{half_coupon_of}
 use Rattle.escrow_units.specs.Rounding.{near}
 use Rattle.escrow_units.specs.declared.security.Flow.{Flow}
 use Rattle.escrow_units.specs.declared.security.Slgs.{Slgs}
-use Rattle.escrow_units.specs.declared.security.SlgsKind.{SlgsKind}
-use Rattle.escrow_units.specs.declared.security.SlgsKind.TheVariants as kind
 use Rattle.escrow_units.proofs.RoundingFacts.{near-mono}
 use Rattle.day_sums.specs.Summed.{total_by}
-use Rattle.slgs_interest.specs.Payments.{payment_dates, payments_of, payment_on, first_interest, first_interest_of_kind, first_period_interest}
+use Rattle.slgs_interest.specs.Payments.{first_accrual_of, first_interest, payment_dates, payment_on, payments_of}
 use Rattle.market_notes.specs.NoteFlows as market
 use Rattle.market_notes.specs.declared.note.Note.{Note}
 use Rattle.offer_book.specs.declared.line.LineKind.{LineKind}
@@ -45,16 +43,7 @@ half_coupon_more : (face more rate : ℕ) → face ≤ more → half_coupon_of f
 half_coupon_more face more rate le = near_more _ 200_000 _ (mul-le-mul_right rate le)
 
 first_interest_more : (slgs : Slgs) (face more : ℕ) → face ≤ more → first_interest slgs face ≤ first_interest slgs more
-unfolding first_interest
-first_interest_more slgs face more le = of_kind slgs.kind
-  where
-    of_period : first_period_interest slgs face ≤ first_period_interest slgs more
-    of_period = choice_more _ _ _ _ _ (earned_more face more slgs.rate.0 _ _ le) (earned_more face more slgs.rate.0 _ _ le)
-
-    of_kind : (k : SlgsKind) → first_interest_of_kind k slgs face ≤ first_interest_of_kind k slgs more
-    of_kind kind.Certificate = earned_more face more slgs.rate.0 _ _ le
-    of_kind kind.Note = of_period
-    of_kind kind.Bond = of_period
+first_interest_more slgs face more le = earned_more face more slgs.rate.0 (first_accrual_of slgs).parts (100_000 * (first_accrual_of slgs).year) le
 
 slgs_payment_more : (slgs : Slgs) (face more : ℕ) (day : ℤ) → face ≤ more → (payment_on slgs face day).cents.0 ≤ (payment_on slgs more day).cents.0
 slgs_payment_more slgs face more day le =

@@ -10,8 +10,8 @@ use Rattle.std.proofs.lemmas.List.Sums.{sum_by-cons}
 use Rattle.escrow_units.specs.Flows.{total}
 use Rattle.escrow_units.specs.declared.security.Flow.{Flow}
 use Rattle.day_sums.specs.Summed.{cents_on, on, summed, with_amount}
-use Rattle.day_sums.specs.SummedLaws.{AreAboveZero, SummedAreSums, SumsAreUnique, SummedKeepTotal, SummedKeepTotalBy, SummedFallWithin, NothingSumsToNothing, SummedInSteps}
-use Rattle.day_sums.proofs.SumFacts.{IsAbove, DaysAre, Rising, counted-zero, count-append, count-summed, count-with_amount, days-summed, above-summed, above-with_amount, rising-summed, rising-with_amount, pairs-from_rising, rising-from_pairs, after-earlier, less-from_cmp, same-from_cmp, greater-from_cmp}
+use Rattle.day_sums.specs.SummedLaws.{AreAboveZero, SummedAreSums, SumsAreUnique, SummedKeepTotal, SummedKeepTotalBy, SummedKeepWeighted, SummedFallWithin, NothingSumsToNothing, SummedInSteps}
+use Rattle.day_sums.proofs.SumFacts.{IsAbove, DaysAre, Rising, counted-zero, count-append, count-summed, count-with_amount, days-summed, weighted-summed, above-summed, above-with_amount, rising-summed, rising-with_amount, pairs-from_rising, rising-from_pairs, after-earlier, less-from_cmp, same-from_cmp, greater-from_cmp}
 
 -- the cents of one amount on a day
 abbrev pub here : ℤ → Flow → ℕ
@@ -102,6 +102,9 @@ keep-total flows = count-summed (λ _. true) flows
 
 pub keep-total_by : SummedKeepTotalBy
 keep-total_by day flows = count-summed (λ d. int_le d day) flows
+
+pub keep-weighted : SummedKeepWeighted
+keep-weighted weight flows = weighted-summed weight flows
 
 pub fall-within : SummedFallWithin
 fall-within from to flows all = days-summed (λ day. (from ≤ℤ day) × (day ≤ℤ to)) flows all
