@@ -11,7 +11,7 @@ use Rattle.offer_book.specs.declared.line.Line.{Line}
 use Rattle.offer_book.specs.Book.{BookContents}
 use Rattle.offer_book.specs.Portfolio.{IsPermittedUnits, permits}
 use Rattle.cash_table.proofs.PermitFacts.{permitted_from_test, test_from_permitted}
-use Rattle.case_file.specs.Case.{cash_line}
+use Rattle.offer_book.specs.CaseBook.{cash_line}
 use Rattle.escrow_top.specs.CertificateForm.{CertificateContents, Read, after, certificate_of, closing_gap, head_at, number_at, purchase_at, purchases_at}
 use Rattle.escrow_top.specs.Accepted.{Buys, IsOffered}
 use Rattle.escrow_top.specs.Answer.{is_offered, first_not_offered, plan_of}

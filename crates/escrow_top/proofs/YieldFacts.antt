@@ -1,5 +1,5 @@
 -- The yield that is printed of securities without interest, proved.
-use Rattle.std.proofs.Common.{◌≡◌, ◌∙◌, ℕ, ◌≤◌, ◌==◌, List, [], ◌∷◌, drop, ℤ, ◌≤ℤ◌, Bool, true, false, refl, sym, arith, subst}
+use Rattle.std.proofs.Common.{◌≡◌, ◌∙◌, ℕ, ◌≤◌, ◌==◌, List, [], ◌∷◌, drop, ℤ, ◌≤ℤ◌, Bool, true, false, refl, sym, arith, subst, inl, inr}
 use Rattle.std.specs.Prelude.{All, if◌then◌else◌}
 use Rattle.std.specs.List.{flat_map, zip}
 use Rattle.std.proofs.lemmas.Int.{ints}
@@ -17,7 +17,9 @@ use Rattle.day_sums.proofs.SumFacts.{above-summed}
 use Rattle.fixed_powers.specs.PresentValues.{HasLaterAmount}
 use Rattle.offer_book.specs.Book.{AreWithoutInterest, BookContents, IsBook}
 use Rattle.offer_book.specs.Portfolio.{IsPermitted, line_payments, security_cost, security_flows}
-use Rattle.cash_table.proofs.FlowFacts.{flows_later, flows_within}
+use Rattle.cash_table.specs.First.{HaveLaterAmount}
+use Rattle.cash_table.proofs.FlowFacts.{flows_within}
+use Rattle.cash_table.proofs.LaterFacts.{flows_later}
 use Rattle.cash_table.proofs.PortfolioLaws.{empty_at_no_cost, zero_interest_total}
 use Rattle.cash_table.proofs.YieldFacts.{total_cents-indexed}
 use Rattle.yield_enclosure.specs.declared.answer.YieldAnswer.{YieldAnswer}
@@ -38,10 +40,8 @@ indexes-near settle flows is within =
     All-map (λ (flow : IndexedFlow). flow.index ≤ 14_400) (λ (flow : Flow). record { index = index360_of settle flow.day; cents = flow.cents.0 }) flows
     (λ k d short. let falls = within k d short in index-near settle _ is falls.0 falls.1)
 
-later-amount : (settle : ℤ) (flows : List Flow) → AreAboveZero flows → All (λ (flow : Flow). 1 ≤ index360_of settle flow.day) flows → (flows ≡ [] → ⊥) → HasLaterAmount (indexed settle flows)
-later-amount settle [] above later some = absurd (some refl)
-later-amount settle (flow ∷ flows) above later some =
-    (0, record { index = index360_of settle flow.day; cents = flow.cents.0 }, omega arith, refl, (above 0 flow (omega arith), later 0 flow (omega arith)))
+later-amount : (settle : ℤ) (flows : List Flow) → HaveLaterAmount settle flows → (flows ≡ [] → ⊥) → HasLaterAmount (indexed settle flows)
+later-amount settle flows later some = elim later [ inl none ↦ absurd (some none) | inr amount ↦ amount ]
 
 yields-none : (book : BookContents) (plan : List ℕ) → security_flows book plan ≡ [] → security_cost book plan ≡ 0 → plan_yield book plan ≡ Empty
 yields-none book plan none free = rw (none, free) refl
@@ -51,7 +51,7 @@ yields-zero book plan limits interest permitted some =
     let flows = security_flows book plan in
     zero_yield (indexed book.settle flows) (security_cost book plan)
     (indexes-near book.settle flows limits.settlement (flows_within book plan limits))
-    (later-amount book.settle flows (above-summed (flat_map (λ p. line_payments book.settle p.0 p.1) (drop 1 (zip book.lines plan)))) (flows_later book plan limits) some)
+    (later-amount book.settle flows (flows_later book plan limits) some)
     (total_cents-indexed book.settle flows ∙ zero_interest_total book plan limits interest permitted)
 
 -- a test on the cost gives the yield

@@ -1,14 +1,14 @@
 //! Answers: their status and their text.
 
 ghost use Rattle.std.specs.Prelude.{◌≡◌, ◌++◌, IfOk, IsTrue, OnOk};
-ghost use Rattle.escrow_top.specs.Answer.{text_line, reason_text, plan_yield as plan_yield_of, yes_text as yes_text_of, yield_words as yield_words_of, file_word as file_word_of, kind_word as kind_word_of, unbuilt as unbuilt_answer, refused as refused_answer, no_case_answer, refused_text, accepted, not_accepted};
+ghost use Rattle.escrow_top.specs.Answer.{text_line, reason_text, plan_yield as plan_yield_of, yes_text as yes_text_of, yield_words as yield_words_of, file_word as file_word_of, kind_word as kind_word_of, unbuilt as unbuilt_answer, refused as refused_answer, refused_text, accepted, not_accepted};
 ghost use Rattle.case_file.specs.Case.{case_view};
-ghost use Rattle.escrow_top.specs.Ending.{is_checked, is_stopped};
+ghost use Rattle.escrow_top.specs.Ending.{is_checked};
 ghost use Rattle.offer_book.specs.Portfolio.{IsPermitted};
 
 use crate::status::Status;
 use crate::verdict::Reason;
-use case_file::{Case, NoCase};
+use case_file::Case;
 use cash_table::{Plan, cost, flows, security_cost};
 use escrow_desk::{FileKind, NoMemory, Refusal, RefusalKind};
 use escrow_units::{Cents, print_cents, print_day, print_yield};
@@ -144,17 +144,6 @@ pub(crate) fn unbuilt(alloc: Global, kind: FileKind) -> Result<Answer, NoMemory>
         status: Status::Unbuilt,
         text: one_line(alloc, b"unbuilt ", file_word(kind))?,
     })
-}
-
-/// The answer where the input files give no case.
-pub(crate) fn without_case(alloc: Global, why: NoCase) -> Result<Answer, NoMemory>
-    ensures answer { IfOk result (λ answer. answer ≡ no_case_answer why) }
-    ensures status { IfOk result (λ answer. IsTrue (is_stopped answer.status)) }
-{
-    match why {
-        NoCase::Refused(refusal) => refused(alloc, &refusal),
-        NoCase::Unbuilt(kind) => unbuilt(alloc, kind),
-    }
 }
 
 // The yield of a portfolio's securities, as an interval.
