@@ -1,12 +1,11 @@
 -- `yes` exactly where no reason stands, and the answer of `check` said of the bytes of the files.
-use Rattle.std.proofs.Common.{◌≡◌, ◌≢◌, ◌∙◌, ℕ, ◌+◌, ◌<◌, ◌≤◌, ◌&&◌, List, [], ◌∷◌, length, Bool, Option, Some, None, Result, Ok, Err, true, false, nat_lt, nat_eq, refl, sym, ap, subst, inl, inr, arith}
-use Rattle.std.specs.Prelude.{codes, IfOk, IfSome, IsSomeAnd, IsTrue, option_and_then, is_ok, if◌then◌else◌}
+use Rattle.std.proofs.Common.{◌≡◌, ◌≢◌, ◌∙◌, ℕ, List, [], ◌∷◌, length, Bool, Some, None, Result, Ok, Err, true, false, nat_eq, refl, sym, ap, subst, inl, inr, arith}
+use Rattle.std.specs.Prelude.{codes, IfOk, IsSomeAnd, IsTrue}
 use Rattle.std.specs.Bool.{then_some}
 use lib.Pointwise.{pointwise}
 use Rattle.std.proofs.lemmas.Bool.{and_parts, cases_lt}
-use Rattle.std.proofs.lemmas.Bool.Decides.{nat_tests}
 use Rattle.escrow_desk.specs.declared.limits.TheConstants.{FILE_LIMIT}
-use Rattle.escrow_desk.specs.Content.{Content, Told, file_of, with_said}
+use Rattle.escrow_desk.specs.Content.{Content, Told, file_of}
 use Rattle.escrow_desk.specs.Counts.{AllSteady, Counts, Rose, IsSteady}
 use Rattle.escrow_desk.specs.Rows.{rows_of}
 use Rattle.escrow_desk.specs.declared.refusal.FileKind.{FileKind}
@@ -16,10 +15,10 @@ use Rattle.offer_book.specs.Book.{IsBook}
 use Rattle.case_file.specs.Case.{CaseContents, IsKept, rows_case}
 use Rattle.escrow_desk.specs.declared.refusal.Refusal.{Refusal}
 use Rattle.escrow_top.specs.InputFiles.{InputFiles, FileNames, first_too_long, inputs_of}
-use Rattle.escrow_top.specs.Answer.{Answer, case_answer, case_of, certificate_answer, check_answer, check_names, is_structure, named_answer, refused}
+use Rattle.escrow_top.specs.Answer.{Answer, case_of, check_answer, check_names, is_structure, named_answer, refused}
 use Rattle.escrow_top.specs.Accepted.{YesExactly}
 use Rattle.escrow_top.specs.Ending.{IsAnswerTo, IsNoCommand, NamedAnswers, OfFiles, OfNamedFiles, is_reached}
-use Rattle.escrow_top.specs.Reading.{AreRead, AreThere, AreWithin, CertificateAnswers, FilesAnswer, IsTooLong}
+use Rattle.escrow_top.specs.Reading.{AreRead, AreThere, AreWithin, FilesAnswer, IsTooLong}
 use Rattle.escrow_top.specs.Stopping.{EndedAs}
 use Rattle.escrow_top.specs.declared.stop.Stop.{Stop}
 use Rattle.escrow_top.specs.declared.status.Status.{Status}

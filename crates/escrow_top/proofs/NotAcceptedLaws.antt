@@ -1,5 +1,5 @@
 -- What `no` means, proved.
-use Rattle.std.proofs.Common.{◌≡◌, ◌∙◌, ℕ, ◌-◌, ◌≤◌, ◌<◌, Bool, true, false, not, cond, nat_lt, Option, Some, None, MatchOption, Ok, List, [], ◌∷◌, length, ℤ, refl, sym, ap, subst, arith}
+use Rattle.std.proofs.Common.{◌≡◌, ◌∙◌, ℕ, ◌-◌, Bool, true, false, not, cond, nat_lt, Option, Some, None, MatchOption, Ok, List, [], ◌∷◌, length, ℤ, refl, sym, ap, subst, arith}
 use Rattle.std.specs.Prelude.{option_map}
 use Rattle.std.proofs.lemmas.Bool.{ltb-false, ltb-true}
 use Rattle.std.proofs.lemmas.List.Elements.{All-cons, All-nil}
@@ -8,7 +8,6 @@ use Rattle.offer_book.specs.Portfolio.{IsFirstShort, IsPermitted, Meets, cost, t
 use Rattle.cash_table.specs.First.{first_short_of}
 use Rattle.cash_table.proofs.DayFacts.{first_short_is}
 use Rattle.case_file.specs.Case.{CaseContents}
-use Rattle.escrow_desk.specs.declared.limits.TheConstants.{CERTIFICATE_LIMIT}
 use Rattle.escrow_top.specs.CertificateForm.{CertificateContents, certificate_of}
 use Rattle.escrow_top.specs.InputFiles.{InputFiles}
 use Rattle.std.specs.Bool.{then_some}
