@@ -1,7 +1,5 @@
 //! Worked figures.
 
-ghost use Rattle.std.specs.Prelude.{◌≤◌, length};
-
 use crate::read_case;
 use escrow_desk::{CaseError, FILE_LIMIT, FileKind, Refusal, RefusalKind};
 use escrow_units::{Cents, Day, YieldUnits};

@@ -30,12 +30,12 @@ abbrev pub is_excluded : BookContents → ℕ → List ℕ → Bool
 is_excluded book n plan = is_some (first_short_of book plan) || nat_lt (one * security_cost book plan) (low_value book n plan)
 
 -- the yield of a portfolio's securities, as an interval
-abbrev pub yield_of : BookContents → List ℕ → YieldAnswer
-yield_of book plan = yield_answer_of (indexed book.settle (security_flows book plan)) (security_cost book plan)
+abbrev pub plan_yield : BookContents → List ℕ → YieldAnswer
+plan_yield book plan = yield_answer_of (indexed book.settle (security_flows book plan)) (security_cost book plan)
 
 -- a portfolio's yield is within a limit
 abbrev pub is_within_limit : ℕ → BookContents → List ℕ → Bool
-is_within_limit limit book plan = is_within limit (yield_of book plan)
+is_within_limit limit book plan = is_within limit (plan_yield book plan)
 
 -- a portfolio that is excluded one unit below a limit is no rival under it
 abbrev pub ExcludedAreNoRivals : Type 0

@@ -1,8 +1,7 @@
 //! Worked figures.
 
-ghost use Rattle.std.specs.Prelude.{◌≡◌, ◌≤◌, ◌^◌, pos, ◌≤ℤ◌, length, IfOk};
+ghost use Rattle.std.specs.Prelude.{◌≡◌, length, IfOk};
 ghost use Rattle.escrow_units.specs.SlgsTerms.{IsSettlement};
-ghost use Rattle.day_sums.specs.Summed.{on as on_day};
 ghost use Rattle.escrow_units.specs.DayNumber.{IsDayNumber};
 ghost use Rattle.offer_book.specs.Book.{IsCashLine, IsSecurityLine};
 
@@ -11,27 +10,27 @@ use crate::{
     first_unpermitted, flow_days, flows, meets_cost, out_of_reach, point_excluded, security_cost,
     zero_interest_total, zero_yield,
 };
-use escrow_units::{
-    AMOUNT_LIMIT, AskedRate, Cents, Day, Flow, GREATEST_INDEX, GREATEST_RATE, GREATEST_YIELD, Rate,
-    YieldUnits,
-};
+use escrow_desk::{FILE_LIMIT, read_rows};
+use escrow_units::{AskedRate, Cents, Day, Flow, GREATEST_INDEX, GREATEST_YIELD, Rate, YieldUnits};
 use fixed_powers::{Powers, Side};
-use offer_book::{Book, Line, LineKind};
+use issue_schedule::read_issue;
+use market_notes::read_notes;
+use offer_book::{Book, Line, LineKind, make_book};
+use rate_table::read_rates;
 use slgs_rules::classify;
 use std::alloc::Global;
 use std::process::Abort;
 use std::test::Fail;
 
-// Opening cash up to so many cents.
-fn opening_cash(most: u64) -> Line
-    requires { most ≤ AMOUNT_LIMIT }
+// Opening cash up to 1,000.00 dollars.
+fn opening_cash() -> Line
     ensures { IsCashLine result }
 {
     Line {
         kind: LineKind::Cash,
         step: 1,
         least: 1,
-        most,
+        most: 100_000,
     }
 }
 
@@ -40,18 +39,9 @@ fn security_line(rt: &impl Abort, settle: Day, maturity: Day) -> Result<Line, Fa
     requires { IsSettlement settle }
     ensures { IfOk result (λ line. IsSecurityLine settle line) }
 {
-    security_at(rt, settle, maturity, Rate(0))
-}
-
-// The same at a rate.
-fn security_at(rt: &impl Abort, settle: Day, maturity: Day, rate: Rate) -> Result<Line, Fail>
-    requires settlement { IsSettlement settle }
-    requires rate { rate.0 ≤ GREATEST_RATE }
-    ensures { IfOk result (λ line. IsSecurityLine settle line) }
-{
-    let slgs = classify(settle, maturity, AskedRate::At(rate), None, Some(rate))?;
+    let slgs = classify(settle, maturity, AskedRate::At(Rate(0)), None, None)?;
     assert_eq!(rt; slgs.settle, settle);
-    assert_eq!(rt; slgs.rate, rate);
+    assert_eq!(rt; slgs.rate, Rate(0));
     Ok(Line {
         kind: LineKind::Security(slgs),
         step: 10_000,
@@ -87,7 +77,7 @@ fn sample(rt: &impl Abort, alloc: Global) -> Result<Book, Fail> {
     let again = security_line(rt, settle, Day::new(20_164))?;
     let note = security_line(rt, settle, Day::new(20_469))?;
     let bond = security_line(rt, settle, Day::new(25_581))?;
-    let lines = vec![in alloc; opening_cash(100_000), early, late, again, note, bond]?;
+    let lines = vec![in alloc; opening_cash(), early, late, again, note, bond]?;
     Ok(Book::make(settle, needs, lines))
 }
 
@@ -321,46 +311,62 @@ fn rows(rt: HostRuntime) -> Result<(), Fail> {
     Ok(())
 }
 
-// Settlement on 2025-01-15, one need, opening cash up to so many cents, and a security at a rate that matures 90 days after
-// settlement.
-fn one_need(rt: &impl Abort, alloc: Global, need: Flow, cash: u64, rate: Rate) -> Result<Book, Fail>
-    requires from { pos 20_103 ≤ℤ need.day }
-    requires to { need.day ≤ℤ pos 34_703 }
-    requires some { 1 ≤ need.cents.0 }
-    requires small { need.cents.0 ≤ AMOUNT_LIMIT }
-    requires cash { cash ≤ AMOUNT_LIMIT }
-    requires rate { rate.0 ≤ GREATEST_RATE }
-{
-    let settle = Day::new(20_103);
-    let needs = vec![in alloc; need]?;
-    let security = security_at(rt, settle, Day::new(20_193), rate)?;
-    let lines = vec![in alloc; opening_cash(cash), security]?;
-    Ok(Book::make(settle, needs, lines))
+// The book of an issue file, a rate file and a price file.
+fn book_of(
+    rt: &impl Abort,
+    alloc: Global,
+    issue: &[u8],
+    rates: &[u8],
+    prices: &[u8],
+) -> Result<Book, Fail> {
+    assert!(rt;
+        issue.len() as u64 <= FILE_LIMIT
+            && rates.len() as u64 <= FILE_LIMIT
+            && prices.len() as u64 <= FILE_LIMIT
+    );
+    let Ok(issue) = read_issue(alloc, &read_rows(alloc, issue)?) else {
+        return Err(Fail::new("no issue"));
+    };
+    let Ok(rates) = read_rates(alloc, issue.settle, &read_rows(alloc, rates)?) else {
+        return Err(Fail::new("no rates"));
+    };
+    let Ok(notes) = read_notes(alloc, issue.settle, &read_rows(alloc, prices)?) else {
+        return Err(Fail::new("no prices"));
+    };
+    let Ok(book) = make_book(alloc, &issue, &rates, &notes) else {
+        return Err(Fail::new("no book"));
+    };
+    Ok(book)
 }
 
-fn due(day: i32, cents: u64) -> Flow
-    requires { IsDayNumber day }
-    ensures { result ≡ on_day day cents }
-{
-    Flow {
-        day: Day::new(day),
-        cents: Cents(cents),
-    }
+// The first day that is out of reach, by its number.
+fn reach(rt: &impl Abort, alloc: Global, issue: &[u8], rates: &[u8]) -> Result<Option<i32>, Fail> {
+    let book = book_of(rt, alloc, issue, rates, b"")?;
+    Ok(out_of_reach(&book).map(|day| day.number()))
 }
 
 #[test]
 fn most_is_in_reach_or_not(rt: HostRuntime) -> Result<(), Fail> {
-    let book = sample(&rt, rt.alloc())?;
-    assert!(&rt; out_of_reach(&book).is_none());
     // Only 50.00 dollars of opening cash are there on 2025-01-20.
-    let early = one_need(&rt, rt.alloc(), due(20_108, 10_000), 5_000, Rate(0))?;
-    assert!(&rt; out_of_reach(&early) == Some(Day::new(20_108)));
+    let early = b"settle,2025-01-15\ncash,50.00\nneed,2025-01-20,100.00\nrestricted,4.00\n";
+    assert!(&rt; reach(&rt, rt.alloc(), early, b"")? == Some(20_108));
     // The most of both lines is 10,050.00 dollars.
-    let all = one_need(&rt, rt.alloc(), due(20_193, 1_005_000), 5_000, Rate(0))?;
-    assert!(&rt; out_of_reach(&all).is_none());
-    let more = one_need(&rt, rt.alloc(), due(20_193, 1_005_001), 5_000, Rate(0))?;
-    assert!(&rt; out_of_reach(&more) == Some(Day::new(20_193)));
+    let offer = b"terms,1000,100\noffer,2025-04-15,0.00,,10000\n";
+    let all = b"settle,2025-01-15\ncash,50.00\nneed,2025-04-15,10050.00\nrestricted,4.00\n";
+    assert!(&rt; reach(&rt, rt.alloc(), all, offer)? == None);
+    let more = b"settle,2025-01-15\ncash,50.00\nneed,2025-04-15,10050.01\nrestricted,4.00\n";
+    assert!(&rt; reach(&rt, rt.alloc(), more, offer)? == Some(20_193));
     Ok(())
+}
+
+// So many units of line 1, and none of opening cash.
+fn plan_of_line(rt: &impl Abort, alloc: Global, book: &Book, units: u64) -> Result<Plan, Fail>
+    ensures { IfOk result (λ plan. length plan ≡ length book.now.lines) }
+{
+    let mut plan = Plan::zero(alloc, book)?;
+    assert_eq!(rt; book.line_count(), 2);
+    plan.put(1, units);
+    Ok(plan)
 }
 
 // A day's receipts, needs and balance, in cents.
@@ -392,12 +398,12 @@ fn try_balances(
 
 #[test]
 fn cash_is_balanced_by_day(rt: HostRuntime) -> Result<(), Fail> {
-    let alone = one_need(&rt, rt.alloc(), due(20_193, 500_000), 0, Rate(0))?;
-    let mut plan = Plan::zero(rt.alloc(), &alone)?;
-    assert_eq!(&rt; alone.line_count(), 2);
-    plan.put(1, 50);
+    let issue = b"settle,2025-01-15\nneed,2025-04-15,5000.00\nrestricted,4.00\n";
+    let rates = b"terms,1000,100\noffer,2025-04-15,0.00,,10000\n";
+    let book = book_of(&rt, rt.alloc(), issue, rates, b"")?;
+    let plan = plan_of_line(&rt, rt.alloc(), &book, 50)?;
     let expected = [entry(20_103, 0, 0, 0), entry(20_193, 500_000, 500_000, 0)];
-    try_balances(&rt, rt.alloc(), &alone, &plan, &expected)?;
+    try_balances(&rt, rt.alloc(), &book, &plan, &expected)?;
     let book = sample(&rt, rt.alloc())?;
     let plan = plan_of(&rt, rt.alloc(), &book, &[50_000, 10, 10, 0, 10, 0])?;
     let expected = [
@@ -412,22 +418,54 @@ fn cash_is_balanced_by_day(rt: HostRuntime) -> Result<(), Fail> {
     try_balances(&rt, rt.alloc(), &book, &plan, &expected)
 }
 
-// Units of a security at a rate, and whether they are excluded at a yield.
+// A need of 102,000.00 dollars, and a note at 103 percent that pays 102 percent in a half-year.
+#[test]
+fn notes_cost_their_price(rt: HostRuntime) -> Result<(), Fail> {
+    let issue = b"settle,2025-01-15\nneed,2025-07-15,102000.00\nrestricted,4.00\n";
+    let prices = b"terms,1000,1000\nnote,2025-07-15,4.000,103,200000\n";
+    let book = book_of(&rt, rt.alloc(), issue, b"", prices)?;
+    let few = plan_of_line(&rt, rt.alloc(), &book, 99)?;
+    assert!(&rt; first_unpermitted(&book, &few).is_none());
+    assert!(&rt; first_short(&book, &few) == Some(Day::new(20_284)));
+    let plan = plan_of_line(&rt, rt.alloc(), &book, 100)?;
+    assert!(&rt; first_unpermitted(&book, &plan).is_none());
+    assert_eq!(&rt; cost(&book, &plan), Cents(10_300_000));
+    assert_eq!(&rt; security_cost(&book, &plan), Cents(10_300_000));
+    let paid = flows(rt.alloc(), &book, &plan)?;
+    assert_eq!(&rt; paid.as_slice(), [due(20_284, 10_200_000)].as_slice());
+    assert!(&rt; out_of_reach(&book).is_none());
+    let expected = [
+        entry(20_103, 0, 0, 0),
+        entry(20_284, 10_200_000, 10_200_000, 0),
+    ];
+    try_balances(&rt, rt.alloc(), &book, &plan, &expected)
+}
+
+fn due(day: i32, cents: u64) -> Flow
+    requires { IsDayNumber day }
+{
+    Flow {
+        day: Day::new(day),
+        cents: Cents(cents),
+    }
+}
+
+// An offer of a certificate for a need of 5,000.00 dollars 90 days after settlement, units of 100.00 dollars of it, and whether
+// they are excluded at a yield.
 #[derive(Clone, Copy)]
 struct Point {
-    rate: u32,
+    rates: &'static [u8],
     units: u64,
     n: u64,
     excluded: bool,
 }
 
 fn try_point(rt: &impl Abort, alloc: Global, point: &Point) -> Result<(), Fail> {
-    assert!(rt; point.rate <= GREATEST_RATE && point.n <= GREATEST_YIELD);
-    let book = one_need(rt, alloc, due(20_193, 500_000), 0, Rate(point.rate))?;
-    let mut plan = Plan::zero(alloc, &book)?;
-    assert_eq!(rt; book.line_count(), 2);
-    plan.put(1, point.units);
+    let issue = b"settle,2025-01-15\nneed,2025-04-15,5000.00\nrestricted,4.00\n";
+    let book = book_of(rt, alloc, issue, point.rates, b"")?;
+    let plan = plan_of_line(rt, alloc, &book, point.units)?;
     assert!(rt; first_unpermitted(&book, &plan).is_none());
+    assert!(rt; point.n <= GREATEST_YIELD);
     let powers = Powers::make(alloc, YieldUnits(point.n), Side::Low, GREATEST_INDEX)?;
     assert!(rt; point_excluded(&book, &powers, &plan) == point.excluded);
     Ok(())
@@ -435,31 +473,34 @@ fn try_point(rt: &impl Abort, alloc: Global, point: &Point) -> Result<(), Fail> 
 
 #[test]
 fn points_are_excluded(rt: HostRuntime) -> Result<(), Fail> {
+    let at_zero = b"terms,1000,100\noffer,2025-04-15,0.00,,10000\n";
+    let at_four =
+        b"terms,1000,100\nrate,2025-02-14,2026-01-15,4.00\noffer,2025-04-15,4.00,,10000\n";
     let points = [
         // short by 100.00 dollars
         Point {
-            rate: 0,
+            rates: at_zero,
             units: 49,
             n: 0,
             excluded: true,
         },
         // worth just what it costs
         Point {
-            rate: 0,
+            rates: at_zero,
             units: 50,
             n: 0,
             excluded: false,
         },
         // 5,049.32 dollars after 90 days are worth 5,011.86 dollars at 3 percent
         Point {
-            rate: 4_000,
+            rates: at_four,
             units: 50,
             n: 300_000_000,
             excluded: true,
         },
         // and 4,999.57 at 4 percent
         Point {
-            rate: 4_000,
+            rates: at_four,
             units: 50,
             n: 400_000_000,
             excluded: false,

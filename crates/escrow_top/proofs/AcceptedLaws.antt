@@ -16,7 +16,8 @@ use Rattle.escrow_top.specs.InputFiles.{InputFiles}
 use Rattle.case_file.specs.Case.{CaseContents, IsKept}
 use Rattle.std.specs.Bool.{then_some}
 use Rattle.std.specs.Option.{option_or}
-use Rattle.escrow_top.specs.Answer.{Answer, first_unbuilt, first_not_offered, plan_of, plan_yield, is_leaf_weak, reason_against, reason_of, yes_text, weighed, weigh_of, certificate_answer, case_of, check_answer}
+use Rattle.cash_table.specs.Points.{plan_yield}
+use Rattle.escrow_top.specs.Answer.{Answer, first_unbuilt, first_not_offered, plan_of, is_leaf_weak, reason_against, reason_of, yes_text, weighed, weigh_of, certificate_answer, case_of, check_answer}
 use Rattle.escrow_top.specs.Accepted.{Accepted, IsUnopposed, YesExactly}
 use Rattle.escrow_top.specs.declared.status.Status.TheVariants as status
 use Rattle.escrow_top.specs.declared.verdict.Reason.{Reason}

@@ -19,8 +19,8 @@ use Rattle.offer_book.specs.Portfolio.{IsPermitted, IsPermittedUnits, Meets, cos
 use Rattle.escrow_top.specs.CertificateForm.{CertificateContents, certificate_of}
 use Rattle.escrow_top.specs.InputFiles.{InputFiles}
 use Rattle.case_file.specs.Case.{CaseContents}
-use Rattle.case_file.specs.Limit.{RestsOn}
-use Rattle.escrow_top.specs.Answer.{case_of, check_answer, plan_yield, yes_text}
+use Rattle.escrow_top.specs.Answer.{case_of, check_answer, yes_text}
+use Rattle.cash_table.specs.Points.{plan_yield}
 use Rattle.escrow_top.specs.declared.certificate.Purchase.{Purchase}
 use Rattle.escrow_top.specs.declared.status.Status.{Status}
 use Rattle.escrow_top.specs.declared.status.Status.TheVariants as status
@@ -83,8 +83,8 @@ NoRivalSaves gap book plan =
     (rival : List ℕ) → IsPermitted book rival → Meets book rival → cost book plan ≤ cost book rival + gap
 
 -- the escrow that a plan buys is right, with a gap: it obeys every term and denomination rule, its cash balance is negative
--- on no date, its exact yield lies in the printed interval and within the limit, which is one thousandth of a percentage point
--- above the restricted yield, no rival costs less by more than the gap, and the issue allows the gap
+-- on no date, its exact yield lies in the printed interval and within the limit, no rival costs less by more than the gap,
+-- and the issue allows the gap
 pub record IsRightEscrow (read : InputsRead) (case : CaseContents) (plan : List ℕ) (gap : ℕ) : Type 0 where
   pub obeys : ObeysRules read case.book plan
   pub covered : Meets case.book plan

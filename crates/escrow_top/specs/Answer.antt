@@ -14,16 +14,15 @@ use Rattle.escrow_desk.specs.declared.refusal.RefusalKind.{RefusalKind}
 use Rattle.escrow_desk.specs.declared.refusal.RefusalKind.TheVariants as kind
 use Rattle.escrow_units.specs.DateText.{day_text}
 use Rattle.escrow_units.specs.Digits.{fixed}
-use Rattle.escrow_units.specs.Flows.{indexed}
 use Rattle.row_fields.specs.RowForm.{refusal_of}
 use Rattle.offer_book.specs.declared.line.Line.{Line}
 use Rattle.offer_book.specs.Book.{BookContents}
 use Rattle.offer_book.specs.CaseBook.{cash_line}
 use Rattle.offer_book.specs.declared.line.LineKind.{LineKind}
 use Rattle.offer_book.specs.declared.line.LineKind.TheVariants.{Cash, Market, Security}
-use Rattle.offer_book.specs.Portfolio.{permits, total_needs, cost, security_cost, security_flows}
+use Rattle.offer_book.specs.Portfolio.{permits, total_needs, cost}
 use Rattle.cash_table.specs.First.{first_short_of}
-use Rattle.yield_enclosure.specs.YieldAnswers.{yield_answer_of}
+use Rattle.cash_table.specs.Points.{plan_yield}
 use Rattle.yield_enclosure.specs.declared.answer.YieldAnswer.{YieldAnswer}
 use Rattle.yield_enclosure.specs.declared.answer.YieldAnswer.TheVariants as yields
 use Rattle.escrow_top.specs.CertificateForm.{CertificateContents, certificate_of, ◌>>=◌}
@@ -80,10 +79,6 @@ reason_text (reason.NotPermitted line) = text_line (codes "no NotPermitted ") (d
 reason_text (reason.ShortOn day) = text_line (codes "no ShortOn ") (day_text day)
 reason_text (reason.WeakLeaf node) = text_line (codes "no WeakLeaf ") (decimal node)
 reason_text reason.GapAbove = text_line (codes "no GapAbove") []
-
--- the yield of a portfolio's securities, as an interval
-abbrev pub plan_yield : BookContents → List ℕ → YieldAnswer
-plan_yield book plan = yield_answer_of (indexed book.settle (security_flows book plan)) (security_cost book plan)
 
 -- both ends of a yield's interval, in percent, or a word for a yield without ends; no accepted portfolio yields above
 abbrev pub yield_words : YieldAnswer → List ℕ

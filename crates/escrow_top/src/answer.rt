@@ -1,7 +1,8 @@
 //! Answers: their status and their text.
 
 ghost use Rattle.std.specs.Prelude.{◌≡◌, ◌++◌, IfOk, IsTrue, OnOk};
-ghost use Rattle.escrow_top.specs.Answer.{text_line, reason_text, plan_yield as plan_yield_of, yes_text as yes_text_of, yield_words as yield_words_of, file_word as file_word_of, kind_word as kind_word_of, unbuilt as unbuilt_answer, refused as refused_answer, refused_text, accepted, not_accepted};
+ghost use Rattle.cash_table.specs.Points.{plan_yield as plan_yield_of};
+ghost use Rattle.escrow_top.specs.Answer.{text_line, reason_text, yes_text as yes_text_of, yield_words as yield_words_of, file_word as file_word_of, kind_word as kind_word_of, unbuilt as unbuilt_answer, refused as refused_answer, refused_text, accepted, not_accepted};
 ghost use Rattle.case_file.specs.Case.{case_view};
 ghost use Rattle.escrow_top.specs.Ending.{is_checked};
 ghost use Rattle.offer_book.specs.Portfolio.{IsPermitted};

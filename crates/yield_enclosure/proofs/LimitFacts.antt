@@ -1,5 +1,5 @@
 -- What a yield that isn't within a limit tells.
-use Rattle.std.proofs.Common.{◌≡◌, ◌∙◌, ℕ, ◌*◌, ◌<◌, ◌≤◌, Bool, true, false, if◌then◌else◌, nat_lt, ◌==◌, ◌&&◌, List, [], length, inl, inr, refl, arith}
+use Rattle.std.proofs.Common.{◌≡◌, ◌∙◌, ℕ, ◌*◌, ◌≤◌, Bool, true, false, if◌then◌else◌, nat_lt, ◌==◌, ◌&&◌, List, length, inl, inr, refl, arith}
 use Rattle.std.proofs.lemmas.Bool.{cases_Bool, cases_lt}
 use Rattle.std.proofs.lemmas.Bool.Decides.{nat_tests}
 use Rattle.escrow_units.specs.PresentValue.{IndexedFlow, last_index}
@@ -7,7 +7,7 @@ use Rattle.fixed_powers.specs.DiscountPowers.{one}
 use Rattle.fixed_powers.specs.PresentValues.{HasLaterAmount, total_cents, present_value}
 use Rattle.fixed_powers.specs.declared.side.Side.TheVariants.{Low}
 use Rattle.yield_enclosure.specs.declared.answer.YieldAnswer.TheVariants.{Empty, Negative}
-use Rattle.yield_enclosure.specs.YieldAnswers.{AreDearerBelow, answer_of_covered, is_within, yield_answer_of}
+use Rattle.yield_enclosure.specs.YieldAnswers.{AreDearerBelow, answer_of_covered, is_within}
 use Rattle.yield_enclosure.specs.YieldLaws.{AreDearerBelowTheirLimit, NothingIsWithin}
 use Rattle.yield_enclosure.proofs.EndFacts.{is_dearer, last_index-le, refused-dearer, refused-worth, within-at_limit}
 
