@@ -23,7 +23,7 @@ use Rattle.cash_table.proofs.DayFacts.{first_short_is}
 use Rattle.cash_table.proofs.FlowFacts.{flows_within}
 use Rattle.cash_table.proofs.PointFacts.{indexes_near}
 use Rattle.cash_table.specs.First.{first_short_of}
-use Rattle.cash_table.specs.Points.{is_within_limit, yield_of}
+use Rattle.cash_table.specs.Points.{is_within_limit, plan_yield}
 use Rattle.offer_book.specs.Book.{BookContents, IsBook}
 use Rattle.offer_book.specs.Portfolio.{IsFirstShort, IsPermitted, Meets, cost, security_cost, security_flows}
 use Rattle.offer_book.specs.Rival.{IsRival}

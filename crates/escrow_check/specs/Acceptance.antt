@@ -9,7 +9,7 @@ use Rattle.bound_certificate.specs.Faults.{text_fault}
 use Rattle.bound_certificate.specs.Text.{IsTextOf}
 use Rattle.case_file.specs.Case.{CaseContents}
 use Rattle.cash_table.specs.First.{first_short_of}
-use Rattle.cash_table.specs.Points.{is_excluded, is_within_limit, yield_of}
+use Rattle.cash_table.specs.Points.{is_excluded, is_within_limit, plan_yield}
 use Rattle.dual_bound.specs.LeafBound.{bound_of}
 use Rattle.dual_bound.specs.Ranges.{is_proper, is_single, narrowed, root_of}
 use Rattle.dual_bound.specs.declared.prices.TheConstants.{PRICE_SCALE}
@@ -135,7 +135,7 @@ abbrev pub portfolio_of : CaseContents → List Buy → ℕ → Portfolio
 portfolio_of case buys gap = record {
   plan = plan_of case.book buys;
   cost = record { 0 = cost case.book (plan_of case.book buys) };
-  answer = yield_of case.book (plan_of case.book buys);
+  answer = plan_yield case.book (plan_of case.book buys);
   gap = record { 0 = gap };
 }
 

@@ -8,7 +8,7 @@ use Rattle.bound_certificate.specs.Certificate.{IsWellFormed}
 use Rattle.bound_certificate.specs.declared.certificate.Buy.{Buy}
 use Rattle.bound_certificate.specs.declared.certificate.Certificate.{Certificate}
 use Rattle.case_file.specs.Case.{CaseContents, HasTerms}
-use Rattle.cash_table.specs.Points.{yield_of}
+use Rattle.cash_table.specs.Points.{plan_yield}
 use Rattle.dual_bound.specs.declared.tree.TreeNode.{TreeNode}
 use Rattle.dual_bound.specs.declared.tree.TreeNode.TheVariants as node
 use Rattle.offer_book.specs.Book.{BookContents, IsBook}
@@ -41,7 +41,7 @@ LiesInEnds Above flows cost limit = ⊥
 
 -- the exact yield of a portfolio's securities lies in its interval, and within a limit
 abbrev pub YieldsWithin : ℕ → BookContents → List ℕ → Type 0
-YieldsWithin limit book plan = LiesInEnds (yield_of book plan) (indexed book.settle (security_flows book plan)) (security_cost book plan) limit
+YieldsWithin limit book plan = LiesInEnds (plan_yield book plan) (indexed book.settle (security_flows book plan)) (security_cost book plan) limit
 
 -- no rival costs less by more than the gap
 abbrev pub NoRivalSaves : ℕ → ℕ → BookContents → List ℕ → Type 0
@@ -79,7 +79,7 @@ pub record IsRightPortfolio (case : CaseContents) (cert : Certificate) (portfoli
   pub bought : Bought case.book buys portfolio.plan
   pub gap : portfolio.gap.0 ≡ cert.gap
   pub cost : portfolio.cost.0 ≡ cost case.book portfolio.plan
-  pub answer : portfolio.answer ≡ yield_of case.book portfolio.plan
+  pub answer : portfolio.answer ≡ plan_yield case.book portfolio.plan
   pub right : IsRight case portfolio.plan cert.gap
   pub priced : All IsPriced cert.nodes → NoneSaves cert.gap case.book portfolio.plan
 
