@@ -26,7 +26,7 @@ byte_by : (reading : Reading) (byte : ℕ) → (b : Bool) → (byte == 10) ≡ b
 byte_by reading byte true e other = absurd (other (grind (arith, e)))
 byte_by reading byte false e other = refl
 
-within-byte : (reading : Reading) (byte : ℕ) → reading.fault ≡ None → is_over reading.due ≡ false → byte ≢ 10 →
+pub within-byte : (reading : Reading) (byte : ℕ) → reading.fault ≡ None → is_over reading.due ≡ false → byte ≢ 10 →
     after_byte reading byte ≡ record reading { scan = line.after_byte reading.due reading.scan byte }
 within-byte reading byte going more other =
     ap (λ (f : Option CertFault). after_byte_by f reading byte) going
@@ -34,7 +34,7 @@ within-byte reading byte going more other =
     ∙ byte_by reading byte (byte == 10) refl other
 
 -- the bytes of a line before its line feed
-within-line : (bytes : List ℕ) (reading : Reading) → reading.fault ≡ None → is_over reading.due ≡ false → All (λ byte. byte ≢ 10) bytes →
+pub within-line : (bytes : List ℕ) (reading : Reading) → reading.fault ≡ None → is_over reading.due ≡ false → All (λ byte. byte ≢ 10) bytes →
     after_bytes reading bytes ≡ record reading { scan = fold (line.after_byte reading.due) reading.scan bytes }
 within-line [] reading going more all = after_bytes-none reading
 within-line (byte ∷ bytes) reading going more all =

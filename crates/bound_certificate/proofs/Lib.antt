@@ -1,5 +1,13 @@
 mod FaultFacts
 mod ItemFacts
+mod RowFacts
+mod SaidFacts
+mod FoundFacts
+mod DraftFacts
+mod TextFacts
+mod FirstFacts
+mod CertFacts
+mod DigitFacts
 mod LawFacts
 mod LineFacts
 mod ReadingFacts

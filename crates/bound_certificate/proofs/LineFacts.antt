@@ -109,7 +109,7 @@ first-word (due.End trees) title (byte ∷ bytes) = first_name (due.End trees) n
 first-word due.Nothing title (byte ∷ bytes) = ap name_of (other-run due.Nothing 0 bytes)
 
 -- a word behind the first is a number exactly where it is what writes it
-whole-decimal : (n : ℕ) → n ≤ GREATEST_GAP → whole_number (decimal n) ≡ Some n
+pub whole-decimal : (n : ℕ) → n ≤ GREATEST_GAP → whole_number (decimal n) ≡ Some n
 whole-decimal n limit =
     let value : digits_value 10 (decimal n) ≡ n = (decimal_is_IsNumeral n (omega arith)).1 in
     let same : pointwise nat_eq (decimal (digits_value 10 (decimal n))) (decimal n) ≡ true =

@@ -54,6 +54,12 @@ after_bytes-stop reading new piece place fault h stops at_fault =
     ∙ ap (λ (r : Reading). after_bytes r (drop (place + 1) piece)) (after_bytes-more reading piece place h ∙ stops)
     ∙ after_bytes-fault new fault (drop (place + 1) piece) at_fault
 
+-- nothing stands behind the last line
+pub after_byte-over : (reading : Reading) (byte : ℕ) → reading.fault ≡ None → is_over reading.due ≡ true → after_byte reading byte ≡ failed kind.Trailing reading
+after_byte-over reading byte going over =
+    ap (λ (f : Option CertFault). after_byte_by f reading byte) going
+    ∙ ap (λ (b : Bool). if b then failed kind.Trailing reading else if byte == 10 then ended reading else record reading { scan = line.after_byte reading.due reading.scan byte }) over
+
 -- a line feed ends the line
 pub after_byte-feed : (reading : Reading) (byte : ℕ) → reading.fault ≡ None → is_over reading.due ≡ false → byte ≡ 10 → after_byte reading byte ≡ ended reading
 after_byte-feed reading byte going more feed =

@@ -1,5 +1,6 @@
 -- What the reader of certificates is.
-use Rattle.std.specs.Prelude.{◌≡◌, ◌≢◌, ℕ, ◌+◌, ◌≤◌, List, [], ◌∷◌, ◌++◌, length, All, Some, None, option_map, false}
+use Rattle.std.specs.Prelude.{◌≡◌, ◌≢◌, ℕ, ◌+◌, ◌≤◌, List, [], ◌∷◌, ◌++◌, length, All, Some, None, option_map, false, ◌↔◌}
+use Rattle.bound_certificate.specs.declared.certificate.Certificate.{Certificate}
 use Rattle.bound_certificate.specs.declared.fault.CertFault.{CertFault}
 use Rattle.bound_certificate.specs.declared.item.Item.TheVariants as item
 use Rattle.bound_certificate.specs.declared.reading.Reading.{Reading}
@@ -7,8 +8,10 @@ use Rattle.dual_bound.specs.declared.tree.Leaf.{Leaf}
 use Rattle.bound_certificate.specs.declared.limits.TheConstants.{MOST_DATES}
 use Rattle.bound_certificate.specs.Due.{is_over, next_due}
 use Rattle.bound_certificate.specs.Grammar.{line_fault, line_item, line_leaf}
-use Rattle.bound_certificate.specs.Reading.{after_bytes, fault_at, said}
+use Rattle.bound_certificate.specs.Faults.{answer_of, text_fault}
+use Rattle.bound_certificate.specs.Reading.{after_bytes, fault_at, finished, new_leaf, new_reading, said}
 use Rattle.bound_certificate.specs.Scan.{new_scan}
+use Rattle.bound_certificate.specs.Text.{IsTextOf}
 
 -- however bytes are cut into pieces, the same has come of them
 abbrev pub EveryCutIsTheSame : Type 0
@@ -58,3 +61,20 @@ abbrev pub LeavesAreOfLines : Type 0
 LeavesAreOfLines = (reading : Reading) (leaf : Leaf) (line : List ℕ) → BeginsLine reading leaf → All (λ byte. byte ≢ 10) line →
     line_fault (length leaf.prices) reading.due line ≡ None → line_item reading.due line ≡ item.Leaf →
     Some (after_bytes reading (line ++ 10 ∷ [])).scan.leaf ≡ line_leaf reading.due line
+
+-- at the end of the bytes a reader answers the first fault of their lines
+abbrev pub FaultsAreTheFirst : Type 0
+FaultsAreTheFirst = (dates : ℕ) (bytes : List ℕ) → dates ≤ MOST_DATES →
+    finished (after_bytes (new_reading (new_leaf dates)) bytes) ≡ answer_of (text_fault dates bytes)
+
+-- a text has no fault exactly where it is that of a well-formed certificate
+abbrev pub TextsHaveNoFault : Type 0
+TextsHaveNoFault = (dates : ℕ) (bytes : List ℕ) → (text_fault dates bytes ≡ None) ↔ ((cert : Certificate) × IsTextOf dates cert bytes)
+
+-- a text is that of one certificate
+abbrev pub TextsAreOfOne : Type 0
+TextsAreOfOne = (dates : ℕ) (bytes : List ℕ) (one other : Certificate) → IsTextOf dates one bytes → IsTextOf dates other bytes → one ≡ other
+
+-- a certificate has one text, for whatever number of need dates
+abbrev pub CertificatesHaveOneText : Type 0
+CertificatesHaveOneText = (dates others : ℕ) (cert : Certificate) (bytes more : List ℕ) → IsTextOf dates cert bytes → IsTextOf others cert more → bytes ≡ more

@@ -5,3 +5,5 @@ pub mod Scan
 pub mod Reading
 pub mod Laws
 pub mod Grammar
+pub mod Faults
+pub mod Draft

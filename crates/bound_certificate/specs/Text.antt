@@ -1,11 +1,12 @@
 -- The text of a certificate. It is this project's own.
-use Rattle.std.specs.Prelude.{ℕ, if◌then◌else◌, List, [], ◌∷◌, ◌++◌, length, map, Option, Some, None, codes}
+use Rattle.std.specs.Prelude.{◌≡◌, ℕ, if◌then◌else◌, List, [], ◌∷◌, ◌++◌, length, map, Option, Some, None, codes}
 use Rattle.std.specs.Fmt.{decimal}
 use Rattle.std.specs.List.{flat_map}
 use Rattle.dual_bound.specs.declared.tree.TreeNode.{TreeNode}
 use Rattle.dual_bound.specs.declared.tree.TreeNode.TheVariants as node
 use Rattle.bound_certificate.specs.declared.certificate.Buy.{Buy}
 use Rattle.bound_certificate.specs.declared.certificate.Certificate.{Certificate}
+use Rattle.bound_certificate.specs.Certificate.{IsWellFormed}
 
 -- what a line of a certificate says
 pub data Line : Type 0 where
@@ -55,3 +56,8 @@ lines_of cert =
 -- the one text of a certificate
 abbrev pub text_of : Certificate → List ℕ
 text_of cert = flat_map line_text (lines_of cert)
+
+-- bytes are the text of a well-formed certificate for so many need dates
+pub record IsTextOf (dates : ℕ) (cert : Certificate) (bytes : List ℕ) : Type 0 where
+  pub well_formed : IsWellFormed dates cert
+  pub text : bytes ≡ text_of cert

@@ -1,7 +1,12 @@
 //! What a certificate says.
-ghost use Rattle.std.specs.Prelude.{◌≡◌};
+ghost use Rattle.std.specs.Prelude.{◌≡◌, ◌++◌, ◌∷◌, [], OnOk};
+ghost use Rattle.dual_bound.specs.declared.tree.TreeNode.TheVariants as node;
+ghost use Rattle.bound_certificate.specs.Draft.{no_lines, with_item};
 
-use dual_bound::TreeNode;
+use crate::item::Item;
+use dual_bound::{Leaf, Prices, TreeNode};
+use escrow_desk::NoMemory;
+use std::alloc::Global;
 use std::marker::Model;
 
 /// A purchase of a number of units of a line.
@@ -49,6 +54,14 @@ impl Buys {
     {
         self.buys
     }
+
+    // One more.
+    fn push(&mut self, buy: Buy) -> Result<(), NoMemory>
+        ensures { OnOk result (self.new ≡ self.old ++ buy ∷ []) }
+    {
+        self.buys.push(buy)?;
+        Ok(())
+    }
 }
 
 /// The nodes of a tree in preorder. Contracts see the list of them.
@@ -87,6 +100,26 @@ impl Nodes {
     {
         self.nodes
     }
+
+    // One more.
+    fn push(&mut self, node: TreeNode) -> Result<(), NoMemory>
+        ensures { OnOk result (self.new ≡ self.old ++ node ∷ []) }
+    {
+        self.nodes.push(node)?;
+        Ok(())
+    }
+
+    // One more leaf, copied.
+    fn push_leaf(&mut self, alloc: Global, leaf: &Leaf) -> Result<(), NoMemory>
+        ensures { OnOk result (self.new ≡ self.old ++ node.Closed leaf.now ∷ []) }
+    {
+        let prices = Prices::new(leaf.prices.as_slice().to_vec(alloc)?);
+        self.push(TreeNode::Closed(Leaf {
+            whole: leaf.whole,
+            mu: leaf.mu,
+            prices,
+        }))
+    }
 }
 
 /// What a certificate says: a portfolio, by how much it may cost more than the cheapest, and a tree that shows it.
@@ -98,4 +131,42 @@ pub struct Certificate {
     pub gap: u64,
     /// The tree.
     pub nodes: Nodes,
+}
+
+impl Certificate {
+    /// Before the first line.
+    pub(crate) fn empty(alloc: Global) -> Certificate
+        ensures { result ≡ no_lines }
+    {
+        Certificate {
+            buys: None,
+            gap: 0,
+            nodes: Nodes::new(Vec::new(alloc)),
+        }
+    }
+
+    /// Takes in what one more line says, and the leaf of a leaf's line.
+    ///
+    /// # Errors
+    ///
+    /// Where memory ran out.
+    pub(crate) fn take(&mut self, alloc: Global, item: Item, leaf: &Leaf) -> Result<(), NoMemory>
+        ensures { OnOk result (self.new ≡ with_item self.old item leaf.now) }
+    {
+        match item {
+            Item::Portfolio(None) => self.buys = None,
+            Item::Portfolio(Some(_)) => self.buys = Some(Buys::new(Vec::new(alloc))),
+            Item::Buy(buy) => {
+                if let Some(buys) = &mut self.buys {
+                    buys.push(buy)?;
+                }
+            }
+            Item::Gap(cents) => self.gap = cents,
+            Item::Split { line, at } => self.nodes.push(TreeNode::Split { line, at })?,
+            Item::Point => self.nodes.push(TreeNode::Point)?,
+            Item::Leaf => self.nodes.push_leaf(alloc, leaf)?,
+            Item::Nothing | Item::Header | Item::Nodes(_) | Item::End => {}
+        }
+        Ok(())
+    }
 }

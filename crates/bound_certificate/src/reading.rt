@@ -1,5 +1,5 @@
 //! What has come of a certificate.
-ghost use Rattle.std.specs.Prelude.{◌≡◌, ◌≤◌, ◌<◌, Err, None, Some, false, length, IfErr, IfOk};
+ghost use Rattle.std.specs.Prelude.{◌≡◌, ◌≢◌, ◌≤◌, ◌<◌, All, Err, None, Some, false, length, slice_index, take, IfErr, IfOk};
 ghost use Rattle.bound_certificate.specs.Due.{is_over};
 ghost use Rattle.bound_certificate.specs.Reading.{Feeds, IsReading, after_byte, after_bytes, ended, failed, fault_at, finished, item_at, new_reading, said};
 
@@ -74,23 +74,24 @@ impl Reading {
         Ok(item)
     }
 
-    // One more byte; where it ends a line, what the line says.
-    fn take(&mut self, byte: u8) -> Result<Option<Item>, CertFault>
+    // Bytes at the front of a piece that end no line, one at least, and then the digits by which a number gets longer; how many
+    // they are.
+    fn take(&mut self, piece: &[u8]) -> usize
         requires reading { IsReading self.old }
         requires going { self.old.fault ≡ None }
-        ensures value { self.new ≡ after_byte self.old byte }
+        requires due { is_over self.old.due ≡ false }
+        requires some { 0 < length piece.now }
+        requires no_feed { slice_index piece.now 0 ≢ 10 }
+        ensures within { result ≤ length piece.now }
+        ensures some { 1 ≤ result }
+        ensures value { self.new ≡ after_bytes self.old (take result piece.now) }
+        ensures no_feed { All (λ byte. byte ≢ 10) (take result piece.now) }
         ensures kept { IsReading self.new }
-        ensures item { IfOk result (λ item. (self.new.fault ≡ None) × (item ≡ item_at self.old byte)) }
-        ensures fault { IfErr result (λ fault. self.new.fault ≡ Some fault) }
+        ensures going { self.new.fault ≡ None }
+        ensures due { self.new.due ≡ self.old.due }
     {
-        if self.due.is_over() {
-            return self.fail(FaultKind::Trailing);
-        }
-        if byte == b'\n' {
-            return self.end_line().map(Some);
-        }
-        self.scan.take(self.due, byte);
-        Ok(None)
+        self.scan.take(self.due, piece[0]);
+        1 + self.scan.take_digits(&piece[1..])
     }
 
     /// The next piece.
@@ -105,13 +106,19 @@ impl Reading {
         if let Some(fault) = self.fault {
             return Err(fault);
         }
-        for (place, byte) in piece.iter().enumerate() {
-            if let Some(item) = self.take(*byte)? {
+        let mut place = 0;
+        while place < piece.len() {
+            if self.due.is_over() {
+                return self.fail(FaultKind::Trailing);
+            }
+            if piece[place] == b'\n' {
+                let item = self.end_line()?;
                 return Ok(Fed {
                     used: place as u32 + 1,
                     item,
                 });
             }
+            place += self.take(&piece[place..]);
         }
         Ok(Fed {
             used: piece.len() as u32,

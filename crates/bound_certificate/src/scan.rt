@@ -1,5 +1,8 @@
 //! A line, byte by byte.
-ghost use Rattle.std.specs.Prelude.{◌≡◌, ◌≤◌, Some, length, true};
+ghost use Rattle.std.specs.Prelude.{◌≡◌, ◌≤◌, All, Some, length, take, true};
+ghost use Rattle.std.specs.Char.{is_ascii_digit};
+ghost use Rattle.std.specs.List.{fold};
+ghost use Rattle.bound_certificate.specs.declared.due.Due.{Due as DueOf};
 ghost use Rattle.bound_certificate.specs.Due.{is_in, range_at as range_at_of};
 ghost use Rattle.bound_certificate.specs.Scan.{IsScan, after_byte, after_word, begun as begun_of, fault_of, is_disordered as is_disordered_of, item_of, kept_leaf, leaf_with, longer as longer_of, longer_name as longer_name_of, longer_number as longer_number_of, name_of, new_scan, number_of, with_number, with_value};
 
@@ -173,6 +176,30 @@ impl Scan {
         } else {
             self.word = self.word.longer(due, self.words, byte);
         }
+    }
+
+    /// Takes the digits at the front of a piece by which a number gets longer, and says how many. It takes none that might
+    /// bring the number above `GREATEST_GAP`: those come one by one.
+    pub(crate) fn take_digits(&mut self, piece: &[u8]) -> usize
+        requires { IsScan self.old }
+        ensures within { result ≤ length piece.now }
+        ensures digits { All (λ byte. is_ascii_digit byte ≡ true) (take result piece.now) }
+        ensures value { (d : DueOf) → self.new ≡ fold (after_byte d) self.old (take result piece.now) }
+        ensures kept { IsScan self.new }
+    {
+        let Word::Number(mut number) = self.word else {
+            return 0;
+        };
+        if number == 0 {
+            return 0;
+        }
+        let mut place = 0;
+        while place < piece.len() && piece[place].is_ascii_digit() && number < GREATEST_GAP / 10 {
+            number = 10 * number + u64::from(piece[place] - b'0');
+            place += 1;
+        }
+        self.word = Word::Number(number);
+        place
     }
 
     /// The word ends.

@@ -2,7 +2,8 @@
 ghost use Rattle.std.specs.Prelude.{◌≡◌, ◌≤◌, [], ◌∷◌, IfOk, false, length, true};
 
 use crate::{
-    Buy, Buys, CertFault, CertReader, Certificate, FaultKind, Item, MOST_DATES, Nodes, write_cert,
+    Buy, Buys, CertError, CertFault, CertReader, Certificate, FaultKind, Item, MOST_DATES, Nodes,
+    read_cert, write_cert,
 };
 use dual_bound::{Leaf, Prices, TreeNode};
 use escrow_desk::NoMemory;
@@ -67,13 +68,21 @@ fn is_found(rt: &impl Abort, alloc: Global, row: &Row, size: usize) -> Result<()
     Ok(())
 }
 
+// The fault of a text that is there whole is found.
+fn is_read(rt: &impl Abort, alloc: Global, row: &Row) -> Result<(), Fail> {
+    let found = read_cert(alloc, row.text, u16::from(row.dates)).err();
+    assert_eq!(rt; found, row.fault.map(CertError::Fault));
+    Ok(())
+}
+
 // However the texts are cut, their faults are found.
 fn are_found(rt: &impl Abort, alloc: Global, rows: &[Row]) -> Result<(), Fail> {
     for row in rows {
         is_found(rt, alloc, row, 1)?;
         is_found(rt, alloc, row, 2)?;
         is_found(rt, alloc, row, 7)?;
-        is_found(rt, alloc, row, 64)?;
+        is_found(rt, alloc, row, 65_536)?;
+        is_read(rt, alloc, row)?;
     }
     Ok(())
 }
@@ -211,6 +220,12 @@ fn faults_are_the_first(rt: HostRuntime) -> Result<(), Fail> {
             Truncated,
         ),
         bad(
+            b"escrow-certificate 1\nportfolio 1\nbuy 0 1\n",
+            1,
+            4,
+            Truncated,
+        ),
+        bad(
             b"escrow-certificate 1\nportfolio 1\nbuy 65536 1\n",
             1,
             3,
@@ -275,6 +290,10 @@ fn faults_are_the_first(rt: HostRuntime) -> Result<(), Fail> {
             1,
             6,
             Count,
+        ),
+        good(
+            b"escrow-certificate 1\nportfolio none\ngap 0\nnodes 3\ns 0 0\np\nl 0 0 0\nend\n",
+            1,
         ),
         bad(
             b"escrow-certificate 1\nportfolio none\ngap 0\nnodes 1\ns 65536 0\n",
@@ -349,7 +368,7 @@ fn tree(alloc: Global) -> Result<Nodes, Fail>
 }
 
 #[test]
-fn a_certificate_is_written(rt: HostRuntime) -> Result<(), Fail> {
+fn a_certificate_is_written_and_read(rt: HostRuntime) -> Result<(), Fail> {
     let alloc = rt.alloc();
     let buys = [Buy {
         line: 1,
@@ -364,6 +383,8 @@ fn a_certificate_is_written(rt: HostRuntime) -> Result<(), Fail> {
     let expected =
         b"escrow-certificate 1\nportfolio 1\nbuy 1 1001\ngap 0\nnodes 3\ns 1 1000\nl 0 0 1000000000000\nl 1 0 0\nend\n";
     assert_eq!(rt; text.as_slice(), expected.as_slice());
+    let again = read_cert(alloc, expected, 1)?;
+    assert_eq!(rt; write_cert(alloc, &again)?.as_slice(), expected.as_slice());
     Ok(())
 }
 

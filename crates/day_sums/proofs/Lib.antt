@@ -1,3 +1,4 @@
+pub mod RateFacts
 pub mod SumFacts
 pub mod Uniqueness
 pub mod TableFacts

@@ -1,1 +1,4 @@
+pub mod Duality
+pub mod LeafBound
+pub mod Ranges
 pub mod Tree

@@ -137,6 +137,7 @@ accepted files cert case is_case kept done =
           exact = ends_are_exact (indexed book.settle (security_flows book plan)) (security_cost book plan) case.limit (plan_yield book plan) printed (zero_yield book plan kept.book interest permitted);
           printed = printed;
         };
+        limit = kept.limit;
         cheapest = λ rival is_permitted is_met.
             least_by_gap (cost book plan) yes.certificate.gap (total_needs book) (cost book rival)
             (ltb-false (total_needs book) (cost book plan - yes.certificate.gap) tests.borne)

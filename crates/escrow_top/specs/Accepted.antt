@@ -19,6 +19,7 @@ use Rattle.offer_book.specs.Portfolio.{IsPermitted, IsPermittedUnits, Meets, cos
 use Rattle.escrow_top.specs.CertificateForm.{CertificateContents, certificate_of}
 use Rattle.escrow_top.specs.InputFiles.{InputFiles}
 use Rattle.case_file.specs.Case.{CaseContents}
+use Rattle.case_file.specs.Limit.{RestsOn}
 use Rattle.escrow_top.specs.Answer.{case_of, check_answer, yes_text}
 use Rattle.cash_table.specs.Points.{plan_yield}
 use Rattle.escrow_top.specs.declared.certificate.Purchase.{Purchase}
@@ -89,6 +90,7 @@ pub record IsRightEscrow (read : InputsRead) (case : CaseContents) (plan : List 
   pub obeys : ObeysRules read case.book plan
   pub covered : Meets case.book plan
   pub yields : YieldsWithin case.limit case.book plan
+  pub limit : RestsOn read.issue case.limit
   pub cheapest : NoRivalSaves gap case.book plan
   pub allowed : gap ≤ case.allowance
 

@@ -1,20 +1,19 @@
 -- How great coefficients can be: with units up to a line's most, all that they stand for is at most 10^22 scaled cents.
-use Rattle.std.proofs.Common.{◌≡◌, ℕ, min, zero, suc, ◌+◌, ◌*◌, ◌/◌, ◌%◌, ◌^◌, ◌<◌, ◌≤◌, refl, ap, arith, inl, inr, List, [], ◌∷◌, length, map, ℤ, Bool, true, false, if◌then◌else◌}
+use Rattle.std.proofs.Common.{◌≡◌, ℕ, min, zero, suc, ◌+◌, ◌*◌, ◌/◌, ◌%◌, ◌^◌, ◌≤◌, arith, inl, inr, List, [], ◌∷◌, length, ℤ, Bool, true, false, if◌then◌else◌}
 use Rattle.std.specs.Prelude.{All, sum_by, ◌==◌}
 use Rattle.std.specs.Int.{div_ceil}
 use Rattle.std.specs.List.{AllZip}
-use Rattle.std.proofs.Math.Nat.{mul-le-mul, mul-le-mul_left, mul-le-mul_right}
+use Rattle.std.proofs.Math.Nat.{mul-le-mul, mul-le-mul_right}
 use Rattle.std.proofs.lemmas.List.Elements.{All-cons, All-head, All-map, All-nil, All-tail}
 use Rattle.std.proofs.lemmas.List.Sums.{sum_by-cons}
-use Rattle.escrow_units.specs.Flows.{total}
 use Rattle.escrow_units.specs.SlgsTerms.{IsSettlement}
 use Rattle.escrow_units.specs.declared.interest.Accrual.{Accrual}
 use Rattle.escrow_units.specs.declared.security.Flow.{Flow}
 use Rattle.market_notes.specs.NoteFlows as notes
 use Rattle.market_notes.proofs.AmountFacts.{payments-few}
 use Rattle.slgs_interest.specs.Payments as slgs
-use Rattle.offer_book.specs.Book.{IsCashLine, IsLine, IsSecurity, IsSecurityLine}
-use Rattle.offer_book.specs.Coefficients.{Encloses, EnclosesPayment, cost_coefficients, half_year_accrual, interest_high, interest_low, interest_slack, kind_costs, kind_pays, note_paid_on, paid_on, pay_coefficients, slgs_paid_on}
+use Rattle.offer_book.specs.Book.{IsLine, IsSecurity, IsSecurityLine}
+use Rattle.offer_book.specs.Coefficients.{EnclosesPayment, cost_coefficients, half_year_accrual, interest_slack, kind_costs, kind_pays, note_paid_on, paid_on, pay_coefficients, slgs_paid_on}
 use Rattle.offer_book.specs.Portfolio.{kind_payments, line_payments, par}
 use Rattle.offer_book.specs.declared.coefficients.PayCoefficients.{PayCoefficients}
 use Rattle.offer_book.specs.declared.coefficients.TheConstants.{COEFFICIENT_SCALE}

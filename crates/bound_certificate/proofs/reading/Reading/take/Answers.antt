@@ -1,8 +1,28 @@
-use Rattle.std.proofs.Common.{◌∙◌, sym}
-use Rattle.bound_certificate.proofs.ReadingFacts.{after_byte-feed}
+use Rattle.std.proofs.Common.{◌≡◌, ◌≢◌, ◌∙◌, ◌-◌, ◌+◌, ◌∷◌, All, List, ap, drop, get_or, length, subst, sym, take, ℕ}
+use Rattle.std.specs.List.{fold}
+use Rattle.bound_certificate.specs.declared.reading.Reading.{Reading}
+use Rattle.bound_certificate.specs.declared.scan.Scan.{Scan}
+use Rattle.bound_certificate.specs.Reading.{after_bytes}
+use Rattle.bound_certificate.specs.Scan as line
+use Rattle.bound_certificate.proofs.DigitFacts.{first-more, line-more}
+use Rattle.bound_certificate.proofs.LawFacts.{within-line}
 use Rattle.bound_certificate.proofs.reading.Reading.take.Goals as goal
 
-pub returns-then-byte-eq10-clause-value : goal.returns-then-byte-eq10-clause-value
-returns-then-byte-eq10-clause-value c =
-    c.end_line.ensures.value
-    ∙ sym (after_byte-feed c.args.self.now c.args.byte c.requires.going (sym c.is_over.ensures ∙ c.if-is_over.false) c.if-byte-eq10.true)
+pub returns-clause-value : goal.returns-clause-value
+returns-clause-value c =
+    let old : Reading = c.args.self.now in
+    let piece : List ℕ = c.args.piece.now in
+    let digits : List ℕ = take c.take_digits.result (take (length piece - 1) (drop 1 piece)) in
+    let bytes : take (1 + c.take_digits.result) piece ≡ get_or piece 0 0 ∷ digits = first-more piece c.take_digits.result c.requires.some c.take_digits.ensures.within in
+    ap (λ (s : Scan). record old { scan = s })
+    (c.take_digits.ensures.value old.due ∙ ap (λ (s : Scan). fold (line.after_byte old.due) s digits) c.take.ensures.value)
+    ∙ sym (within-line (get_or piece 0 0 ∷ digits) old c.requires.going c.requires.due (line-more (get_or piece 0 0) digits c.requires.no_feed c.take_digits.ensures.digits))
+    ∙ ap (λ (bs : List ℕ). after_bytes old bs) (sym bytes)
+
+pub returns-clause-no_feed : goal.returns-clause-no_feed
+returns-clause-no_feed c =
+    let piece : List ℕ = c.args.piece.now in
+    let digits : List ℕ = take c.take_digits.result (take (length piece - 1) (drop 1 piece)) in
+    let bytes : take (1 + c.take_digits.result) piece ≡ get_or piece 0 0 ∷ digits = first-more piece c.take_digits.result c.requires.some c.take_digits.ensures.within in
+    let P : List ℕ → Type 0 = λ bs. All (λ byte. byte ≢ 10) bs in
+    subst P (sym bytes) (line-more (get_or piece 0 0) digits c.requires.no_feed c.take_digits.ensures.digits)

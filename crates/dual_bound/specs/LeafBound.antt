@@ -1,0 +1,100 @@
+-- The lower bound of a leaf: Lagrangian duality for the least cost of an escrow. The needs are priced by day and the yield limit has
+-- a weight; then each line stands alone with its reduced cost, and the least of the reduced costs over the ranges bounds the
+-- cost of every portfolio within them. The form, its scales and its rounding are this project's own.
+use Rattle.std.specs.Prelude.{◌≡◌, ℕ, ◌+◌, ◌*◌, ◌/◌, ◌==◌, if◌then◌else◌, List, [], ◌∷◌, sum_by, ℤ, pos, ◌+ℤ◌, ◌-ℤ◌, ◌*ℤ◌, neg_ℤ, int_le, unsigned_abs}
+use Rattle.std.specs.Int.{int_min}
+use Rattle.std.specs.List.{zip}
+use Rattle.escrow_units.specs.Flows.{index360_of}
+use Rattle.escrow_units.specs.declared.security.Flow.{Flow}
+use Rattle.fixed_powers.specs.DiscountPowers.{low, one}
+use Rattle.offer_book.specs.Book.{BookContents}
+use Rattle.offer_book.specs.Coefficients.{Enclosure, cost_coefficients, pay_coefficients}
+use Rattle.offer_book.specs.Portfolio.{line_cost, line_payments}
+use Rattle.offer_book.specs.declared.coefficients.PayCoefficients.{PayCoefficients}
+use Rattle.offer_book.specs.declared.coefficients.TheConstants.{COEFFICIENT_SCALE}
+use Rattle.offer_book.specs.declared.line.Line.{Line}
+use Rattle.offer_book.specs.declared.line.LineKind.{LineKind}
+use Rattle.offer_book.specs.declared.line.LineKind.TheVariants.{Cash, Market, Security}
+use Rattle.dual_bound.specs.declared.prices.TheConstants.{PRICE_SCALE}
+use Rattle.dual_bound.specs.declared.form.Form.{Form}
+use Rattle.dual_bound.specs.declared.ranges.Interval.{Interval}
+use Rattle.dual_bound.specs.declared.tree.Leaf.{Leaf}
+
+-- a sum of signed amounts
+abbrev pub signed_sum : {X : Type 0} → (X → ℤ) → List X → ℤ
+signed_sum amount [] = pos 0
+signed_sum amount (x ∷ xs) = amount x +ℤ signed_sum amount xs
+
+-- what a cent that is paid on a day is worth to the needs: the price of the first need date on or after it, and nothing after
+-- the last
+unfoldable pub price_on : List Flow → List ℕ → ℤ → ℕ
+price_on [] prices day = 0
+price_on (need ∷ needs) [] day = 0
+price_on (need ∷ needs) (price ∷ prices) day = if int_le day need.day then price else price_on needs prices day
+
+-- what the needs are worth at their prices
+unfoldable pub priced_needs : List Flow → List ℕ → ℕ
+priced_needs needs prices = sum_by (λ p. p.0.cents.0 * p.1) (zip needs prices)
+
+-- the weight of a cent of cost: 1 where the cost counts, in units of 1 / PRICE_SCALE
+abbrev pub cost_weight : Leaf → ℕ
+cost_weight leaf = if leaf.whole then PRICE_SCALE else 0
+
+-- the weight of the yield limit, which binds securities alone
+abbrev pub limit_weight : Leaf → LineKind → ℕ
+limit_weight leaf Cash = 0
+limit_weight leaf (Security slgs) = leaf.mu
+limit_weight leaf (Market note) = leaf.mu
+
+-- what the limit takes from a cent that is paid on a day: its weight, discounted at a yield, rounded down
+abbrev pub limit_price : ℕ → ℤ → ℕ → ℤ → ℕ
+limit_price n settle weight day = weight * low n (index360_of settle day) / one
+
+-- what a cent that a line costs counts: the limit credits it
+abbrev pub cost_worth : Leaf → LineKind → ℤ
+cost_worth leaf kind = pos (cost_weight leaf) -ℤ pos (limit_weight leaf kind)
+
+-- what a cent that a line pays on a day is worth: its price, less what the limit takes
+abbrev pub paid_worth : ℕ → BookContents → Leaf → LineKind → ℤ → ℤ
+paid_worth n book leaf kind day =
+    pos (price_on book.needs leaf.prices day) -ℤ pos (limit_price n book.settle (limit_weight leaf kind) day)
+
+-- the reduced cost of units of a line, scaled: what they cost less what their payments are worth, exactly
+unfoldable pub reduced_cost : ℕ → BookContents → Leaf → Line → ℕ → ℤ
+reduced_cost n book leaf line units =
+    pos COEFFICIENT_SCALE
+    *ℤ (cost_worth leaf line.kind *ℤ pos (line_cost line units)
+    -ℤ signed_sum (λ flow. paid_worth n book leaf line.kind flow.day *ℤ pos flow.cents.0) (line_payments book.settle line units))
+
+-- an affine form at a number of units
+abbrev pub form_at : Form → ℕ → ℤ
+form_at form units = form.slope *ℤ pos units -ℤ pos form.slack
+
+-- of the two coefficients of an amount, the one with which a weight times it is least
+abbrev pub least_side : ℤ → ℕ → ℕ → ℤ
+least_side weight low high = if int_le (pos 0) weight then weight *ℤ pos low else weight *ℤ pos high
+
+-- the form of a line: its reduced cost by the coefficients that make it least, so that it is never above the exact one
+unfoldable pub form_of : ℕ → BookContents → Leaf → Line → Form
+form_of n book leaf line = record {
+  slope = least_side (cost_worth leaf line.kind) (cost_coefficients line).low (cost_coefficients line).high
+      +ℤ signed_sum (λ pay. least_side (neg_ℤ (paid_worth n book leaf line.kind pay.day)) pay.low pay.high) (pay_coefficients book.settle line);
+  slack = unsigned_abs (cost_worth leaf line.kind) * (cost_coefficients line).slack
+      + sum_by (λ pay. unsigned_abs (paid_worth n book leaf line.kind pay.day) * pay.slack) (pay_coefficients book.settle line);
+}
+
+-- the least that a line can add within an interval: exactly where it holds one number, else by the form at its ends; an
+-- interval from 0 on holds 0 and then the numbers from the least purchase on
+abbrev pub least_within : ℕ → BookContents → Leaf → Line → Interval → ℤ
+least_within n book leaf line interval =
+    if interval.low == interval.high
+    then reduced_cost n book leaf line interval.low
+    else if interval.low == 0
+    then int_min (pos 0) (int_min (form_at (form_of n book leaf line) line.least) (form_at (form_of n book leaf line) interval.high))
+    else int_min (form_at (form_of n book leaf line) interval.low) (form_at (form_of n book leaf line) interval.high)
+
+-- the bound of a leaf over ranges, at the yield n: what the needs are worth, and the least of each line
+unfoldable pub bound_of : ℕ → BookContents → List Interval → Leaf → ℤ
+bound_of n book ranges leaf =
+    pos (COEFFICIENT_SCALE * priced_needs book.needs leaf.prices)
+    +ℤ signed_sum (λ p. least_within n book leaf p.0 p.1) (zip book.lines ranges)

@@ -1,0 +1,3 @@
+pub mod PurchaseFacts
+pub mod TreeFacts
+pub mod VerdictFacts
