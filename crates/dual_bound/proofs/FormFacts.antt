@@ -1,5 +1,5 @@
 -- The form of a line, one payment after another.
-use Rattle.std.proofs.Common.{◌≡◌, ◌∙◌, ℕ, ◌+◌, ◌*◌, ◌^◌, ◌<◌, ◌≤◌, List, [], ◌∷◌, All, get_or, length, take, refl, sym, ap, subst, arith, ℤ, pos, ◌+ℤ◌, neg_ℤ, ◌≤ℤ◌, unsigned_abs}
+use Rattle.std.proofs.Common.{◌≡◌, ◌∙◌, ℕ, ◌+◌, ◌*◌, ◌<◌, List, [], ◌∷◌, All, get_or, length, take, refl, ap, arith, ℤ, pos, ◌+ℤ◌, neg_ℤ, ◌≤ℤ◌, unsigned_abs}
 use Rattle.std.proofs.lemmas.Int.{ints}
 use Rattle.std.proofs.lemmas.List.Elements.{All-cons, All-head, All-tail}
 use Rattle.std.proofs.lemmas.List.Sums.{sum_by_more}
@@ -15,7 +15,7 @@ use Rattle.offer_book.specs.Coefficients.{Enclosure, EnclosesPayment, cost_coeff
 use Rattle.offer_book.specs.Portfolio.{line_payments}
 use Rattle.offer_book.specs.declared.coefficients.PayCoefficients.{PayCoefficients}
 use Rattle.offer_book.specs.declared.line.Line.{Line}
-use Rattle.dual_bound.specs.LeafBound.{cost_worth, form_of, least_side, paid_worth, signed_sum}
+use Rattle.dual_bound.specs.LeafBound.{cost_worth, form_of, least_side, paid_worth}
 use Rattle.dual_bound.specs.declared.form.Form.{Form}
 use Rattle.dual_bound.specs.declared.tree.Leaf.{Leaf}
 use Rattle.dual_bound.proofs.Signed.{signed_sum_more}
@@ -67,7 +67,7 @@ form_with-more weight own costs pays i pay worth few is is_worth = (λ j. record
     slack : unsigned_abs own * costs.slack + sum_by (pay_slack weight) (take i pays) + unsigned_abs (neg_ℤ worth) * pay.slack ≡ unsigned_abs own * costs.slack + sum_by (pay_slack weight) (take (i + 1) pays)
     slack =
         let here : unsigned_abs (neg_ℤ worth) * pay.slack ≡ pay_slack weight (get_or pays i pay) =
-            ap (λ n. n * pay.slack) (abs-neg worth ∙ ap unsigned_abs is_worth) ∙ ap (pay_slack weight) is in
+        ap (λ n. n * pay.slack) (abs-neg worth ∙ ap unsigned_abs is_worth) ∙ ap (pay_slack weight) is in
         omega (arith, here, sum_by_more (pay_slack weight) pays i pay few)
 
 -- the payments of a line fall within forty years

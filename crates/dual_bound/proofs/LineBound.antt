@@ -1,16 +1,16 @@
 -- The least of a line within an interval is at most its reduced cost at each permitted number of units there.
-use Rattle.std.proofs.Common.{◌≡◌, ◌∙◌, ℕ, zero, suc, ◌+◌, ◌*◌, ◌<◌, ◌≤◌, ◌==◌, List, [], ◌∷◌, length, refl, sym, ap, subst, arith, ℤ, pos, negsuc, ◌+ℤ◌, ◌-ℤ◌, ◌*ℤ◌, neg_ℤ, ◌≤ℤ◌, int_le, unsigned_abs, Bool, true, false, if◌then◌else◌, All, ◌⊎◌, inl, inr}
+use Rattle.std.proofs.Common.{◌≡◌, ◌∙◌, ℕ, suc, ◌+◌, ◌*◌, ◌≤◌, ◌==◌, List, [], ◌∷◌, refl, ap, arith, ℤ, pos, negsuc, ◌+ℤ◌, ◌-ℤ◌, ◌*ℤ◌, neg_ℤ, ◌≤ℤ◌, int_le, unsigned_abs, Bool, true, false, if◌then◌else◌, All, inl, inr}
 use Rattle.std.proofs.lemmas.Int.{ints, clamps}
 use Rattle.std.proofs.lemmas.List.Elements.{All-head, All-tail}
 use Rattle.std.proofs.lemmas.List.Sums.{sum_by-cons}
 use Rattle.std.proofs.Math.Nat.{mul-le-mul_left}
 use Rattle.std.specs.Int.{int_min}
 use Rattle.std.specs.List.{AllZip, sum_by}
-use borrow.Author.Differences.{up, down, product_is}
+use borrow.Author.Differences.{product_is}
 use Rattle.escrow_units.specs.declared.security.Flow.{Flow}
 use Rattle.offer_book.proofs.LineFacts.{line_cost-none, line_payments-none}
 use Rattle.offer_book.specs.Book.{BookContents}
-use Rattle.offer_book.specs.Coefficients.{Enclosure, Encloses, EnclosesPayment, EnclosesUnits, cost_coefficients, pay_coefficients}
+use Rattle.offer_book.specs.Coefficients.{EnclosesPayment, EnclosesUnits, cost_coefficients, pay_coefficients}
 use Rattle.offer_book.specs.Portfolio.{IsPermittedUnits, line_cost, line_payments}
 use Rattle.offer_book.specs.declared.coefficients.PayCoefficients.{PayCoefficients}
 use Rattle.offer_book.specs.declared.coefficients.TheConstants.{COEFFICIENT_SCALE}
@@ -43,13 +43,13 @@ side-le : (weight : ℤ) (low high slack units cents : ℕ) → low * units ≤ 
     → (least_side weight low high *ℤ pos units) ≤ℤ (weight *ℤ pos (COEFFICIENT_SCALE * cents) +ℤ pos (unsigned_abs weight * slack))
 side-le (pos m) low high slack units cents least most =
     let side : least_side (pos m) low high *ℤ pos units ≡ pos (m * low * units) =
-        ap (λ z. z *ℤ pos units) (side-above m low high ∙ pos-mul m low) ∙ pos-mul (m * low) units in
+    ap (λ z. z *ℤ pos units) (side-above m low high ∙ pos-mul m low) ∙ pos-mul (m * low) units in
     omega (arith, ints, side, mul-le-mul_left m least)
 side-le (negsuc m) low high slack units cents least most =
     let whole : neg_ℤ (pos (suc m) *ℤ pos high) *ℤ pos units ≡ neg_ℤ (pos (suc m * high * units)) =
-        neg-mul (pos (suc m) *ℤ pos high) (pos units) ∙ ap (λ z. neg_ℤ z) (ap (λ z. z *ℤ pos units) (pos-mul (suc m) high) ∙ pos-mul (suc m * high) units) in
+    neg-mul (pos (suc m) *ℤ pos high) (pos units) ∙ ap (λ z. neg_ℤ z) (ap (λ z. z *ℤ pos units) (pos-mul (suc m) high) ∙ pos-mul (suc m * high) units) in
     let side : least_side (negsuc m) low high *ℤ pos units ≡ neg_ℤ (pos (suc m * high * units)) =
-        ap (λ z. z *ℤ pos units) (side-below m low high ∙ neg-mul (pos (suc m)) (pos high)) ∙ whole in
+    ap (λ z. z *ℤ pos units) (side-below m low high ∙ neg-mul (pos (suc m)) (pos high)) ∙ whole in
     omega (arith, ints, side, mul-le-mul_left (suc m) most)
 
 -- what payments are worth by a weight for each day
@@ -65,8 +65,8 @@ pay-le weight units pay flow encloses =
     let same = ap (λ day. pos COEFFICIENT_SCALE *ℤ (weight day *ℤ pos flow.cents.0)) encloses.day in
     let scaled = scale-in COEFFICIENT_SCALE flow.cents.0 (weight pay.day) in
     let turned : neg_ℤ (weight pay.day) *ℤ pos (COEFFICIENT_SCALE * flow.cents.0) ≡ neg_ℤ (weight pay.day *ℤ pos (COEFFICIENT_SCALE * flow.cents.0)) =
-        mul-comm (neg_ℤ (weight pay.day)) (pos (COEFFICIENT_SCALE * flow.cents.0))
-        ∙ (mul-neg (pos (COEFFICIENT_SCALE * flow.cents.0)) (weight pay.day) ∙ ap (λ z. neg_ℤ z) (mul-comm (pos (COEFFICIENT_SCALE * flow.cents.0)) (weight pay.day))) in
+    mul-comm (neg_ℤ (weight pay.day)) (pos (COEFFICIENT_SCALE * flow.cents.0))
+    ∙ (mul-neg (pos (COEFFICIENT_SCALE * flow.cents.0)) (weight pay.day) ∙ ap (λ z. neg_ℤ z) (mul-comm (pos (COEFFICIENT_SCALE * flow.cents.0)) (weight pay.day))) in
     joined _ _ _ _ _ _ _ side slack same scaled turned
   where
     joined : (left product back scaled there : ℤ) (given slack : ℕ) → left ≤ℤ (product +ℤ pos given) → given ≡ slack → back ≡ there → back ≡ scaled → product ≡ neg_ℤ scaled

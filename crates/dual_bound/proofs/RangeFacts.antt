@@ -1,10 +1,9 @@
 -- Ranges at a place.
-use Rattle.std.proofs.Common.{◌≡◌, ◌∙◌, ◌↔◌, ◌⊎◌, inl, inr, ℕ, zero, suc, ◌+◌, ◌<◌, ◌≤◌, ◌==◌, List, [], ◌∷◌, ◌++◌, length, get_or, set, take, drop, map, refl, sym, ap, subst, arith, Bool, true, false, ◌&&◌, nat_lt, nat_le, IsTrue, if◌then◌else◌, All}
+use Rattle.std.proofs.Common.{◌≡◌, ◌∙◌, inl, inr, ℕ, zero, suc, ◌+◌, ◌<◌, ◌≤◌, ◌==◌, List, [], ◌∷◌, length, get_or, set, refl, sym, ap, arith, Bool, true, false, ◌&&◌, nat_lt, nat_le, IsTrue, if◌then◌else◌, All}
 use Rattle.std.proofs.lemmas.List.Elements.{All-cons, All-nil}
-use Rattle.std.specs.List.{AllZip}
 use Rattle.offer_book.specs.Portfolio.{IsPermittedUnits}
 use Rattle.offer_book.specs.declared.line.Line.{Line}
-use Rattle.dual_bound.specs.Ranges.{AreTight, IsTight, is_proper, is_single, narrowed, root_of, side_of, tightened, whole_interval}
+use Rattle.dual_bound.specs.Ranges.{AreTight, IsTight, is_proper, is_single, narrowed, root_of, side_of, whole_interval}
 use Rattle.dual_bound.specs.declared.ranges.Interval.{Interval}
 
 -- tight ranges have an interval for each line

@@ -1,16 +1,15 @@
 -- The lower bound of a leaf: Lagrangian duality for the least cost of an escrow. The needs are priced by day and the yield limit has
 -- a weight; then each line stands alone with its reduced cost, and the least of the reduced costs over the ranges bounds the
 -- cost of every portfolio within them. The form, its scales and its rounding are this project's own.
-use Rattle.std.specs.Prelude.{◌≡◌, ℕ, ◌+◌, ◌*◌, ◌/◌, ◌==◌, if◌then◌else◌, List, [], ◌∷◌, sum_by, ℤ, pos, ◌+ℤ◌, ◌-ℤ◌, ◌*ℤ◌, neg_ℤ, int_le, unsigned_abs}
+use Rattle.std.specs.Prelude.{ℕ, ◌+◌, ◌*◌, ◌/◌, ◌==◌, if◌then◌else◌, List, [], ◌∷◌, sum_by, ℤ, pos, ◌+ℤ◌, ◌-ℤ◌, ◌*ℤ◌, neg_ℤ, int_le, unsigned_abs}
 use Rattle.std.specs.Int.{int_min}
 use Rattle.std.specs.List.{zip}
 use Rattle.escrow_units.specs.Flows.{index360_of}
 use Rattle.escrow_units.specs.declared.security.Flow.{Flow}
 use Rattle.fixed_powers.specs.DiscountPowers.{low, one}
 use Rattle.offer_book.specs.Book.{BookContents}
-use Rattle.offer_book.specs.Coefficients.{Enclosure, cost_coefficients, pay_coefficients}
+use Rattle.offer_book.specs.Coefficients.{cost_coefficients, pay_coefficients}
 use Rattle.offer_book.specs.Portfolio.{line_cost, line_payments}
-use Rattle.offer_book.specs.declared.coefficients.PayCoefficients.{PayCoefficients}
 use Rattle.offer_book.specs.declared.coefficients.TheConstants.{COEFFICIENT_SCALE}
 use Rattle.offer_book.specs.declared.line.Line.{Line}
 use Rattle.offer_book.specs.declared.line.LineKind.{LineKind}

@@ -1,5 +1,5 @@
 -- Ranges of units, one for each line, and how a split narrows them. All this is this project's own.
-use Rattle.std.specs.Prelude.{◌≡◌, ◌↔◌, ◌⊎◌, ℕ, zero, suc, ◌+◌, ◌<◌, ◌≤◌, ◌==◌, Bool, false, true, ◌&&◌, nat_lt, nat_le, if◌then◌else◌, IsTrue, List, [], ◌∷◌, map}
+use Rattle.std.specs.Prelude.{◌≡◌, ◌↔◌, ◌⊎◌, ℕ, zero, suc, ◌+◌, ◌≤◌, ◌==◌, Bool, false, true, ◌&&◌, nat_lt, nat_le, if◌then◌else◌, IsTrue, List, [], ◌∷◌, map}
 use Rattle.std.specs.List.{AllZip}
 use Rattle.offer_book.specs.Book.{BookContents, IsBook}
 use Rattle.offer_book.specs.Portfolio.{IsPermitted, IsPermittedUnits}

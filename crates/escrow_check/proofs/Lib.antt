@@ -1,3 +1,4 @@
+pub mod OneVerdict
 pub mod PurchaseFacts
 pub mod TreeFacts
 pub mod VerdictFacts

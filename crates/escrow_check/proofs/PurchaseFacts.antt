@@ -1,5 +1,5 @@
 -- What buys buy: a permitted plan, which no other is.
-use Rattle.std.proofs.Common.{◌≡◌, ◌≢◌, ◌∙◌, ◌⊎◌, ℕ, suc, zero, ◌+◌, ◌<◌, ◌≤◌, Bool, true, false, not, cond, nat_lt, Option, Some, None, List, [], ◌∷◌, length, get_or, replicate, slice_set, refl, sym, ap, subst, inl, inr, arith, ext_get_or, AllPairs}
+use Rattle.std.proofs.Common.{◌≡◌, ◌≢◌, ◌∙◌, ◌⊎◌, ℕ, suc, zero, ◌+◌, ◌<◌, ◌≤◌, Bool, true, false, not, cond, nat_lt, Some, None, List, [], ◌∷◌, length, get_or, replicate, slice_set, refl, sym, ap, subst, inl, inr, arith, ext_get_or, AllPairs}
 use Rattle.std.specs.Prelude.{All, slice_get}
 use Rattle.std.specs.List.{fold}
 use Rattle.std.proofs.lemmas.Bool.{and_parts, cases_lt, ltb-true, ltb-false, lt-ltb}
@@ -10,7 +10,7 @@ use Rattle.std.proofs.lemmas.Option.{get_or_from_slice_get, slice_get-get_or}
 use Rattle.offer_book.specs.declared.line.Line.{Line}
 use Rattle.offer_book.specs.Book.{BookContents}
 use Rattle.offer_book.specs.CaseBook.{cash_line}
-use Rattle.offer_book.specs.Portfolio.{IsPermitted, IsPermittedUnits, permits}
+use Rattle.offer_book.specs.Portfolio.{IsPermitted, permits}
 use Rattle.cash_table.proofs.PermitFacts.{PassBelow, passes_from_permitted, permitted_from_test, permitted_from_tests, test_from_permitted}
 use Rattle.bound_certificate.specs.declared.certificate.Buy.{Buy}
 use Rattle.escrow_check.specs.Acceptance.{is_offered, first_not_offered, plan_of}
@@ -76,12 +76,11 @@ RiseFrom from (buy ∷ buys) = (from ≤ buy.line) × RiseFrom (buy.line + 1) bu
 -- lines that rise in pairs rise one after another
 pub rise-pairs : (buys : List Buy) → AllPairs (λ earlier later. earlier.line < later.line) buys → (from : ℕ) → All (λ buy. from ≤ buy.line) buys → RiseFrom from buys
 rise-pairs [] pairs from least = tt
-rise-pairs (buy ∷ buys) pairs from least =
-    (
-      All-head (λ (p : Buy). from ≤ p.line) buy buys least,
-      rise-pairs buys (λ i j d less few. pairs (suc i) (suc j) d (omega arith) (omega arith)) (buy.line + 1)
+rise-pairs (buy ∷ buys) pairs from least = (
+  All-head (λ (p : Buy). from ≤ p.line) buy buys least,
+  rise-pairs buys (λ i j d less few. pairs (suc i) (suc j) d (omega arith) (omega arith)) (buy.line + 1)
       (λ k d few. (let later = pairs 0 (suc k) d (omega arith) (omega arith) in omega (arith, later))),
-    )
+)
 
 rise-above : (from : ℕ) (buys : List Buy) → RiseFrom from buys → All (λ buy. from ≤ buy.line) buys
 rise-above from [] rises = All-nil (λ buy. from ≤ buy.line)

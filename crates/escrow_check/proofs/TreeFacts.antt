@@ -1,10 +1,9 @@
 -- A tree whose splits are proper and whose leaves and points are closed bears out its claim.
-use Rattle.std.proofs.Common.{◌≡◌, ◌∙◌, ◌⊎◌, inl, inr, ℕ, zero, suc, ◌+◌, ◌-◌, ◌*◌, ◌<◌, ◌≤◌, refl, sym, ap, subst, arith, List, [], ◌∷◌, length, map, Option, Some, None, Bool, true, false, not, ◌&&◌, ◌||◌, ℤ, pos, ◌+ℤ◌, ◌-ℤ◌, ◌*ℤ◌, ◌≤ℤ◌, ◌<ℤ◌, int_le, int_lt, if◌then◌else◌, All}
+use Rattle.std.proofs.Common.{◌≡◌, ◌∙◌, ◌⊎◌, inl, inr, ℕ, ◌-◌, ◌*◌, refl, sym, ap, subst, arith, List, [], ◌∷◌, length, Some, None, Bool, true, false, not, ◌&&◌, ◌||◌, ℤ, pos, ◌-ℤ◌, ◌*ℤ◌, ◌≤ℤ◌, ◌<ℤ◌, int_lt, if◌then◌else◌, All}
 use Rattle.std.specs.Prelude.{IsTrue}
-use Rattle.std.specs.List.{AllZip, position}
+use Rattle.std.specs.List.{position}
 use Rattle.std.proofs.lemmas.Int.{by_lt_z, ints}
 use Rattle.std.proofs.lemmas.List.Elements.{All-cons, All-head, All-nil, All-tail, All-weaker}
-use Rattle.std.proofs.Math.Nat.{mul-le-mul_left}
 use Rattle.bound_certificate.specs.Certificate.{IsNode}
 use Rattle.case_file.specs.Case.{CaseContents}
 use Rattle.cash_table.proofs.PermitFacts.{position_fails}
@@ -15,7 +14,7 @@ use Rattle.dual_bound.proofs.RangeFacts.{sides-tight}
 use Rattle.dual_bound.proofs.Signed.{pos-mul, scale-le}
 use Rattle.dual_bound.proofs.Soundness.{bounds-all, bounds-rivals}
 use Rattle.dual_bound.specs.Duality.{CostsAtLeast}
-use Rattle.dual_bound.specs.LeafBound.{bound_of, cost_weight}
+use Rattle.dual_bound.specs.LeafBound.{bound_of}
 use Rattle.dual_bound.specs.Ranges.{AreTight, Hold, is_proper, is_single, narrowed, root_of}
 use Rattle.dual_bound.specs.Tree.{AreTrees, IsLeaf}
 use Rattle.dual_bound.specs.declared.prices.TheConstants.{PRICE_SCALE}
@@ -85,16 +84,16 @@ tree-bears_out case claim plan (node.Split line at ∷ nodes) (ranges ∷ waitin
     let proper : IsTrue (is_proper ranges line at) = from-not (is_proper ranges line at) (All-head IsGood (node.Split line at, ranges) (placed lines (left ∷ right ∷ waiting) nodes) good) in
     let covers = splits_cover lines ranges line at here proper plan in
     let sides = All-cons (AreTight lines) left (right ∷ waiting) (sides-tight lines ranges line at false here proper)
-        (All-cons (AreTight lines) right waiting (sides-tight lines ranges line at true here proper) rest) in
+    (All-cons (AreTight lines) right waiting (sides-tight lines ranges line at true here proper) rest) in
     tree-bears_out case claim plan nodes (left ∷ right ∷ waiting) trees
     (All-tail (IsNode (length case.book.needs)) (node.Split line at) nodes are) (All-tail (Tells case claim plan) (node.Split line at) nodes tell) sides
     (All-tail IsGood (node.Split line at, ranges) (placed lines (left ∷ right ∷ waiting) nodes) good)
     (All-tail (IsClosed case claim) (node.Split line at, ranges) (placed lines (left ∷ right ∷ waiting) nodes) closed)
     (elim held [
       | inl hold ↦ elim (covers.one hold) [
-          | inl first ↦ inl first
-          | inr second ↦ inr (inl second)
-        ]
+        | inl first ↦ inl first
+        | inr second ↦ inr (inl second)
+      ]
       | inr later ↦ inr (inr later)
     ])
 tree-bears_out case claim plan (node.Point ∷ nodes) (ranges ∷ waiting) trees are tell tight good closed held =

@@ -1,5 +1,5 @@
 -- What a yes means, proved.
-use Rattle.std.proofs.Common.{◌≡◌, ◌∙◌, ◌⊎◌, inl, inr, ℕ, ◌+◌, ◌-◌, ◌*◌, ◌<◌, ◌≤◌, refl, sym, ap, subst, arith, List, [], ◌∷◌, length, Option, Some, None, MatchOption, Bool, true, false, not, ◌&&◌, ◌==◌, nat_lt, nat_le, if◌then◌else◌, ℤ, pos, ◌-ℤ◌, ◌≤ℤ◌, All}
+use Rattle.std.proofs.Common.{◌≡◌, ◌∙◌, ℕ, ◌+◌, ◌*◌, ◌<◌, ◌≤◌, refl, sym, ap, subst, arith, List, length, Option, Some, None, MatchOption, Bool, true, false, not, ◌&&◌, ◌==◌, nat_lt, if◌then◌else◌, ℤ, pos, ◌-ℤ◌, ◌≤ℤ◌}
 use Rattle.std.specs.Prelude.{option_map}
 use Rattle.std.specs.Bool.{then_some}
 use Rattle.std.specs.List.{position}
@@ -12,10 +12,9 @@ use Rattle.fixed_powers.specs.DiscountPowers.{one}
 use Rattle.fixed_powers.specs.PresentValues.{present_value, total_cents}
 use Rattle.fixed_powers.specs.declared.side.Side.TheVariants.{Low}
 use Rattle.yield_enclosure.specs.YieldAnswers.{answer_of_covered, is_within, is_worth, lower_end, upper_end, yield_answer_of}
-use Rattle.yield_enclosure.specs.declared.answer.YieldAnswer.{YieldAnswer}
 use Rattle.yield_enclosure.specs.declared.answer.YieldAnswer.TheVariants.{Empty, Negative, Between, Above}
 use Rattle.yield_enclosure.proofs.EndFacts.{ends_are, last_index-le, lower_end-is, upper_end-is}
-use Rattle.bound_certificate.specs.Certificate.{AreBuys, IsNode, IsPortfolio, IsWellFormed}
+use Rattle.bound_certificate.specs.Certificate.{AreBuys, IsPortfolio}
 use Rattle.bound_certificate.specs.declared.certificate.Buy.{Buy}
 use Rattle.bound_certificate.specs.declared.certificate.Certificate.{Certificate}
 use Rattle.case_file.specs.Case.{CaseContents}
@@ -23,16 +22,14 @@ use Rattle.cash_table.proofs.DayFacts.{first_short_is}
 use Rattle.cash_table.proofs.FlowFacts.{flows_within}
 use Rattle.cash_table.proofs.PointFacts.{indexes_near}
 use Rattle.cash_table.specs.First.{first_short_of}
-use Rattle.cash_table.specs.Points.{is_within_limit, plan_yield}
+use Rattle.cash_table.specs.Points.{is_within_limit}
 use Rattle.offer_book.specs.Book.{BookContents, IsBook}
-use Rattle.offer_book.specs.Portfolio.{IsFirstShort, IsPermitted, Meets, cost, security_cost, security_flows}
-use Rattle.offer_book.specs.Rival.{IsRival}
+use Rattle.offer_book.specs.Portfolio.{IsFirstShort, Meets, cost, security_cost, security_flows}
 use Rattle.escrow_check.specs.Acceptance.{claim_of, first_not_offered, is_bad_split, is_weak, judged, numbered, placed_nodes, plan_of, portfolio_of, portfolio_reason, reason_by, reason_of, tree_reason, verdict_by, yes_of}
-use Rattle.escrow_check.specs.Meaning.{Bought, IsHeard, IsPriced, IsRight, IsRightPortfolio, LiesInEnds, NoneSaves, NoRivalSaves, YesIsRight, YesNoneIsRight, YieldsWithin}
+use Rattle.escrow_check.specs.Meaning.{IsHeard, IsRightPortfolio, LiesInEnds, NoRivalSaves, YesIsRight, YesNoneIsRight, YieldsWithin}
 use Rattle.escrow_check.specs.declared.verdict.Portfolio.{Portfolio}
 use Rattle.escrow_check.specs.declared.verdict.Reason.{Reason}
 use Rattle.escrow_check.specs.declared.verdict.Reason.TheVariants as reason
-use Rattle.escrow_check.specs.declared.verdict.Verdict.{Verdict}
 use Rattle.escrow_check.specs.declared.verdict.Verdict.TheVariants as verdict
 use Rattle.escrow_check.proofs.PurchaseFacts.{plan-buys, plan_permitted, rise-pairs}
 use Rattle.escrow_check.proofs.TreeFacts.{priced-bears_out, rival-bears_out}
@@ -180,10 +177,10 @@ right case cert buys heard named sound =
     let claim : claim_of case.book cert ≡ Some (pos (cost case.book plan) -ℤ pos cert.gap) = ap (option_map (λ (b : List Buy). pos (cost case.book (plan_of case.book b)) -ℤ pos cert.gap)) named in
     let wise = well_bought case cert buys heard named in
     let closed : position (is_weak case (Some (pos (cost case.book plan) -ℤ pos cert.gap))) (placed_nodes case.book cert.nodes) ≡ None =
-        ap (λ asked. position (is_weak case asked) (placed_nodes case.book cert.nodes)) (sym claim) ∙ sound.tree.closed in
+    ap (λ asked. position (is_weak case asked) (placed_nodes case.book cert.nodes)) (sym claim) ∙ sound.tree.closed in
     let saves : NoRivalSaves case.limit cert.gap case.book plan = λ rival is.
-        within-gap (cost case.book plan) cert.gap (cost case.book rival)
-        (rival-bears_out case (Some (pos (cost case.book plan) -ℤ pos cert.gap)) cert.nodes heard.book heard.written.tree heard.written.nodes sound.tree.good closed rival is) in
+    within-gap (cost case.book plan) cert.gap (cost case.book rival)
+    (rival-bears_out case (Some (pos (cost case.book plan) -ℤ pos cert.gap)) cert.nodes heard.book heard.written.tree heard.written.nodes sound.tree.good closed rival is) in
     record {
       buys = buys;
       named = named;

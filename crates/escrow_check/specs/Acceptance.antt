@@ -1,5 +1,5 @@
 -- When a certificate is accepted for a case. The form of the proof that a tree gives is this project's own.
-use Rattle.std.specs.Prelude.{◌≡◌, ℕ, ◌+◌, ◌*◌, Bool, true, false, not, ◌&&◌, ◌||◌, nat_lt, nat_le, if◌then◌else◌, List, [], ◌∷◌, length, map, replicate, slice_index_or, slice_set, is_some, Option, Some, None, option_map, ℤ, pos, ◌-ℤ◌, ◌*ℤ◌, int_le, int_lt, ◌-◌}
+use Rattle.std.specs.Prelude.{◌≡◌, ℕ, ◌+◌, ◌*◌, Bool, true, false, not, ◌&&◌, ◌||◌, nat_lt, if◌then◌else◌, List, [], ◌∷◌, length, map, replicate, slice_index_or, slice_set, Option, Some, None, option_map, ℤ, pos, ◌-ℤ◌, ◌*ℤ◌, int_le, int_lt, ◌-◌}
 use Rattle.std.specs.Bool.{then_some}
 use Rattle.std.specs.List.{find, fold, position}
 use Rattle.std.specs.Option.{option_or}

@@ -1,5 +1,5 @@
 -- What a verdict means, whatever its certificate says and however it was found.
-use Rattle.std.specs.Prelude.{◌≡◌, ◌≢◌, ℕ, ◌+◌, ◌≤◌, ◌<◌, List, length, All, slice_get, Option, Some, None}
+use Rattle.std.specs.Prelude.{◌≡◌, ◌≢◌, ℕ, ◌+◌, ◌≤◌, ◌<◌, List, length, All, slice_get, Some}
 use Rattle.escrow_units.specs.Flows.{indexed}
 use Rattle.escrow_units.specs.PresentValue.{IndexedFlow, YieldLiesIn}
 use Rattle.yield_enclosure.specs.declared.answer.YieldAnswer.{YieldAnswer}

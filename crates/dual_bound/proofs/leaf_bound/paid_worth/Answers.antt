@@ -1,4 +1,4 @@
-use Rattle.std.proofs.Common.{◌≡◌, ◌∙◌, ◌≤◌, ◌*◌, ℤ, pos, ◌-ℤ◌, sym, subst, unsigned_abs, arith}
+use Rattle.std.proofs.Common.{◌∙◌, ◌≤◌, ◌*◌, pos, ◌-ℤ◌, sym, subst, unsigned_abs, arith}
 use Rattle.std.proofs.lemmas.Int.{ints}
 use Rattle.dual_bound.specs.LeafBound.{limit_price, price_on}
 use Rattle.dual_bound.specs.declared.prices.TheConstants.{PRICE_SCALE}

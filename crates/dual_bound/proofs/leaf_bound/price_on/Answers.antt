@@ -1,4 +1,4 @@
-use Rattle.std.proofs.Common.{◌≡◌, ◌∙◌, length, sym, arith}
+use Rattle.std.proofs.Common.{◌∙◌, sym, arith}
 use Rattle.dual_bound.proofs.PriceFacts.{due-from_test, late-from_test, price_on-here, price_on-later, price_on-past}
 use Rattle.dual_bound.proofs.leaf_bound.price_on.Goals as goal
 

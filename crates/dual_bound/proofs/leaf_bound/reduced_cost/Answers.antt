@@ -1,13 +1,13 @@
 use mir.Syntax.{w128}
-use Rattle.std.proofs.Common.{List, ◌≡◌, ◌∙◌, ◌≤◌, ◌*◌, ◌^◌, ℤ, pos, ◌+ℤ◌, ◌-ℤ◌, ◌*ℤ◌, get_or, sym, ap, arith, unsigned_abs}
+use Rattle.std.proofs.Common.{List, ◌∙◌, pos, ◌-ℤ◌, ◌*ℤ◌, ap, arith}
 use Rattle.std.proofs.lemmas.Int.{ints, to_z-of_z}
 use Rattle.std.proofs.lemmas.List.{take_all}
 use Rattle.escrow_units.specs.declared.security.Flow.{Flow}
 use Rattle.offer_book.specs.Portfolio.{line_payments}
 use Rattle.offer_book.specs.declared.coefficients.TheConstants.{COEFFICIENT_SCALE}
-use Rattle.dual_bound.specs.LeafBound.{cost_worth, paid_worth, reduced_cost, signed_sum}
+use Rattle.dual_bound.specs.LeafBound.{paid_worth, reduced_cost, signed_sum}
 use Rattle.dual_bound.proofs.Signed.{read-again, signed_sum_more}
-use Rattle.dual_bound.proofs.Sizes.{abs-sum, line_cost-small}
+use Rattle.dual_bound.proofs.Sizes.{line_cost-small}
 use Rattle.dual_bound.proofs.leaf_bound.reduced_cost.Goals as goal
 
 pub loop-flow-preserved : goal.loop-flow-preserved
@@ -15,8 +15,7 @@ loop-flow-preserved c =
     let weight = paid_worth c.args.powers.now.yield_units c.args.book.now c.args.leaf.now c.args.line.now.kind in
     let more = signed_sum_more (λ (flow : Flow). weight flow.day *ℤ pos flow.cents.0) c.as_slice-flow-items.result.now c.loop-flow.flow-index c.flow-item.result c.loop-flow-test.true in
     let worth = read-again c.paid_worth-worth.result (omega (arith, c.paid_worth-worth.ensures.light)) ∙ c.paid_worth-worth.ensures.value in
-    let here = c.weighed-paid.ensures.value ∙ ap (λ z. z *ℤ pos c.flow-item.result.cents.0) worth ∙ ap (λ (flow : Flow). weight flow.day *ℤ pos flow.cents.0) c.flow-item.is in
-    (
+    let here = c.weighed-paid.ensures.value ∙ ap (λ z. z *ℤ pos c.flow-item.result.cents.0) worth ∙ ap (λ (flow : Flow). weight flow.day *ℤ pos flow.cents.0) c.flow-item.is in (
       omega (arith, ints, c.loop-flow.paid-is, c.loop-flow.invariant.0, more, here),
       omega (arith, ints, c.loop-flow.paid-is, c.loop-flow.invariant.1, c.weighed-paid.ensures.small),
     )

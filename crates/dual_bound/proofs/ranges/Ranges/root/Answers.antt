@@ -1,4 +1,4 @@
-use Rattle.std.proofs.Common.{◌≡◌, ◌∙◌, ◌≤◌, ap, map, arith}
+use Rattle.std.proofs.Common.{◌∙◌, ◌≤◌, ap, map, arith}
 use Rattle.std.proofs.lemmas.List.{take_all}
 use Rattle.std.proofs.lemmas.List.Elements.{All-same}
 use Rattle.dual_bound.specs.Ranges.{root_of, whole_interval}
