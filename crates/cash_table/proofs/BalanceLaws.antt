@@ -1,5 +1,5 @@
 -- What balances are.
-use Rattle.std.proofs.Common.{◌≡◌, ◌∙◌, ℕ, zero, suc, ◌<◌, ◌≤◌, refl, sym, ap, arith, ℤ, ◌≤ℤ◌, ◌<ℤ◌, inl, inr, ◌⊎◌, Bool, true, false, if◌then◌else◌, List, [], ◌∷◌, map, filter, length, drop, get_or, nat_lt, ◌||◌}
+use Rattle.std.proofs.Common.{◌≡◌, ◌∙◌, ◌-◌, ◌+◌, ℕ, zero, suc, ◌<◌, ◌≤◌, refl, sym, ap, arith, ℤ, ◌≤ℤ◌, ◌<ℤ◌, inl, inr, ◌⊎◌, Bool, true, false, if◌then◌else◌, List, [], ◌∷◌, map, filter, length, drop, get_or, nat_lt, ◌||◌}
 use Rattle.std.specs.Ordering.{int_eq}
 use Rattle.std.specs.List.{All, AllPairs, Any, flat_map, zip}
 use Rattle.std.proofs.lemmas.Bool.{cases_Bool, ltb-true, lt-ltb}
@@ -15,13 +15,13 @@ use Rattle.escrow_units.specs.SlgsTerms.{IsSettlement}
 use Rattle.escrow_units.specs.declared.security.Flow.{Flow}
 use Rattle.escrow_units.proofs.FlowFacts.{days_between_of-whole}
 use Rattle.escrow_units.proofs.YearFacts.{years-follow}
-use Rattle.day_sums.specs.Summed.{cents_on, summed}
+use Rattle.day_sums.specs.Summed.{cents_on, summed, total_by}
 use Rattle.day_sums.specs.SummedLaws.{AreAboveZero}
 use Rattle.day_sums.proofs.SumFacts.{count-summed, above-summed}
 use Rattle.day_sums.proofs.Uniqueness.{here, here-same, keep-total_by}
 use Rattle.offer_book.specs.declared.line.Line.{Line}
 use Rattle.offer_book.specs.Book.{AreLines, BookContents, IsBook, IsLine}
-use Rattle.offer_book.specs.Portfolio.{par, payments, security_flows}
+use Rattle.offer_book.specs.Portfolio.{Meets, par, payments, security_flows}
 use Rattle.offer_book.proofs.LineFacts.{cash-payments, line_payments-within}
 use Rattle.cash_table.specs.Balances.{AreBalances, IsCashDay, balances_of, entry_on, entries_of, escrow_days, is_listed}
 use Rattle.cash_table.specs.declared.day_balances.Balance.{Balance}
@@ -222,13 +222,20 @@ entries_are_complete book plan day limits is =
     any_listed (is_listed book.settle) (λ (e : Balance). e.day ≡ day) (map entry (escrow_days book.settle)) place (entry day) (omega (arith, short, length-map (escrow_days book.settle) entry))
     (rw at (cash_day_is_listed book plan day limits is)) (ap (λ (e : Balance). e.day) at)
 
-pub are_balances : (book : BookContents) (plan : List ℕ) → IsBook book → AreBalances book plan (balances_of book plan)
+-- where the needs are met, they and what is left come to the receipts
+balanced_at : (receipts needs : List Flow) (entry : Balance) → entry ≡ entry_on receipts needs entry.day → total_by entry.day needs ≤ total_by entry.day receipts → total_by entry.day needs + entry.balance.0 ≡ total_by entry.day receipts
+balanced_at receipts needs entry is met =
+    let left : entry.balance.0 ≡ total_by entry.day receipts - total_by entry.day needs = ap (λ (e : Balance). e.balance.0) is in
+    omega (arith, left, met)
+
+pub are_balances : (book : BookContents) (plan : List ℕ) → IsBook book → Meets book plan → AreBalances book plan (balances_of book plan)
 unfolding balances_of
-are_balances book plan limits = record {
+are_balances book plan limits meets = record {
   rise = entries_rise book.settle (payments book plan) book.needs;
   days = entries_are_cash_days book plan limits;
   complete = λ day is. entries_are_complete book plan day limits is;
   amounts = entries_amounts book.settle (payments book plan) book.needs;
+  balanced = λ k d lt. balanced_at (payments book plan) book.needs _ (entries_amounts book.settle (payments book plan) book.needs k d lt) (meets _);
 }
 
 -- entries of the sums of receipts and needs are the balances

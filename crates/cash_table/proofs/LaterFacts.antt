@@ -34,7 +34,7 @@ use Rattle.offer_book.specs.declared.line.Line.{Line}
 use Rattle.offer_book.specs.Book.{AreLines, BookContents, IsBook, IsSecurity, IsSecurityLine}
 use Rattle.offer_book.specs.Portfolio.{kind_payments, par, security_flows}
 use Rattle.offer_book.proofs.LineFacts.{is_paid, line_payments-none, line_payments-par, line_payments-within, par-some, payments_of-late}
-use Rattle.cash_table.specs.First.{HaveLaterAmount}
+use Rattle.cash_table.specs.LaterFlows.{HaveLaterAmount}
 use Rattle.cash_table.proofs.BalanceLaws.{any_here, any_later, eq_test, some_on}
 use Rattle.cash_table.proofs.PaymentFacts.{pair_payments, total-payments}
 use Rattle.cash_table.proofs.PortfolioLaws.{empty_from_nothing}

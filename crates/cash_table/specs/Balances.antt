@@ -40,9 +40,10 @@ abbrev pub IsCashDay : BookContents → List ℕ → ℤ → Type 0
 IsCashDay book plan day =
     (day ≡ book.settle) ⊎ Any (λ need. need.day ≡ day) book.needs ⊎ Any (λ flow. flow.day ≡ day) (security_flows book plan)
 
--- entries are those of the cash days, each once, in order
+-- entries are those of the cash days, each once, in order, and with each balance the needs so far come to the receipts so far
 pub record AreBalances (book : BookContents) (plan : List ℕ) (entries : List Balance) : Type 0 where
   pub rise : AllPairs (λ earlier later. earlier.day <ℤ later.day) entries
   pub days : All (λ entry. IsCashDay book plan entry.day) entries
   pub complete : (day : ℤ) → IsCashDay book plan day → Any (λ entry. entry.day ≡ day) entries
   pub amounts : All (λ entry. entry ≡ entry_on (payments book plan) book.needs entry.day) entries
+  pub balanced : All (λ entry. total_by entry.day book.needs + entry.balance.0 ≡ total_by entry.day (payments book plan)) entries

@@ -1,16 +1,9 @@
--- The first line of a portfolio that isn't permitted, the first need date on which it is short, and its later flows.
-use Rattle.std.specs.Prelude.{◌≡◌, ◌⊎◌, ℕ, Bool, not, nat_lt, Option, List, [], map, ℤ}
+-- The first line of a portfolio that isn't permitted, and the first need date on which it is short.
+use Rattle.std.specs.Prelude.{ℕ, Bool, not, nat_lt, Option, List, map, ℤ}
 use Rattle.std.specs.List.{find, position, zip}
-use Rattle.escrow_units.specs.Flows.{indexed}
-use Rattle.escrow_units.specs.declared.security.Flow.{Flow}
 use Rattle.day_sums.specs.Summed.{total_by}
-use Rattle.fixed_powers.specs.PresentValues.{HasLaterAmount}
 use Rattle.offer_book.specs.Book.{BookContents}
 use Rattle.offer_book.specs.Portfolio.{payments, permits}
-
--- where there are flows, one above 0 falls at an index of 1 or more, so that the yield matters
-abbrev pub HaveLaterAmount : ℤ → List Flow → Type 0
-HaveLaterAmount settle flows = (flows ≡ []) ⊎ HasLaterAmount (indexed settle flows)
 
 -- the first line whose units aren't permitted
 abbrev pub first_unpermitted_of : BookContents → List ℕ → Option ℕ

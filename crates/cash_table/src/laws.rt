@@ -2,9 +2,10 @@
 
 ghost use Rattle.std.specs.Prelude.{◌≡◌, ℕ, ◌+◌, ◌*◌, ◌^◌, ◌≤◌, ◌↔◌, List, [], drop, slice_index};
 ghost use Rattle.std.specs.List.{All};
+ghost use Rattle.escrow_units.specs.declared.limits.TheConstants.{FLOWS_LIMIT};
 ghost use Rattle.escrow_units.specs.Flows.{indexed, total, FallWithinFortyYears};
 ghost use Rattle.escrow_units.specs.PresentValue.{YieldLiesIn};
-ghost use Rattle.cash_table.specs.First.{HaveLaterAmount};
+ghost use Rattle.cash_table.specs.LaterFlows.{HaveLaterAmount};
 ghost use Rattle.cash_table.specs.Points.{BeyondLimitAreExcluded, BeyondLimitAreNoRivals, ExcludedAreNoRivals};
 ghost use Rattle.offer_book.specs.Book.{AreWithoutInterest, BookContents, IsBook};
 ghost use Rattle.offer_book.specs.Portfolio.{IsPermitted, Meets, cost, security_cost, security_flows, total_needs};
@@ -49,7 +50,8 @@ pub fn flow_days()
         → HaveLaterAmount book.settle (security_flows book plan) }
 {}
 
-/// A law: a permitted portfolio costs at most 910 billion dollars, and its securities pay at most 8,900 billion.
+/// A law: a permitted portfolio costs at most 910 billion dollars, and its securities pay at most 8,900 billion. So what they
+/// pay and cost is within the 10^15 cents for which a yield is sought.
 pub fn bounds()
     ensures cost { (book : BookContents) (plan : List ℕ)
         → IsBook book
@@ -59,6 +61,10 @@ pub fn bounds()
         → IsBook book
         → IsPermitted book plan
         → total (security_flows book plan) ≤ 89 * 10 ^ 13 }
+    ensures limit { (book : BookContents) (plan : List ℕ)
+        → IsBook book
+        → IsPermitted book plan
+        → total (security_flows book plan) + security_cost book plan ≤ FLOWS_LIMIT }
 {}
 
 /// A law: the cost of a permitted portfolio is its opening cash, which is the units of line 0, and its security cost.

@@ -1,4 +1,5 @@
-//! Portfolios of the lines of a book: whether one is permitted, what it costs and pays, and whether it meets the needs.
+//! Portfolios of the lines of a book: whether one is permitted, what it costs, pays and yields, whether it meets the needs, and
+//! how its cash stands day by day.
 #![tactic(auto)]
 
 mod cash;
@@ -9,6 +10,7 @@ mod plan;
 mod points;
 mod reach;
 mod security_flows;
+mod yields;
 
 pub use cash::first_short;
 pub use costs::{cost, security_cost};
@@ -21,6 +23,7 @@ pub use plan::{Plan, first_unpermitted};
 pub use points::point_excluded;
 pub use reach::out_of_reach;
 pub use security_flows::flows;
+pub use yields::{plan_yield, within_limit};
 
 #[cfg(test)]
 mod tests;

@@ -8,7 +8,7 @@ ghost use Rattle.escrow_units.specs.SlgsTerms.{IsSettlement};
 ghost use Rattle.day_sums.specs.Summed.{summed};
 ghost use Rattle.day_sums.specs.SummedLaws.{AreAboveZero};
 ghost use Rattle.offer_book.specs.Book.{IsLine};
-ghost use Rattle.cash_table.specs.First.{HaveLaterAmount};
+ghost use Rattle.cash_table.specs.LaterFlows.{HaveLaterAmount};
 ghost use Rattle.offer_book.specs.Portfolio.{IsPermitted, IsPermittedUnits, line_payments, security_flows};
 
 use crate::plan::Plan;

@@ -7,8 +7,8 @@ ghost use Rattle.offer_book.specs.Book.{IsCashLine, IsSecurityLine};
 
 use crate::{
     Balance, Plan, balances, bounds, cost, cost_parts, empty_flows, excluded_laws, first_short,
-    first_unpermitted, flow_days, flows, meets_cost, out_of_reach, point_excluded, security_cost,
-    zero_interest_total, zero_yield,
+    first_unpermitted, flow_days, flows, meets_cost, out_of_reach, plan_yield, point_excluded,
+    security_cost, within_limit, zero_interest_total, zero_yield,
 };
 use escrow_desk::{FILE_LIMIT, read_rows};
 use escrow_units::{AskedRate, Cents, Day, Flow, GREATEST_INDEX, GREATEST_YIELD, Rate, YieldUnits};
@@ -21,6 +21,7 @@ use slgs_rules::classify;
 use std::alloc::Global;
 use std::process::Abort;
 use std::test::Fail;
+use yield_enclosure::YieldAnswer;
 
 // Opening cash up to 1,000.00 dollars.
 fn opening_cash() -> Line
@@ -434,6 +435,8 @@ fn notes_cost_their_price(rt: HostRuntime) -> Result<(), Fail> {
     let paid = flows(rt.alloc(), &book, &plan)?;
     assert_eq!(&rt; paid.as_slice(), [due(20_284, 10_200_000)].as_slice());
     assert!(&rt; out_of_reach(&book).is_none());
+    assert!(&rt; plan_yield(rt.alloc(), &book, &plan)? == YieldAnswer::Negative);
+    assert!(&rt; within_limit(rt.alloc(), &book, &plan, YieldUnits(0))?);
     let expected = [
         entry(20_103, 0, 0, 0),
         entry(20_284, 10_200_000, 10_200_000, 0),
@@ -448,6 +451,25 @@ fn due(day: i32, cents: u64) -> Flow
         day: Day::new(day),
         cents: Cents(cents),
     }
+}
+
+// At par it yields 4 percent.
+#[test]
+fn yields_lie_in_two_units(rt: HostRuntime) -> Result<(), Fail> {
+    let issue = b"settle,2025-01-15\nneed,2025-07-15,102000.00\nrestricted,4.00\n";
+    let prices = b"terms,1000,1000\nnote,2025-07-15,4.000,100,200000\n";
+    let book = book_of(&rt, rt.alloc(), issue, b"", prices)?;
+    let plan = plan_of_line(&rt, rt.alloc(), &book, 100)?;
+    assert!(&rt; first_unpermitted(&book, &plan).is_none());
+    let answer = plan_yield(rt.alloc(), &book, &plan)?;
+    let ends = YieldAnswer::Between {
+        lo: YieldUnits(399_999_999),
+        hi: YieldUnits(400_000_001),
+    };
+    assert!(&rt; answer == ends);
+    assert!(&rt; within_limit(rt.alloc(), &book, &plan, YieldUnits(400_000_001))?);
+    assert!(&rt; !within_limit(rt.alloc(), &book, &plan, YieldUnits(400_000_000))?);
+    Ok(())
 }
 
 // An offer of a certificate for a need of 5,000.00 dollars 90 days after settlement, units of 100.00 dollars of it, and whether

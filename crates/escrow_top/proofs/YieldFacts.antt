@@ -7,7 +7,7 @@ use Rattle.escrow_units.specs.declared.security.Flow.{Flow}
 use Rattle.fixed_powers.specs.PresentValues.{HasLaterAmount}
 use Rattle.offer_book.specs.Book.{AreWithoutInterest, BookContents, IsBook}
 use Rattle.offer_book.specs.Portfolio.{IsPermitted, security_cost, security_flows}
-use Rattle.cash_table.specs.First.{HaveLaterAmount}
+use Rattle.cash_table.specs.LaterFlows.{HaveLaterAmount}
 use Rattle.cash_table.proofs.FlowFacts.{flows_within}
 use Rattle.cash_table.proofs.LaterFacts.{flows_later}
 use Rattle.cash_table.proofs.PointFacts.{indexes_near}

@@ -57,4 +57,4 @@ returns-clause-value c =
 pub returns-clause-meaning : goal.returns-clause-meaning
 returns-clause-meaning c =
     IfOk-weaker c.entries.result (λ entries. entries.items ≡ balances_of c.args.book.now c.args.plan.now) (λ entries. AreBalances c.args.book.now c.args.plan.now entries.items)
-    (λ entries is. subst (AreBalances c.args.book.now c.args.plan.now) (sym is) (are_balances c.args.book.now c.args.plan.now c.lines-lines.ensures.limits)) (returns-clause-value c)
+    (λ entries is. subst (AreBalances c.args.book.now c.args.plan.now) (sym is) (are_balances c.args.book.now c.args.plan.now c.lines-lines.ensures.limits c.requires.meets)) (returns-clause-value c)

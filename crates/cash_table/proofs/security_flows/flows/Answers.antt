@@ -6,7 +6,7 @@ use Rattle.escrow_units.proofs.YearFacts.{years-follow}
 use Rattle.escrow_units.specs.declared.security.Flow.{Flow}
 use Rattle.day_sums.specs.Table.{SpanSums}
 use Rattle.offer_book.specs.Portfolio.{security_flows}
-use Rattle.cash_table.specs.First.{HaveLaterAmount}
+use Rattle.cash_table.specs.LaterFlows.{HaveLaterAmount}
 use Rattle.cash_table.proofs.LaterFacts.{flows_later}
 use Rattle.cash_table.proofs.CostFacts.{drop-zip}
 use Rattle.cash_table.proofs.FlowFacts.{lines_after_cash, flows_within, flows_at_most, securities_permitted, securities_at_most}
