@@ -35,15 +35,15 @@ use Rattle.escrow_check.proofs.PurchaseFacts.{plan-buys, plan_permitted, rise-pa
 use Rattle.escrow_check.proofs.TreeFacts.{priced-bears_out, rival-bears_out}
 
 -- ---- where no reason stands, each test passes
-option_or-none : {A : Type 0} (first second : Option A) → option_or first second ≡ None → (first ≡ None) × (second ≡ None)
+pub option_or-none : {A : Type 0} (first second : Option A) → option_or first second ≡ None → (first ≡ None) × (second ≡ None)
 option_or-none None second none = (refl, none)
 option_or-none (Some x) second none = absurd (cc)
 
-option_map-none : {A B : Type 0} (f : A → B) (o : Option A) → option_map f o ≡ None → o ≡ None
+pub option_map-none : {A B : Type 0} (f : A → B) (o : Option A) → option_map f o ≡ None → o ≡ None
 option_map-none f None none = refl
 option_map-none f (Some x) none = absurd (cc)
 
-then_some-none : {A : Type 0} (test : Bool) (x : A) → then_some test x ≡ None → test ≡ false
+pub then_some-none : {A : Type 0} (test : Bool) (x : A) → then_some test x ≡ None → test ≡ false
 then_some-none true x none = absurd (cc)
 then_some-none false x none = refl
 
@@ -67,12 +67,12 @@ sound_tree case cert none =
     }
 
 -- nor against purchases
-record AreSoundBuys (case : CaseContents) (buys : List Buy) : Type 0 where
-  offered : first_not_offered case.book.lines buys ≡ None
-  covered : first_short_of case.book (plan_of case.book buys) ≡ None
-  within : is_within_limit case.limit case.book (plan_of case.book buys) ≡ true
+pub record AreSoundBuys (case : CaseContents) (buys : List Buy) : Type 0 where
+  pub offered : first_not_offered case.book.lines buys ≡ None
+  pub covered : first_short_of case.book (plan_of case.book buys) ≡ None
+  pub within : is_within_limit case.limit case.book (plan_of case.book buys) ≡ true
 
-sound_buys : (case : CaseContents) (buys : List Buy) → portfolio_reason case buys ≡ None → AreSoundBuys case buys
+pub sound_buys : (case : CaseContents) (buys : List Buy) → portfolio_reason case buys ≡ None → AreSoundBuys case buys
 sound_buys case buys none =
     let plan = plan_of case.book buys in
     let missing = option_map (λ buy. reason.NotPermitted buy.line) (first_not_offered case.book.lines buys) in
@@ -165,7 +165,7 @@ unopposed case cert buys named none =
 within-gap : (whole gap other : ℕ) → (pos whole -ℤ pos gap) ≤ℤ pos other → whole ≤ other + gap
 within-gap whole gap other borne = omega (arith, ints)
 
-well_bought : (case : CaseContents) (cert : Certificate) (buys : List Buy) → IsHeard case cert → cert.buys ≡ Some buys → AreBuys buys
+pub well_bought : (case : CaseContents) (cert : Certificate) (buys : List Buy) → IsHeard case cert → cert.buys ≡ Some buys → AreBuys buys
 well_bought case cert buys heard named = (subst (λ found. IsPortfolio found cert.gap) named heard.written.portfolio).0
 
 -- the right portfolio, by its purchases

@@ -4,5 +4,5 @@
 mod laws;
 mod verdict;
 
-pub use laws::verdict_laws;
+pub use laws::{reason_laws, text_verdict_laws, verdict_laws};
 pub use verdict::{Portfolio, Reason, Verdict};
