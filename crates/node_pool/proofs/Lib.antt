@@ -1,0 +1,3 @@
+pub mod HeapFacts
+pub mod MergeFacts
+pub mod UpFacts

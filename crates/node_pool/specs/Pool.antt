@@ -1,0 +1,2 @@
+-- Pools of nodes.
+use Rattle.std.specs.Prelude.{ℕ}

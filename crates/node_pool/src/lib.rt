@@ -1,0 +1,7 @@
+//! The pool of a search's nodes: a tree that grows by splits, and the nodes that wait, least key first.
+#![tactic(auto)]
+
+mod heap;
+mod node;
+
+pub use node::{Full, Link, NodeId};
