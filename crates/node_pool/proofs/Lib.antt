@@ -1,3 +1,5 @@
 pub mod HeapFacts
 pub mod MergeFacts
 pub mod UpFacts
+pub mod OrderFacts
+pub mod MergedFacts
