@@ -3,3 +3,4 @@ pub mod MergeFacts
 pub mod UpFacts
 pub mod OrderFacts
 pub mod MergedFacts
+pub mod QueueFacts

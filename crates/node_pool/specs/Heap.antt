@@ -204,3 +204,7 @@ links_of left right left_rank right_rank =
     if nat_lt left_rank right_rank
     then record { left = right; right = left; rank = left_rank + 1 }
     else record { left = left; right = right; rank = right_rank + 1 }
+
+-- the links of a node that waits alone
+abbrev pub lone_links : Links
+lone_links = record { left = None; right = None; rank = 1 }

@@ -3,5 +3,6 @@
 
 mod heap;
 mod node;
+mod queue;
 
 pub use node::{Full, Link, NodeId};

@@ -1,0 +1,31 @@
+-- The nodes that wait, as a queue. How the pool keeps them is this project's own, and no public clause tells of it.
+use Rattle.std.specs.Prelude.{◌≡◌, ℕ, ◌≤◌, List, map, slice_set, Option}
+use Rattle.node_pool.specs.declared.node.Node.{Node}
+use Rattle.node_pool.specs.declared.node.NodeId.{NodeId}
+use Rattle.node_pool.specs.declared.node.State.{State}
+use Rattle.node_pool.specs.declared.node.State.TheVariants as state
+use Rattle.node_pool.specs.Heap.{Heap, IsLeftist, IsOrdered, LeadsTo, node_at, occurs, size}
+
+abbrev pub states_of : List Node → List State
+states_of nodes = map (λ node. node.state) nodes
+
+-- how often a node in this state stands in the queue
+abbrev pub times_waiting : State → ℕ
+times_waiting (state.Waiting key) = 1
+times_waiting other = 0
+
+-- a link leads to a heap of just the nodes that wait, so many of them
+pub record IsQueue (nodes : List Node) (link : Option NodeId) (count : ℕ) : Type 0 where
+  pub heap : Heap
+  pub leads : LeadsTo nodes link heap
+  pub ordered : IsOrdered heap
+  pub leftist : IsLeftist heap
+  pub once : (number : ℕ) → occurs heap number ≡ times_waiting (node_at nodes number).state
+  pub count_is : size heap ≡ count
+
+abbrev pub SomeQueue : List Node → Option NodeId → Type 0
+SomeQueue nodes link = (count : ℕ) × (count ≤ 4_294_967_295) × IsQueue nodes link count
+
+-- nodes with one that is in another state
+abbrev pub with_node_state : List Node → ℕ → State → List Node
+with_node_state nodes number new = slice_set nodes number (record (node_at nodes number) { state = new })
