@@ -4,3 +4,4 @@ pub mod UpFacts
 pub mod OrderFacts
 pub mod MergedFacts
 pub mod QueueFacts
+pub mod PoolFacts

@@ -1,5 +1,6 @@
 -- Pools of nodes, numbered from 0 in the order of making. This is this project's own.
-use Rattle.std.specs.Prelude.{◌≡◌, ◌⊎◌, ℕ, ◌+◌, ◌<◌, ◌≤◌, ℤ, ◌<ℤ◌, Bool, true, false, List, length, slice_index_or, slice_set}
+use Rattle.std.specs.Prelude.{◌≡◌, ◌⊎◌, ℕ, ◌+◌, ◌<◌, ◌≤◌, ℤ, ◌<ℤ◌, Bool, true, false, List, [], ◌∷◌, ◌++◌, length, slice_index_or, slice_set}
+use Rattle.node_pool.specs.declared.node.NodeId.{NodeId}
 use Rattle.node_pool.specs.declared.node.State.{State}
 use Rattle.node_pool.specs.declared.node.State.TheVariants as state
 
@@ -39,3 +40,29 @@ with_state states number new = slice_set states number new
 abbrev pub is_waiting : State → Bool
 is_waiting (state.Waiting key) = true
 is_waiting other = false
+
+-- a new pool: its root waits
+abbrev pub new_pool : ℕ → ℤ → PoolContents
+new_pool capacity key = record { capacity = capacity; states = state.Waiting key ∷ [] }
+
+-- a pool with one node in another state
+abbrev pub pool_with : PoolContents → ℕ → State → PoolContents
+pool_with pool number new = record pool { states = with_state pool.states number new }
+
+-- a node is split in two children, which are made left first and wait
+abbrev pub split_pool : PoolContents → ℕ → ℕ → ℕ → ℤ → ℤ → PoolContents
+split_pool pool number line at left right = record pool {
+  states =
+      with_state pool.states number (state.Split line at (record { 0 = length pool.states }) (record { 0 = length pool.states + 1 }))
+      ++ state.Waiting left ∷ state.Waiting right ∷ [];
+}
+
+-- the children of a split come after it, the right one next behind the left
+pub record AreChildren (states : List State) (number : ℕ) (left right : NodeId) : Type 0 where
+  pub later : number < left.0
+  pub next : right.0 ≡ left.0 + 1
+  pub there : right.0 < length states
+
+-- each split has such children
+abbrev pub SplitsAreWhole : List State → Type 0
+SplitsAreWhole states = (number line at : ℕ) (left right : NodeId) → state_at states number ≡ state.Split line at left right → AreChildren states number left right

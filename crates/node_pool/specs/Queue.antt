@@ -1,9 +1,11 @@
 -- The nodes that wait, as a queue. How the pool keeps them is this project's own, and no public clause tells of it.
-use Rattle.std.specs.Prelude.{◌≡◌, ℕ, ◌≤◌, List, map, slice_set, Option}
+use Rattle.std.specs.Prelude.{◌≡◌, ℕ, ◌≤◌, List, length, map, slice_set, Option}
+use Rattle.std.specs.List.{count_by}
 use Rattle.node_pool.specs.declared.node.Node.{Node}
 use Rattle.node_pool.specs.declared.node.NodeId.{NodeId}
 use Rattle.node_pool.specs.declared.node.State.{State}
 use Rattle.node_pool.specs.declared.node.State.TheVariants as state
+use Rattle.node_pool.specs.Pool.{SplitsAreWhole, is_waiting}
 use Rattle.node_pool.specs.Heap.{Heap, IsLeftist, IsOrdered, LeadsTo, node_at, occurs, size}
 
 abbrev pub states_of : List Node → List State
@@ -29,3 +31,12 @@ SomeQueue nodes link = (count : ℕ) × (count ≤ 4_294_967_295) × IsQueue nod
 -- nodes with one that is in another state
 abbrev pub with_node_state : List Node → ℕ → State → List Node
 with_node_state nodes number new = slice_set nodes number (record (node_at nodes number) { state = new })
+
+-- the nodes of a pool, the link to the queue, and how many wait
+pub record IsPool (nodes : List Node) (link : Option NodeId) (waiting capacity : ℕ) : Type 0 where
+  pub queue : IsQueue nodes link waiting
+  pub waiting_is : waiting ≡ count_by is_waiting (states_of nodes)
+  pub some : 1 ≤ length nodes
+  pub few : length nodes ≤ capacity
+  pub bounded : capacity ≤ 4_294_967_295
+  pub whole : SplitsAreWhole (states_of nodes)

@@ -3,6 +3,8 @@
 
 mod heap;
 mod node;
+mod pool;
 mod queue;
 
 pub use node::{Full, Link, NodeId};
+pub use pool::Pool;
