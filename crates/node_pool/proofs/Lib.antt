@@ -5,3 +5,4 @@ pub mod OrderFacts
 pub mod MergedFacts
 pub mod QueueFacts
 pub mod PoolFacts
+pub mod TreeFacts

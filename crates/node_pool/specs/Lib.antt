@@ -1,3 +1,4 @@
 pub mod Heap
 pub mod Pool
 pub mod Queue
+pub mod Tree

@@ -2,9 +2,12 @@
 #![tactic(auto)]
 
 mod heap;
+mod laws;
 mod node;
 mod pool;
 mod queue;
+mod tree;
 
+pub use laws::heap_laws;
 pub use node::{Full, Link, NodeId};
 pub use pool::Pool;

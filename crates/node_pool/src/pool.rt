@@ -1,11 +1,15 @@
 //! The pool of nodes.
-ghost use Rattle.std.specs.Prelude.{◌≡◌, ◌<◌, ◌≤◌, ◌+◌, ◌⊎◌, ℕ, None, Ok, Some, length, IfErr, IfOk, IfSome};
+ghost use Rattle.std.specs.Prelude.{◌≡◌, ◌<◌, ◌≤◌, ◌+◌, ◌++◌, ◌∷◌, [], ℕ, None, Some, length, IfErr, IfOk, IfSome};
+ghost use Rattle.std.specs.Vec.{vec_capacity};
+ghost use Rattle.node_pool.specs.Queue.{IsQueue, states_of};
 ghost use Rattle.std.specs.List.{count_by};
 ghost use Rattle.node_pool.specs.declared.node.State.TheVariants as state;
 ghost use Rattle.node_pool.specs.Pool.{IsInHand, IsLeast, NoneWaits, is_waiting, new_pool, pool_with, split_pool};
+ghost use Rattle.node_pool.specs.Tree.{AreEnded, IsPreorderOf};
 
-use crate::node::{Full, Links, Node, NodeId, State};
+use crate::node::{Full, Link, Links, Node, NodeId, State};
 use crate::queue::{insert, set_state, take_first};
+use crate::tree::preorder_of;
 use escrow_desk::NoMemory;
 use std::alloc::Global;
 use std::marker::Model;
@@ -46,6 +50,20 @@ fn node_in_hand(parent: Option<NodeId>) -> Node
             rank: 1,
         },
     }
+}
+
+// One more node, the child of a split, which waits with a key; the link to all that wait.
+fn add_waiting(nodes: &mut Vec<Node>, link: Option<NodeId>, parent: NodeId, key: i128) -> Option<NodeId>
+    requires queue { (count : ℕ) × (count < 4_294_967_295) × IsQueue nodes.old.items link count }
+    requires room { length nodes.old.items < vec_capacity nodes.old }
+    requires few { length nodes.old.items < 4_294_967_295 }
+    ensures states { states_of nodes.new.items ≡ states_of nodes.old.items ++ state.Waiting key ∷ [] }
+    ensures queue { (count : ℕ) → count < 4_294_967_295 → IsQueue nodes.old.items link count → IsQueue nodes.new.items result (count + 1) }
+    ensures capacity { vec_capacity nodes.old ≤ vec_capacity nodes.new }
+{
+    let node = NodeId(nodes.len() as u32);
+    let _pushed = nodes.push(node_in_hand(Some(parent)));
+    insert(nodes.as_mut_slice(), link, node, key)
 }
 
 impl Pool {
@@ -90,6 +108,38 @@ impl Pool {
         self.waiting += 1;
     }
 
+    /// Splits a node in hand at a number of units of a line, counted from 0. Its two children, the left one first, wait with
+    /// these keys.
+    ///
+    /// # Errors
+    ///
+    /// Where the capacity has no room for two nodes more; nothing changed then.
+    pub fn split(&mut self, node: NodeId, line: u16, at: u64, left: i128, right: i128) -> Result<(NodeId, NodeId), Full>
+        requires { IsInHand self.old.states node.0 }
+        ensures full { IfErr result (λ _. (self.old.capacity < length self.old.states + 2) × (self.new ≡ self.old)) }
+        ensures room { IfOk result (λ _. length self.old.states + 2 ≤ self.old.capacity) }
+        ensures children { IfOk result (λ made. (made.0.0 ≡ length self.old.states) × (made.1.0 ≡ length self.old.states + 1)) }
+        ensures split { IfOk result (λ _. self.new ≡ split_pool self.old node.0 line at left right) }
+    {
+        let count = self.nodes.len() as u32;
+        if self.capacity - count < 2 {
+            return Err(Full);
+        }
+        let left_child = NodeId(count);
+        let right_child = NodeId(count + 1);
+        self.first = add_waiting(&mut self.nodes, self.first, node, left);
+        self.first = add_waiting(&mut self.nodes, self.first, node, right);
+        self.waiting += 2;
+        let split = State::Split {
+            line,
+            at,
+            left: left_child,
+            right: right_child,
+        };
+        set_state(self.nodes.as_mut_slice(), node, split);
+        Ok((left_child, right_child))
+    }
+
     /// Closes a node in hand with the number of a leaf, which is kept as given.
     pub fn close(&mut self, node: NodeId, leaf: u32)
         requires { IsInHand self.old.states node.0 }
@@ -110,5 +160,17 @@ impl Pool {
         ensures { result ≡ count_by is_waiting self.now.states }
     {
         self.waiting
+    }
+
+    /// The nodes of the tree in preorder, left first: each split with its line and its number of units, each leaf by its number.
+    ///
+    /// # Errors
+    ///
+    /// Where memory ran out.
+    pub fn tree(&self, alloc: Global) -> Result<Vec<Link>, NoMemory>
+        requires { AreEnded self.now.states }
+        ensures { IfOk result (λ links. IsPreorderOf self.now.states links.items) }
+    {
+        preorder_of(alloc, self.nodes.as_slice())
     }
 }
