@@ -32,14 +32,17 @@ pub linked-same : (old new : List Node) (heap : Heap) → length new ≡ length 
     AreLinked old heap → AreLinked new heap
 linked-same old new Empty count same linked = tt
 linked-same old new (Fork number key left right) count same linked =
-    let here : node_at new number ≡ node_at old number = same number (own_once number (occurs left number) (occurs right number)) in
-    (record {
-      there = omega (arith, count, linked.0.there);
-      waits = ap (λ (n : Node). n.state) here ∙ linked.0.waits;
-      links = ap (λ (n : Node). n.links) here ∙ linked.0.links;
-    },
-    (linked-same old new left count (λ other h. same other (in_left number other (occurs left other) (occurs right other) h)) linked.1.0,
-    linked-same old new right count (λ other h. same other (in_right number other (occurs left other) (occurs right other) h)) linked.1.1))
+    let here : node_at new number ≡ node_at old number = same number (own_once number (occurs left number) (occurs right number)) in (
+      record {
+        there = omega (arith, count, linked.0.there);
+        waits = ap (λ (n : Node). n.state) here ∙ linked.0.waits;
+        links = ap (λ (n : Node). n.links) here ∙ linked.0.links;
+      },
+      (
+        linked-same old new left count (λ other h. same other (in_left number other (occurs left other) (occurs right other) h)) linked.1.0,
+        linked-same old new right count (λ other h. same other (in_right number other (occurs left other) (occurs right other) h)) linked.1.1,
+      ),
+    )
 
 -- a node in none of a heap
 away : (heap : Heap) (place number : ℕ) → occurs heap place ≡ 0 → 1 ≤ occurs heap number → place ≢ number
@@ -60,14 +63,16 @@ pub hung-same : (old new : List Node) (frames : List Frame) → length new ≡ l
     AreHung old frames → AreHung new frames
 hung-same old new [] count same hung = tt
 hung-same old new (frame ∷ frames) count same hung =
-    let here : node_at new frame.number ≡ node_at old frame.number = same frame.number (own_once frame.number (occurs frame.left frame.number) (frames_occur frames frame.number)) in
-    (record {
-      there = omega (arith, count, hung.0.there);
-      waits = ap (λ (n : Node). n.state) here ∙ hung.0.waits;
-      left_is = ap (λ (n : Node). n.links.left) here ∙ hung.0.left_is;
-      above_is = ap (λ (n : Node). n.links.right) here ∙ hung.0.above_is;
-      linked = linked-same old new frame.left count (λ other h. same other (in_left frame.number other (occurs frame.left other) (frames_occur frames other) h)) hung.0.linked;
-    }, hung-same old new frames count (λ other h. same other (in_right frame.number other (occurs frame.left other) (frames_occur frames other) h)) hung.1)
+    let here : node_at new frame.number ≡ node_at old frame.number = same frame.number (own_once frame.number (occurs frame.left frame.number) (frames_occur frames frame.number)) in (
+      record {
+        there = omega (arith, count, hung.0.there);
+        waits = ap (λ (n : Node). n.state) here ∙ hung.0.waits;
+        left_is = ap (λ (n : Node). n.links.left) here ∙ hung.0.left_is;
+        above_is = ap (λ (n : Node). n.links.right) here ∙ hung.0.above_is;
+        linked = linked-same old new frame.left count (λ other h. same other (in_left frame.number other (occurs frame.left other) (frames_occur frames other) h)) hung.0.linked;
+      },
+      hung-same old new frames count (λ other h. same other (in_right frame.number other (occurs frame.left other) (frames_occur frames other) h)) hung.1,
+    )
 
 away_frames : (frames : List Frame) (place number : ℕ) → frames_occur frames place ≡ 0 → 1 ≤ frames_occur frames number → place ≢ number
 away_frames frames place number none some same =

@@ -40,13 +40,16 @@ gone nodes frames number key left right other hung linked others is =
     let node : Node = record (node_at nodes number) { links = record (node_at nodes number).links { right = top_frame frames } } in
     let here : node_at (slice_set nodes number node) number ≡ node = at-same nodes number node linked.0.there in
     record {
-      hung = (record {
-        there = omega (arith, length-set nodes number node, linked.0.there);
-        waits = ap (λ (n : Node). n.state) here ∙ linked.0.waits;
-        left_is = ap (λ (n : Node). n.links.left) here ∙ ap (λ (l : Links). l.left) linked.0.links;
-        above_is = ap (λ (n : Node). n.links.right) here;
-        linked = linked-set nodes number node left is.left_none linked.1.0;
-      }, hung-set nodes number node frames is.above_none hung);
+      hung = (
+        record {
+          there = omega (arith, length-set nodes number node, linked.0.there);
+          waits = ap (λ (n : Node). n.state) here ∙ linked.0.waits;
+          left_is = ap (λ (n : Node). n.links.left) here ∙ ap (λ (l : Links). l.left) linked.0.links;
+          above_is = ap (λ (n : Node). n.links.right) here;
+          linked = linked-set nodes number node left is.left_none linked.1.0;
+        },
+        hung-set nodes number node frames is.above_none hung,
+      );
       right_linked = linked-set nodes number node right is.right_none linked.1.1;
       other_linked = linked-set nodes number node other is.other_none others;
       right_is = ap (λ (l : Links). l.right) linked.0.links;

@@ -155,18 +155,29 @@ ordered_into number key left right own behind (Fork m mkey l r) is apart =
     let one : Heap = Fork number key left right in
     let two : Heap = Fork m mkey l r in
     ordered_by (fork number key left (merged right two)) (fork m mkey l (merged one r)) (comes_before number key m mkey)
-    (λ before. ordered_fork number key left (merged right two)
-    ((own.0.0, above-merged number key right two own.0.1
-    (before, (above-lower number m key mkey l before is.0.0, above-lower number m key mkey r before is.0.1))),
-    (own.1.0, behind two is (λ i. part_right (if number == i then 1 else 0) (occurs left i) (occurs right i) (occurs two i) (apart i)))))
+    (λ before. ordered_fork number key left (merged right two) (
+      (
+        own.0.0,
+        above-merged number key right two own.0.1
+            (before, (above-lower number m key mkey l before is.0.0, above-lower number m key mkey r before is.0.1)),
+      ),
+      (own.1.0, behind two is (λ i. part_right (if number == i then 1 else 0) (occurs left i) (occurs right i) (occurs two i) (apart i))),
+    ))
     (λ not_before.
     let before : comes_before m mkey number key ≡ true =
     else-before number m key mkey not_before (tops_apart number m (occurs left number) (occurs right number) (occurs l number) (occurs r number) (apart number)) in
-    ordered_fork m mkey l (merged one r)
-    ((is.0.0, above-merged m mkey one r
-    (before, (above-lower m number mkey key left before own.0.0, above-lower m number mkey key right before own.0.1)) is.0.1),
-    (is.1.0, ordered_into number key left right own behind r is.1.1
-    (λ i. part_other (occurs one i) (if m == i then 1 else 0) (occurs l i) (occurs r i) (apart i)))))
+    ordered_fork m mkey l (merged one r) (
+      (
+        is.0.0,
+        above-merged m mkey one r
+            (before, (above-lower m number mkey key left before own.0.0, above-lower m number mkey key right before own.0.1)) is.0.1,
+      ),
+      (
+        is.1.0,
+        ordered_into number key left right own behind r is.1.1
+            (λ i. part_other (occurs one i) (if m == i then 1 else 0) (occurs l i) (occurs r i) (apart i)),
+      ),
+    ))
 
 pub ordered-merged : (one other : Heap) → IsOrdered one → IsOrdered other → AreDisjoint one other → IsOrdered (merged one other)
 ordered-merged Empty other first second apart = second

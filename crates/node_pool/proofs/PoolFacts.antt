@@ -129,6 +129,7 @@ root-pool capacity key parent some bounded = record {
     root_once : (number : ℕ) → occurs (Fork 0 key Empty Empty) number ≡ times_waiting (node_at (record { parent = parent; state = state.Waiting key; links = lone_links } ∷ []) number).state
     root_once zero = refl
     root_once (suc number) = let no : (0 == suc number) ≡ false = grind arith in ap (λ (b : Bool). (if b then 1 else 0) + (0 + 0)) no
+
     root_whole : SplitsAreWhole (state.Waiting key ∷ [])
     root_whole zero line at left right h = absurd (cc)
     root_whole (suc number) line at left right h = absurd (cc)
@@ -322,3 +323,15 @@ split-pool-kept old slice new rest len link now waiting capacity count number li
 
 pub queue-at : (items slice : List Node) (link : Option NodeId) (count : ℕ) → slice ≡ items → IsQueue items link count → IsQueue slice link count
 queue-at items slice link count same queue = (let P : List Node → Type 0 = λ ns. IsQueue ns link count in subst P (sym same) queue)
+
+-- the node that was taken is in hand
+pub hand-now : (states : List State) (number : ℕ) → IsLeast states number → IsInHand (with_state states number state.InHand) number
+hand-now states number least =
+    let there : number < length states = least_there states number least in
+    record {
+      there = omega (arith, there, length-set states number state.InHand);
+      in_hand = get_or-set_same states number state.InHand state.InHand there;
+    }
+
+pub hand-at : (states now : List State) (number : ℕ) → now ≡ with_state states number state.InHand → IsLeast states number → IsInHand now number
+hand-at states now number now_is least = (let P : List State → Type 0 = λ ss. IsInHand ss number in subst P (sym now_is) (hand-now states number least))

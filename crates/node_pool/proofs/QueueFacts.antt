@@ -51,7 +51,7 @@ above_by x k nodes number key left right other other_key above linked waits in_l
     let Q : ℤ → Type 0 = λ z. IsBefore x k number z in
     subst P same (subst Q key_is (before-means x number k key above.0))
 above_by x k nodes number key left right other other_key above linked waits in_left in_right false e h =
-    elim (in_one (occurs left other) (occurs right other) (omega (arith, h))) [ | inl l ↦ in_left l | inr r ↦ in_right r ]
+    elim (in_one (occurs left other) (occurs right other) (omega (arith, h))) [ inl l ↦ in_left l | inr r ↦ in_right r ]
 
 above-all : (x : ℕ) (k : ℤ) (nodes : List Node) (heap : Heap) (other : ℕ) (other_key : ℤ) → IsAbove x k heap → AreLinked nodes heap → 1 ≤ occurs heap other →
     (node_at nodes other).state ≡ state.Waiting other_key → IsBefore x k other other_key
@@ -245,11 +245,14 @@ insert-one nodes now link number key count now_is few there out queue =
         first_leads = leads-set nodes number node link queue.heap (not_there (occurs queue.heap number) (node_at nodes number).state (queue.once number) out) queue.leads;
         second_leads = record {
           top_is = refl;
-          linked = (record {
-            there = omega (arith, length-set nodes number node, there);
-            waits = ap (λ (n : Node). n.state) here;
-            links = ap (λ (n : Node). n.links) here;
-          }, (tt, tt));
+          linked = (
+            record {
+              there = omega (arith, length-set nodes number node, there);
+              waits = ap (λ (n : Node). n.state) here;
+              links = ap (λ (n : Node). n.links) here;
+            },
+            (tt, tt),
+          );
         };
         once = disjoint;
         few = omega (arith, queue.count_is, few);
@@ -281,7 +284,7 @@ at_more nodes node i inside = get_or-append nodes (node ∷ []) no_node i inside
 inside_by : (nodes : List Node) (own number l r : ℕ) → own < length nodes → (1 ≤ l → number < length nodes) → (1 ≤ r → number < length nodes) → (b : Bool) → (own == number) ≡ b →
     1 ≤ (if b then 1 else 0) + (l + r) → number < length nodes
 inside_by nodes own number l r there left right true e h = let same : own ≡ number = grind (arith, e) in omega (arith, same, there)
-inside_by nodes own number l r there left right false e h = elim (in_one l r (omega (arith, h))) [ | inl x ↦ left x | inr y ↦ right y ]
+inside_by nodes own number l r there left right false e h = elim (in_one l r (omega (arith, h))) [ inl x ↦ left x | inr y ↦ right y ]
 
 linked_inside : (nodes : List Node) (heap : Heap) (number : ℕ) → AreLinked nodes heap → 1 ≤ occurs heap number → number < length nodes
 linked_inside nodes Empty number linked some = absurd (omega arith)
@@ -292,12 +295,14 @@ linked_inside nodes (Fork own key left right) number linked some =
 linked_more : (nodes : List Node) (node : Node) (heap : Heap) → AreLinked nodes heap → AreLinked (nodes ++ node ∷ []) heap
 linked_more nodes node Empty linked = tt
 linked_more nodes node (Fork number key left right) linked =
-    let here : node_at (nodes ++ node ∷ []) number ≡ node_at nodes number = at_more nodes node number linked.0.there in
-    (record {
-      there = omega (arith, length-append nodes (node ∷ []), linked.0.there);
-      waits = ap (λ (n : Node). n.state) here ∙ linked.0.waits;
-      links = ap (λ (n : Node). n.links) here ∙ linked.0.links;
-    }, (linked_more nodes node left linked.1.0, linked_more nodes node right linked.1.1))
+    let here : node_at (nodes ++ node ∷ []) number ≡ node_at nodes number = at_more nodes node number linked.0.there in (
+      record {
+        there = omega (arith, length-append nodes (node ∷ []), linked.0.there);
+        waits = ap (λ (n : Node). n.state) here ∙ linked.0.waits;
+        links = ap (λ (n : Node). n.links) here ∙ linked.0.links;
+      },
+      (linked_more nodes node left linked.1.0, linked_more nodes node right linked.1.1),
+    )
 
 beyond : (nodes : List Node) (node : Node) (i k : ℕ) → i - length nodes ≡ k → length nodes ≤ i → times_waiting node.state ≡ 0 →
     times_waiting (node_at (nodes ++ node ∷ []) i).state ≡ 0

@@ -34,9 +34,10 @@ tree-exists zero states number enough there ended whole = absurd (omega (arith, 
 tree-exists (suc fuel) states number enough there ended whole =
     tree_by states number (state_at states number) refl (ended number there)
     (λ line at left right e.
-    (let are : AreChildren states number left right = whole number line at left right e in
-    (tree-exists fuel states left.0 (let l = are.later in omega (arith, enough, l)) (let l = are.there in let n = are.next in omega (arith, l, n)) ended whole,
-    tree-exists fuel states right.0 (let l = are.later in let n = are.next in omega (arith, enough, l, n)) are.there ended whole)))
+    (let are : AreChildren states number left right = whole number line at left right e in (
+      tree-exists fuel states left.0 (let l = are.later in omega (arith, enough, l)) (let l = are.there in let n = are.next in omega (arith, l, n)) ended whole,
+      tree-exists fuel states right.0 (let l = are.later in let n = are.next in omega (arith, enough, l, n)) are.there ended whole,
+    )))
 
 -- the trees of open nodes, and what is still to come: the last first
 abbrev pub AreTreesOf : List State → List NodeId → List Tree → Type 0
@@ -176,6 +177,7 @@ weight_more count nodes node = sum_by-append (weight count) nodes (node ∷ []) 
   where
     none : (count : ℕ) → weight_of count [] ≡ 0
     none count = refl
+
     one_weight : (count : ℕ) (node : NodeId) → weight_of count (node ∷ []) ≡ weight count node
     one_weight count node = let sum : weight_of count (node ∷ []) ≡ weight count node + weight_of count [] = sum_by-cons (weight count) node [] in omega (arith, sum, none count)
 

@@ -84,22 +84,28 @@ fork_leads nodes number key left heap there waits linked others none away true =
     let here : node_at (slice_set nodes number node) number ≡ node = at-same nodes number node there in
     record {
       top_is = refl;
-      linked = (record {
-        there = omega (arith, length-set nodes number node, there);
-        waits = ap (λ (n : Node). n.state) here ∙ waits;
-        links = ap (λ (n : Node). n.links) here;
-      }, (linked-set nodes number node heap away others, linked-set nodes number node left none linked));
+      linked = (
+        record {
+          there = omega (arith, length-set nodes number node, there);
+          waits = ap (λ (n : Node). n.state) here ∙ waits;
+          links = ap (λ (n : Node). n.links) here;
+        },
+        (linked-set nodes number node heap away others, linked-set nodes number node left none linked),
+      );
     }
 fork_leads nodes number key left heap there waits linked others none away false =
     let node : Node = record (node_at nodes number) { links = record { left = top left; right = top heap; rank = spine heap + 1 } } in
     let here : node_at (slice_set nodes number node) number ≡ node = at-same nodes number node there in
     record {
       top_is = refl;
-      linked = (record {
-        there = omega (arith, length-set nodes number node, there);
-        waits = ap (λ (n : Node). n.state) here ∙ waits;
-        links = ap (λ (n : Node). n.links) here;
-      }, (linked-set nodes number node left none linked, linked-set nodes number node heap away others));
+      linked = (
+        record {
+          there = omega (arith, length-set nodes number node, there);
+          waits = ap (λ (n : Node). n.state) here ∙ waits;
+          links = ap (λ (n : Node). n.links) here;
+        },
+        (linked-set nodes number node left none linked, linked-set nodes number node heap away others),
+      );
     }
 
 fork_once : (number i : ℕ) (key : ℤ) (left heap : Heap) (f : ℕ) → ((if number == i then 1 else 0) + (occurs left i + f)) + occurs heap i ≤ 1 → (b : Bool) →

@@ -171,7 +171,11 @@ fn ascend(nodes: &mut [Node], spine: Option<NodeId>, rest: Option<NodeId>) -> Op
 }
 
 /// Two heaps as one. It takes no memory, and as many steps as the ways to the right of both have nodes.
-pub(crate) fn merge(nodes: &mut [Node], first: Option<NodeId>, second: Option<NodeId>) -> Option<NodeId>
+pub(crate) fn merge(
+    nodes: &mut [Node],
+    first: Option<NodeId>,
+    second: Option<NodeId>,
+) -> Option<NodeId>
     requires { AreApart nodes.old first second }
     ensures value { (apart : AreApart nodes.old first second) → LeadsTo nodes.new result (merged apart.one apart.other) }
     ensures kept { KeepsNodes nodes.old nodes.new }

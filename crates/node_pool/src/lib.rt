@@ -6,6 +6,8 @@ mod laws;
 mod node;
 mod pool;
 mod queue;
+#[cfg(test)]
+mod tests;
 mod tree;
 
 pub use laws::heap_laws;

@@ -4,7 +4,7 @@ ghost use Rattle.std.specs.Vec.{vec_capacity};
 ghost use Rattle.node_pool.specs.Queue.{IsQueue, states_of};
 ghost use Rattle.std.specs.List.{count_by};
 ghost use Rattle.node_pool.specs.declared.node.State.TheVariants as state;
-ghost use Rattle.node_pool.specs.Pool.{IsInHand, IsLeast, NoneWaits, is_waiting, new_pool, pool_with, split_pool};
+ghost use Rattle.node_pool.specs.Pool.{IsInHand, IsLeast, NoneWaits, SplitsAreWhole, is_waiting, new_pool, pool_with, split_pool};
 ghost use Rattle.node_pool.specs.Tree.{AreEnded, IsPreorderOf};
 
 use crate::node::{Full, Link, Links, Node, NodeId, State};
@@ -53,7 +53,12 @@ fn node_in_hand(parent: Option<NodeId>) -> Node
 }
 
 // One more node, the child of a split, which waits with a key; the link to all that wait.
-fn add_waiting(nodes: &mut Vec<Node>, link: Option<NodeId>, parent: NodeId, key: i128) -> Option<NodeId>
+fn add_waiting(
+    nodes: &mut Vec<Node>,
+    link: Option<NodeId>,
+    parent: NodeId,
+    key: i128,
+) -> Option<NodeId>
     requires queue { (count : ℕ) × (count < 4_294_967_295) × IsQueue nodes.old.items link count }
     requires room { length nodes.old.items < vec_capacity nodes.old }
     requires few { length nodes.old.items < 4_294_967_295 }
@@ -92,6 +97,7 @@ impl Pool {
     pub fn pop_least(&mut self) -> Option<NodeId>
         ensures none { result ≡ None → NoneWaits self.old.states × (self.new ≡ self.old) }
         ensures some { IfSome result (λ node. IsLeast self.old.states node.0 × (self.new ≡ pool_with self.old node.0 state.InHand)) }
+        ensures in_hand { IfSome result (λ node. IsInHand self.new.states node.0) }
     {
         let first = self.first?;
         self.first = take_first(self.nodes.as_mut_slice(), first);
@@ -114,7 +120,14 @@ impl Pool {
     /// # Errors
     ///
     /// Where the capacity has no room for two nodes more; nothing changed then.
-    pub fn split(&mut self, node: NodeId, line: u16, at: u64, left: i128, right: i128) -> Result<(NodeId, NodeId), Full>
+    pub fn split(
+        &mut self,
+        node: NodeId,
+        line: u16,
+        at: u64,
+        left: i128,
+        right: i128,
+    ) -> Result<(NodeId, NodeId), Full>
         requires { IsInHand self.old.states node.0 }
         ensures full { IfErr result (λ _. (self.old.capacity < length self.old.states + 2) × (self.new ≡ self.old)) }
         ensures room { IfOk result (λ _. length self.old.states + 2 ≤ self.old.capacity) }
@@ -148,9 +161,12 @@ impl Pool {
         set_state(self.nodes.as_mut_slice(), node, State::Closed(leaf));
     }
 
-    /// How many nodes there are.
+    /// How many nodes there are, the root at least. The children of each split come after it.
     pub fn count(&self) -> u32
-        ensures { result ≡ length self.now.states }
+        ensures value { result ≡ length self.now.states }
+        ensures some { 1 ≤ result }
+        ensures few { result ≤ self.now.capacity }
+        ensures whole { SplitsAreWhole self.now.states }
     {
         self.nodes.len() as u32
     }

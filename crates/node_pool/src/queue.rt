@@ -53,7 +53,12 @@ pub(crate) fn take_first(nodes: &mut [Node], first: NodeId) -> Option<NodeId>
 }
 
 /// Lets a node wait that doesn't; the link to all that wait.
-pub(crate) fn insert(nodes: &mut [Node], link: Option<NodeId>, node: NodeId, key: i128) -> Option<NodeId>
+pub(crate) fn insert(
+    nodes: &mut [Node],
+    link: Option<NodeId>,
+    node: NodeId,
+    key: i128,
+) -> Option<NodeId>
     requires queue { (count : ℕ) × (count < 4_294_967_295) × IsQueue nodes.old link count }
     requires there { node.0 < length nodes.old }
     requires out { times_waiting (node_at nodes.old node.0).state ≡ 0 }

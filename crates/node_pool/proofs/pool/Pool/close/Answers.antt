@@ -17,11 +17,13 @@ invariant_of-self c =
     pool-at c.self.inside.nodes.items slice c.self.inside.first c.self.inside.first c.self.inside.waiting c.self.inside.capacity c.as_mut_slice.ensures.value refl c.self.invariant.0 in
     let hand : IsInHand (states_of slice) c.args.node.0 = in-hand-at c.self.inside.nodes.items slice c.args.self.now.states c.args.node.0 c.as_mut_slice.ensures.value views c.requires in
     let states : states_of c.set_state.new.nodes ≡ with_state (states_of slice) c.args.node.0 (state.Closed c.args.leaf) =
-    ap states_of c.set_state.ensures ∙ states-set slice c.args.node.0 (record (node_at slice c.args.node.0) { state = state.Closed c.args.leaf }) in
-    (written-pool c.self.inside.nodes.len slice c.set_state.new.nodes (drop (length c.set_state.new.nodes) c.self.inside.nodes.items) c.args.node.0 (state.Closed c.args.leaf)
-    c.self.inside.first c.self.inside.waiting c.self.inside.capacity c.as_mut_slice.ensures.len states
-    (pool-closed slice c.set_state.new.nodes c.self.inside.first c.self.inside.waiting c.self.inside.capacity c.args.node.0 c.args.leaf pool states hand
-    (queue-closed slice c.set_state.new.nodes c.self.inside.first c.self.inside.waiting c.args.node.0 (state.Closed c.args.leaf) hand c.set_state.ensures refl pool.queue)), c.self.invariant.1)
+    ap states_of c.set_state.ensures ∙ states-set slice c.args.node.0 (record (node_at slice c.args.node.0) { state = state.Closed c.args.leaf }) in (
+      written-pool c.self.inside.nodes.len slice c.set_state.new.nodes (drop (length c.set_state.new.nodes) c.self.inside.nodes.items) c.args.node.0 (state.Closed c.args.leaf)
+          c.self.inside.first c.self.inside.waiting c.self.inside.capacity c.as_mut_slice.ensures.len states
+          (pool-closed slice c.set_state.new.nodes c.self.inside.first c.self.inside.waiting c.self.inside.capacity c.args.node.0 c.args.leaf pool states hand
+          (queue-closed slice c.set_state.new.nodes c.self.inside.first c.self.inside.waiting c.args.node.0 (state.Closed c.args.leaf) hand c.set_state.ensures refl pool.queue)),
+      c.self.invariant.1,
+    )
 
 pub returns : goal.returns
 returns c =

@@ -17,6 +17,7 @@ invariant_of-result c =
     ∙ ap (λ (ns : List Node). ns ++ record { parent = c.node_in_hand-root.result.parent; state = state.Waiting key; links = c.node_in_hand-root.result.links } ∷ []) c.in_ok-nodes.ensures.items
     ∙ ap (λ (n : Node). record { parent = n.parent; state = state.Waiting key; links = n.links } ∷ []) c.node_in_hand-root.ensures in
     let P : List Node → Type 0 = λ ns. IsPool ns (Some (record { 0 = 0 })) 1 c.args.capacity in
-    let bounded : c.args.capacity ≤ 4_294_967_295 = omega (arith, c.ranges.capacity.fits) in
-    (subst P (sym items) (root-pool c.args.capacity key None c.requires bounded),
-    (let more = c.in_ok-push.ensures.capacity in let room = c.in_ok-nodes.ensures.capacity in omega (arith, more, room)))
+    let bounded : c.args.capacity ≤ 4_294_967_295 = omega (arith, c.ranges.capacity.fits) in (
+      subst P (sym items) (root-pool c.args.capacity key None c.requires bounded),
+      (let more = c.in_ok-push.ensures.capacity in let room = c.in_ok-nodes.ensures.capacity in omega (arith, more, room)),
+    )

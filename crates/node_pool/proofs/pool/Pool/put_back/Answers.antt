@@ -37,8 +37,10 @@ invariant_of-self c =
     let hand : IsInHand (states_of slice) c.args.node.0 = in-hand-at c.self.inside.nodes.items slice c.args.self.now.states c.args.node.0 c.as_mut_slice.ensures.value views c.requires in
     let room : c.self.inside.waiting + 1 ≤ c.self.inside.capacity = not-all-wait slice c.self.inside.first c.self.inside.waiting c.self.inside.capacity c.args.node.0 pool hand in
     let bounded = pool.bounded in
-    let key : ℤ = to_z w128 (of_z w128 c.args.key) in
-    (written-pool c.self.inside.nodes.len slice new (drop (length new) c.self.inside.nodes.items) c.args.node.0 (state.Waiting key) c.insert-self-inside.result
-    (c.self.inside.waiting + 1) c.self.inside.capacity c.as_mut_slice.ensures.len c.insert-self-inside.ensures.states
-    (pool-put slice new c.self.inside.first c.insert-self-inside.result c.self.inside.waiting c.self.inside.capacity c.args.node.0 key pool c.insert-self-inside.ensures.states hand
-    (c.insert-self-inside.ensures.queue c.self.inside.waiting (omega (arith, room, bounded)) pool.queue)), c.self.invariant.1)
+    let key : ℤ = to_z w128 (of_z w128 c.args.key) in (
+      written-pool c.self.inside.nodes.len slice new (drop (length new) c.self.inside.nodes.items) c.args.node.0 (state.Waiting key) c.insert-self-inside.result
+          (c.self.inside.waiting + 1) c.self.inside.capacity c.as_mut_slice.ensures.len c.insert-self-inside.ensures.states
+          (pool-put slice new c.self.inside.first c.insert-self-inside.result c.self.inside.waiting c.self.inside.capacity c.args.node.0 key pool c.insert-self-inside.ensures.states hand
+          (c.insert-self-inside.ensures.queue c.self.inside.waiting (omega (arith, room, bounded)) pool.queue)),
+      c.self.invariant.1,
+    )

@@ -39,11 +39,12 @@ invariant_of-self c =
     c.as_mut_slice.ensures.value count_is c.set_state.ensures hand in
     let queue : IsQueue slice c.add_waiting-self-inside-2.result (waiting + 1 + 1) =
     queue-at later slice c.add_waiting-self-inside-2.result (waiting + 1 + 1) c.as_mut_slice.ensures.value
-    (c.add_waiting-self-inside-2.ensures.queue (waiting + 1) few (c.add_waiting-self-inside.ensures.queue waiting (omega (arith, few)) pool.queue)) in
-    (split-pool-kept old slice new (drop (length new) later) c.add_waiting-self-inside-2.new.nodes.len c.self.inside.first c.add_waiting-self-inside-2.result waiting capacity
-    c.len-count.result c.args.node.0 c.args.line c.args.at _ _ pool is hand c.as_mut_slice.ensures.len c.set_state.ensures queue
-    (omega (arith, c.if-self-count-lt2.false, c.len-count.ensures, c.self.inside.nodes.ok.0)),
-    (let first = c.add_waiting-self-inside.ensures.capacity in let second = c.add_waiting-self-inside-2.ensures.capacity in let room = c.self.invariant.1 in omega (arith, first, second, room)))
+    (c.add_waiting-self-inside-2.ensures.queue (waiting + 1) few (c.add_waiting-self-inside.ensures.queue waiting (omega (arith, few)) pool.queue)) in (
+      split-pool-kept old slice new (drop (length new) later) c.add_waiting-self-inside-2.new.nodes.len c.self.inside.first c.add_waiting-self-inside-2.result waiting capacity
+          c.len-count.result c.args.node.0 c.args.line c.args.at _ _ pool is hand c.as_mut_slice.ensures.len c.set_state.ensures queue
+          (omega (arith, c.if-self-count-lt2.false, c.len-count.ensures, c.self.inside.nodes.ok.0)),
+      (let first = c.add_waiting-self-inside.ensures.capacity in let second = c.add_waiting-self-inside-2.ensures.capacity in let room = c.self.invariant.1 in omega (arith, first, second, room)),
+    )
 
 pub returns-clause-split : goal.returns-clause-split
 returns-clause-split c =
