@@ -13,8 +13,9 @@ use Rattle.node_pool.specs.declared.node.NodeId.{NodeId}
 use Rattle.node_pool.specs.declared.node.State.{State}
 use Rattle.node_pool.specs.declared.node.State.TheVariants as state
 use Rattle.node_pool.specs.Heap.{Empty, Fork, Heap, LeadsTo, lone_links, no_node, node_at, occurs}
-use Rattle.node_pool.specs.Pool.{AreChildren, IsInHand, IsLeast, SplitsAreWhole, is_waiting, state_at, with_state}
-use Rattle.node_pool.specs.Queue.{IsPool, IsQueue, states_of, times_waiting}
+use Rattle.node_pool.specs.Pool.{AreChildren, IsChildOf, IsInHand, IsOneTree, IsLeast, SplitsAreWhole, is_waiting, state_at, with_state}
+use Rattle.node_pool.specs.Queue.{AreParents, IsPool, IsQueue, states_of, times_waiting}
+use Rattle.node_pool.proofs.HeapFacts.{at-other, at-same}
 use Rattle.node_pool.proofs.QueueFacts.{queue-more, queue-set, state-at}
 
 -- what a write to all of a list gives
@@ -53,11 +54,57 @@ pub whole-set : (states : List State) (number : ℕ) (s : State) → number < le
     SplitsAreWhole (set states number s)
 whole-set states number s there not_split whole own line at left right h = whole_by states number s there not_split whole own line at left right h (own == number) refl
 
+-- a child stays one where a node changes that isn't split, before and after
+child_before : (states : List State) (number : ℕ) (s : State) (child own : ℕ) → number < length states → ((line at : ℕ) (left right : NodeId) → s ≡ state.Split line at left right → ⊥) →
+    IsChildOf (set states number s) child own → (b : Bool) → (own == number) ≡ b → IsChildOf states child own
+child_before states number s child own there not_split is true e =
+    let same : number ≡ own = grind (arith, e) in
+    let here : s ≡ state.Split is.line is.at is.left is.right =
+    sym (get_or-set_same states number s state.InHand there) ∙ ap (λ (n : ℕ). state_at (set states number s) n) same ∙ is.split in
+    absurd (not_split is.line is.at is.left is.right here)
+child_before states number s child own there not_split is false e =
+    let other : own ≢ number = (λ same. absurd (grind (arith, e, same))) in
+    record {
+      line = is.line; at = is.at; left = is.left; right = is.right;
+      split = sym (get_or-set_other states number own s state.InHand other) ∙ is.split;
+      side = is.side;
+    }
+
+child_after : (states : List State) (number : ℕ) (s : State) (child own : ℕ) → ((line at : ℕ) (left right : NodeId) → state_at states number ≡ state.Split line at left right → ⊥) →
+    IsChildOf states child own → (b : Bool) → (own == number) ≡ b → IsChildOf (set states number s) child own
+child_after states number s child own was_not is true e =
+    let same : own ≡ number = grind (arith, e) in
+    absurd (was_not is.line is.at is.left is.right (ap (λ (n : ℕ). state_at states n) (sym same) ∙ is.split))
+child_after states number s child own was_not is false e =
+    let other : own ≢ number = (λ same. absurd (grind (arith, e, same))) in
+    record {
+      line = is.line; at = is.at; left = is.left; right = is.right;
+      split = get_or-set_other states number own s state.InHand other ∙ is.split;
+      side = is.side;
+    }
+
+parents-changed : (old new : List Node) (number : ℕ) (s : State) → states_of new ≡ with_state (states_of old) number s → number < length (states_of old) →
+    ((line at : ℕ) (left right : NodeId) → s ≡ state.Split line at left right → ⊥) →
+    ((line at : ℕ) (left right : NodeId) → state_at (states_of old) number ≡ state.Split line at left right → ⊥) →
+    ((child : ℕ) → (node_at new child).parent ≡ (node_at old child).parent) → length new ≡ length old → AreParents old → AreParents new
+parents-changed old new number s states there not_split was_not same_parents same parents =
+    let P : List State → Type 0 = λ ss. (child own : ℕ) → IsChildOf ss child own → (node_at new child).parent ≡ Some (record { 0 = own }) in
+    let Q : List State → Type 0 = λ ss. (child : ℕ) → 1 ≤ child → child < length new → (own : ℕ) × IsChildOf ss child own in
+    record {
+      told = subst P (sym states) (λ child own is.
+          same_parents child ∙ parents.told child own (child_before (states_of old) number s child own there not_split is (own == number) refl));
+      there = subst Q (sym states) (λ child some inside.
+          (let found = parents.there child some (omega (arith, inside, same)) in
+          (found.0, child_after (states_of old) number s child found.0 was_not found.1 (found.0 == number) refl)));
+    }
+
 -- one node's state changes
 pub pool-changed : (old new : List Node) (link now : Option NodeId) (waiting count capacity number : ℕ) (s : State) → IsPool old link waiting capacity →
     states_of new ≡ with_state (states_of old) number s → number < length (states_of old) → ((line at : ℕ) (left right : NodeId) → s ≡ state.Split line at left right → ⊥) →
-    IsQueue new now count → count + one_if (is_waiting (state_at (states_of old) number)) ≡ waiting + one_if (is_waiting s) → IsPool new now count capacity
-pool-changed old new link now waiting count capacity number s pool states there not_split queue sum =
+    IsQueue new now count → count + one_if (is_waiting (state_at (states_of old) number)) ≡ waiting + one_if (is_waiting s) →
+    ((line at : ℕ) (left right : NodeId) → state_at (states_of old) number ≡ state.Split line at left right → ⊥) →
+    ((child : ℕ) → (node_at new child).parent ≡ (node_at old child).parent) → IsPool new now count capacity
+pool-changed old new link now waiting count capacity number s pool states there not_split queue sum was_not same_parents =
     let same : length new ≡ length old = count-kept old new number s states in
     let total = count-set (states_of old) number s there in
     let counted : count_by is_waiting (states_of new) ≡ count_by is_waiting (set (states_of old) number s) = ap (λ (ss : List State). count_by is_waiting ss) states in
@@ -69,6 +116,7 @@ pool-changed old new link now waiting count capacity number s pool states there 
       few = omega (arith, same, pool.few);
       bounded = pool.bounded;
       whole = subst P (sym states) (whole-set (states_of old) number s there not_split pool.whole);
+      parents = parents-changed old new number s states there not_split was_not same_parents same pool.parents;
     }
 
 least_there : (states : List State) (number : ℕ) → IsLeast states number → number < length states
@@ -79,23 +127,29 @@ least_there states number least = there (cases_lt number (length states))
     there (inr past) = let out : state.InHand ≡ state.Waiting least.key = sym (get_or_past states number state.InHand past) ∙ least.waits in absurd (cc)
 
 pub pool-taken : (old new : List Node) (first : NodeId) (now : Option NodeId) (waiting capacity : ℕ) → IsPool old (Some first) waiting capacity →
-    states_of new ≡ with_state (states_of old) first.0 state.InHand → IsLeast (states_of old) first.0 → IsQueue new now (waiting - 1) → 1 ≤ waiting → IsPool new now (waiting - 1) capacity
-pool-taken old new first now waiting capacity pool states least queue some =
+    states_of new ≡ with_state (states_of old) first.0 state.InHand → IsLeast (states_of old) first.0 → IsQueue new now (waiting - 1) → 1 ≤ waiting →
+    ((child : ℕ) → (node_at new child).parent ≡ (node_at old child).parent) → IsPool new now (waiting - 1) capacity
+pool-taken old new first now waiting capacity pool states least queue some same_parents =
     let was : one_if (is_waiting (state_at (states_of old) first.0)) ≡ 1 = ap (λ (s : State). one_if (is_waiting s)) least.waits in
     pool-changed old new (Some first) now waiting (waiting - 1) capacity first.0 state.InHand pool states (least_there (states_of old) first.0 least)
     (λ line at left right h. absurd (cc)) queue (omega (arith, was, some))
+    (λ line at left right h. (let bad : state.Waiting least.key ≡ state.Split line at left right = sym least.waits ∙ h in absurd (cc))) same_parents
 
 pub pool-put : (old new : List Node) (link now : Option NodeId) (waiting capacity number : ℕ) (key : ℤ) → IsPool old link waiting capacity →
-    states_of new ≡ with_state (states_of old) number (state.Waiting key) → IsInHand (states_of old) number → IsQueue new now (waiting + 1) → IsPool new now (waiting + 1) capacity
-pool-put old new link now waiting capacity number key pool states hand queue =
+    states_of new ≡ with_state (states_of old) number (state.Waiting key) → IsInHand (states_of old) number → IsQueue new now (waiting + 1) →
+    ((child : ℕ) → (node_at new child).parent ≡ (node_at old child).parent) → IsPool new now (waiting + 1) capacity
+pool-put old new link now waiting capacity number key pool states hand queue same_parents =
     let was : one_if (is_waiting (state_at (states_of old) number)) ≡ 0 = ap (λ (s : State). one_if (is_waiting s)) hand.in_hand in
     pool-changed old new link now waiting (waiting + 1) capacity number (state.Waiting key) pool states hand.there (λ line at left right h. absurd (cc)) queue (omega (arith, was))
+    (λ line at left right h. (let bad : state.InHand ≡ state.Split line at left right = sym hand.in_hand ∙ h in absurd (cc))) same_parents
 
 pub pool-closed : (old new : List Node) (link : Option NodeId) (waiting capacity number : ℕ) (leaf : ℕ) → IsPool old link waiting capacity →
-    states_of new ≡ with_state (states_of old) number (state.Closed leaf) → IsInHand (states_of old) number → IsQueue new link waiting → IsPool new link waiting capacity
-pool-closed old new link waiting capacity number leaf pool states hand queue =
+    states_of new ≡ with_state (states_of old) number (state.Closed leaf) → IsInHand (states_of old) number → IsQueue new link waiting →
+    ((child : ℕ) → (node_at new child).parent ≡ (node_at old child).parent) → IsPool new link waiting capacity
+pool-closed old new link waiting capacity number leaf pool states hand queue same_parents =
     let was : one_if (is_waiting (state_at (states_of old) number)) ≡ 0 = ap (λ (s : State). one_if (is_waiting s)) hand.in_hand in
     pool-changed old new link link waiting waiting capacity number (state.Closed leaf) pool states hand.there (λ line at left right h. absurd (cc)) queue (omega (arith, was))
+    (λ line at left right h. (let bad : state.InHand ≡ state.Split line at left right = sym hand.in_hand ∙ h in absurd (cc))) same_parents
 
 -- where a node is in hand, not all wait
 pub not-all-wait : (nodes : List Node) (link : Option NodeId) (waiting capacity number : ℕ) → IsPool nodes link waiting capacity → IsInHand (states_of nodes) number → waiting + 1 ≤ capacity
@@ -124,12 +178,17 @@ root-pool capacity key parent some bounded = record {
   few = omega (arith, some);
   bounded = bounded;
   whole = root_whole;
+  parents = record { told = root_told; there = λ child some inside. absurd (omega (arith, some, inside)); };
 }
   where
     root_once : (number : ℕ) → occurs (Fork 0 key Empty Empty) number ≡ times_waiting (node_at (record { parent = parent; state = state.Waiting key; links = lone_links } ∷ []) number).state
     root_once zero = refl
     root_once (suc number) = let no : (0 == suc number) ≡ false = grind arith in ap (λ (b : Bool). (if b then 1 else 0) + (0 + 0)) no
 
+    root_told : (child number : ℕ) → IsChildOf (state.Waiting key ∷ []) child number →
+        (node_at (record { parent = parent; state = state.Waiting key; links = lone_links } ∷ []) child).parent ≡ Some (record { 0 = number })
+    root_told child zero is = let bad : state.Waiting key ≡ state.Split is.line is.at is.left is.right = is.split in absurd (cc)
+    root_told child (suc number) is = let bad : state.InHand ≡ state.Split is.line is.at is.left is.right = is.split in absurd (cc)
     root_whole : SplitsAreWhole (state.Waiting key ∷ [])
     root_whole zero line at left right h = absurd (cc)
     root_whole (suc number) line at left right h = absurd (cc)
@@ -160,6 +219,24 @@ count-small nodes link waiting capacity pool =
     let most : count_by is_waiting (states_of nodes) ≤ length (states_of nodes) = count_by-le-length is_waiting (states_of nodes) in
     let same : length (states_of nodes) ≡ length nodes = length-map nodes (λ (node : Node). node.state) in
     omega (arith, most, same, pool.waiting_is, pool.few, pool.bounded)
+
+-- a change of state keeps parents
+parents_by : (nodes : List Node) (number child : ℕ) (s : State) (b : Bool) → (number == child) ≡ b → number < length nodes →
+    (node_at (slice_set nodes number (record (node_at nodes number) { state = s })) child).parent ≡ (node_at nodes child).parent
+parents_by nodes number child s true e there =
+    let same : number ≡ child = grind (arith, e) in
+    let node : Node = record (node_at nodes number) { state = s } in
+    ap (λ (n : ℕ). (node_at (slice_set nodes number node) n).parent) (sym same) ∙ ap (λ (n : Node). n.parent) (at-same nodes number node there)
+    ∙ ap (λ (n : ℕ). (node_at nodes n).parent) same
+parents_by nodes number child s false e there =
+    let other : number ≢ child = (λ same. absurd (grind (arith, e, same))) in
+    ap (λ (n : Node). n.parent) (at-other nodes number child (record (node_at nodes number) { state = s }) other)
+
+pub parents-set : (nodes new : List Node) (number child : ℕ) (s : State) → new ≡ slice_set nodes number (record (node_at nodes number) { state = s }) → IsInHand (states_of nodes) number →
+    (node_at new child).parent ≡ (node_at nodes child).parent
+parents-set nodes new number child s new_is hand =
+    let there : number < length nodes = (let h = hand.there in omega (arith, h, length-map nodes (λ (node : Node). node.state))) in
+    ap (λ (ns : List Node). (node_at ns child).parent) new_is ∙ parents_by nodes number child s (number == child) refl there
 
 -- the queue stays where a node in hand comes to be closed or split
 pub queue-closed : (nodes new : List Node) (link : Option NodeId) (waiting number : ℕ) (s : State) → IsInHand (states_of nodes) number →
@@ -242,10 +319,144 @@ split_whole old number line at l r there whole own line2 at2 left right (inr pas
     no_split_there l r (suc zero) line2 at2 left right h = absurd (cc)
     no_split_there l r (suc (suc k)) line2 at2 left right h = absurd (cc)
 
+abbrev pub numbered : ℕ → NodeId
+numbered number = record { 0 = number }
+
+-- the states behind a split
+abbrev split_of : List State → ℕ → ℕ → State
+split_of old line at = state.Split line at (record { 0 = length old }) (record { 0 = length old + 1 })
+
+abbrev after_split : List State → ℕ → ℕ → ℕ → ℤ → ℤ → List State
+after_split old number line at l r = with_state old number (split_of old line at) ++ state.Waiting l ∷ state.Waiting r ∷ []
+
+front_state : (old : List State) (number line at : ℕ) (l r : ℤ) (own : ℕ) → own < length old → state_at (after_split old number line at l r) own ≡ state_at (with_state old number (split_of old line at)) own
+front_state old number line at l r own inside =
+    get_or-append (with_state old number (split_of old line at)) (state.Waiting l ∷ state.Waiting r ∷ []) state.InHand own (omega (arith, length-set old number (split_of old line at), inside))
+
+own_state : (old : List State) (number line at : ℕ) (l r : ℤ) → number < length old → state_at (after_split old number line at l r) number ≡ split_of old line at
+own_state old number line at l r there = front_state old number line at l r number there ∙ get_or-set_same old number (split_of old line at) state.InHand there
+
+other_state : (old : List State) (number line at : ℕ) (l r : ℤ) (own : ℕ) → own < length old → own ≢ number → state_at (after_split old number line at l r) own ≡ state_at old own
+other_state old number line at l r own inside other =
+    front_state old number line at l r own inside ∙ get_or-set_other old number own (split_of old line at) state.InHand other
+
+no_split_at : (l r : ℤ) (k line at : ℕ) (left right : NodeId) → get_or (state.Waiting l ∷ state.Waiting r ∷ []) k state.InHand ≡ state.Split line at left right → ⊥
+no_split_at l r zero line at left right h = absurd (cc)
+no_split_at l r (suc zero) line at left right h = absurd (cc)
+no_split_at l r (suc (suc k)) line at left right h = absurd (cc)
+
+not_behind : (old : List State) (number line at : ℕ) (l r : ℤ) (child own : ℕ) → length old ≤ own → IsChildOf (after_split old number line at l r) child own → ⊥
+not_behind old number line at l r child own past is =
+    let back = get_or-append_right (with_state old number (split_of old line at)) (state.Waiting l ∷ state.Waiting r ∷ []) own state.InHand
+    (omega (arith, length-set old number (split_of old line at), past)) in
+    no_split_at l r (own - length (with_state old number (split_of old line at))) is.line is.at is.left is.right (sym back ∙ is.split)
+
+same_children : (left right first second : ℕ) (line at line2 at2 : ℕ) (l r : NodeId) → state.Split line at (record { 0 = first }) (record { 0 = second }) ≡ state.Split line2 at2 l r →
+    (first ≡ l.0) × (second ≡ r.0)
+same_children left right first second line at line2 at2 l r h =
+    let one : numbered first ≡ l = cc in
+    let two : numbered second ≡ r = cc in
+    (ap (λ (n : NodeId). n.0) one, ap (λ (n : NodeId). n.0) two)
+
+-- a child of the new split is one of the two new nodes
+new_child : (old : List State) (number line at : ℕ) (l r : ℤ) (child : ℕ) → number < length old → IsChildOf (after_split old number line at l r) child number →
+    (child ≡ length old) ⊎ (child ≡ length old + 1)
+new_child old number line at l r child there is =
+    let both : (length old ≡ is.left.0) × (length old + 1 ≡ is.right.0) =
+    same_children 0 0 (length old) (length old + 1) line at is.line is.at is.left is.right (sym (own_state old number line at l r there) ∙ is.split) in
+    elim is.side [ | inl left ↦ inl (sym left ∙ sym both.0) | inr right ↦ inr (sym right ∙ sym both.1) ]
+
+old_child : (old : List State) (number line at : ℕ) (l r : ℤ) (child own : ℕ) → own < length old → own ≢ number → IsChildOf (after_split old number line at l r) child own → IsChildOf old child own
+old_child old number line at l r child own inside other is = record {
+  line = is.line; at = is.at; left = is.left; right = is.right;
+  split = sym (other_state old number line at l r own inside other) ∙ is.split;
+  side = is.side;
+}
+
+child_inside : (old : List State) (child own : ℕ) → SplitsAreWhole old → IsChildOf old child own → child < length old
+child_inside old child own whole is =
+    let are : AreChildren old own is.left is.right = whole own is.line is.at is.left is.right is.split in
+    let next = are.next in let there = are.there in
+    elim is.side [ | inl left ↦ omega (arith, left, next, there) | inr right ↦ omega (arith, right, there) ]
+
+split_inside : (old : List State) (child own : ℕ) → IsChildOf old child own → (own < length old) ⊎ (length old ≤ own) → own < length old
+split_inside old child own is (inl inside) = inside
+split_inside old child own is (inr past) =
+    let bad : state.InHand ≡ state.Split is.line is.at is.left is.right = sym (get_or_past old own state.InHand past) ∙ is.split in absurd (cc)
+
+either_side : (new : List Node) (child n number own : ℕ) → (child ≡ n) ⊎ (child ≡ n + 1) → (node_at new n).parent ≡ Some (numbered number) → (node_at new (n + 1)).parent ≡ Some (numbered number) →
+    own ≡ number → (node_at new child).parent ≡ Some (numbered own)
+either_side new child n number own (inl left) first second same =
+    ap (λ (k : ℕ). (node_at new k).parent) left ∙ first ∙ ap (λ (k : ℕ). Some (numbered k)) (sym same)
+either_side new child n number own (inr right) first second same =
+    ap (λ (k : ℕ). (node_at new k).parent) right ∙ second ∙ ap (λ (k : ℕ). Some (numbered k)) (sym same)
+
+told_by : (old new : List Node) (number line at : ℕ) (l r : ℤ) (child own : ℕ) → number < length (states_of old) → SplitsAreWhole (states_of old) → AreParents old →
+    ((i : ℕ) → i < length old → (node_at new i).parent ≡ (node_at old i).parent) → (node_at new (length old)).parent ≡ Some (record { 0 = number }) →
+    (node_at new (length old + 1)).parent ≡ Some (record { 0 = number }) → IsChildOf (after_split (states_of old) number line at l r) child own →
+    (own < length (states_of old)) ⊎ (length (states_of old) ≤ own) → (b : Bool) → (own == number) ≡ b → (node_at new child).parent ≡ Some (record { 0 = own })
+told_by old new number line at l r child own there whole parents others first second is (inr past) b e = absurd (not_behind (states_of old) number line at l r child own past is)
+told_by old new number line at l r child own there whole parents others first second is (inl inside) true e =
+    let same : own ≡ number = grind (arith, e) in
+    let long : length (states_of old) ≡ length old = length-map old (λ (n : Node). n.state) in
+    let P : ℕ → Type 0 = λ n. IsChildOf (after_split (states_of old) number line at l r) child n in
+    let first_long : (node_at new (length (states_of old))).parent ≡ Some (numbered number) = ap (λ (k : ℕ). (node_at new k).parent) long ∙ first in
+    let second_long : (node_at new (length (states_of old) + 1)).parent ≡ Some (numbered number) = ap (λ (k : ℕ). (node_at new (k + 1)).parent) long ∙ second in
+    either_side new child (length (states_of old)) number own (new_child (states_of old) number line at l r child there (subst P same is)) first_long second_long same
+told_by old new number line at l r child own there whole parents others first second is (inl inside) false e =
+    let other : own ≢ number = (λ same. absurd (grind (arith, e, same))) in
+    let was : IsChildOf (states_of old) child own = old_child (states_of old) number line at l r child own inside other is in
+    let low : child < length (states_of old) = child_inside (states_of old) child own whole was in
+    others child (omega (arith, low, length-map old (λ (n : Node). n.state))) ∙ parents.told child own was
+
+still_child : (old : List State) (number line at : ℕ) (l r : ℤ) (child own : ℕ) → state_at old number ≡ state.InHand → IsChildOf old child own → (b : Bool) → (own == number) ≡ b →
+    IsChildOf (after_split old number line at l r) child own
+still_child old number line at l r child own hand is true e =
+    let same : own ≡ number = grind (arith, e) in
+    let bad : state.InHand ≡ state.Split is.line is.at is.left is.right = sym hand ∙ ap (λ (n : ℕ). state_at old n) (sym same) ∙ is.split in absurd (cc)
+still_child old number line at l r child own hand is false e =
+    let other : own ≢ number = (λ same. absurd (grind (arith, e, same))) in
+    record {
+      line = is.line; at = is.at; left = is.left; right = is.right;
+      split = other_state old number line at l r own (split_inside old child own is (cases_lt own (length old))) other ∙ is.split;
+      side = is.side;
+    }
+
+there_for : (old : List Node) (number line at : ℕ) (l r : ℤ) (child : ℕ) → IsInHand (states_of old) number → AreParents old → 1 ≤ child → child < length (states_of old) + 2 →
+    (child < length (states_of old)) ⊎ (length (states_of old) ≤ child) → (own : ℕ) × IsChildOf (after_split (states_of old) number line at l r) child own
+there_for old number line at l r child hand parents some inside (inl low) =
+    let found = parents.there child some (omega (arith, low, length-map old (λ (n : Node). n.state))) in
+    (found.0, still_child (states_of old) number line at l r child found.0 hand.in_hand found.1 (found.0 == number) refl)
+there_for old number line at l r child hand parents some inside (inr past) =
+    (number, record {
+      line = line; at = at; left = record { 0 = length (states_of old) }; right = record { 0 = length (states_of old) + 1 };
+      split = own_state (states_of old) number line at l r hand.there;
+      side = which (length (states_of old)) child (omega (arith, past)) (omega (arith, inside)) (cases_lt (length (states_of old)) child);
+    })
+  where
+    which : (n c : ℕ) → n ≤ c → c < n + 2 → (n < c) ⊎ (c ≤ n) → (n ≡ c) ⊎ (n + 1 ≡ c)
+    which n c low high (inl more) = inr (omega (arith, low, high, more))
+    which n c low high (inr less) = inl (omega (arith, low, less))
+
+parents-split : (old new : List Node) (number line at : ℕ) (l r : ℤ) → states_of new ≡ after_split (states_of old) number line at l r → IsInHand (states_of old) number →
+    SplitsAreWhole (states_of old) → AreParents old → ((i : ℕ) → i < length old → (node_at new i).parent ≡ (node_at old i).parent) →
+    (node_at new (length old)).parent ≡ Some (record { 0 = number }) → (node_at new (length old + 1)).parent ≡ Some (record { 0 = number }) → length new ≡ length (states_of old) + 2 → AreParents new
+parents-split old new number line at l r states hand whole parents others first second long =
+    let P : List State → Type 0 = λ ss. (child own : ℕ) → IsChildOf ss child own → (node_at new child).parent ≡ Some (record { 0 = own }) in
+    let Q : List State → Type 0 = λ ss. (child : ℕ) → 1 ≤ child → child < length new → (own : ℕ) × IsChildOf ss child own in
+    record {
+      told = subst P (sym states) (λ child own is.
+          told_by old new number line at l r child own hand.there whole parents others first second is (cases_lt own (length (states_of old))) (own == number) refl);
+      there = subst Q (sym states) (λ child some inside.
+          there_for old number line at l r child hand parents some (omega (arith, inside, long)) (cases_lt child (length (states_of old))));
+    }
+
 pub pool-split : (old new : List Node) (link now : Option NodeId) (waiting capacity number line at : ℕ) (l r : ℤ) → IsPool old link waiting capacity →
     states_of new ≡ with_state (states_of old) number (state.Split line at (record { 0 = length (states_of old) }) (record { 0 = length (states_of old) + 1 })) ++ state.Waiting l ∷ state.Waiting r ∷ [] →
-    IsInHand (states_of old) number → IsQueue new now (waiting + 2) → length (states_of old) + 2 ≤ capacity → IsPool new now (waiting + 2) capacity
-pool-split old new link now waiting capacity number line at l r pool states hand queue room =
+    IsInHand (states_of old) number → IsQueue new now (waiting + 2) → length (states_of old) + 2 ≤ capacity →
+    ((i : ℕ) → i < length old → (node_at new i).parent ≡ (node_at old i).parent) → (node_at new (length old)).parent ≡ Some (record { 0 = number }) →
+    (node_at new (length old + 1)).parent ≡ Some (record { 0 = number }) → IsPool new now (waiting + 2) capacity
+pool-split old new link now waiting capacity number line at l r pool states hand queue room others first second =
     let s : State = state.Split line at (record { 0 = length (states_of old) }) (record { 0 = length (states_of old) + 1 }) in
     let all : List State = with_state (states_of old) number s ++ state.Waiting l ∷ state.Waiting r ∷ [] in
     let was : one_if (is_waiting (state_at (states_of old) number)) ≡ 0 = ap (λ (t : State). one_if (is_waiting t)) hand.in_hand in
@@ -266,6 +477,7 @@ pool-split old new link now waiting capacity number line at l r pool states hand
       bounded = pool.bounded;
       whole = subst P (sym states) (λ own line2 at2 left right h.
           split_whole (states_of old) number line at l r hand.there pool.whole own line2 at2 left right (cases_lt own (length (states_of old))) h (own == number) refl);
+      parents = parents-split old new number line at l r states hand pool.whole pool.parents others first second (new_long ∙ long);
     }
 
 -- the steps of a split
@@ -310,8 +522,11 @@ is-split old mid later slice new count number line at l r first second slice_is 
 pub split-pool-kept : (old slice new rest : List Node) (len : ℕ) (link now : Option NodeId) (waiting capacity count number line at : ℕ) (l r : ℤ) → IsPool old link waiting capacity →
     IsSplit old slice new count number line at l r → IsInHand (states_of old) number → length slice ≡ len →
     new ≡ slice_set slice number (record (node_at slice number) { state = state.Split line at (record { 0 = count }) (record { 0 = count + 1 }) }) →
-    IsQueue slice now (waiting + 1 + 1) → length old + 2 ≤ capacity → IsPool (take len (new ++ rest)) now (waiting + 2) capacity
-split-pool-kept old slice new rest len link now waiting capacity count number line at l r pool is hand len_is new_is queue room =
+    IsQueue slice now (waiting + 1 + 1) → length old + 2 ≤ capacity →
+    ((i : ℕ) → i < length old → (node_at slice i).parent ≡ (node_at old i).parent) → (node_at slice (length old)).parent ≡ Some (record { 0 = number }) →
+    (node_at slice (length old + 1)).parent ≡ Some (record { 0 = number }) → IsPool (take len (new ++ rest)) now (waiting + 2) capacity
+split-pool-kept old slice new rest len link now waiting capacity count number line at l r pool is hand len_is new_is queue room others first second =
+    let s : State = state.Split line at (record { 0 = count }) (record { 0 = count + 1 }) in
     let P : List Node → Type 0 = λ ns. IsPool ns now (waiting + 2) capacity in
     let Q : ℕ → Type 0 = λ k. IsQueue new now k in
     let two : waiting + 1 + 1 ≡ waiting + 2 = omega arith in
@@ -319,7 +534,9 @@ split-pool-kept old slice new rest len link now waiting capacity count number li
     subst P (sym (written len new rest (is.same_length ∙ len_is)))
     (pool-split old new link now waiting capacity number line at l r pool is.states hand
     (subst Q two (queue-closed slice new now (waiting + 1 + 1) number (state.Split line at (record { 0 = count }) (record { 0 = count + 1 })) is.in_hand new_is refl queue))
-    (omega (arith, same, room)))
+    (omega (arith, same, room))
+    (λ i inside. parents-set slice new number i s new_is is.in_hand ∙ others i inside) (parents-set slice new number (length old) s new_is is.in_hand ∙ first)
+    (parents-set slice new number (length old + 1) s new_is is.in_hand ∙ second))
 
 pub queue-at : (items slice : List Node) (link : Option NodeId) (count : ℕ) → slice ≡ items → IsQueue items link count → IsQueue slice link count
 queue-at items slice link count same queue = (let P : List Node → Type 0 = λ ns. IsQueue ns link count in subst P (sym same) queue)
@@ -335,3 +552,45 @@ hand-now states number least =
 
 pub hand-at : (states now : List State) (number : ℕ) → now ≡ with_state states number state.InHand → IsLeast states number → IsInHand now number
 hand-at states now number now_is least = (let P : List State → Type 0 = λ ss. IsInHand ss number in subst P (sym now_is) (hand-now states number least))
+
+-- the states are one tree
+pub one-tree : (nodes : List Node) (link : Option NodeId) (waiting capacity : ℕ) → IsPool nodes link waiting capacity → IsOneTree (states_of nodes)
+one-tree nodes link waiting capacity pool =
+    let long : length (states_of nodes) ≡ length nodes = length-map nodes (λ (n : Node). n.state) in
+    record {
+      some = omega (arith, long, pool.some);
+      root = λ number is. earlier_root number is;
+      parent = λ child some inside.
+          (let found = pool.parents.there child some (omega (arith, inside, long)) in (found.0, earlier child found.0 found.1, found.1));
+      one = λ child number other is also.
+          (let same : Some (numbered number) ≡ Some (numbered other) = sym (pool.parents.told child number is) ∙ pool.parents.told child other also in same_number number other same);
+    }
+  where
+    same_number : (number other : ℕ) → Some (numbered number) ≡ Some (numbered other) → number ≡ other
+    same_number number other h = let one : numbered number ≡ numbered other = cc in ap (λ (n : NodeId). n.0) one
+    earlier : (child number : ℕ) → IsChildOf (states_of nodes) child number → number < child
+    earlier child number is =
+        let are : AreChildren (states_of nodes) number is.left is.right = pool.whole number is.line is.at is.left is.right is.split in
+        let later = are.later in let next = are.next in
+        elim is.side [ | inl left ↦ omega (arith, left, later) | inr right ↦ omega (arith, right, next, later) ]
+    earlier_root : (number : ℕ) → IsChildOf (states_of nodes) 0 number → ⊥
+    earlier_root number is = let low : number < 0 = earlier 0 number is in absurd (omega (arith, low))
+
+-- the parents of the children of a split
+pub record HaveParents (old slice : List Node) (number : ℕ) : Type 0 where
+  pub others : (i : ℕ) → i < length old → (node_at slice i).parent ≡ (node_at old i).parent
+  pub first : (node_at slice (length old)).parent ≡ Some (record { 0 = number })
+  pub second : (node_at slice (length old + 1)).parent ≡ Some (record { 0 = number })
+
+pub have-parents : (old mid later slice : List Node) (node : NodeId) (s : State) → slice ≡ later → states_of mid ≡ states_of old ++ s ∷ [] →
+    ((i : ℕ) → i < length old → (node_at mid i).parent ≡ (node_at old i).parent) → (node_at mid (length old)).parent ≡ Some node →
+    ((i : ℕ) → i < length mid → (node_at later i).parent ≡ (node_at mid i).parent) → (node_at later (length mid)).parent ≡ Some node → HaveParents old slice node.0
+have-parents old mid later slice node s slice_is states others own others_later own_later =
+    let long : length mid ≡ length old + 1 =
+    sym (length-map mid (λ (n : Node). n.state)) ∙ ap length states ∙ length-append (states_of old) (s ∷ []) ∙ ap (λ (k : ℕ). k + 1) (length-map old (λ (n : Node). n.state)) in
+    let at : (i : ℕ) → (node_at slice i).parent ≡ (node_at later i).parent = (λ i. ap (λ (ns : List Node). (node_at ns i).parent) slice_is) in
+    record {
+      others = λ i inside. at i ∙ others_later i (omega (arith, long, inside)) ∙ others i inside;
+      first = at (length old) ∙ others_later (length old) (omega (arith, long)) ∙ own;
+      second = at (length old + 1) ∙ ap (λ (k : ℕ). (node_at later k).parent) (sym long) ∙ own_later;
+    }

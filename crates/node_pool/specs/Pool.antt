@@ -66,3 +66,19 @@ pub record AreChildren (states : List State) (number : ℕ) (left right : NodeId
 -- each split has such children
 abbrev pub SplitsAreWhole : List State → Type 0
 SplitsAreWhole states = (number line at : ℕ) (left right : NodeId) → state_at states number ≡ state.Split line at left right → AreChildren states number left right
+
+-- a node is a child of a split
+pub record IsChildOf (states : List State) (child number : ℕ) : Type 0 where
+  pub line : ℕ
+  pub at : ℕ
+  pub left : NodeId
+  pub right : NodeId
+  pub split : state_at states number ≡ state.Split line at left right
+  pub side : (left.0 ≡ child) ⊎ (right.0 ≡ child)
+
+-- the nodes are one tree: the root is no child, and each other node is a child of exactly one split, which is earlier
+pub record IsOneTree (states : List State) : Type 0 where
+  pub some : 1 ≤ length states
+  pub root : (number : ℕ) → IsChildOf states 0 number → ⊥
+  pub parent : (child : ℕ) → 1 ≤ child → child < length states → (number : ℕ) × (number < child) × IsChildOf states child number
+  pub one : (child number other : ℕ) → IsChildOf states child number → IsChildOf states child other → number ≡ other

@@ -1,11 +1,11 @@
 -- The nodes that wait, as a queue. How the pool keeps them is this project's own, and no public clause tells of it.
-use Rattle.std.specs.Prelude.{◌≡◌, ℕ, ◌≤◌, List, length, map, slice_set, Option}
+use Rattle.std.specs.Prelude.{◌≡◌, ℕ, ◌<◌, ◌≤◌, List, length, map, slice_set, Option, Some}
 use Rattle.std.specs.List.{count_by}
 use Rattle.node_pool.specs.declared.node.Node.{Node}
 use Rattle.node_pool.specs.declared.node.NodeId.{NodeId}
 use Rattle.node_pool.specs.declared.node.State.{State}
 use Rattle.node_pool.specs.declared.node.State.TheVariants as state
-use Rattle.node_pool.specs.Pool.{SplitsAreWhole, is_waiting}
+use Rattle.node_pool.specs.Pool.{IsChildOf, SplitsAreWhole, is_waiting}
 use Rattle.node_pool.specs.Heap.{Heap, IsLeftist, IsOrdered, LeadsTo, node_at, occurs, size}
 
 abbrev pub states_of : List Node → List State
@@ -32,6 +32,11 @@ SomeQueue nodes link = (count : ℕ) × (count ≤ 4_294_967_295) × IsQueue nod
 abbrev pub with_node_state : List Node → ℕ → State → List Node
 with_node_state nodes number new = slice_set nodes number (record (node_at nodes number) { state = new })
 
+-- each child tells its parent
+pub record AreParents (nodes : List Node) : Type 0 where
+  pub told : (child number : ℕ) → IsChildOf (states_of nodes) child number → (node_at nodes child).parent ≡ Some (record { 0 = number })
+  pub there : (child : ℕ) → 1 ≤ child → child < length nodes → (number : ℕ) × IsChildOf (states_of nodes) child number
+
 -- the nodes of a pool, the link to the queue, and how many wait
 pub record IsPool (nodes : List Node) (link : Option NodeId) (waiting capacity : ℕ) : Type 0 where
   pub queue : IsQueue nodes link waiting
@@ -40,3 +45,4 @@ pub record IsPool (nodes : List Node) (link : Option NodeId) (waiting capacity :
   pub few : length nodes ≤ capacity
   pub bounded : capacity ≤ 4_294_967_295
   pub whole : SplitsAreWhole (states_of nodes)
+  pub parents : AreParents nodes

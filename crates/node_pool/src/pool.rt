@@ -1,10 +1,11 @@
 //! The pool of nodes.
 ghost use Rattle.std.specs.Prelude.{◌≡◌, ◌<◌, ◌≤◌, ◌+◌, ◌++◌, ◌∷◌, [], ℕ, None, Some, length, IfErr, IfOk, IfSome};
 ghost use Rattle.std.specs.Vec.{vec_capacity};
+ghost use Rattle.node_pool.specs.Heap.{node_at};
 ghost use Rattle.node_pool.specs.Queue.{IsQueue, states_of};
 ghost use Rattle.std.specs.List.{count_by};
 ghost use Rattle.node_pool.specs.declared.node.State.TheVariants as state;
-ghost use Rattle.node_pool.specs.Pool.{IsInHand, IsLeast, NoneWaits, SplitsAreWhole, is_waiting, new_pool, pool_with, split_pool};
+ghost use Rattle.node_pool.specs.Pool.{IsInHand, IsLeast, IsOneTree, NoneWaits, SplitsAreWhole, is_waiting, new_pool, pool_with, split_pool};
 ghost use Rattle.node_pool.specs.Tree.{AreEnded, IsPreorderOf};
 
 use crate::node::{Full, Link, Links, Node, NodeId, State};
@@ -65,6 +66,8 @@ fn add_waiting(
     ensures states { states_of nodes.new.items ≡ states_of nodes.old.items ++ state.Waiting key ∷ [] }
     ensures queue { (count : ℕ) → count < 4_294_967_295 → IsQueue nodes.old.items link count → IsQueue nodes.new.items result (count + 1) }
     ensures capacity { vec_capacity nodes.old ≤ vec_capacity nodes.new }
+    ensures own { (node_at nodes.new.items (length nodes.old.items)).parent ≡ Some parent }
+    ensures others { (number : ℕ) → number < length nodes.old.items → (node_at nodes.new.items number).parent ≡ (node_at nodes.old.items number).parent }
 {
     let node = NodeId(nodes.len() as u32);
     let _pushed = nodes.push(node_in_hand(Some(parent)));
@@ -161,11 +164,13 @@ impl Pool {
         set_state(self.nodes.as_mut_slice(), node, State::Closed(leaf));
     }
 
-    /// How many nodes there are, the root at least. The children of each split come after it.
+    /// How many nodes there are, the root at least. They are one tree: each but the root is a child of exactly one split, and
+    /// comes after it.
     pub fn count(&self) -> u32
         ensures value { result ≡ length self.now.states }
         ensures some { 1 ≤ result }
         ensures few { result ≤ self.now.capacity }
+        ensures tree { IsOneTree self.now.states }
         ensures whole { SplitsAreWhole self.now.states }
     {
         self.nodes.len() as u32

@@ -5,7 +5,7 @@ use Rattle.node_pool.specs.declared.node.State.TheVariants as state
 use Rattle.node_pool.specs.Heap.{node_at}
 use Rattle.node_pool.specs.Pool.{IsInHand, PoolContents, with_state}
 use Rattle.node_pool.specs.Queue.{IsPool, states_of}
-use Rattle.node_pool.proofs.PoolFacts.{in-hand-at, pool-at, pool-closed, queue-closed, written-pool, written-states}
+use Rattle.node_pool.proofs.PoolFacts.{in-hand-at, parents-set, pool-at, pool-closed, queue-closed, written-pool, written-states}
 use Rattle.node_pool.proofs.QueueFacts.{states-set}
 use Rattle.node_pool.proofs.pool.Pool.close.Goals as goal
 
@@ -21,7 +21,8 @@ invariant_of-self c =
       written-pool c.self.inside.nodes.len slice c.set_state.new.nodes (drop (length c.set_state.new.nodes) c.self.inside.nodes.items) c.args.node.0 (state.Closed c.args.leaf)
           c.self.inside.first c.self.inside.waiting c.self.inside.capacity c.as_mut_slice.ensures.len states
           (pool-closed slice c.set_state.new.nodes c.self.inside.first c.self.inside.waiting c.self.inside.capacity c.args.node.0 c.args.leaf pool states hand
-          (queue-closed slice c.set_state.new.nodes c.self.inside.first c.self.inside.waiting c.args.node.0 (state.Closed c.args.leaf) hand c.set_state.ensures refl pool.queue)),
+          (queue-closed slice c.set_state.new.nodes c.self.inside.first c.self.inside.waiting c.args.node.0 (state.Closed c.args.leaf) hand c.set_state.ensures refl pool.queue)
+          (λ child. parents-set slice c.set_state.new.nodes c.args.node.0 child (state.Closed c.args.leaf) c.set_state.ensures hand)),
       c.self.invariant.1,
     )
 

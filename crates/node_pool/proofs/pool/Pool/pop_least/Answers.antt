@@ -17,7 +17,7 @@ invariant_of-self c =
       written-pool c.self.inside.nodes.len slice new (drop (length new) c.self.inside.nodes.items) first.0 state.InHand c.take_first-self-inside.result _ c.self.inside.capacity
           c.as_mut_slice.ensures.len c.take_first-self-inside.ensures.states
           (pool-taken slice new first c.take_first-self-inside.result waiting c.self.inside.capacity pool c.take_first-self-inside.ensures.states c.take_first-self-inside.ensures.least
-          (c.take_first-self-inside.ensures.queue waiting small pool.queue) (c.take_first-self-inside.ensures.some waiting small pool.queue)),
+          (c.take_first-self-inside.ensures.queue waiting small pool.queue) (c.take_first-self-inside.ensures.some waiting small pool.queue) c.take_first-self-inside.ensures.parents),
       c.self.invariant.1,
     )
 

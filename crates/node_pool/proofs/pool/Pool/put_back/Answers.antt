@@ -41,6 +41,6 @@ invariant_of-self c =
       written-pool c.self.inside.nodes.len slice new (drop (length new) c.self.inside.nodes.items) c.args.node.0 (state.Waiting key) c.insert-self-inside.result
           (c.self.inside.waiting + 1) c.self.inside.capacity c.as_mut_slice.ensures.len c.insert-self-inside.ensures.states
           (pool-put slice new c.self.inside.first c.insert-self-inside.result c.self.inside.waiting c.self.inside.capacity c.args.node.0 key pool c.insert-self-inside.ensures.states hand
-          (c.insert-self-inside.ensures.queue c.self.inside.waiting (omega (arith, room, bounded)) pool.queue)),
+          (c.insert-self-inside.ensures.queue c.self.inside.waiting (omega (arith, room, bounded)) pool.queue) c.insert-self-inside.ensures.parents),
       c.self.invariant.1,
     )

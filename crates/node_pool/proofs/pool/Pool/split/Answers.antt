@@ -7,7 +7,7 @@ use Rattle.node_pool.specs.declared.node.State.{State}
 use Rattle.node_pool.specs.declared.node.State.TheVariants as state
 use Rattle.node_pool.specs.Pool.{IsInHand, PoolContents, split_pool}
 use Rattle.node_pool.specs.Queue.{IsPool, IsQueue, states_of}
-use Rattle.node_pool.proofs.PoolFacts.{IsSplit, few-wait, in-hand-at, is-split, queue-at, split-pool-kept, written}
+use Rattle.node_pool.proofs.PoolFacts.{HaveParents, IsSplit, few-wait, have-parents, in-hand-at, is-split, queue-at, split-pool-kept, written}
 use Rattle.node_pool.proofs.pool.Pool.split.Goals as goal
 
 pub add_waiting-self-inside-requires-2-clause-queue : goal.add_waiting-self-inside-requires-2-clause-queue
@@ -39,10 +39,13 @@ invariant_of-self c =
     c.as_mut_slice.ensures.value count_is c.set_state.ensures hand in
     let queue : IsQueue slice c.add_waiting-self-inside-2.result (waiting + 1 + 1) =
     queue-at later slice c.add_waiting-self-inside-2.result (waiting + 1 + 1) c.as_mut_slice.ensures.value
-    (c.add_waiting-self-inside-2.ensures.queue (waiting + 1) few (c.add_waiting-self-inside.ensures.queue waiting (omega (arith, few)) pool.queue)) in (
+    (c.add_waiting-self-inside-2.ensures.queue (waiting + 1) few (c.add_waiting-self-inside.ensures.queue waiting (omega (arith, few)) pool.queue)) in
+    let have : HaveParents old slice c.args.node.0 =
+    have-parents old mid later slice c.args.node _ c.as_mut_slice.ensures.value c.add_waiting-self-inside.ensures.states c.add_waiting-self-inside.ensures.others c.add_waiting-self-inside.ensures.own
+    c.add_waiting-self-inside-2.ensures.others c.add_waiting-self-inside-2.ensures.own in (
       split-pool-kept old slice new (drop (length new) later) c.add_waiting-self-inside-2.new.nodes.len c.self.inside.first c.add_waiting-self-inside-2.result waiting capacity
           c.len-count.result c.args.node.0 c.args.line c.args.at _ _ pool is hand c.as_mut_slice.ensures.len c.set_state.ensures queue
-          (omega (arith, c.if-self-count-lt2.false, c.len-count.ensures, c.self.inside.nodes.ok.0)),
+          (omega (arith, c.if-self-count-lt2.false, c.len-count.ensures, c.self.inside.nodes.ok.0)) have.others have.first have.second,
       (let first = c.add_waiting-self-inside.ensures.capacity in let second = c.add_waiting-self-inside-2.ensures.capacity in let room = c.self.invariant.1 in omega (arith, first, second, room)),
     )
 
