@@ -6,3 +6,5 @@ pub mod MergedFacts
 pub mod QueueFacts
 pub mod PoolFacts
 pub mod TreeFacts
+pub mod AgreeFacts
+pub mod WayFacts

@@ -65,7 +65,10 @@ child_before states number s child own there not_split is true e =
 child_before states number s child own there not_split is false e =
     let other : own ≢ number = (λ same. absurd (grind (arith, e, same))) in
     record {
-      line = is.line; at = is.at; left = is.left; right = is.right;
+      line = is.line;
+      at = is.at;
+      left = is.left;
+      right = is.right;
       split = sym (get_or-set_other states number own s state.InHand other) ∙ is.split;
       side = is.side;
     }
@@ -78,7 +81,10 @@ child_after states number s child own was_not is true e =
 child_after states number s child own was_not is false e =
     let other : own ≢ number = (λ same. absurd (grind (arith, e, same))) in
     record {
-      line = is.line; at = is.at; left = is.left; right = is.right;
+      line = is.line;
+      at = is.at;
+      left = is.left;
+      right = is.right;
       split = get_or-set_other states number own s state.InHand other ∙ is.split;
       side = is.side;
     }
@@ -178,7 +184,7 @@ root-pool capacity key parent some bounded = record {
   few = omega (arith, some);
   bounded = bounded;
   whole = root_whole;
-  parents = record { told = root_told; there = λ child some inside. absurd (omega (arith, some, inside)); };
+  parents = record { told = root_told; there = λ child some inside. absurd (omega (arith, some, inside)) };
 }
   where
     root_once : (number : ℕ) → occurs (Fork 0 key Empty Empty) number ≡ times_waiting (node_at (record { parent = parent; state = state.Waiting key; links = lone_links } ∷ []) number).state
@@ -189,6 +195,7 @@ root-pool capacity key parent some bounded = record {
         (node_at (record { parent = parent; state = state.Waiting key; links = lone_links } ∷ []) child).parent ≡ Some (record { 0 = number })
     root_told child zero is = let bad : state.Waiting key ≡ state.Split is.line is.at is.left is.right = is.split in absurd (cc)
     root_told child (suc number) is = let bad : state.InHand ≡ state.Split is.line is.at is.left is.right = is.split in absurd (cc)
+
     root_whole : SplitsAreWhole (state.Waiting key ∷ [])
     root_whole zero line at left right h = absurd (cc)
     root_whole (suc number) line at left right h = absurd (cc)
@@ -364,11 +371,14 @@ new_child : (old : List State) (number line at : ℕ) (l r : ℤ) (child : ℕ) 
 new_child old number line at l r child there is =
     let both : (length old ≡ is.left.0) × (length old + 1 ≡ is.right.0) =
     same_children 0 0 (length old) (length old + 1) line at is.line is.at is.left is.right (sym (own_state old number line at l r there) ∙ is.split) in
-    elim is.side [ | inl left ↦ inl (sym left ∙ sym both.0) | inr right ↦ inr (sym right ∙ sym both.1) ]
+    elim is.side [ inl left ↦ inl (sym left ∙ sym both.0) | inr right ↦ inr (sym right ∙ sym both.1) ]
 
 old_child : (old : List State) (number line at : ℕ) (l r : ℤ) (child own : ℕ) → own < length old → own ≢ number → IsChildOf (after_split old number line at l r) child own → IsChildOf old child own
 old_child old number line at l r child own inside other is = record {
-  line = is.line; at = is.at; left = is.left; right = is.right;
+  line = is.line;
+  at = is.at;
+  left = is.left;
+  right = is.right;
   split = sym (other_state old number line at l r own inside other) ∙ is.split;
   side = is.side;
 }
@@ -377,7 +387,7 @@ child_inside : (old : List State) (child own : ℕ) → SplitsAreWhole old → I
 child_inside old child own whole is =
     let are : AreChildren old own is.left is.right = whole own is.line is.at is.left is.right is.split in
     let next = are.next in let there = are.there in
-    elim is.side [ | inl left ↦ omega (arith, left, next, there) | inr right ↦ omega (arith, right, there) ]
+    elim is.side [ inl left ↦ omega (arith, left, next, there) | inr right ↦ omega (arith, right, there) ]
 
 split_inside : (old : List State) (child own : ℕ) → IsChildOf old child own → (own < length old) ⊎ (length old ≤ own) → own < length old
 split_inside old child own is (inl inside) = inside
@@ -417,7 +427,10 @@ still_child old number line at l r child own hand is true e =
 still_child old number line at l r child own hand is false e =
     let other : own ≢ number = (λ same. absurd (grind (arith, e, same))) in
     record {
-      line = is.line; at = is.at; left = is.left; right = is.right;
+      line = is.line;
+      at = is.at;
+      left = is.left;
+      right = is.right;
       split = other_state old number line at l r own (split_inside old child own is (cases_lt own (length old))) other ∙ is.split;
       side = is.side;
     }
@@ -427,12 +440,17 @@ there_for : (old : List Node) (number line at : ℕ) (l r : ℤ) (child : ℕ) �
 there_for old number line at l r child hand parents some inside (inl low) =
     let found = parents.there child some (omega (arith, low, length-map old (λ (n : Node). n.state))) in
     (found.0, still_child (states_of old) number line at l r child found.0 hand.in_hand found.1 (found.0 == number) refl)
-there_for old number line at l r child hand parents some inside (inr past) =
-    (number, record {
-      line = line; at = at; left = record { 0 = length (states_of old) }; right = record { 0 = length (states_of old) + 1 };
-      split = own_state (states_of old) number line at l r hand.there;
-      side = which (length (states_of old)) child (omega (arith, past)) (omega (arith, inside)) (cases_lt (length (states_of old)) child);
-    })
+there_for old number line at l r child hand parents some inside (inr past) = (
+  number,
+  record {
+    line = line;
+    at = at;
+    left = record { 0 = length (states_of old) };
+    right = record { 0 = length (states_of old) + 1 };
+    split = own_state (states_of old) number line at l r hand.there;
+    side = which (length (states_of old)) child (omega (arith, past)) (omega (arith, inside)) (cases_lt (length (states_of old)) child);
+  },
+)
   where
     which : (n c : ℕ) → n ≤ c → c < n + 2 → (n < c) ⊎ (c ≤ n) → (n ≡ c) ⊎ (n + 1 ≡ c)
     which n c low high (inl more) = inr (omega (arith, low, high, more))
@@ -568,11 +586,13 @@ one-tree nodes link waiting capacity pool =
   where
     same_number : (number other : ℕ) → Some (numbered number) ≡ Some (numbered other) → number ≡ other
     same_number number other h = let one : numbered number ≡ numbered other = cc in ap (λ (n : NodeId). n.0) one
+
     earlier : (child number : ℕ) → IsChildOf (states_of nodes) child number → number < child
     earlier child number is =
         let are : AreChildren (states_of nodes) number is.left is.right = pool.whole number is.line is.at is.left is.right is.split in
         let later = are.later in let next = are.next in
-        elim is.side [ | inl left ↦ omega (arith, left, later) | inr right ↦ omega (arith, right, next, later) ]
+        elim is.side [ inl left ↦ omega (arith, left, later) | inr right ↦ omega (arith, right, next, later) ]
+
     earlier_root : (number : ℕ) → IsChildOf (states_of nodes) 0 number → ⊥
     earlier_root number is = let low : number < 0 = earlier 0 number is in absurd (omega (arith, low))
 

@@ -9,6 +9,7 @@ mod queue;
 #[cfg(test)]
 mod tests;
 mod tree;
+mod way;
 
 pub use laws::heap_laws;
 pub use node::{Full, Link, NodeId};

@@ -1,5 +1,5 @@
 //! The pool of nodes.
-ghost use Rattle.std.specs.Prelude.{◌≡◌, ◌<◌, ◌≤◌, ◌+◌, ◌++◌, ◌∷◌, [], ℕ, None, Some, length, IfErr, IfOk, IfSome};
+ghost use Rattle.std.specs.Prelude.{◌≡◌, ◌<◌, ◌≤◌, ◌+◌, ◌++◌, ◌∷◌, [], ℕ, List, None, Some, length, IfErr, IfOk, IfSome};
 ghost use Rattle.std.specs.Vec.{vec_capacity};
 ghost use Rattle.node_pool.specs.Heap.{node_at};
 ghost use Rattle.node_pool.specs.Queue.{IsQueue, states_of};
@@ -7,11 +7,15 @@ ghost use Rattle.std.specs.List.{count_by};
 ghost use Rattle.node_pool.specs.declared.node.State.TheVariants as state;
 ghost use Rattle.node_pool.specs.Pool.{IsInHand, IsLeast, IsOneTree, NoneWaits, SplitsAreWhole, is_waiting, new_pool, pool_with, split_pool};
 ghost use Rattle.node_pool.specs.Tree.{AreEnded, IsPreorderOf};
+ghost use Rattle.node_pool.specs.Way.{AreProper, IsWay, Step, ranges_at};
 
 use crate::node::{Full, Link, Links, Node, NodeId, State};
 use crate::queue::{insert, set_state, take_first};
 use crate::tree::preorder_of;
+use crate::way::narrow_up;
+use dual_bound::Ranges;
 use escrow_desk::NoMemory;
+use offer_book::Book;
 use std::alloc::Global;
 use std::marker::Model;
 
@@ -162,6 +166,16 @@ impl Pool {
         ensures { self.new ≡ pool_with self.old node.0 (state.Closed leaf) }
     {
         set_state(self.nodes.as_mut_slice(), node, State::Closed(leaf));
+    }
+
+    /// Goes to the ranges of a node: those of the root, narrowed by the splits on its way, left and right. It takes no memory. The
+    /// splits on the way are proper for this book, and there is an interval for each of its lines.
+    pub fn box_of(&self, node: NodeId, book: &Book, into: &mut Ranges)
+        requires way { (way : List Step) × IsWay self.now.states node.0 way × AreProper book.now.lines way }
+        requires lines { length into.old ≡ length book.now.lines }
+        ensures { (way : List Step) → IsWay self.now.states node.0 way → AreProper book.now.lines way → into.new ≡ ranges_at book.now.lines way }
+    {
+        narrow_up(self.nodes.as_slice(), node, book, into);
     }
 
     /// How many nodes there are, the root at least. They are one tree: each but the root is a child of exactly one split, and
