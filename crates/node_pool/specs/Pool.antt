@@ -82,3 +82,7 @@ pub record IsOneTree (states : List State) : Type 0 where
   pub root : (number : ℕ) → IsChildOf states 0 number → ⊥
   pub parent : (child : ℕ) → 1 ≤ child → child < length states → (number : ℕ) × (number < child) × IsChildOf states child number
   pub one : (child number other : ℕ) → IsChildOf states child number → IsChildOf states child other → number ≡ other
+
+-- no node is in hand
+abbrev pub NoneInHand : List State → Type 0
+NoneInHand states = (number : ℕ) → number < length states → state_at states number ≡ state.InHand → ⊥

@@ -1,5 +1,6 @@
 //! Pools that grow to their capacity.
-ghost use Rattle.std.specs.Prelude.{◌≤◌, ◌≡◌};
+ghost use Rattle.std.specs.Prelude.{◌≤◌, ◌≡◌, IfOk};
+ghost use Rattle.node_pool.specs.Pool.{NoneInHand};
 
 use crate::{Full, Link, NodeId, Pool};
 use std::alloc::Global;
@@ -92,5 +93,62 @@ fn a_pool_is_full(rt: HostRuntime) -> Result<(), Fail> {
     assert_eq!(rt; left, NodeId(1));
     assert_eq!(rt; pool.split(left, 3, 4, 0, 0), Err(Full));
     assert_eq!(rt; pool.count(), 3);
+    Ok(())
+}
+
+// Splits the first node that waits, or closes it where the pool is full.
+fn split_first(pool: &mut Pool, left: i128, right: i128)
+    requires { NoneInHand pool.old.states }
+    ensures { NoneInHand pool.new.states }
+{
+    if let Some(node) = pool.pop_least() {
+        if pool.split(node, 3, 5, left, right).is_err() {
+            pool.close(node, 0);
+        }
+    }
+}
+
+// Closes the first node that waits.
+fn close_one(pool: &mut Pool)
+    requires { NoneInHand pool.old.states }
+    ensures { NoneInHand pool.new.states }
+{
+    if let Some(node) = pool.pop_least() {
+        pool.close(node, node.0);
+    }
+}
+
+// A pool of 9,999 nodes of which each split is the same child of the one before.
+fn deep(alloc: Global, left: i128, right: i128) -> Result<Pool, Fail>
+    ensures { IfOk result (λ pool. NoneInHand pool.states) }
+{
+    let mut pool = Pool::make(alloc, 9_999, 0)?;
+    for _ in 0..4_999 {
+        split_first(&mut pool, left, right);
+    }
+    for _ in 0..5_000 {
+        close_one(&mut pool);
+    }
+    Ok(pool)
+}
+
+#[test]
+fn deep_trees_answer(rt: HostRuntime) -> Result<(), Fail> {
+    let split = Some(Link::Split { line: 3, at: 5 });
+    let left = deep(rt.alloc(), 0, 1)?;
+    let right = deep(rt.alloc(), 1, 0)?;
+    assert_eq!(rt; left.waiting(), 0);
+    assert_eq!(rt; right.waiting(), 0);
+    if left.waiting() == 0 && right.waiting() == 0 {
+        let links = left.tree(rt.alloc())?;
+        assert_eq!(rt; links.len(), 9_999);
+        assert_eq!(rt; links.get(4_998).copied(), split);
+        assert_eq!(rt; links.get(4_999).copied(), Some(Link::Leaf(9_997)));
+        let links = right.tree(rt.alloc())?;
+        assert_eq!(rt; links.len(), 9_999);
+        assert_eq!(rt; links.get(9_996).copied(), split);
+        assert_eq!(rt; links.get(9_997).copied(), Some(Link::Leaf(9_997)));
+        assert_eq!(rt; links.get(9_998).copied(), Some(Link::Leaf(9_998)));
+    }
     Ok(())
 }
