@@ -7,6 +7,7 @@ ghost use Rattle.std.specs.List.{count_by};
 ghost use Rattle.node_pool.specs.declared.node.State.TheVariants as state;
 ghost use Rattle.node_pool.specs.Pool.{IsInHand, IsLeast, IsOneTree, NoneWaits, SplitsAreWhole, is_waiting, new_pool, pool_with, split_pool};
 ghost use Rattle.node_pool.specs.Tree.{AreEnded, IsPreorderOf};
+ghost use Rattle.dual_bound.specs.Ranges.{AreTight};
 ghost use Rattle.node_pool.specs.Way.{AreProper, IsWay, Step, ranges_at};
 
 use crate::node::{Full, Link, Links, Node, NodeId, State};
@@ -173,7 +174,8 @@ impl Pool {
     pub fn box_of(&self, node: NodeId, book: &Book, into: &mut Ranges)
         requires way { (way : List Step) × IsWay self.now.states node.0 way × AreProper book.now.lines way }
         requires lines { length into.old ≡ length book.now.lines }
-        ensures { (way : List Step) → IsWay self.now.states node.0 way → AreProper book.now.lines way → into.new ≡ ranges_at book.now.lines way }
+        ensures value { (way : List Step) → IsWay self.now.states node.0 way → AreProper book.now.lines way → into.new ≡ ranges_at book.now.lines way }
+        ensures tight { AreTight book.now.lines into.new }
     {
         narrow_up(self.nodes.as_slice(), node, book, into);
     }

@@ -63,7 +63,8 @@ pub(crate) fn narrow_up(nodes: &[Node], node: NodeId, book: &Book, into: &mut Ra
     requires parents { AreParents nodes.now }
     requires way { (way : List Step) × IsWay (states_of nodes.now) node.0 way × AreProper book.now.lines way }
     requires lines { length into.old ≡ length book.now.lines }
-    ensures { (way : List Step) → IsWay (states_of nodes.now) node.0 way → AreProper book.now.lines way → into.new ≡ ranges_at book.now.lines way }
+    ensures value { (way : List Step) → IsWay (states_of nodes.now) node.0 way → AreProper book.now.lines way → into.new ≡ ranges_at book.now.lines way }
+    ensures tight { AreTight book.now.lines into.new }
 {
     range_laws();
     reset(book, into);

@@ -28,8 +28,8 @@ parent_of-requires c =
     (steps-up c.range_laws.ensures.tight c.args.book.now.lines c.args.nodes.now c.loop-child.child.0 c.loop-child.into way.0 some c.requires.whole c.requires.parents root way.2
     c.loop-child.invariant.tight (c.loop-child.invariant.left way.0 way.1 way.2)).inside
 
-pub returns-in_default : goal.returns-in_default
-returns-in_default c = λ way is proper.
+pub returns-in_default-clause-value : goal.returns-in_default-clause-value
+returns-in_default-clause-value c = λ way is proper.
     (let P : List Interval → Type 0 = λ is. AreTight c.args.book.now.lines is in
     let root : AreTight c.args.book.now.lines (root_of c.args.book.now.lines) = subst P c.reset.ensures.value c.reset.ensures.tight in
     let some : c.loop-child.child.0 ≢ 0 = omega (arith, c.loop-child-test.true) in
@@ -71,7 +71,7 @@ loop-child-preserved c =
       tight = c.narrow_by.ensures.tight;
     }
 
-pub returns : goal.returns
-returns c = λ way is proper.
+pub returns-clause-value : goal.returns-clause-value
+returns-clause-value c = λ way is proper.
     left-end c.args.book.now.lines (states_of c.args.nodes.now) c.loop-child.child.0 c.loop-child.into (ranges_at c.args.book.now.lines way) (omega (arith, c.loop-child-test.false)) c.requires.whole
     (c.loop-child.invariant.left way is proper)
