@@ -1,8 +1,8 @@
 -- Ranges that are narrowed from the node up are those that are narrowed from the root down.
-use Rattle.std.proofs.Common.{◌≡◌, ◌≢◌, ◌∙◌, ◌⊎◌, inl, inr, ℕ, zero, suc, ◌+◌, ◌<◌, ◌≤◌, ◌==◌, List, [], ◌∷◌, map, length, refl, sym, ap, subst, arith, Bool, true, false, ◌&&◌, nat_lt, nat_le, IsTrue, if◌then◌else◌}
+use Rattle.std.proofs.Common.{◌≡◌, ◌∙◌, ◌⊎◌, inl, inr, ℕ, zero, suc, ◌+◌, ◌<◌, ◌≤◌, List, [], ◌∷◌, refl, sym, ap, subst, arith, Bool, true, false, ◌&&◌, nat_lt, nat_le, IsTrue, if◌then◌else◌}
 use Rattle.offer_book.specs.Portfolio.{IsPermittedUnits}
 use Rattle.offer_book.specs.declared.line.Line.{Line}
-use Rattle.dual_bound.specs.Ranges.{AreTight, IsTight, is_proper, narrowed, root_of, side_of, tightened, whole_interval}
+use Rattle.dual_bound.specs.Ranges.{AreTight, IsTight, is_proper, narrowed, root_of, side_of}
 use Rattle.dual_bound.specs.declared.ranges.Interval.{Interval}
 
 -- the ranges of a node, as far as they are narrowed from below up to an ancestor: what isn't narrowed yet is as at the ancestor

@@ -1,12 +1,10 @@
 -- Linked heaps, and one step of a merge.
-use Rattle.std.proofs.Common.{◌≡◌, ◌≢◌, ◌∙◌, ◌⊎◌, ℕ, ◌+◌, ◌-◌, ◌<◌, ◌≤◌, ℤ, Bool, true, false, ◌==◌, if◌then◌else◌, List, [], ◌∷◌, length, get_or, slice_set, refl, sym, subst, ap, arith, Option, Some, None, inl, inr}
+use Rattle.std.proofs.Common.{◌≡◌, ◌≢◌, ◌∙◌, ℕ, ◌+◌, ◌<◌, ◌≤◌, Bool, true, false, ◌==◌, if◌then◌else◌, List, [], ◌∷◌, length, slice_set, refl, sym, subst, ap, arith, Option}
 use Rattle.std.proofs.lemmas.List.{get_or-set_other, get_or-set_same, length-set}
 use Rattle.node_pool.specs.declared.node.Links.{Links}
 use Rattle.node_pool.specs.declared.node.Node.{Node}
 use Rattle.node_pool.specs.declared.node.NodeId.{NodeId}
-use Rattle.node_pool.specs.declared.node.State.{State}
-use Rattle.node_pool.specs.declared.node.State.TheVariants as state
-use Rattle.node_pool.specs.Heap.{AreApart, AreHung, AreLeft, AreLinked, Empty, Fork, Frame, Heap, IsFork, IsHung, KeepsNodes, LeadsTo, comes_before, fork, frames_occur, frames_size, key_of, merged, node_at, no_node, occurs, rebuilt, size, spine, top, top_frame, with_links}
+use Rattle.node_pool.specs.Heap.{AreHung, AreLinked, Empty, Fork, Frame, Heap, KeepsNodes, LeadsTo, frames_occur, node_at, no_node, occurs, with_links}
 
 id : ℕ → NodeId
 id number = record { 0 = number }

@@ -1,14 +1,12 @@
 -- A merge, step by step.
-use Rattle.std.proofs.Common.{◌≡◌, ◌≢◌, ◌∙◌, ◌⊎◌, ℕ, zero, suc, ◌+◌, ◌-◌, ◌<◌, ◌≤◌, ℤ, Bool, true, false, ◌==◌, nat_lt, if◌then◌else◌, List, [], ◌∷◌, length, slice_set, refl, sym, subst, ap, arith, Option, Some, None, inl, inr}
+use Rattle.std.proofs.Common.{◌≡◌, ◌∙◌, ℕ, ◌+◌, ◌<◌, ◌≤◌, ℤ, Bool, true, false, ◌==◌, if◌then◌else◌, List, ◌∷◌, length, slice_set, refl, sym, subst, ap, arith, Option, Some, None}
 use Rattle.std.proofs.lemmas.List.{length-set}
 use Rattle.node_pool.specs.declared.heap.Descent.{Descent}
 use Rattle.node_pool.specs.declared.node.Links.{Links}
 use Rattle.node_pool.specs.declared.node.Node.{Node}
 use Rattle.node_pool.specs.declared.node.NodeId.{NodeId}
-use Rattle.node_pool.specs.declared.node.State.{State}
-use Rattle.node_pool.specs.declared.node.State.TheVariants as state
-use Rattle.node_pool.specs.Heap.{AreApart, AreHung, AreLeft, AreLinked, Empty, Fork, Frame, Heap, IsFork, IsHung, IsLeft, LeadsTo, SomeAreLeft, comes_before, fork, frames_occur, frames_size, key_of, links_of, merged, node_at, occurs, rank_at, rebuilt, size, spine, top, top_frame, with_links}
-use Rattle.node_pool.proofs.HeapFacts.{at-same, hung-set, leads-set, linked-set}
+use Rattle.node_pool.specs.Heap.{AreHung, AreLeft, AreLinked, Empty, Fork, Frame, Heap, LeadsTo, comes_before, fork, frames_occur, frames_size, key_of, merged, node_at, occurs, rebuilt, size, spine, top, top_frame, with_links}
+use Rattle.node_pool.proofs.HeapFacts.{at-same, hung-set, linked-set}
 
 -- a number that stands once stands nowhere else
 pub record Alone (above left right other : ℕ) : Type 0 where

@@ -1,7 +1,7 @@
 -- What a merged heap has.
-use Rattle.std.proofs.Common.{◌≡◌, ◌≢◌, ◌∙◌, ◌⊎◌, ℕ, ◌+◌, ◌*◌, ◌^◌, ◌<◌, ◌≤◌, ℤ, Bool, true, false, ◌==◌, nat_lt, if◌then◌else◌, refl, sym, subst, ap, arith, add-one}
+use Rattle.std.proofs.Common.{◌≡◌, ◌≢◌, ◌∙◌, ℕ, ◌+◌, ◌*◌, ◌^◌, ◌≤◌, ℤ, Bool, true, false, ◌==◌, nat_lt, if◌then◌else◌, refl, subst, arith, add-one}
 use Rattle.std.proofs.Math.Nat.{pow-le-pow_right, pow-succ'}
-use Rattle.node_pool.specs.Heap.{Empty, Fork, Heap, IsAbove, IsLeftist, IsOrdered, SpinesAreShort, comes_before, fork, merged, merged_into, occurs, size, spine}
+use Rattle.node_pool.specs.Heap.{Empty, Fork, Heap, IsAbove, IsLeftist, IsOrdered, SpinesAreShort, comes_before, fork, merged, occurs, size, spine}
 use Rattle.node_pool.proofs.OrderFacts.{before-trans, else-before}
 
 -- how often numbers stand

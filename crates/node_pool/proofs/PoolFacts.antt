@@ -1,5 +1,5 @@
 -- What a pool keeps.
-use Rattle.std.proofs.Common.{◌≡◌, ◌≢◌, ◌∙◌, ◌⊎◌, ℕ, zero, suc, ◌+◌, ◌-◌, ◌<◌, ◌≤◌, ℤ, pos, Bool, true, false, ◌==◌, cond, if◌then◌else◌, List, [], ◌∷◌, ◌++◌, length, map, slice_set, get_or, set, take, drop, refl, sym, subst, ap, arith, Option, Some, None, inl, inr, length-append, append_assoc, Result, Ok, Err}
+use Rattle.std.proofs.Common.{◌≡◌, ◌≢◌, ◌∙◌, ◌⊎◌, ℕ, zero, suc, ◌+◌, ◌-◌, ◌<◌, ◌≤◌, ℤ, pos, Bool, true, false, ◌==◌, cond, if◌then◌else◌, List, [], ◌∷◌, ◌++◌, length, slice_set, get_or, set, take, refl, sym, subst, ap, arith, Option, Some, inl, inr, length-append, append_assoc, Result}
 use Rattle.std.specs.Result.{IsOk, is_ok}
 use Rattle.std.proofs.Math.ListN.{get_or-append}
 use Rattle.std.specs.List.{count_by}
@@ -7,12 +7,11 @@ use Rattle.std.proofs.Math.Seq.{get_or-append_right, set-append_seam, take-appen
 use Rattle.std.proofs.lemmas.Bool.{cases_lt}
 use Rattle.std.proofs.lemmas.List.{get_or-set_other, get_or-set_same, get_or_past, length-map, length-set, map-append, map-set, set-append_left}
 use Rattle.std.proofs.lemmas.List.Sums.{count_by-le-length, sum_by-append, sum_by-set}
-use Rattle.node_pool.specs.declared.node.Links.{Links}
 use Rattle.node_pool.specs.declared.node.Node.{Node}
 use Rattle.node_pool.specs.declared.node.NodeId.{NodeId}
 use Rattle.node_pool.specs.declared.node.State.{State}
 use Rattle.node_pool.specs.declared.node.State.TheVariants as state
-use Rattle.node_pool.specs.Heap.{Empty, Fork, Heap, LeadsTo, lone_links, no_node, node_at, occurs}
+use Rattle.node_pool.specs.Heap.{Empty, Fork, lone_links, node_at, occurs}
 use Rattle.node_pool.specs.Pool.{AreChildren, IsChildOf, IsInHand, IsOneTree, IsLeast, SplitsAreWhole, is_waiting, state_at, with_state}
 use Rattle.node_pool.specs.Queue.{AreParents, IsPool, IsQueue, states_of, times_waiting}
 use Rattle.node_pool.proofs.HeapFacts.{at-other, at-same}

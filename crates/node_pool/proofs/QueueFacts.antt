@@ -1,18 +1,18 @@
 -- The queue of nodes that wait.
-use Rattle.std.proofs.Common.{◌≡◌, ◌≢◌, ◌∙◌, ◌⊎◌, ℕ, zero, suc, ◌+◌, ◌-◌, ◌<◌, ◌≤◌, ℤ, ◌<ℤ◌, Bool, true, false, ◌==◌, if◌then◌else◌, List, [], ◌∷◌, ◌++◌, length, map, slice_set, get_or, refl, sym, subst, ap, arith, Option, Some, None, inl, inr, length-append}
+use Rattle.std.proofs.Common.{◌≡◌, ◌≢◌, ◌∙◌, ◌⊎◌, ℕ, zero, suc, ◌+◌, ◌-◌, ◌<◌, ◌≤◌, ℤ, ◌<ℤ◌, Bool, true, false, ◌==◌, if◌then◌else◌, List, [], ◌∷◌, ◌++◌, length, slice_set, get_or, refl, sym, subst, ap, arith, Option, Some, None, inl, inr, length-append}
 use Rattle.std.proofs.Math.ListN.{get_or-append, get_or-map}
 use Rattle.std.proofs.Math.Seq.{get_or-append_right}
 use Rattle.std.proofs.lemmas.Bool.{cases_lt}
-use Rattle.std.proofs.lemmas.List.{ext_get_or, get_or_past, length-map, length-set, map-append, map-set}
+use Rattle.std.proofs.lemmas.List.{ext_get_or, get_or_past, length-map, length-set, map-set}
 use Rattle.node_pool.specs.declared.node.Links.{Links}
 use Rattle.node_pool.specs.declared.node.Node.{Node}
 use Rattle.node_pool.specs.declared.node.NodeId.{NodeId}
 use Rattle.node_pool.specs.declared.node.State.{State}
 use Rattle.node_pool.specs.declared.node.State.TheVariants as state
-use Rattle.node_pool.specs.Heap.{AreApart, AreLinked, Empty, Fork, Heap, IsAbove, IsFork, IsLeftist, IsOrdered, KeepsNodes, LeadsTo, comes_before, lone_links, merged, no_node, node_at, occurs, size, spine, top}
-use Rattle.node_pool.specs.Pool.{IsLeast, NoneWaits, Waits, state_at, with_state}
-use Rattle.node_pool.specs.Queue.{IsQueue, SomeQueue, states_of, times_waiting, with_node_state}
-use Rattle.node_pool.proofs.HeapFacts.{at-other, at-same, leads-set, linked-same, linked-set}
+use Rattle.node_pool.specs.Heap.{AreApart, AreLinked, Empty, Fork, Heap, IsAbove, IsLeftist, IsOrdered, KeepsNodes, LeadsTo, lone_links, merged, no_node, node_at, occurs, size, top}
+use Rattle.node_pool.specs.Pool.{IsLeast, NoneWaits, state_at, with_state}
+use Rattle.node_pool.specs.Queue.{IsQueue, states_of, times_waiting, with_node_state}
+use Rattle.node_pool.proofs.HeapFacts.{at-other, at-same, leads-set, linked-set}
 use Rattle.node_pool.proofs.MergedFacts.{leftist-merged, occurs-merged, ordered-merged, size-merged}
 use Rattle.node_pool.proofs.OrderFacts.{IsBefore, before-means}
 

@@ -1,5 +1,5 @@
 -- The way back up of a merge.
-use Rattle.std.proofs.Common.{◌≡◌, ◌≢◌, ◌∙◌, ◌⊎◌, ℕ, zero, suc, ◌+◌, ◌-◌, ◌<◌, ◌≤◌, ℤ, Bool, true, false, ◌==◌, nat_lt, if◌then◌else◌, List, [], ◌∷◌, length, slice_set, refl, sym, subst, ap, arith, Option, Some, None, IfSome, inl, inr}
+use Rattle.std.proofs.Common.{◌≡◌, ◌∙◌, ◌⊎◌, ℕ, ◌+◌, ◌<◌, ◌≤◌, ℤ, Bool, true, false, ◌==◌, nat_lt, if◌then◌else◌, List, [], ◌∷◌, length, slice_set, refl, sym, subst, ap, arith, Option, Some, None, IfSome, inl, inr}
 use Rattle.std.proofs.lemmas.List.{length-set}
 use Rattle.std.specs.Option.{option_or}
 use Rattle.node_pool.specs.declared.heap.Descent.{Descent}
@@ -7,7 +7,7 @@ use Rattle.node_pool.specs.declared.node.Links.{Links}
 use Rattle.node_pool.specs.declared.node.Node.{Node}
 use Rattle.node_pool.specs.declared.node.NodeId.{NodeId}
 use Rattle.node_pool.specs.declared.node.State.TheVariants as state
-use Rattle.node_pool.specs.Heap.{AreApart, AreHung, AreLeft, AreLinked, Empty, Fork, Frame, Heap, IsFork, IsHung, IsLeft, LeadsTo, SomeAreLeft, fork, frames_occur, frames_size, links_of, merged, node_at, occurs, rank_at, rebuilt, size, spine, top, top_frame, with_links}
+use Rattle.node_pool.specs.Heap.{AreApart, AreHung, AreLeft, AreLinked, Empty, Fork, Frame, Heap, IsLeft, LeadsTo, SomeAreLeft, fork, frames_occur, frames_size, links_of, merged, node_at, occurs, rank_at, rebuilt, size, spine, top, top_frame, with_links}
 use Rattle.node_pool.proofs.HeapFacts.{at-same, hung-set, linked-set}
 
 -- ranks

@@ -1,5 +1,5 @@
 -- The way from a node up to the root.
-use Rattle.std.proofs.Common.{◌≡◌, ◌≢◌, ◌∙◌, ◌⊎◌, inl, inr, ℕ, zero, suc, ◌+◌, ◌<◌, ◌≤◌, ◌==◌, List, [], ◌∷◌, length, refl, sym, ap, subst, arith, Bool, true, false, IsTrue, if◌then◌else◌, Option, Some, None}
+use Rattle.std.proofs.Common.{◌≡◌, ◌≢◌, ◌∙◌, ◌⊎◌, inl, inr, ℕ, ◌+◌, ◌<◌, ◌==◌, List, [], ◌∷◌, length, refl, sym, ap, subst, arith, Bool, true, false, if◌then◌else◌, Some, None}
 use Rattle.std.proofs.lemmas.List.{length-map}
 use Rattle.offer_book.specs.declared.line.Line.{Line}
 use Rattle.dual_bound.specs.Ranges.{AreTight, SidesAreTight, is_proper, narrowed, root_of}
@@ -9,7 +9,7 @@ use Rattle.node_pool.specs.declared.node.NodeId.{NodeId}
 use Rattle.node_pool.specs.declared.node.State.{State}
 use Rattle.node_pool.specs.declared.node.State.TheVariants as state
 use Rattle.node_pool.specs.Heap.{node_at}
-use Rattle.node_pool.specs.Pool.{AreChildren, IsChildOf, SplitsAreWhole, state_at}
+use Rattle.node_pool.specs.Pool.{AreChildren, IsChildOf, SplitsAreWhole}
 use Rattle.node_pool.specs.Queue.{AreParents, states_of}
 use Rattle.node_pool.specs.Way.{AreProper, IsStep, IsWay, Step, narrowed_by, ranges_at}
 use Rattle.node_pool.proofs.AgreeFacts.{Agree, agree-end, agree-start, agree-step}

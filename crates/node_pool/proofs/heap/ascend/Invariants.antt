@@ -1,4 +1,3 @@
-use Rattle.std.proofs.Common.{◌≡◌}
 use Rattle.node_pool.specs.Heap.{Heap, IsLeft, KeepsNodes}
 use Rattle.node_pool.proofs.heap.ascend.Given as goal
 

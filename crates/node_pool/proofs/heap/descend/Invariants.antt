@@ -1,4 +1,3 @@
-use Rattle.std.proofs.Common.{◌≡◌}
 use Rattle.node_pool.specs.Heap.{AreApart, AreLeft, KeepsNodes, merged}
 use Rattle.node_pool.proofs.heap.descend.Given as goal
 

@@ -1,7 +1,4 @@
-use Rattle.std.proofs.Common.{◌∙◌, ap, sym, Option, Some, List}
-use Rattle.node_pool.specs.declared.node.Node.{Node}
-use Rattle.node_pool.specs.declared.node.NodeId.{NodeId}
-use Rattle.node_pool.specs.Heap.{AreLeft, KeepsNodes, node_at}
+use Rattle.std.proofs.Common.{◌∙◌, sym}
 use Rattle.node_pool.proofs.HeapFacts.{keeps-links}
 use Rattle.node_pool.proofs.MergeFacts.{first-down, first-there, second-down, second-there}
 use Rattle.node_pool.proofs.heap.go_down.Goals as goal

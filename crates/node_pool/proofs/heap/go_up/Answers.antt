@@ -1,6 +1,4 @@
-use Rattle.std.proofs.Common.{◌∙◌, ap, sym, Option, Some, List}
-use Rattle.node_pool.proofs.HeapFacts.{keeps-links}
-use Rattle.node_pool.proofs.UpFacts.{IsAt, is-at, up-once}
+use Rattle.node_pool.proofs.UpFacts.{is-at, up-once}
 use Rattle.node_pool.proofs.heap.go_up.Goals as goal
 
 pub attach-requires-clause-left : goal.attach-requires-clause-left

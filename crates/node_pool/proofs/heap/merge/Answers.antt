@@ -1,6 +1,4 @@
-use Rattle.std.proofs.Common.{arith, ◌∙◌, sym, Option, subst}
-use Rattle.node_pool.specs.declared.node.NodeId.{NodeId}
-use Rattle.node_pool.specs.Heap.{Heap, IsLeft, merged}
+use Rattle.node_pool.specs.Heap.{Heap, merged}
 use Rattle.node_pool.proofs.UpFacts.{turn}
 use Rattle.node_pool.proofs.heap.merge.Goals as goal
 

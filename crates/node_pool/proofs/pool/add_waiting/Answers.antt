@@ -1,10 +1,8 @@
 use mir.Syntax.{w128}
-use mir.Val.{SFits, of_z, to_z}
-use Rattle.std.proofs.Common.{◌≡◌, ◌∙◌, ◌+◌, ◌++◌, ◌∷◌, [], ℕ, ℤ, List, None, Option, Some, ap, arith, drop, length, refl, rules, subst, sym}
+use mir.Val.{of_z, to_z}
+use Rattle.std.proofs.Common.{◌≡◌, ◌∙◌, ◌+◌, ◌++◌, ◌∷◌, [], ℤ, List, Some, ap, arith, drop, length, refl, rules, subst, sym}
 use Rattle.std.proofs.lemmas.Int.{to_z-of_z}
 use Rattle.node_pool.specs.declared.node.Node.{Node}
-use Rattle.node_pool.specs.declared.node.NodeId.{NodeId}
-use Rattle.node_pool.specs.declared.node.State.{State}
 use Rattle.node_pool.specs.declared.node.State.TheVariants as state
 use Rattle.node_pool.specs.Heap.{lone_links}
 use Rattle.node_pool.specs.Queue.{IsQueue, states_of}

@@ -1,8 +1,7 @@
-use Rattle.std.proofs.Common.{◌≡◌, ◌∙◌, ℤ, ap, rules, slice_set, sym, Option}
+use Rattle.std.proofs.Common.{◌≡◌, ◌∙◌, ℤ, ap, rules, slice_set}
 use Rattle.std.proofs.lemmas.Int.{to_z-of_z}
 use mir.Syntax.{w128}
-use mir.Val.{SFits, of_z, to_z}
-use Rattle.node_pool.specs.Heap.{node_at}
+use mir.Val.{of_z, to_z}
 use Rattle.node_pool.proofs.QueueFacts.{Inserts, insert-one, lone_node, states-kept, states-set}
 use Rattle.node_pool.proofs.queue.insert.Goals as goal
 

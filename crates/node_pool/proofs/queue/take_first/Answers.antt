@@ -1,4 +1,4 @@
-use Rattle.std.proofs.Common.{◌∙◌, ap, sym, Option}
+use Rattle.std.proofs.Common.{◌∙◌}
 use Rattle.node_pool.specs.declared.node.State.TheVariants as state
 use Rattle.node_pool.specs.Heap.{node_at}
 use Rattle.node_pool.proofs.QueueFacts.{Taken, states-kept, states-set, take-first}

@@ -1,4 +1,4 @@
-use Rattle.std.proofs.Common.{◌≡◌, ◌∙◌, ◌++◌, ◌∷◌, [], List, ap, sym}
+use Rattle.std.proofs.Common.{◌∙◌, ◌++◌, ◌∷◌, [], List, ap}
 use Rattle.node_pool.specs.declared.node.NodeId.{NodeId}
 use Rattle.node_pool.specs.Queue.{states_of}
 use Rattle.node_pool.proofs.TreeFacts.{SomeTree, open-there, root-tree, walk-at-start, walk-lighter, walk-on}

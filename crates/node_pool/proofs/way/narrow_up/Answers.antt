@@ -1,7 +1,6 @@
-use Rattle.std.proofs.Common.{◌≡◌, ◌≢◌, ◌∙◌, ◌<◌, ℕ, List, None, Option, Some, ap, arith, refl, subst, sym}
+use Rattle.std.proofs.Common.{◌≢◌, ◌∙◌, List, arith, subst, sym}
 use Rattle.dual_bound.specs.Ranges.{AreTight, root_of}
 use Rattle.dual_bound.specs.declared.ranges.Interval.{Interval}
-use Rattle.node_pool.specs.declared.node.NodeId.{NodeId}
 use Rattle.node_pool.specs.Queue.{states_of}
 use Rattle.node_pool.specs.Way.{ranges_at}
 use Rattle.node_pool.proofs.WayFacts.{Left, StepsUp, left-end, left-start, next-left, no-parent, parent-there, parent-lower, steps-up}

@@ -1,4 +1,4 @@
-use Rattle.std.proofs.Common.{ℕ, List}
+use Rattle.std.proofs.Common.{List}
 use Rattle.dual_bound.specs.Ranges.{AreTight}
 use Rattle.node_pool.specs.Queue.{states_of}
 use Rattle.node_pool.specs.Way.{AreProper, IsWay, Step, ranges_at}

@@ -1,4 +1,4 @@
-use Rattle.std.proofs.Common.{◌≡◌, ◌∙◌, List, ap, drop, length, Option, Some, sym}
+use Rattle.std.proofs.Common.{List, drop, length, Some}
 use Rattle.node_pool.specs.declared.node.Node.{Node}
 use Rattle.node_pool.specs.declared.node.State.TheVariants as state
 use Rattle.node_pool.specs.Queue.{IsPool, states_of}

@@ -1,10 +1,9 @@
 use mir.Syntax.{w128}
-use mir.Val.{SFits, of_z, to_z}
-use Rattle.std.proofs.Common.{◌≡◌, ◌≤◌, ◌<◌, ◌∙◌, ◌+◌, ◌++◌, ◌∷◌, [], ℕ, ℤ, List, ap, arith, drop, length, refl, rules, sym}
+use mir.Val.{of_z, to_z}
+use Rattle.std.proofs.Common.{◌≡◌, ◌≤◌, ◌<◌, ◌∙◌, ◌+◌, ℤ, List, ap, arith, drop, length, refl, rules}
 use Rattle.std.proofs.lemmas.Int.{to_z-of_z}
 use Rattle.node_pool.specs.declared.node.Node.{Node}
 use Rattle.node_pool.specs.declared.node.State.{State}
-use Rattle.node_pool.specs.declared.node.State.TheVariants as state
 use Rattle.node_pool.specs.Pool.{IsInHand, PoolContents, split_pool}
 use Rattle.node_pool.specs.Queue.{IsPool, IsQueue, states_of}
 use Rattle.node_pool.proofs.PoolFacts.{HaveParents, IsSplit, few-wait, have-parents, in-hand-at, is-split, queue-at, split-pool-kept, written}
