@@ -80,7 +80,7 @@ lines-cons line rest one = slice_split_at is_feed line 10 rest (no_feeds line on
 pub some-lines : (bytes : List ℕ) → 0 < length (lines_in bytes)
 some-lines bytes = omega (arith, length-slice_split is_feed bytes)
 
-text_cons : (line : Line) (rest : List ℕ) → line_text line ++ rest ≡ body line ++ 10 ∷ rest
+pub text_cons : (line : Line) (rest : List ℕ) → line_text line ++ rest ≡ body line ++ 10 ∷ rest
 text_cons line rest = ap (λ (bs : List ℕ). bs ++ rest) (body-text line) ∙ append_assoc (body line) (10 ∷ []) rest
 
 -- lines that may stand one after another have no fault

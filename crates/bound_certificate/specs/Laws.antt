@@ -6,6 +6,7 @@ use Rattle.bound_certificate.specs.declared.item.Item.TheVariants as item
 use Rattle.bound_certificate.specs.declared.reading.Reading.{Reading}
 use Rattle.dual_bound.specs.declared.tree.Leaf.{Leaf}
 use Rattle.bound_certificate.specs.declared.limits.TheConstants.{MOST_DATES}
+use Rattle.bound_certificate.specs.Draft.{certificate_in}
 use Rattle.bound_certificate.specs.Due.{is_over, next_due}
 use Rattle.bound_certificate.specs.Grammar.{line_fault, line_item, line_leaf}
 use Rattle.bound_certificate.specs.Faults.{answer_of, text_fault}
@@ -78,3 +79,7 @@ TextsAreOfOne = (dates : ℕ) (bytes : List ℕ) (one other : Certificate) → I
 -- a certificate has one text, for whatever number of need dates
 abbrev pub CertificatesHaveOneText : Type 0
 CertificatesHaveOneText = (dates others : ℕ) (cert : Certificate) (bytes more : List ℕ) → IsTextOf dates cert bytes → IsTextOf others cert more → bytes ≡ more
+
+-- the lines of the text of a certificate say that certificate
+abbrev pub TextsSayTheirCertificate : Type 0
+TextsSayTheirCertificate = (dates : ℕ) (bytes : List ℕ) (cert : Certificate) → IsTextOf dates cert bytes → certificate_in bytes ≡ cert

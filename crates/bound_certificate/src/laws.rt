@@ -1,5 +1,5 @@
 //! What the reader of certificates is, and what their texts are.
-ghost use Rattle.bound_certificate.specs.Laws.{CertificatesHaveOneText, EveryCutIsTheSame, FaultsAreOfLines, FaultsAreTheFirst, FaultsStay, ItemsAreOfLines, LeavesAreOfLines, LinesFollow, TextsAreOfOne, TextsHaveNoFault};
+ghost use Rattle.bound_certificate.specs.Laws.{CertificatesHaveOneText, EveryCutIsTheSame, FaultsAreOfLines, FaultsAreTheFirst, FaultsStay, ItemsAreOfLines, LeavesAreOfLines, LinesFollow, TextsAreOfOne, TextsHaveNoFault, TextsSayTheirCertificate};
 
 /// What the reader of certificates is. However the bytes are cut into pieces, the same comes of them, and a fault stays. The line
 /// feed of a line shows the fault that the line's words have, and no other. A line without one says what its words say; behind a
@@ -16,9 +16,11 @@ pub fn reader_laws()
 {}
 
 /// What the texts of certificates are. A text has no fault exactly where it is that of a well-formed certificate; it is that of
-/// one certificate alone, and a certificate has no other text. So what was written is read as it was.
+/// one certificate alone, and a certificate has no other text; and the certificate that its lines say is that one. So what was
+/// written is read as it was.
 pub fn text_laws()
     ensures exact { TextsHaveNoFault }
     ensures one { TextsAreOfOne }
     ensures text { CertificatesHaveOneText }
+    ensures said { TextsSayTheirCertificate }
 {}

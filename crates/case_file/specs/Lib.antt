@@ -1,2 +1,2 @@
 pub mod Case
-pub mod Fault
+pub mod Limit

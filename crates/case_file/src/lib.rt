@@ -2,10 +2,9 @@
 #![tactic(auto)]
 
 mod case;
-mod fault;
+mod limit;
 
 pub use case::{Case, read_case};
-pub use fault::{CaseFault, NoCase};
 
 #[cfg(test)]
 mod tests;

@@ -1,5 +1,5 @@
 -- What permitted portfolios cost.
-use Rattle.std.proofs.Common.{◌≡◌, ℕ, ◌+◌, ◌*◌, ◌^◌, ◌≤◌, List, [], ◌∷◌, length, get_or, drop, refl, ap, inl, inr, arith, ℤ}
+use Rattle.std.proofs.Common.{◌≡◌, ℕ, ◌+◌, ◌*◌, ◌^◌, ◌≤◌, List, [], ◌∷◌, length, get_or, drop, refl, inl, inr, arith, ℤ}
 use Rattle.std.specs.List.{All, sum_by, zip}
 use Rattle.std.proofs.lemmas.List.Elements.{All-head, All-tail, All-cons, All-nil}
 use Rattle.std.proofs.lemmas.List.Sums.{sum_by-cons, sum_by-le}
@@ -8,7 +8,7 @@ use Rattle.std.proofs.Math.Nat.{mul-le-mul_right}
 use Rattle.offer_book.specs.declared.line.Line.{Line}
 use Rattle.offer_book.specs.Book.{BookContents, IsSecurityLine, AreLines, IsBook}
 use Rattle.offer_book.specs.Portfolio.{IsPermittedUnits, IsPermitted, line_cost, cost, security_cost}
-use Rattle.offer_book.proofs.LineFacts.{cash-at_most, security-at_most}
+use Rattle.offer_book.proofs.LineFacts.{cash-at_most, cash-cost, security-at_most}
 
 -- the cost of one line, as a function of its pair
 abbrev pub pair_cost : Line × ℕ → ℕ
@@ -21,24 +21,24 @@ PairIsPermitted p = IsPermittedUnits p.0 p.1
 pub permitted_few : (line : Line) (units : ℕ) → IsPermittedUnits line units → units ≤ line.most
 permitted_few line units permitted = elim permitted [ inl none ↦ omega (arith, none) | inr some ↦ some.1 ]
 
-securities_at_most : (settle : ℤ) (lines : List Line) (plan : List ℕ) → All (IsSecurityLine settle) lines → All PairIsPermitted (zip lines plan) → All (λ p. pair_cost p ≤ 10 ^ 11) (zip lines plan)
-securities_at_most settle [] plan securities permitted = All-nil (λ p. pair_cost p ≤ 10 ^ 11)
-securities_at_most settle (line ∷ lines) [] securities permitted = All-nil (λ p. pair_cost p ≤ 10 ^ 11)
+securities_at_most : (settle : ℤ) (lines : List Line) (plan : List ℕ) → All (IsSecurityLine settle) lines → All PairIsPermitted (zip lines plan) → All (λ p. pair_cost p ≤ 316 * 10 ^ 9) (zip lines plan)
+securities_at_most settle [] plan securities permitted = All-nil (λ p. pair_cost p ≤ 316 * 10 ^ 9)
+securities_at_most settle (line ∷ lines) [] securities permitted = All-nil (λ p. pair_cost p ≤ 316 * 10 ^ 9)
 securities_at_most settle (line ∷ lines) (units ∷ plan) securities permitted =
-    All-cons (λ p. pair_cost p ≤ 10 ^ 11) (line, units) (zip lines plan)
+    All-cons (λ p. pair_cost p ≤ 316 * 10 ^ 9) (line, units) (zip lines plan)
     (security-at_most settle line units (All-head (IsSecurityLine settle) line lines securities) (permitted_few line units (All-head PairIsPermitted (line, units) (zip lines plan) permitted)))
     (securities_at_most settle lines plan (All-tail (IsSecurityLine settle) line lines securities) (All-tail PairIsPermitted (line, units) (zip lines plan) permitted))
 
 -- all that a permitted portfolio costs is within a 64-bit number by far
-pub lines_cost_at_most : (settle : ℤ) (lines : List Line) (plan : List ℕ) → AreLines settle lines → All PairIsPermitted (zip lines plan) → sum_by pair_cost (zip lines plan) ≤ 36 * 10 ^ 12
+pub lines_cost_at_most : (settle : ℤ) (lines : List Line) (plan : List ℕ) → AreLines settle lines → All PairIsPermitted (zip lines plan) → sum_by pair_cost (zip lines plan) ≤ 91 * 10 ^ 12
 lines_cost_at_most settle [] plan lines permitted = absurd lines
 lines_cost_at_most settle (cash ∷ securities) [] lines permitted = omega arith
 lines_cost_at_most settle (cash ∷ securities) (units ∷ plan) lines permitted =
     let first = cash-at_most cash units lines.0 (permitted_few cash units (All-head PairIsPermitted (cash, units) (zip securities plan) permitted)) in
-    let rest = sum_by-le pair_cost (10 ^ 11) (zip securities plan) (securities_at_most settle securities plan lines.1 (All-tail PairIsPermitted (cash, units) (zip securities plan) permitted)) in
+    let rest = sum_by-le pair_cost (316 * 10 ^ 9) (zip securities plan) (securities_at_most settle securities plan lines.1 (All-tail PairIsPermitted (cash, units) (zip securities plan) permitted)) in
     let sum = sum_by-cons pair_cost (cash, units) (zip securities plan) in
     let count : length (zip securities plan) ≤ 256 = omega (arith, length-zip securities plan, lines.2) in
-    omega (arith, first, rest, sum, mul-le-mul_right (10 ^ 11) count)
+    omega (arith, first, rest, sum, mul-le-mul_right (316 * 10 ^ 9) count)
 
 pub drop-zip : {A B : Type 0} (xs : List A) (ys : List B) → zip (drop 1 xs) (drop 1 ys) ≡ drop 1 (zip xs ys)
 drop-zip [] [] = refl
@@ -53,17 +53,24 @@ cost_parts settle [] plan lines same = absurd lines
 cost_parts settle (cash ∷ securities) [] lines same = absurd (omega (arith, same))
 cost_parts settle (cash ∷ securities) (units ∷ plan) lines same =
     let sum = sum_by-cons pair_cost (cash, units) (zip securities plan) in
-    let one : line_cost cash units ≡ 1 * units = ap (λ n. n * units) lines.0.step in
-    omega (arith, sum, one)
+    omega (arith, sum, cash-cost cash units lines.0)
 
 pub cost_is : (book : BookContents) (plan : List ℕ) → IsBook book → IsPermitted book plan → cost book plan ≡ get_or plan 0 0 + security_cost book plan
 cost_is book plan limits permitted = cost_parts book.settle book.lines plan limits.lines permitted.same_length
 
-pub cost_at_most : (book : BookContents) (plan : List ℕ) → IsBook book → IsPermitted book plan → cost book plan ≤ 36 * 10 ^ 12
+pub cost_at_most : (book : BookContents) (plan : List ℕ) → IsBook book → IsPermitted book plan → cost book plan ≤ 91 * 10 ^ 12
 cost_at_most book plan limits permitted = lines_cost_at_most book.settle book.lines plan limits.lines permitted.units
 
-pub security_cost_at_most : (book : BookContents) (plan : List ℕ) → IsBook book → IsPermitted book plan → security_cost book plan ≤ 36 * 10 ^ 12
-security_cost_at_most book plan limits permitted = omega (arith, cost_at_most book plan limits permitted, cost_is book plan limits permitted)
+securities_cost_at_most : (settle : ℤ) (lines : List Line) (plan : List ℕ) → AreLines settle lines → All PairIsPermitted (zip lines plan) → sum_by pair_cost (drop 1 (zip lines plan)) ≤ 81 * 10 ^ 12
+securities_cost_at_most settle [] plan lines permitted = absurd lines
+securities_cost_at_most settle (cash ∷ securities) [] lines permitted = omega arith
+securities_cost_at_most settle (cash ∷ securities) (units ∷ plan) lines permitted =
+    let rest = sum_by-le pair_cost (316 * 10 ^ 9) (zip securities plan) (securities_at_most settle securities plan lines.1 (All-tail PairIsPermitted (cash, units) (zip securities plan) permitted)) in
+    let count : length (zip securities plan) ≤ 256 = omega (arith, length-zip securities plan, lines.2) in
+    omega (arith, rest, mul-le-mul_right (316 * 10 ^ 9) count)
+
+pub security_cost_at_most : (book : BookContents) (plan : List ℕ) → IsBook book → IsPermitted book plan → security_cost book plan ≤ 81 * 10 ^ 12
+security_cost_at_most book plan limits permitted = securities_cost_at_most book.settle book.lines plan limits.lines permitted.units
 
 pub lines_present : (book : BookContents) → IsBook book → 1 ≤ length book.lines
 lines_present book limits = present book.settle book.lines limits.lines

@@ -1,27 +1,22 @@
 -- What securities pay, summed by day.
 use Rattle.std.proofs.Common.{◌≡◌, ◌∙◌, ℕ, ◌+◌, ◌*◌, ◌^◌, ◌≤◌, List, [], ◌∷◌, ◌++◌, length, get_or, take, drop, sym, ap, arith, inr, ℤ, ◌≤ℤ◌}
-use Rattle.std.specs.Prelude.{pos, ◌+ℤ◌}
 use Rattle.std.specs.List.{All, sum_by, flat_map, zip}
 use Rattle.std.specs.Ordering.{int_eq}
 use Rattle.std.proofs.lemmas.List.Elements.{All-head, All-tail, All-nil, All-cons, All-append, All-weaker}
 use Rattle.std.proofs.lemmas.Slice.Zip.{length-zip}
 use Rattle.std.proofs.Math.Nat.{mul-le-mul_right}
-use Rattle.std.proofs.lemmas.Int.{ints}
 use Rattle.std.proofs.lemmas.List.Sums.{sum_by-le}
 use Rattle.escrow_units.specs.Calendar.{years_after_of}
-use Rattle.escrow_units.specs.DayNumber.{IsDayNumber}
-use Rattle.escrow_units.specs.Flows.{index360_of, total, FallWithinFortyYears}
+use Rattle.escrow_units.specs.Flows.{total, FallWithinFortyYears}
 use Rattle.escrow_units.specs.SlgsTerms.{IsSettlement}
 use Rattle.escrow_units.specs.declared.security.Flow.{Flow}
-use Rattle.escrow_units.proofs.IndexFacts.{thirty_day_place_of-apart}
-use Rattle.escrow_units.proofs.YearFacts.{settlement-base}
 use Rattle.day_sums.specs.Summed.{summed}
-use Rattle.day_sums.proofs.SumFacts.{count, counted, counted-zero, count-append, days-summed}
-use Rattle.day_sums.proofs.Uniqueness.{keep-total, same-sums, in-steps}
+use Rattle.day_sums.proofs.SumFacts.{count, counted, counted-zero, count-append}
+use Rattle.day_sums.proofs.Uniqueness.{fall-within, keep-total, same-sums, in-steps}
 use Rattle.offer_book.specs.declared.line.Line.{Line}
-use Rattle.offer_book.specs.Book.{AreLines, BookContents, IsBook, IsSecurityLine}
+use Rattle.offer_book.specs.Book.{AreLines, BookContents, IsBook, IsLine, IsSecurityLine}
 use Rattle.offer_book.specs.Portfolio.{IsPermitted, security_flows}
-use Rattle.offer_book.proofs.LineFacts.{line_payments-little, line_payments-none, line_payments-within, line_payments-late}
+use Rattle.offer_book.proofs.LineFacts.{line_payments-little, line_payments-none, line_payments-within}
 use Rattle.cash_table.proofs.CostFacts.{PairIsPermitted, permitted_few}
 use Rattle.cash_table.proofs.PaymentFacts.{pair_payments, pair_total, payments_more, total-payments}
 use Rattle.cash_table.proofs.ZipFacts.{StandAt, sum_by-zero}
@@ -55,57 +50,29 @@ sums_same sums settle lines plan i line units at none e =
     (λ day. omega (arith, count-append (λ d. int_eq d day) so_far pays, count-none day pays (line_payments-none settle line units none)))
     ∙ ap summed (sym (payments_more settle lines plan i line units at))
 
--- the days on which securities pay
-abbrev FallsLate : ℤ → ℤ → Type 0
-FallsLate settle day = ((settle +ℤ pos 15) ≤ℤ day) × (day ≤ℤ years_after_of settle 40)
+-- securities pay within 40 years
+securities_within : (settle : ℤ) (lines : List Line) (plan : List ℕ) → IsSettlement settle → All (IsSecurityLine settle) lines → FallWithinFortyYears settle (flat_map (pair_payments settle) (zip lines plan))
+securities_within settle [] plan h securities = All-nil (λ (flow : Flow). (settle ≤ℤ flow.day) × (flow.day ≤ℤ years_after_of settle 40))
+securities_within settle (line ∷ lines) [] h securities = All-nil (λ (flow : Flow). (settle ≤ℤ flow.day) × (flow.day ≤ℤ years_after_of settle 40))
+securities_within settle (line ∷ lines) (units ∷ plan) h securities =
+    All-append (λ (flow : Flow). (settle ≤ℤ flow.day) × (flow.day ≤ℤ years_after_of settle 40)) (pair_payments settle (line, units)) (flat_map (pair_payments settle) (zip lines plan))
+    (line_payments-within settle line units h (inr (All-head (IsSecurityLine settle) line lines securities)))
+    (securities_within settle lines plan h (All-tail (IsSecurityLine settle) line lines securities))
 
-abbrev AreLate : ℤ → List Flow → Type 0
-AreLate settle flows = All (λ flow. FallsLate settle flow.day) flows
-
-line_late : (settle : ℤ) (line : Line) (units : ℕ) → IsSettlement settle → IsSecurityLine settle line → AreLate settle (pair_payments settle (line, units))
-line_late settle line units h security = λ k d lt. (line_payments-late settle line units h security k d lt, (line_payments-within settle line units h (inr security) k d lt).1)
-
-lines_late : (settle : ℤ) (lines : List Line) (plan : List ℕ) → IsSettlement settle → All (IsSecurityLine settle) lines → AreLate settle (flat_map (pair_payments settle) (zip lines plan))
-lines_late settle [] plan h securities = All-nil (λ (flow : Flow). FallsLate settle flow.day)
-lines_late settle (line ∷ lines) [] h securities = All-nil (λ (flow : Flow). FallsLate settle flow.day)
-lines_late settle (line ∷ lines) (units ∷ plan) h securities =
-    All-append (λ (flow : Flow). FallsLate settle flow.day) (pair_payments settle (line, units)) (flat_map (pair_payments settle) (zip lines plan))
-    (line_late settle line units h (All-head (IsSecurityLine settle) line lines securities))
-    (lines_late settle lines plan h (All-tail (IsSecurityLine settle) line lines securities))
-
-flows_late : (book : BookContents) (plan : List ℕ) → IsBook book → AreLate book.settle (security_flows book plan)
-flows_late book plan limits =
-    days-summed (FallsLate book.settle) (flat_map (pair_payments book.settle) (drop 1 (zip book.lines plan)))
-    (of_lines book.settle book.lines plan limits.settlement limits.lines)
-  where
-    of_lines : (settle : ℤ) (lines : List Line) (plan : List ℕ) → IsSettlement settle → AreLines settle lines → AreLate settle (flat_map (pair_payments settle) (drop 1 (zip lines plan)))
-    of_lines settle [] plan h lines = absurd lines
-    of_lines settle (cash ∷ securities) [] h lines = All-nil (λ (flow : Flow). FallsLate settle flow.day)
-    of_lines settle (cash ∷ securities) (units ∷ plan) h lines = lines_late settle securities plan h lines.1
-
--- they are within 40 years
 pub flows_within : (book : BookContents) (plan : List ℕ) → IsBook book → FallWithinFortyYears book.settle (security_flows book plan)
 flows_within book plan limits =
-    All-weaker (λ (flow : Flow). FallsLate book.settle flow.day) (λ flow. (book.settle ≤ℤ flow.day) × (flow.day ≤ℤ years_after_of book.settle 40))
-    (λ flow late. (omega (arith, ints, late.0), late.1)) (security_flows book plan) (flows_late book plan limits)
-
--- and discounted by at least a day
-pub flows_later : (book : BookContents) (plan : List ℕ) → IsBook book → All (λ flow. 1 ≤ index360_of book.settle flow.day) (security_flows book plan)
-flows_later book plan limits =
-    All-weaker (λ (flow : Flow). FallsLate book.settle flow.day) (λ flow. 1 ≤ index360_of book.settle flow.day)
-    (λ flow late. later book.settle flow.day limits.settlement late) (security_flows book plan) (flows_late book plan limits)
+    fall-within book.settle (years_after_of book.settle 40) (flat_map (pair_payments book.settle) (drop 1 (zip book.lines plan)))
+    (of_lines book.settle book.lines plan limits.settlement limits.lines)
   where
-    later : (settle day : ℤ) → IsSettlement settle → FallsLate settle day → 1 ≤ index360_of settle day
-    later settle day h late =
-        let own : IsDayNumber settle = (omega (arith, ints, h.0), omega (arith, ints, h.1)) in
-        let base = settlement-base settle day h (omega (arith, ints, late.0)) late.1 in
-        let is_day : IsDayNumber day = (omega (arith, ints, base.0), omega (arith, ints, base.1)) in
-        omega (arith, thirty_day_place_of-apart settle day own is_day (omega (arith, ints, late.0)))
+    of_lines : (settle : ℤ) (lines : List Line) (plan : List ℕ) → IsSettlement settle → AreLines settle lines → FallWithinFortyYears settle (flat_map (pair_payments settle) (drop 1 (zip lines plan)))
+    of_lines settle [] plan h lines = absurd lines
+    of_lines settle (cash ∷ securities) [] h lines = All-nil (λ (flow : Flow). (settle ≤ℤ flow.day) × (flow.day ≤ℤ years_after_of settle 40))
+    of_lines settle (cash ∷ securities) (units ∷ plan) h lines = securities_within settle securities plan h lines.1
 
 -- the lines after opening cash
-pub lines_after_cash : (settle : ℤ) (lines : List Line) → AreLines settle lines → All (IsSecurityLine settle) (drop 1 lines)
+pub lines_after_cash : (settle : ℤ) (lines : List Line) → AreLines settle lines → All (IsLine settle) (drop 1 lines)
 lines_after_cash settle [] lines = absurd lines
-lines_after_cash settle (cash ∷ securities) lines = lines.1
+lines_after_cash settle (cash ∷ securities) lines = All-weaker (IsSecurityLine settle) (IsLine settle) (λ line security. inr security) securities lines.1
 
 -- parts of a permitted portfolio: its securities
 pub securities_permitted : (lines : List Line) (plan : List ℕ) → All PairIsPermitted (zip lines plan) → All PairIsPermitted (drop 1 (zip lines plan))

@@ -7,3 +7,8 @@ pub mod FlowFacts
 pub mod DayFacts
 pub mod YieldFacts
 pub mod PortfolioLaws
+pub mod ReachFacts
+pub mod BalanceFacts
+pub mod BalanceLaws
+pub mod LaterFacts
+pub mod PointFacts

@@ -80,7 +80,7 @@ pass_more lines plan i line within at passes before = λ k d h.
     ]
 
 -- no element passes where none is found
-position_fails : {X : Type 0} (p : X → Bool) (xs : List X) → position p xs ≡ None → (k : ℕ) (d : X) → k < length xs → p (get_or xs k d) ≡ false
+pub position_fails : {X : Type 0} (p : X → Bool) (xs : List X) → position p xs ≡ None → (k : ℕ) (d : X) → k < length xs → p (get_or xs k d) ≡ false
 position_fails p xs none k d within =
     fails_before_first p xs k d (at_end (nat_lt (position_or_len p xs) (length xs)) refl none)
   where

@@ -1,9 +1,8 @@
 -- What permitted portfolios cost, pay and yield.
-use Rattle.std.proofs.Common.{◌≡◌, ◌↔◌, ℕ, ◌+◌, ◌*◌, ◌≤◌, List, [], ◌∷◌, length, drop, slice_index, refl, ap, ◌∙◌, subst, arith, ℤ, ◌≤ℤ◌}
+use Rattle.std.proofs.Common.{◌≡◌, ◌↔◌, ℕ, zero, suc, ◌+◌, ◌*◌, ◌≤◌, List, [], ◌∷◌, length, drop, slice_index, refl, ap, ◌∙◌, subst, arith, ℤ, ◌≤ℤ◌}
 use Rattle.std.specs.List.{All, sum_by, flat_map, zip}
-use Rattle.std.proofs.lemmas.List.Elements.{All-head, All-tail, All-cons, All-nil, All-weaker}
+use Rattle.std.proofs.lemmas.List.Elements.{All-head, All-tail, All-cons, All-nil}
 use Rattle.std.proofs.lemmas.List.Sums.{sum_by-cons}
-use Rattle.std.proofs.Math.Nat.{mul-le-mul_right}
 use Rattle.escrow_units.specs.Calendar.{years_after_of}
 use Rattle.escrow_units.specs.Flows.{indexed, total}
 use Rattle.escrow_units.specs.PresentValue.{YieldLiesIn}
@@ -16,27 +15,14 @@ use Rattle.fixed_powers.specs.PresentValues.{total_cents}
 use Rattle.offer_book.specs.declared.line.Line.{Line}
 use Rattle.offer_book.specs.Book.{BookContents, IsSecurityLine, AreLines, IsBook, IsWithoutInterest, AreWithoutInterest}
 use Rattle.offer_book.specs.Portfolio.{IsPermitted, Meets, payments, cost, security_cost, security_flows, total_needs}
-use Rattle.offer_book.proofs.LineFacts.{cash-payments, line_payments-cost, line_payments-face, line_payments-none}
+use Rattle.offer_book.proofs.LineFacts.{cash-cost, cash-payments, line_cost-none, line_payments-par, line_payments-face, line_payments-none, par-some, security_cost-some}
 use Rattle.cash_table.proofs.CostFacts.{pair_cost, cost_is}
 use Rattle.cash_table.proofs.PaymentFacts.{pair_payments, pair_total, total-payments}
 use Rattle.cash_table.proofs.DayFacts.{total_by-due, total_by-at_most}
 use Rattle.cash_table.proofs.ZipFacts.{sum_by-zero}
 use Rattle.cash_table.proofs.YieldFacts.{yields_nothing, total_cents-indexed}
 
--- securities pay no less than they cost
-costs_paid : (settle : ℤ) (lines : List Line) (plan : List ℕ) → IsSettlement settle → All (IsSecurityLine settle) lines → sum_by pair_cost (zip lines plan) ≤ sum_by (pair_total settle) (zip lines plan)
-costs_paid settle [] plan h securities = omega arith
-costs_paid settle (line ∷ lines) [] h securities = omega arith
-costs_paid settle (line ∷ lines) (units ∷ plan) h securities =
-    omega (
-      arith,
-      sum_by-cons pair_cost (line, units) (zip lines plan),
-      sum_by-cons (pair_total settle) (line, units) (zip lines plan),
-      line_payments-cost settle line units h (All-head (IsSecurityLine settle) line lines securities),
-      costs_paid settle lines plan h (All-tail (IsSecurityLine settle) line lines securities),
-    )
-
--- and just that without interest
+-- securities without interest pay just what they cost
 faces_paid : (settle : ℤ) (lines : List Line) (plan : List ℕ) → IsSettlement settle → All (IsSecurityLine settle) lines → All IsWithoutInterest lines → sum_by (pair_total settle) (zip lines plan) ≡ sum_by pair_cost (zip lines plan)
 faces_paid settle [] plan h securities none = refl
 faces_paid settle (line ∷ lines) [] h securities none = refl
@@ -65,6 +51,8 @@ lines_paid settle (cash ∷ securities) (units ∷ plan) h lines none =
       sum_by-cons pair_cost (cash, units) (zip securities plan),
       sum_by-cons (pair_total settle) (cash, units) (zip securities plan),
       ap total (cash-payments settle cash units lines.0),
+      cash-cost cash units lines.0,
+      ap (λ (n : ℕ). n * units) lines.0.step,
       faces_paid settle securities plan h lines.1 none,
     )
 
@@ -108,21 +96,28 @@ cost_parts book plan limits permitted = cost_is book plan limits permitted
 abbrev IsNone : ℕ → Type 0
 IsNone units = units ≡ 0
 
-abbrev HasStep : Line → Type 0
-HasStep line = 1 ≤ line.step
+-- securities that pay nothing have no units, since each pays its face
+none_bought : (settle : ℤ) (lines : List Line) (plan : List ℕ) → IsSettlement settle → All (IsSecurityLine settle) lines → length plan ≡ length lines → sum_by (pair_total settle) (zip lines plan) ≡ 0 → All IsNone plan
+none_bought settle [] [] h securities same none = All-nil IsNone
+none_bought settle [] (units ∷ plan) h securities same none = absurd (omega (arith, same))
+none_bought settle (line ∷ lines) [] h securities same none = All-nil IsNone
+none_bought settle (line ∷ lines) (units ∷ plan) h securities same none =
+    let sum = sum_by-cons (pair_total settle) (line, units) (zip lines plan) in
+    let security = All-head (IsSecurityLine settle) line lines securities in
+    All-cons IsNone units plan (no_units settle line units h security (omega (arith, sum, none)))
+    (none_bought settle lines plan h (All-tail (IsSecurityLine settle) line lines securities) (omega (arith, same)) (omega (arith, sum, none)))
+  where
+    no_units : (settle : ℤ) (line : Line) (units : ℕ) → IsSettlement settle → IsSecurityLine settle line → pair_total settle (line, units) ≡ 0 → units ≡ 0
+    no_units settle line zero h security none = refl
+    no_units settle line (suc units) h security none =
+        absurd (omega (arith, none, line_payments-par settle line (suc units) h security, par-some settle line (suc units) security (omega arith)))
 
-no_units : (step units rest : ℕ) → 1 ≤ step → step * units + rest ≡ 0 → units ≡ 0
-no_units step units rest has_step none = omega (arith, none, mul-le-mul_right units has_step)
-
--- lines that cost nothing have no units
-none_bought : (lines : List Line) (plan : List ℕ) → All HasStep lines → length plan ≡ length lines → sum_by pair_cost (zip lines plan) ≡ 0 → All IsNone plan
-none_bought [] [] steps same none = All-nil IsNone
-none_bought [] (units ∷ plan) steps same none = absurd (omega (arith, same))
-none_bought (line ∷ lines) [] steps same none = All-nil IsNone
-none_bought (line ∷ lines) (units ∷ plan) steps same none =
-    let sum = sum_by-cons pair_cost (line, units) (zip lines plan) in
-    All-cons IsNone units plan (no_units line.step units (sum_by pair_cost (zip lines plan)) (All-head HasStep line lines steps) (omega (arith, sum, none)))
-    (none_bought lines plan (All-tail HasStep line lines steps) (omega (arith, same)) (omega (arith, sum, none)))
+-- lines without units cost nothing
+nothing_costs : (lines : List Line) (plan : List ℕ) → All IsNone plan → sum_by pair_cost (zip lines plan) ≡ 0
+nothing_costs [] plan none = refl
+nothing_costs (line ∷ lines) [] none = refl
+nothing_costs (line ∷ lines) (units ∷ plan) none =
+    omega (arith, sum_by-cons pair_cost (line, units) (zip lines plan), line_cost-none line units (All-head IsNone units plan none), nothing_costs lines plan (All-tail IsNone units plan none))
 
 -- and lines without units pay nothing
 nothing_paid : (settle : ℤ) (lines : List Line) (plan : List ℕ) → All IsNone plan → sum_by (pair_total settle) (zip lines plan) ≡ 0
@@ -138,40 +133,54 @@ none_from_total [] above none = refl
 none_from_total (flow ∷ flows) above none =
     absurd (omega (arith, All-head (λ (f : Flow). 1 ≤ f.cents.0) flow flows above, none, sum_by-cons (λ (f : Flow). f.cents.0) flow flows))
 
-paid_for : (settle : ℤ) (lines : List Line) (plan : List ℕ) → IsSettlement settle → AreLines settle lines → sum_by pair_cost (drop 1 (zip lines plan)) ≤ sum_by (pair_total settle) (drop 1 (zip lines plan))
-paid_for settle [] plan h lines = absurd lines
-paid_for settle (cash ∷ securities) [] h lines = omega arith
-paid_for settle (cash ∷ securities) (units ∷ plan) h lines = costs_paid settle securities plan h lines.1
+none_at_no_payment : (settle : ℤ) (lines : List Line) (plan : List ℕ) → IsSettlement settle → AreLines settle lines → length plan ≡ length lines → sum_by (pair_total settle) (drop 1 (zip lines plan)) ≡ 0 → All IsNone (drop 1 plan)
+none_at_no_payment settle [] plan h lines same none = absurd lines
+none_at_no_payment settle (cash ∷ securities) [] h lines same none = absurd (omega (arith, same))
+none_at_no_payment settle (cash ∷ securities) (units ∷ plan) h lines same none = none_bought settle securities plan h lines.1 (omega (arith, same)) none
+
+no_cost_at_none : (lines : List Line) (plan : List ℕ) → All IsNone (drop 1 plan) → sum_by pair_cost (drop 1 (zip lines plan)) ≡ 0
+no_cost_at_none [] plan none = refl
+no_cost_at_none (cash ∷ securities) [] none = refl
+no_cost_at_none (cash ∷ securities) (units ∷ plan) none = nothing_costs securities plan none
+
+-- lines of securities that cost nothing have no units
+free_securities : (settle : ℤ) (lines : List Line) (plan : List ℕ) → All (IsSecurityLine settle) lines → length plan ≡ length lines → sum_by pair_cost (zip lines plan) ≡ 0 → All IsNone plan
+free_securities settle [] [] securities same none = All-nil IsNone
+free_securities settle [] (units ∷ plan) securities same none = absurd (omega (arith, same))
+free_securities settle (line ∷ lines) [] securities same none = All-nil IsNone
+free_securities settle (line ∷ lines) (units ∷ plan) securities same none =
+    let sum = sum_by-cons pair_cost (line, units) (zip lines plan) in
+    All-cons IsNone units plan (no_units settle line units (All-head (IsSecurityLine settle) line lines securities) (omega (arith, sum, none)))
+    (free_securities settle lines plan (All-tail (IsSecurityLine settle) line lines securities) (omega (arith, same)) (omega (arith, sum, none)))
+  where
+    no_units : (settle : ℤ) (line : Line) (units : ℕ) → IsSecurityLine settle line → pair_cost (line, units) ≡ 0 → units ≡ 0
+    no_units settle line zero security none = refl
+    no_units settle line (suc units) security none = absurd (omega (arith, none, security_cost-some settle line (suc units) security (omega arith)))
 
 none_at_no_cost : (settle : ℤ) (lines : List Line) (plan : List ℕ) → AreLines settle lines → length plan ≡ length lines → sum_by pair_cost (drop 1 (zip lines plan)) ≡ 0 → All IsNone (drop 1 plan)
 none_at_no_cost settle [] plan lines same none = absurd lines
 none_at_no_cost settle (cash ∷ securities) [] lines same none = absurd (omega (arith, same))
-none_at_no_cost settle (cash ∷ securities) (units ∷ plan) lines same none =
-    none_bought securities plan (All-weaker (IsSecurityLine settle) HasStep (λ line security. omega (arith, security.step_at_least)) securities lines.1) (omega (arith, same)) none
+none_at_no_cost settle (cash ∷ securities) (units ∷ plan) lines same none = free_securities settle securities plan lines.1 (omega (arith, same)) none
 
 nothing_at_none : (settle : ℤ) (lines : List Line) (plan : List ℕ) → All IsNone (drop 1 plan) → sum_by (pair_total settle) (drop 1 (zip lines plan)) ≡ 0
 nothing_at_none settle [] plan none = refl
 nothing_at_none settle (cash ∷ securities) [] none = refl
 nothing_at_none settle (cash ∷ securities) (units ∷ plan) none = nothing_paid settle securities plan none
 
-empty_from_nothing : (book : BookContents) (plan : List ℕ) → sum_by (pair_total book.settle) (drop 1 (zip book.lines plan)) ≡ 0 → security_flows book plan ≡ []
+pub empty_from_nothing : (book : BookContents) (plan : List ℕ) → sum_by (pair_total book.settle) (drop 1 (zip book.lines plan)) ≡ 0 → security_flows book plan ≡ []
 empty_from_nothing book plan none =
     none_from_total (security_flows book plan) (above-summed (flat_map (pair_payments book.settle) (drop 1 (zip book.lines plan)))) (total-security_flows book plan ∙ none)
-
-no_cost_from_empty : (book : BookContents) (plan : List ℕ) → IsBook book → security_flows book plan ≡ [] → security_cost book plan ≡ 0
-no_cost_from_empty book plan limits empty =
-    omega (arith, paid_for book.settle book.lines plan limits.settlement limits.lines, total-security_flows book plan, ap total empty)
 
 -- the security flows are empty exactly where every line from 1 has 0 units
 pub empty_flows : (book : BookContents) (plan : List ℕ) → IsBook book → IsPermitted book plan → (security_flows book plan ≡ []) ↔ All (λ units. units ≡ 0) (drop 1 plan)
 empty_flows book plan limits permitted = (
-  (λ empty. none_at_no_cost book.settle book.lines plan limits.lines permitted.same_length (no_cost_from_empty book plan limits empty)),
+  (λ empty. none_at_no_payment book.settle book.lines plan limits.settlement limits.lines permitted.same_length (omega (arith, total-security_flows book plan, ap total empty))),
   (λ none. empty_from_nothing book plan (nothing_at_none book.settle book.lines plan none)),
 )
 
 -- and exactly where the security cost is 0
 pub empty_at_no_cost : (book : BookContents) (plan : List ℕ) → IsBook book → IsPermitted book plan → (security_flows book plan ≡ []) ↔ (security_cost book plan ≡ 0)
 empty_at_no_cost book plan limits permitted = (
-  no_cost_from_empty book plan limits,
+  (λ empty. no_cost_at_none book.lines plan ((empty_flows book plan limits permitted).0 empty)),
   (λ none. (empty_flows book plan limits permitted).1 (none_at_no_cost book.settle book.lines plan limits.lines permitted.same_length none)),
 )

@@ -12,11 +12,8 @@ ghost use Rattle.cash_table.specs.First.{first_short_of};
 ghost use Rattle.cash_table.specs.Receipts.{AreReceipts, IsCovered, IsFirstUncovered, cents_by};
 
 use crate::plan::Plan;
-use escrow_units::{Day, Flow};
+use escrow_units::{Day, Flow, MOST_NEED_DATES};
 use offer_book::{Book, Line};
-
-// The most need dates of a book.
-const MOST_NEEDS: usize = 480;
 
 /// The first day on which a permitted portfolio doesn't meet the needs; None exactly where it meets them.
 ///
@@ -28,13 +25,24 @@ pub fn first_short(book: &Book, plan: &Plan) -> Option<Day>
         (Meets book.now plan.now)
         (λ day. IsFirstShort book.now plan.now day) }
 {
-    let mut receipts = [0; MOST_NEEDS];
+    first_short_of_units(book, plan.units())
+}
+
+// The first day on which permitted units of the lines don't meet the needs.
+pub(crate) fn first_short_of_units(book: &Book, units: &[u64]) -> Option<Day>
+    requires { IsPermitted book.now units.now }
+    ensures value { result ≡ first_short_of book.now units.now }
+    ensures first { MatchOption result
+        (Meets book.now units.now)
+        (λ day. IsFirstShort book.now units.now day) }
+{
+    let mut receipts = [0; MOST_NEED_DATES];
     add_bought(
         &mut receipts,
         book.needs(),
         book.settle(),
         book.lines(),
-        plan.units(),
+        units,
     );
     first_uncovered(book.needs(), &receipts)
 }

@@ -1,8 +1,9 @@
 //! What a portfolio costs.
 
-ghost use Rattle.std.specs.Prelude.{◌≡◌, ◌^◌, ◌<◌, ◌≤◌, length, ◌*◌};
-ghost use Rattle.std.specs.List.{sum_by, zip};
-ghost use Rattle.offer_book.specs.Portfolio.{IsPermitted, line_cost, cost as cost_of, security_cost as security_cost_of};
+ghost use Rattle.std.specs.Prelude.{◌≡◌, ◌^◌, ◌<◌, ◌≤◌, length, ◌*◌, ℤ};
+ghost use Rattle.std.specs.List.{All, sum_by, zip};
+ghost use Rattle.offer_book.specs.Book.{IsLine};
+ghost use Rattle.offer_book.specs.Portfolio.{IsPermitted, IsPermittedUnits, line_cost, cost as cost_of, security_cost as security_cost_of};
 
 use crate::plan::Plan;
 use escrow_units::Cents;
@@ -16,18 +17,20 @@ pub fn cost(book: &Book, plan: &Plan) -> Cents
     Cents(lines_cost(book.lines(), plan.units()))
 }
 
-/// What the securities of a permitted portfolio cost, without opening cash, in cents: at most 360 billion dollars.
+/// What the securities of a permitted portfolio cost, without opening cash, in cents: at most 810 billion dollars.
 pub fn security_cost(book: &Book, plan: &Plan) -> Cents
     requires { IsPermitted book.now plan.now }
     ensures value { result.0 ≡ security_cost_of book.now plan.now }
-    ensures bound { result.0 ≤ 36 * 10 ^ 12 }
+    ensures bound { result.0 ≤ 81 * 10 ^ 12 }
 {
     Cents(lines_cost(&book.lines()[1..], &plan.units()[1..]))
 }
 
 // What units of lines cost, one number of units a line.
 fn lines_cost(lines: &[Line], plan: &[u64]) -> u64
-    requires { sum_by (λ p. line_cost p.0 p.1) (zip lines.now plan.now) < 2 ^ 64 }
+    requires lines { (settle : ℤ) × All (λ line. IsLine settle line) lines.now }
+    requires permitted { All (λ p. IsPermittedUnits p.0 p.1) (zip lines.now plan.now) }
+    requires room { sum_by (λ p. line_cost p.0 p.1) (zip lines.now plan.now) < 2 ^ 64 }
     ensures { result ≡ sum_by (λ p. line_cost p.0 p.1) (zip lines.now plan.now) }
 {
     let mut total = 0;

@@ -2,8 +2,11 @@
 
 ghost use Rattle.std.specs.Prelude.{◌≡◌, ℕ, ◌+◌, ◌*◌, ◌^◌, ◌≤◌, ◌↔◌, List, [], drop, slice_index};
 ghost use Rattle.std.specs.List.{All};
-ghost use Rattle.escrow_units.specs.Flows.{index360_of, indexed, total, FallWithinFortyYears};
+ghost use Rattle.escrow_units.specs.declared.limits.TheConstants.{FLOWS_LIMIT};
+ghost use Rattle.escrow_units.specs.Flows.{indexed, total, FallWithinFortyYears};
 ghost use Rattle.escrow_units.specs.PresentValue.{YieldLiesIn};
+ghost use Rattle.cash_table.specs.LaterFlows.{HaveLaterAmount};
+ghost use Rattle.cash_table.specs.Points.{BeyondLimitAreExcluded, BeyondLimitAreNoRivals, ExcludedAreNoRivals};
 ghost use Rattle.offer_book.specs.Book.{AreWithoutInterest, BookContents, IsBook};
 ghost use Rattle.offer_book.specs.Portfolio.{IsPermitted, Meets, cost, security_cost, security_flows, total_needs};
 
@@ -36,27 +39,32 @@ pub fn zero_interest_total()
         → total (security_flows book plan) ≡ security_cost book plan }
 {}
 
-/// A law: security flows fall from settlement to 40 years after it, and have an index of at least 1, since no security
-/// pays in the first 15 days.
+/// A law: security flows fall from settlement to 40 years after it. Where there are any, one above 0 falls at an index of 1
+/// or more, since each security matures there; so the yield matters.
 pub fn flow_days()
     ensures within { (book : BookContents) (plan : List ℕ)
         → IsBook book
         → FallWithinFortyYears book.settle (security_flows book plan) }
     ensures later { (book : BookContents) (plan : List ℕ)
         → IsBook book
-        → All (λ flow. 1 ≤ index360_of book.settle flow.day) (security_flows book plan) }
+        → HaveLaterAmount book.settle (security_flows book plan) }
 {}
 
-/// A law: a permitted portfolio costs at most 360 billion dollars, and its securities pay at most 8,900 billion.
+/// A law: a permitted portfolio costs at most 910 billion dollars, and its securities pay at most 8,900 billion. So what they
+/// pay and cost is within the 10^15 cents for which a yield is sought.
 pub fn bounds()
     ensures cost { (book : BookContents) (plan : List ℕ)
         → IsBook book
         → IsPermitted book plan
-        → cost book plan ≤ 36 * 10 ^ 12 }
+        → cost book plan ≤ 91 * 10 ^ 12 }
     ensures flows { (book : BookContents) (plan : List ℕ)
         → IsBook book
         → IsPermitted book plan
         → total (security_flows book plan) ≤ 89 * 10 ^ 13 }
+    ensures limit { (book : BookContents) (plan : List ℕ)
+        → IsBook book
+        → IsPermitted book plan
+        → total (security_flows book plan) + security_cost book plan ≤ FLOWS_LIMIT }
 {}
 
 /// A law: the cost of a permitted portfolio is its opening cash, which is the units of line 0, and its security cost.
@@ -78,4 +86,13 @@ pub fn empty_flows()
         → IsBook book
         → IsPermitted book plan
         → (security_flows book plan ≡ []) ↔ (security_cost book plan ≡ 0) }
+{}
+
+/// Laws of points: a portfolio that is excluded one unit below a limit is no rival under the limit. Of books that keep every
+/// limit and of yield limits from one unit to 30 percent: a portfolio whose yield isn't within the limit is excluded one unit
+/// below it, and so is no rival.
+pub fn excluded_laws()
+    ensures rivals { ExcludedAreNoRivals }
+    ensures beyond { BeyondLimitAreExcluded }
+    ensures limit { BeyondLimitAreNoRivals }
 {}

@@ -1,19 +1,29 @@
-//! Portfolios of the lines of a book: whether one is permitted, what it costs and pays, and whether it meets the needs.
+//! Portfolios of the lines of a book: whether one is permitted, what it costs, pays and yields, whether it meets the needs, and
+//! how its cash stands day by day.
 #![tactic(auto)]
 
 mod cash;
 mod costs;
+mod day_balances;
 mod laws;
 mod plan;
+mod points;
+mod reach;
 mod security_flows;
+mod yields;
 
 pub use cash::first_short;
 pub use costs::{cost, security_cost};
+pub use day_balances::{Balance, balances};
 pub use laws::{
-    bounds, cost_parts, empty_flows, flow_days, meets_cost, zero_interest_total, zero_yield,
+    bounds, cost_parts, empty_flows, excluded_laws, flow_days, meets_cost, zero_interest_total,
+    zero_yield,
 };
 pub use plan::{Plan, first_unpermitted};
+pub use points::point_excluded;
+pub use reach::out_of_reach;
 pub use security_flows::flows;
+pub use yields::{plan_yield, within_limit};
 
 #[cfg(test)]
 mod tests;

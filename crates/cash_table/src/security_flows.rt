@@ -3,11 +3,12 @@
 ghost use Rattle.std.specs.Prelude.{◌≡◌, ◌*◌, ◌^◌, ◌<◌, ◌≤◌, [], IfOk};
 ghost use Rattle.std.specs.List.{All, flat_map, zip};
 ghost use Rattle.escrow_units.specs.Calendar.{years_after_of};
-ghost use Rattle.escrow_units.specs.Flows.{Rise, index360_of, total, FallWithinFortyYears};
+ghost use Rattle.escrow_units.specs.Flows.{Rise, total, FallWithinFortyYears};
 ghost use Rattle.escrow_units.specs.SlgsTerms.{IsSettlement};
 ghost use Rattle.day_sums.specs.Summed.{summed};
 ghost use Rattle.day_sums.specs.SummedLaws.{AreAboveZero};
-ghost use Rattle.offer_book.specs.Book.{IsSecurityLine};
+ghost use Rattle.offer_book.specs.Book.{IsLine};
+ghost use Rattle.cash_table.specs.LaterFlows.{HaveLaterAmount};
 ghost use Rattle.offer_book.specs.Portfolio.{IsPermitted, IsPermittedUnits, line_payments, security_flows};
 
 use crate::plan::Plan;
@@ -28,7 +29,7 @@ pub fn flows(alloc: Global, book: &Book, plan: &Plan) -> Result<Vec<Flow>, NoMem
     ensures rise { IfOk result (λ flows. Rise flows.items) }
     ensures above { IfOk result (λ flows. AreAboveZero flows.items) }
     ensures within { IfOk result (λ flows. FallWithinFortyYears book.now.settle flows.items) }
-    ensures later { IfOk result (λ flows. All (λ flow. 1 ≤ index360_of book.now.settle flow.day) flows.items) }
+    ensures later { IfOk result (λ flows. HaveLaterAmount book.now.settle flows.items) }
     ensures bound { IfOk result (λ flows. total flows.items ≤ 89 * 10 ^ 13) }
 {
     let lines = book.lines();
@@ -39,10 +40,10 @@ pub fn flows(alloc: Global, book: &Book, plan: &Plan) -> Result<Vec<Flow>, NoMem
 }
 
 // Adds what the bought lines pay. A line without units pays nothing, so its dates aren't looked for.
-fn add_bought(sums: &mut DaySums, settle: Day, lines: &[Line], plan: &[u64])
+pub(crate) fn add_bought(sums: &mut DaySums, settle: Day, lines: &[Line], plan: &[u64])
     requires none { sums.old ≡ record { from = settle; to = years_after_of settle 40; sums = [] } }
     requires settlement { IsSettlement settle }
-    requires lines { All (λ line. IsSecurityLine settle line) lines.now }
+    requires lines { All (λ line. IsLine settle line) lines.now }
     requires permitted { All (λ p. IsPermittedUnits p.0 p.1) (zip lines.now plan.now) }
     requires room { total (flat_map (λ p. line_payments settle p.0 p.1) (zip lines.now plan.now)) < 2 ^ 64 }
     ensures { sums.new ≡ record sums.old { sums = summed (flat_map (λ p. line_payments settle p.0 p.1) (zip lines.now plan.now)) } }

@@ -1,5 +1,5 @@
 -- One more amount, and all of them: what the sums keep.
-use Rattle.std.proofs.Common.{◌≡◌, refl, arith, ℕ, suc, ◌+◌, ◌≤◌, List, [], ◌∷◌, ◌++◌, Bool, true, false, ℤ, inl, inr, if◌then◌else◌}
+use Rattle.std.proofs.Common.{◌≡◌, refl, arith, ℕ, suc, ◌+◌, ◌*◌, ◌≤◌, List, [], ◌∷◌, ◌++◌, Bool, true, false, ℤ, inl, inr, if◌then◌else◌}
 use Rattle.std.specs.Prelude.{All, AllPairs, sum_by, ◌==◌, ◌<ℤ◌, ⊤}
 use Rattle.std.specs.Ordering.{int_cmp}
 use Rattle.std.specs.declared.cmp.Ordering.{Ordering}
@@ -13,7 +13,7 @@ use Rattle.std.proofs.lemmas.List.Sums.{sum_by-cons, sum_by-append}
 use Rattle.escrow_units.specs.Flows.{Rise}
 use Rattle.escrow_units.specs.declared.security.Flow.{Flow}
 use Rattle.day_sums.specs.Summed.{on, with_amount, summed}
-use Rattle.day_sums.specs.SummedLaws.{AreAboveZero}
+use Rattle.day_sums.specs.SummedLaws.{AreAboveZero, weighted}
 
 -- which order two days have
 pub less-from_cmp : (a b : ℤ) → int_cmp a b ≡ Less → a <ℤ b
@@ -81,6 +81,39 @@ count-summed test (flow ∷ flows) =
           rw none (omega (arith, count-cons test flow flows, count-summed test flows, zero))
       | inr some ↦
           rw some (omega (arith, count-cons test flow flows, count-with_amount test flow (summed flows), count-summed test flows))
+    ]
+
+-- and weighs as it did
+at_weight : (ℤ → ℕ) → Flow → ℕ
+at_weight weight flow = flow.cents.0 * weight flow.day
+
+weighted-at : (weight : ℤ → ℕ) (flow sum : Flow) (sums : List Flow) → weighted weight (with_amount flow sums) ≡ flow.cents.0 * weight flow.day + weighted weight sums
+    → (order : Ordering) → int_cmp flow.day sum.day ≡ order
+    → weighted weight (with_amount flow (sum ∷ sums)) ≡ flow.cents.0 * weight flow.day + weighted weight (sum ∷ sums)
+unfolding with_amount at_weight
+weighted-at weight flow sum sums rest Less is = rw is (sum_by-cons (at_weight weight) flow (sum ∷ sums))
+weighted-at weight flow sum sums rest Equal is =
+    let same = same-from_cmp flow.day sum.day is in
+    rw (is, same)
+    (omega (arith, sum_by-cons (at_weight weight) (on sum.day (sum.cents.0 + flow.cents.0)) sums, sum_by-cons (at_weight weight) sum sums))
+weighted-at weight flow sum sums rest Greater is =
+    rw is (omega (arith, sum_by-cons (at_weight weight) sum (with_amount flow sums), sum_by-cons (at_weight weight) sum sums, rest))
+
+weighted-with_amount : (weight : ℤ → ℕ) (flow : Flow) (sums : List Flow) → weighted weight (with_amount flow sums) ≡ flow.cents.0 * weight flow.day + weighted weight sums
+unfolding with_amount at_weight
+weighted-with_amount weight flow [] = sum_by-cons (at_weight weight) flow []
+weighted-with_amount weight flow (sum ∷ sums) = weighted-at weight flow sum sums (weighted-with_amount weight flow sums) (int_cmp flow.day sum.day) refl
+
+pub weighted-summed : (weight : ℤ → ℕ) (flows : List Flow) → weighted weight (summed flows) ≡ weighted weight flows
+unfolding summed at_weight
+weighted-summed weight [] = refl
+weighted-summed weight (flow ∷ flows) =
+    elim (cases_Bool (flow.cents.0 == 0)) [
+      | inl none ↦
+          let zero : flow.cents.0 * weight flow.day ≡ 0 = rw (zero-from_test flow.cents.0 none) (omega arith) in
+          rw none (omega (arith, sum_by-cons (at_weight weight) flow flows, weighted-summed weight flows, zero))
+      | inr some ↦
+          rw some (omega (arith, sum_by-cons (at_weight weight) flow flows, weighted-with_amount weight flow (summed flows), weighted-summed weight flows))
     ]
 
 -- what holds of the days of all amounts

@@ -10,10 +10,10 @@ use Rattle.std.proofs.lemmas.List.Elements.{All-nil, All-cons, All-head, All-tai
 use Rattle.std.proofs.lemmas.List.Sums.{sum_by-cons, sum_by-drop_more, sum_by_push}
 use Rattle.escrow_units.specs.Flows.{total}
 use Rattle.escrow_units.specs.declared.security.Flow.{Flow}
-use Rattle.day_sums.specs.Summed.{on, summed, with_amount}
+use Rattle.day_sums.specs.Summed.{cents_on, on, summed, with_amount}
 use Rattle.day_sums.specs.Table.{HasPlace, SpanSums, day_amounts}
-use Rattle.day_sums.proofs.SumFacts.{DaysAre, IsAbove, count, counted, count-append, days-summed, above-summed, rising-summed, less-from_cmp, same-from_cmp}
-use Rattle.day_sums.proofs.Uniqueness.{in-steps, keep-total, nothing-more, one-more, same-sums, sums-again}
+use Rattle.day_sums.proofs.SumFacts.{DaysAre, IsAbove, count, counted, count-append, days-summed, above-summed, rising-summed, less-from_cmp, same-from_cmp, count-summed}
+use Rattle.day_sums.proofs.Uniqueness.{here, in-steps, keep-total, on-cons, on-earlier, same-day, nothing-more, one-more, same-sums, sums-again}
 
 first-place : (first : ℤ) → first +ℤ pos 0 ≡ first
 first-place first = omega (arith, ints)
@@ -177,3 +177,34 @@ all-sums first cents i long = ap (λ (fs : List Flow). summed fs) (take_all i (d
 pub push-sum : (sums more so_far next : List Flow) (day there : ℤ) (cents : ℕ) → more ≡ sums ++ on day cents ∷ [] → sums ≡ so_far → day ≡ there → next ≡ so_far ++ on there cents ∷ [] → more ≡ next
 push-sum sums more so_far next day there cents is before same after =
     is ∙ ap (λ (fs : List Flow). fs ++ on day cents ∷ []) before ∙ ap (λ (d : ℤ). so_far ++ on d cents ∷ []) same ∙ sym after
+
+-- days of a table that begins later are later
+days-from : (day first : ℤ) (cents : List ℕ) → day <ℤ first → DaysAre (λ d. day <ℤ d) (day_amounts first cents)
+unfolding day_amounts
+days-from day first [] less = All-nil (λ (f : Flow). day <ℤ f.day)
+days-from day first (c ∷ cs) less =
+    All-cons (λ (f : Flow). day <ℤ f.day) (on first c) (day_amounts (first +ℤ pos 1) cs) less (days-from day (first +ℤ pos 1) cs (omega (arith, ints, less)))
+
+earlier-day : (a b : ℤ) → a <ℤ b → int_eq a b ≡ false
+earlier-day a b h = grind (arith, ints)
+
+-- the cents of the day at a place
+on-place : (first : ℤ) (cents : List ℕ) (i e : ℕ) → i < length cents → cents_on (first +ℤ pos i) (day_amounts first cents) ≡ get_or cents i e
+unfolding day_amounts
+on-place first [] i e short = absurd (omega (arith, short))
+on-place first (c ∷ cs) zero e short =
+    let others = day_amounts (first +ℤ pos 1) cs in
+    let none = on-earlier first others (days-from first (first +ℤ pos 1) cs (omega (arith, ints))) in
+    let one : here first (on first c) ≡ c = rw (same-day first) refl in
+    rw (first-place first) (omega (arith, on-cons first (on first c) others, none, one))
+on-place first (c ∷ cs) (suc i) e short =
+    let others = day_amounts (first +ℤ pos 1) cs in
+    let none : here (first +ℤ pos (suc i)) (on first c) ≡ 0 = rw (earlier-day first (first +ℤ pos (suc i)) (omega (arith, ints))) refl in
+    let rest = ap (λ (day : ℤ). cents_on day others) (next-place first i) ∙ on-place (first +ℤ pos 1) cs i e (omega (arith, short)) in
+    omega (arith, on-cons (first +ℤ pos (suc i)) (on first c) others, none, rest)
+
+-- the sum of the day at a place
+pub sum-at : (first day : ℤ) (cents : List ℕ) (e : ℕ) → first ≤ℤ day → nat_abs (day -ℤ first) < length cents → get_or cents (nat_abs (day -ℤ first)) e ≡ cents_on day (summed (day_amounts first cents))
+sum-at first day cents e after within =
+    let there = place_is day first after in
+    sym (on-place first cents (nat_abs (day -ℤ first)) e within) ∙ ap (λ (d : ℤ). cents_on d (day_amounts first cents)) (sym there) ∙ sym (count-summed (λ d. int_eq d day) (day_amounts first cents))

@@ -10,33 +10,33 @@ use Rattle.std.proofs.lemmas.List.Sums.{sum_by-cons}
 use Rattle.escrow_units.specs.Flows.{total}
 use Rattle.escrow_units.specs.declared.security.Flow.{Flow}
 use Rattle.day_sums.specs.Summed.{cents_on, on, summed, with_amount}
-use Rattle.day_sums.specs.SummedLaws.{AreAboveZero, SummedAreSums, SumsAreUnique, SummedKeepTotal, SummedKeepTotalBy, SummedFallWithin, NothingSumsToNothing, SummedInSteps}
-use Rattle.day_sums.proofs.SumFacts.{IsAbove, DaysAre, Rising, counted-zero, count-append, count-summed, count-with_amount, days-summed, above-summed, above-with_amount, rising-summed, rising-with_amount, pairs-from_rising, rising-from_pairs, after-earlier, less-from_cmp, same-from_cmp, greater-from_cmp}
+use Rattle.day_sums.specs.SummedLaws.{AreAboveZero, SummedAreSums, SumsAreUnique, SummedKeepTotal, SummedKeepTotalBy, SummedKeepWeighted, SummedFallWithin, NothingSumsToNothing, SummedInSteps}
+use Rattle.day_sums.proofs.SumFacts.{IsAbove, DaysAre, Rising, counted-zero, count-append, count-summed, count-with_amount, days-summed, weighted-summed, above-summed, above-with_amount, rising-summed, rising-with_amount, pairs-from_rising, rising-from_pairs, after-earlier, less-from_cmp, same-from_cmp, greater-from_cmp}
 
 -- the cents of one amount on a day
 abbrev pub here : ℤ → Flow → ℕ
 here day flow = if int_eq flow.day day then flow.cents.0 else 0
 
-on-cons : (day : ℤ) (flow : Flow) (flows : List Flow) → cents_on day (flow ∷ flows) ≡ here day flow + cents_on day flows
+pub on-cons : (day : ℤ) (flow : Flow) (flows : List Flow) → cents_on day (flow ∷ flows) ≡ here day flow + cents_on day flows
 on-cons day flow flows = sum_by-cons (here day) flow flows
 
-same-day : (a : ℤ) → int_eq a a ≡ true
+pub same-day : (a : ℤ) → int_eq a a ≡ true
 same-day a = grind (arith, ints)
 
-other-day : (a b : ℤ) → b <ℤ a → int_eq a b ≡ false
+pub other-day : (a b : ℤ) → b <ℤ a → int_eq a b ≡ false
 other-day a b h = grind (arith, ints)
 
-here-same : (day : ℤ) (flow : Flow) → flow.day ≡ day → here day flow ≡ flow.cents.0
+pub here-same : (day : ℤ) (flow : Flow) → flow.day ≡ day → here day flow ≡ flow.cents.0
 here-same day flow same = rw (same, same-day day) refl
 
-here-later : (day : ℤ) (flow : Flow) → day <ℤ flow.day → here day flow ≡ 0
+pub here-later : (day : ℤ) (flow : Flow) → day <ℤ flow.day → here day flow ≡ 0
 here-later day flow later = rw (other-day flow.day day later) refl
 
 nothing-here : (day : ℤ) (flow : Flow) → flow.cents.0 ≡ 0 → here day flow ≡ 0
 nothing-here day flow none = counted-zero (int_eq flow.day day) flow.cents.0 none
 
 -- nothing falls on a day before all
-on-earlier : (day : ℤ) (flows : List Flow) → DaysAre (λ d. day <ℤ d) flows → cents_on day flows ≡ 0
+pub on-earlier : (day : ℤ) (flows : List Flow) → DaysAre (λ d. day <ℤ d) flows → cents_on day flows ≡ 0
 on-earlier day [] all = refl
 on-earlier day (flow ∷ flows) all =
     let first = here-later day flow (All-head (λ f. day <ℤ f.day) flow flows all) in
@@ -102,6 +102,9 @@ keep-total flows = count-summed (λ _. true) flows
 
 pub keep-total_by : SummedKeepTotalBy
 keep-total_by day flows = count-summed (λ d. int_le d day) flows
+
+pub keep-weighted : SummedKeepWeighted
+keep-weighted weight flows = weighted-summed weight flows
 
 pub fall-within : SummedFallWithin
 fall-within from to flows all = days-summed (λ day. (from ≤ℤ day) × (day ≤ℤ to)) flows all

@@ -1,5 +1,5 @@
 -- What the sums of amounts by day are.
-use Rattle.std.specs.Prelude.{◌≡◌, ◌≤◌, List, [], ◌++◌, All, ℤ}
+use Rattle.std.specs.Prelude.{◌≡◌, ℕ, ◌*◌, ◌≤◌, List, [], ◌++◌, All, sum_by, ℤ}
 use Rattle.escrow_units.specs.Flows.{FallWithin, Rise, total}
 use Rattle.escrow_units.specs.declared.security.Flow.{Flow}
 use Rattle.day_sums.specs.Summed.{summed, cents_on, total_by}
@@ -29,6 +29,14 @@ SummedKeepTotal = (flows : List Flow) → total (summed flows) ≡ total flows
 -- by each day they come to as much as the amounts
 abbrev pub SummedKeepTotalBy : Type 0
 SummedKeepTotalBy = (day : ℤ) (flows : List Flow) → total_by day (summed flows) ≡ total_by day flows
+
+-- the amounts where a cent of each day counts so much, as when it is discounted from its day
+abbrev pub weighted : (ℤ → ℕ) → List Flow → ℕ
+weighted weight flows = sum_by (λ flow. flow.cents.0 * weight flow.day) flows
+
+-- by any weights of the days they come to as much as the amounts
+abbrev pub SummedKeepWeighted : Type 0
+SummedKeepWeighted = (weight : ℤ → ℕ) (flows : List Flow) → weighted weight (summed flows) ≡ weighted weight flows
 
 -- amounts that fall within a span of days have sums within it
 abbrev pub SummedFallWithin : Type 0

@@ -1,7 +1,7 @@
 //! Sums of amounts by day, to which amounts are added.
 ghost use Rattle.std.specs.Prelude.{◌≡◌, ◌<◌, ◌≤ℤ◌, ◌+◌, ◌^◌, [], ◌∷◌, ◌++◌, All, IfOk};
 ghost use Rattle.escrow_units.specs.Flows.{Rise, total, FallWithin};
-ghost use Rattle.day_sums.specs.Summed.{summed};
+ghost use Rattle.day_sums.specs.Summed.{cents_on, summed};
 ghost use Rattle.day_sums.specs.SummedLaws.{AreAboveZero};
 ghost use Rattle.day_sums.specs.Table.{HasPlace, sums_of};
 
@@ -74,6 +74,16 @@ impl DaySums {
         ensures { self.new ≡ record self.old { sums = summed (self.old.sums ++ flows.now) } }
     {
         put_all(self.cents.as_mut_slice(), self.from, flows);
+    }
+
+    /// The sum of a day of the span, in cents: 0 where nothing falls on it.
+    pub fn on(&self, day: Day) -> Cents
+        requires from { self.now.from ≤ℤ day }
+        requires to { day ≤ℤ self.now.to }
+        ensures { result.0 ≡ cents_on day self.now.sums }
+    {
+        let place = (day.number() - self.from.number()) as usize;
+        Cents(self.cents[place])
     }
 
     /// The sums in order of day, each above 0.

@@ -27,6 +27,8 @@ fn amounts_are_summed_by_day(rt: HostRuntime) -> Result<(), Fail> {
     let mut sums = DaySums::between(rt.alloc(), first, last)?;
     sums.add(&[on(9, 5), on(7, 1), on(8, 0)]);
     sums.add(&[on(9, 6), on(-3, 2), on(7, 0)]);
+    let by_day = [sums.on(first), sums.on(Day::new(8)), sums.on(last)];
+    assert_eq!(rt; by_day, [Cents(2), Cents(0), Cents(11)]);
     let expected = [on(-3, 2), on(7, 1), on(9, 11)];
     assert_eq!(rt;
         sums.into_flows(rt.alloc())?.as_slice(),

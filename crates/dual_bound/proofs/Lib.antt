@@ -1,6 +1,10 @@
+pub mod BoundSizes
 pub mod Coverage
+pub mod FormFacts
 pub mod LineBound
+pub mod PriceFacts
 pub mod RangeFacts
 pub mod RangeLaws
 pub mod Signed
+pub mod Sizes
 pub mod Soundness

@@ -1,24 +1,26 @@
 -- The least of a line within an interval is at most its reduced cost at each permitted number of units there.
-use Rattle.std.proofs.Common.{◌≡◌, ◌∙◌, ℕ, zero, suc, ◌+◌, ◌*◌, ◌<◌, ◌≤◌, ◌==◌, List, [], ◌∷◌, length, refl, sym, ap, subst, arith, ℤ, pos, negsuc, ◌+ℤ◌, ◌-ℤ◌, ◌*ℤ◌, neg_ℤ, ◌≤ℤ◌, int_le, unsigned_abs, Bool, true, false, if◌then◌else◌, All, ◌⊎◌, inl, inr}
+use Rattle.std.proofs.Common.{◌≡◌, ◌∙◌, ℕ, suc, ◌+◌, ◌*◌, ◌≤◌, ◌==◌, List, [], ◌∷◌, refl, ap, arith, ℤ, pos, negsuc, ◌+ℤ◌, ◌-ℤ◌, ◌*ℤ◌, neg_ℤ, ◌≤ℤ◌, int_le, unsigned_abs, Bool, true, false, if◌then◌else◌, All, inl, inr}
 use Rattle.std.proofs.lemmas.Int.{ints, clamps}
 use Rattle.std.proofs.lemmas.List.Elements.{All-head, All-tail}
 use Rattle.std.proofs.lemmas.List.Sums.{sum_by-cons}
 use Rattle.std.proofs.Math.Nat.{mul-le-mul_left}
 use Rattle.std.specs.Int.{int_min}
 use Rattle.std.specs.List.{AllZip, sum_by}
-use borrow.Author.Differences.{up, down, product_is}
+use borrow.Author.Differences.{product_is}
 use Rattle.escrow_units.specs.declared.security.Flow.{Flow}
 use Rattle.offer_book.proofs.LineFacts.{line_cost-none, line_payments-none}
 use Rattle.offer_book.specs.Book.{BookContents}
-use Rattle.offer_book.specs.Coefficients.{Enclosure, Encloses, EnclosesPayment, EnclosesUnits, cost_coefficients, pay_coefficients}
+use Rattle.offer_book.specs.Coefficients.{EnclosesPayment, EnclosesUnits, cost_coefficients, pay_coefficients}
 use Rattle.offer_book.specs.Portfolio.{IsPermittedUnits, line_cost, line_payments}
 use Rattle.offer_book.specs.declared.coefficients.PayCoefficients.{PayCoefficients}
 use Rattle.offer_book.specs.declared.coefficients.TheConstants.{COEFFICIENT_SCALE}
 use Rattle.offer_book.specs.declared.line.Line.{Line}
-use Rattle.dual_bound.specs.LeafBound.{AffineForm, cost_worth, form_at, form_of, least_side, least_within, paid_worth, reduced_cost, signed_sum}
+use Rattle.dual_bound.specs.LeafBound.{cost_worth, form_at, form_of, least_side, least_within, paid_worth, reduced_cost, signed_sum}
 use Rattle.dual_bound.specs.Ranges.{LieIn}
+use Rattle.dual_bound.specs.declared.form.Form.{Form}
 use Rattle.dual_bound.specs.declared.ranges.Interval.{Interval}
 use Rattle.dual_bound.specs.declared.tree.Leaf.{Leaf}
+use Rattle.dual_bound.proofs.Sizes.{abs-neg, pay_slack, pays_slope}
 use Rattle.dual_bound.proofs.Signed.{add-mul, mul-add, mul-comm, mul-neg, mul-sub, neg-mul, pos-mul, scale-in}
 
 -- the side of a coefficient by the sign of its weight
@@ -41,30 +43,18 @@ side-le : (weight : ℤ) (low high slack units cents : ℕ) → low * units ≤ 
     → (least_side weight low high *ℤ pos units) ≤ℤ (weight *ℤ pos (COEFFICIENT_SCALE * cents) +ℤ pos (unsigned_abs weight * slack))
 side-le (pos m) low high slack units cents least most =
     let side : least_side (pos m) low high *ℤ pos units ≡ pos (m * low * units) =
-        ap (λ z. z *ℤ pos units) (side-above m low high ∙ pos-mul m low) ∙ pos-mul (m * low) units in
+    ap (λ z. z *ℤ pos units) (side-above m low high ∙ pos-mul m low) ∙ pos-mul (m * low) units in
     omega (arith, ints, side, mul-le-mul_left m least)
 side-le (negsuc m) low high slack units cents least most =
     let whole : neg_ℤ (pos (suc m) *ℤ pos high) *ℤ pos units ≡ neg_ℤ (pos (suc m * high * units)) =
-        neg-mul (pos (suc m) *ℤ pos high) (pos units) ∙ ap (λ z. neg_ℤ z) (ap (λ z. z *ℤ pos units) (pos-mul (suc m) high) ∙ pos-mul (suc m * high) units) in
+    neg-mul (pos (suc m) *ℤ pos high) (pos units) ∙ ap (λ z. neg_ℤ z) (ap (λ z. z *ℤ pos units) (pos-mul (suc m) high) ∙ pos-mul (suc m * high) units) in
     let side : least_side (negsuc m) low high *ℤ pos units ≡ neg_ℤ (pos (suc m * high * units)) =
-        ap (λ z. z *ℤ pos units) (side-below m low high ∙ neg-mul (pos (suc m)) (pos high)) ∙ whole in
+    ap (λ z. z *ℤ pos units) (side-below m low high ∙ neg-mul (pos (suc m)) (pos high)) ∙ whole in
     omega (arith, ints, side, mul-le-mul_left (suc m) most)
 
 -- what payments are worth by a weight for each day
 abbrev worth : (ℤ → ℤ) → List Flow → ℤ
 worth weight flows = signed_sum (λ flow. weight flow.day *ℤ pos flow.cents.0) flows
-
--- the slope of a line's payments, and their slack
-abbrev pays_slope : (ℤ → ℤ) → List PayCoefficients → ℤ
-pays_slope weight pays = signed_sum (λ pay. least_side (neg_ℤ (weight pay.day)) pay.low pay.high) pays
-
-abbrev pay_slack : (ℤ → ℤ) → PayCoefficients → ℕ
-pay_slack weight pay = unsigned_abs (weight pay.day) * pay.slack
-
-abs-neg : (z : ℤ) → unsigned_abs (neg_ℤ z) ≡ unsigned_abs z
-abs-neg (pos zero) = refl
-abs-neg (pos (suc n)) = refl
-abs-neg (negsuc n) = refl
 
 pay-le : (weight : ℤ → ℤ) (units : ℕ) (pay : PayCoefficients) (flow : Flow) → EnclosesPayment units pay flow
     → (least_side (neg_ℤ (weight pay.day)) pay.low pay.high *ℤ pos units)
@@ -75,8 +65,8 @@ pay-le weight units pay flow encloses =
     let same = ap (λ day. pos COEFFICIENT_SCALE *ℤ (weight day *ℤ pos flow.cents.0)) encloses.day in
     let scaled = scale-in COEFFICIENT_SCALE flow.cents.0 (weight pay.day) in
     let turned : neg_ℤ (weight pay.day) *ℤ pos (COEFFICIENT_SCALE * flow.cents.0) ≡ neg_ℤ (weight pay.day *ℤ pos (COEFFICIENT_SCALE * flow.cents.0)) =
-        mul-comm (neg_ℤ (weight pay.day)) (pos (COEFFICIENT_SCALE * flow.cents.0))
-        ∙ (mul-neg (pos (COEFFICIENT_SCALE * flow.cents.0)) (weight pay.day) ∙ ap (λ z. neg_ℤ z) (mul-comm (pos (COEFFICIENT_SCALE * flow.cents.0)) (weight pay.day))) in
+    mul-comm (neg_ℤ (weight pay.day)) (pos (COEFFICIENT_SCALE * flow.cents.0))
+    ∙ (mul-neg (pos (COEFFICIENT_SCALE * flow.cents.0)) (weight pay.day) ∙ ap (λ z. neg_ℤ z) (mul-comm (pos (COEFFICIENT_SCALE * flow.cents.0)) (weight pay.day))) in
     joined _ _ _ _ _ _ _ side slack same scaled turned
   where
     joined : (left product back scaled there : ℤ) (given slack : ℕ) → left ≤ℤ (product +ℤ pos given) → given ≡ slack → back ≡ there → back ≡ scaled → product ≡ neg_ℤ scaled
@@ -122,7 +112,7 @@ form-le n book leaf line units encloses =
     joined whole a b c d e f now later side paid slope exact scaled = omega (arith, ints)
 
 -- an affine form between two numbers is at least the least at them
-affine-least : (form : AffineForm) (a x b : ℕ) → a ≤ x → x ≤ b → int_min (form_at form a) (form_at form b) ≤ℤ form_at form x
+affine-least : (form : Form) (a x b : ℕ) → a ≤ x → x ≤ b → int_min (form_at form a) (form_at form b) ≤ℤ form_at form x
 affine-least form a x b from to = at form.slope
   where
     at : (slope : ℤ) → int_min (slope *ℤ pos a -ℤ pos form.slack) (slope *ℤ pos b -ℤ pos form.slack) ≤ℤ (slope *ℤ pos x -ℤ pos form.slack)
@@ -151,7 +141,7 @@ pub least-le : (n : ℕ) (book : BookContents) (leaf : Leaf) (line : Line) (inte
     → least_within n book leaf line interval ≤ℤ reduced_cost n book leaf line units
 least-le n book leaf line interval units encloses permitted inside = at (interval.low == interval.high) refl (interval.low == 0) refl
   where
-    form : AffineForm
+    form : Form
     form = form_of n book leaf line
 
     exact : form_at form units ≤ℤ reduced_cost n book leaf line units

@@ -1,9 +1,9 @@
 -- Ranges at a place.
-use Rattle.std.proofs.Common.{◌≡◌, ◌∙◌, ◌↔◌, ◌⊎◌, inl, inr, ℕ, zero, suc, ◌+◌, ◌<◌, ◌≤◌, ◌==◌, List, [], ◌∷◌, ◌++◌, length, get_or, set, take, drop, map, refl, sym, ap, subst, arith, Bool, true, false, ◌&&◌, nat_lt, nat_le, IsTrue, if◌then◌else◌, All}
-use Rattle.std.specs.List.{AllZip}
+use Rattle.std.proofs.Common.{◌≡◌, ◌∙◌, inl, inr, ℕ, zero, suc, ◌+◌, ◌<◌, ◌≤◌, ◌==◌, List, [], ◌∷◌, length, get_or, set, refl, sym, ap, arith, Bool, true, false, ◌&&◌, nat_lt, nat_le, IsTrue, if◌then◌else◌, All}
+use Rattle.std.proofs.lemmas.List.Elements.{All-cons, All-nil}
 use Rattle.offer_book.specs.Portfolio.{IsPermittedUnits}
 use Rattle.offer_book.specs.declared.line.Line.{Line}
-use Rattle.dual_bound.specs.Ranges.{AreTight, IsTight, is_proper, is_single, narrowed, root_of, side_of, tightened, whole_interval}
+use Rattle.dual_bound.specs.Ranges.{AreTight, IsTight, is_proper, is_single, narrowed, root_of, side_of, whole_interval}
 use Rattle.dual_bound.specs.declared.ranges.Interval.{Interval}
 
 -- tight ranges have an interval for each line
@@ -136,3 +136,15 @@ all-whole (line ∷ lines) [] same each = absurd (omega arith)
 all-whole (line ∷ lines) (interval ∷ ranges) same each =
     let first : interval ≡ whole_interval line = each 0 interval line (omega arith) in
     (λ i. first i ∷ all-whole lines ranges (omega arith) (λ k d e few. each (suc k) d e (omega arith)) i)
+
+-- in each interval the low end is at most the high one
+pub tight-ordered : (lines : List Line) (ranges : List Interval) → AreTight lines ranges → All (λ interval. interval.low ≤ interval.high) ranges
+tight-ordered [] [] tight = All-nil (λ (i : Interval). i.low ≤ i.high)
+tight-ordered [] (interval ∷ ranges) tight = absurd tight
+tight-ordered (line ∷ lines) [] tight = absurd tight
+tight-ordered (line ∷ lines) (interval ∷ ranges) tight =
+    All-cons (λ (i : Interval). i.low ≤ i.high) interval ranges tight.0.ordered (tight-ordered lines ranges tight.1)
+
+pub root-ordered : (lines : List Line) → All (λ interval. interval.low ≤ interval.high) (root_of lines)
+root-ordered [] = All-nil (λ (i : Interval). i.low ≤ i.high)
+root-ordered (line ∷ lines) = All-cons (λ (i : Interval). i.low ≤ i.high) (whole_interval line) (root_of lines) (omega arith) (root-ordered lines)

@@ -1,11 +1,11 @@
 -- What the ranges of a tree keep.
-use Rattle.std.proofs.Common.{◌≡◌, ◌∙◌, ◌↔◌, ◌⊎◌, inl, inr, ℕ, zero, suc, ◌+◌, ◌<◌, ◌≤◌, ◌==◌, List, [], ◌∷◌, drop, get_or, length, map, refl, sym, ap, subst, arith, Bool, true, false, ◌&&◌, nat_lt, nat_le, IsTrue, if◌then◌else◌, All, ℤ}
-use Rattle.std.proofs.lemmas.List.Elements.{All-cons, All-head, All-nil, All-tail, All-weaker}
+use Rattle.std.proofs.Common.{◌≡◌, ◌⊎◌, inl, inr, ℕ, zero, suc, ◌+◌, ◌<◌, ◌≤◌, ◌==◌, List, [], ◌∷◌, drop, get_or, length, map, refl, ap, arith, Bool, true, false, ◌&&◌, nat_lt, nat_le, IsTrue, if◌then◌else◌, All, ℤ}
+use Rattle.std.proofs.lemmas.List.Elements.{All-cons, All-head, All-nil, All-tail}
 use Rattle.std.specs.List.{AllZip, zip}
-use Rattle.offer_book.specs.Book.{AreLines, BookContents, IsBook, IsCashLine, IsSecurityLine}
-use Rattle.offer_book.specs.Portfolio.{IsPermitted, IsPermittedUnits}
+use Rattle.offer_book.specs.Book.{AreLines, IsCashLine, IsSecurityLine}
+use Rattle.offer_book.specs.Portfolio.{IsPermittedUnits}
 use Rattle.offer_book.specs.declared.line.Line.{Line}
-use Rattle.dual_bound.specs.Ranges.{AreTight, CoversBy, Hold, IsTight, IsWithin, LieIn, RootHoldsAll, RootIsTight, SidesAreTight, SingleHoldOne, SplitsCover, TightHold, is_proper, is_single, narrowed, root_of, side_of, tightened, whole_interval}
+use Rattle.dual_bound.specs.Ranges.{AreTight, CoversBy, Hold, IsTight, LieIn, RootHoldsAll, RootIsTight, SidesAreTight, SingleHoldOne, SplitsCover, TightHold, is_proper, is_single, narrowed, root_of, side_of, tightened, whole_interval}
 use Rattle.dual_bound.specs.declared.ranges.Interval.{Interval}
 use Rattle.dual_bound.proofs.RangeFacts.{sides-tight, splits-at}
 
@@ -110,7 +110,7 @@ pub splits_cover : SplitsCover
 splits_cover lines ranges line at tight proper plan = split-covers lines ranges line at tight proper plan
 
 -- ---- what tight ranges hold
-lows-held : (lines : List Line) (ranges : List Interval) → AreTight lines ranges → Hold lines ranges (map (λ (interval : Interval). interval.low) ranges)
+pub lows-held : (lines : List Line) (ranges : List Interval) → AreTight lines ranges → Hold lines ranges (map (λ (interval : Interval). interval.low) ranges)
 lows-held [] [] tight = record { permitted = tt; within = tt }
 lows-held [] (interval ∷ ranges) tight = absurd tight
 lows-held (line ∷ lines) [] tight = absurd tight
@@ -127,7 +127,7 @@ highs-held (line ∷ lines) [] tight = absurd tight
 highs-held (line ∷ lines) (interval ∷ ranges) tight =
     hold-more line lines interval ranges interval.high (map (λ (i : Interval). i.high) ranges) tight.0.high (record { low = tight.0.ordered; high = omega arith }) (highs-held lines ranges tight.1)
 
-only-one : (lines : List Line) (ranges : List Interval) → IsTrue (is_single ranges) → (plan other : List ℕ) → Hold lines ranges plan → Hold lines ranges other → plan ≡ other
+pub only-one : (lines : List Line) (ranges : List Interval) → IsTrue (is_single ranges) → (plan other : List ℕ) → Hold lines ranges plan → Hold lines ranges other → plan ≡ other
 only-one lines [] single [] [] hold holds = refl
 only-one lines [] single [] (units ∷ other) hold holds = absurd holds.within
 only-one lines [] single (units ∷ plan) other hold holds = absurd hold.within
@@ -148,11 +148,10 @@ ends-same (interval ∷ ranges) same =
     rw test (ends-same ranges (ap (drop 1) same))
 
 pub single_hold_one : SingleHoldOne
-single_hold_one lines ranges tight =
-    (
-      λ single. only-one lines ranges single,
-      λ only. ends-same ranges (only (map (λ (interval : Interval). interval.low) ranges) (map (λ (interval : Interval). interval.high) ranges) (lows-held lines ranges tight) (highs-held lines ranges tight)),
-    )
+single_hold_one lines ranges tight = (
+  λ single. only-one lines ranges single,
+  λ only. ends-same ranges (only (map (λ (interval : Interval). interval.low) ranges) (map (λ (interval : Interval). interval.high) ranges) (lows-held lines ranges tight) (highs-held lines ranges tight)),
+)
 
 -- ---- the root
 whole-tight : (line : Line) → (line.least ≤ line.most) ⊎ (line.most ≡ 0) → IsTight line (whole_interval line)
@@ -202,8 +201,7 @@ from-root (line ∷ lines) (units ∷ plan) permitted =
     (ap suc rest.0, All-cons PairIsPermitted (line, units) (zip lines plan) permitted.0 rest.1)
 
 pub root_holds_all : RootHoldsAll
-root_holds_all book plan =
-    (
-      λ permitted. in-root book.lines plan permitted.same_length permitted.units,
-      λ hold. (let both = from-root book.lines plan hold.permitted in record { same_length = both.0; units = both.1 }),
-    )
+root_holds_all book plan = (
+  λ permitted. in-root book.lines plan permitted.same_length permitted.units,
+  λ hold. (let both = from-root book.lines plan hold.permitted in record { same_length = both.0; units = both.1 }),
+)

@@ -1,10 +1,12 @@
 -- Sums and products of signed numbers.
-use Rattle.std.proofs.Common.{◌≡◌, ◌∙◌, ℕ, zero, suc, ◌+◌, ◌*◌, ◌≤◌, List, [], ◌∷◌, refl, sym, ap, arith, ℤ, pos, negsuc, ◌+ℤ◌, ◌-ℤ◌, ◌*ℤ◌, neg_ℤ, ◌≤ℤ◌, int_le, unsigned_abs, Bool, true, false, if◌then◌else◌}
-use Rattle.std.proofs.lemmas.Int.{ints}
+use Rattle.std.proofs.Common.{◌≡◌, ◌∙◌, ℕ, zero, suc, ◌+◌, ◌*◌, ◌^◌, ◌<◌, ◌≤◌, List, [], ◌∷◌, get_or, length, take, ap, arith, ℤ, pos, ◌+ℤ◌, ◌-ℤ◌, ◌*ℤ◌, neg_ℤ, ◌≤ℤ◌, unsigned_abs}
+use Rattle.std.proofs.lemmas.Int.{fits_signed_from_abs, ints, to_z-of_z}
 use Rattle.std.proofs.lemmas.List.Sums.{sum_by-cons}
 use Rattle.std.proofs.Math.Nat.{mul-le-mul_left}
 use Rattle.std.specs.List.{sum_by}
-use borrow.Author.Differences.{up, down, same_in, product_is, sum_is_lem, neg_is, le_in, le_out}
+use mir.Syntax.{w128}
+use mir.Val.{of_z, to_z}
+use borrow.Author.Differences.{up, down, product_is, sum_is_lem, neg_is, le_out}
 use Rattle.dual_bound.specs.LeafBound.{signed_sum}
 
 pub mul-add : (a b c : ℤ) → a *ℤ (b +ℤ c) ≡ a *ℤ b +ℤ a *ℤ c
@@ -51,3 +53,18 @@ signed_sum-le f g (x ∷ xs) le = omega (arith, ints, le x, signed_sum-le f g xs
 pub signed_sum-difference : {X : Type 0} (a b : X → ℕ) (xs : List X) → signed_sum (λ x. pos (a x) -ℤ pos (b x)) xs ≡ pos (sum_by a xs) -ℤ pos (sum_by b xs)
 signed_sum-difference a b [] = omega (arith, ints)
 signed_sum-difference a b (x ∷ xs) = omega (arith, ints, sum_by-cons a x xs, sum_by-cons b x xs, signed_sum-difference a b xs)
+
+-- a sum, one term more
+pub signed_sum_more : {X : Type 0} (f : X → ℤ) (xs : List X) (i : ℕ) (d : X) → i < length xs → signed_sum f (take (i + 1) xs) ≡ signed_sum f (take i xs) +ℤ f (get_or xs i d)
+signed_sum_more f [] i d few = absurd (omega arith)
+signed_sum_more f (x ∷ xs) zero d few = omega (arith, ints)
+signed_sum_more f (x ∷ xs) (suc i) d few =
+    let next : suc i + 1 ≡ suc (i + 1) = omega arith in
+    ap (λ n. signed_sum f (take n (x ∷ xs))) next ∙ joined _ _ _ _ (signed_sum_more f xs i d (omega arith))
+  where
+    joined : (first rest later term : ℤ) → rest ≡ later +ℤ term → first +ℤ rest ≡ (first +ℤ later) +ℤ term
+    joined first rest later term e = omega (arith, ints)
+
+-- a small number that went to bits is read again
+pub read-again : (z : ℤ) → unsigned_abs z ≤ 10 ^ 38 → to_z w128 (of_z w128 z) ≡ z
+read-again z small = to_z-of_z w128 z (fits_signed_from_abs w128 z (omega (arith, small)))

@@ -1,17 +1,15 @@
 -- Weak duality: a portfolio that meets the needs, within the limit or where the limit has no weight, costs at least the bound.
-use Rattle.std.proofs.Common.{◌≡◌, ◌∙◌, ℕ, zero, suc, ◌+◌, ◌-◌, ◌*◌, ◌/◌, ◌<◌, ◌≤◌, List, [], ◌∷◌, ◌++◌, length, drop, refl, sym, ap, subst, arith, ℤ, pos, ◌+ℤ◌, ◌-ℤ◌, ◌*ℤ◌, neg_ℤ, ◌≤ℤ◌, ◌<ℤ◌, All, ◌==◌, inl, inr, Bool, true, false, if◌then◌else◌}
+use Rattle.std.proofs.Common.{◌≡◌, ◌∙◌, ℕ, ◌+◌, ◌-◌, ◌*◌, ◌≤◌, List, [], ◌∷◌, length, drop, refl, sym, ap, arith, ℤ, pos, ◌+ℤ◌, ◌-ℤ◌, ◌*ℤ◌, neg_ℤ, ◌≤ℤ◌, All, inl, inr}
 use Rattle.std.proofs.lemmas.Bool.{cases_lt}
 use Rattle.std.proofs.lemmas.Int.{ints}
 use Rattle.std.proofs.lemmas.List.Elements.{All-cons, All-head, All-tail, All-weaker}
-use Rattle.std.proofs.lemmas.List.Sums.{sum_by-append, sum_by-cons, sum_by-le-sum_by}
+use Rattle.std.proofs.lemmas.List.Sums.{sum_by-append, sum_by-cons}
 use Rattle.std.proofs.Math.Nat.{mul-le-mul_left, mul-le-mul_right}
-use Rattle.std.specs.List.{AllZip, flat_map, sum_by, zip}
+use Rattle.std.specs.List.{flat_map, sum_by, zip}
 use Rattle.escrow_units.specs.Flows.{index360_of, indexed}
 use Rattle.escrow_units.specs.PresentValue.{IndexedFlow}
-use Rattle.escrow_units.specs.SlgsTerms.{IsSettlement}
 use Rattle.escrow_units.specs.declared.security.Flow.{Flow}
 use Rattle.day_sums.proofs.RateFacts.{at_rate, rate-summed}
-use Rattle.day_sums.specs.Summed.{total_by}
 use Rattle.fixed_powers.proofs.WholeNumbers.{cancel-le}
 use Rattle.fixed_powers.proofs.PresentValueFacts.{low_value-excludes}
 use Rattle.fixed_powers.specs.DiscountPowers.{low, one}
@@ -27,14 +25,14 @@ use Rattle.offer_book.specs.declared.line.Line.{Line}
 use Rattle.offer_book.specs.declared.line.LineKind.{LineKind}
 use Rattle.offer_book.specs.declared.line.LineKind.TheVariants.{Cash, Market, Security}
 use Rattle.dual_bound.specs.Duality.{BoundsAll, BoundsRivals, CostsAtLeast}
-use Rattle.dual_bound.specs.LeafBound.{bound_of, cost_weight, cost_worth, least_within, limit_price, limit_weight, paid_worth, price_on, priced_needs, reduced_cost, signed_sum}
-use Rattle.dual_bound.specs.Ranges.{IsWithin, LieIn}
+use Rattle.dual_bound.specs.LeafBound.{bound_of, cost_weight, least_within, limit_price, limit_weight, price_on, priced_needs, reduced_cost, signed_sum}
+use Rattle.dual_bound.specs.Ranges.{IsWithin}
 use Rattle.dual_bound.specs.Tree.{IsLeaf}
 use Rattle.dual_bound.specs.declared.ranges.Interval.{Interval}
 use Rattle.dual_bound.specs.declared.tree.Leaf.{Leaf}
 use Rattle.dual_bound.proofs.Coverage.{covered-worth, paid_at}
 use Rattle.dual_bound.proofs.LineBound.{least-le}
-use Rattle.dual_bound.proofs.Signed.{add-mul, mul-add, mul-comm, mul-sub, neg-mul, pos-mul, scale-le, signed_sum-difference, signed_sum-le, signed_sum-scaled}
+use Rattle.dual_bound.proofs.Signed.{add-mul, mul-sub, neg-mul, pos-mul, signed_sum-difference, signed_sum-scaled}
 
 -- ---- sums over the lines of a portfolio
 -- a sum over all payments, line by line
@@ -68,8 +66,12 @@ worth-parts : (price limit : ℤ → ℕ) (flows : List Flow)
 worth-parts price limit [] = omega (arith, ints)
 worth-parts price limit (flow ∷ flows) =
     omega (
-      arith, ints, difference-mul (price flow.day) (limit flow.day) flow.cents.0, worth-parts price limit flows,
-      sum_by-cons (at_rate price) flow flows, sum_by-cons (at_rate limit) flow flows,
+      arith,
+      ints,
+      difference-mul (price flow.day) (limit flow.day) flow.cents.0,
+      worth-parts price limit flows,
+      sum_by-cons (at_rate price) flow flows,
+      sum_by-cons (at_rate limit) flow flows,
     )
 
 -- the reduced cost of units of a line
@@ -98,7 +100,7 @@ reduced-sum n book leaf pairs =
     each (p ∷ xs) = (λ i. reduced-parts n book leaf p i +ℤ each xs i)
 
 -- the lines of a book
-all-lines : (settle : ℤ) (lines : List Line) → AreLines settle lines → All (IsLine settle) lines
+pub all-lines : (settle : ℤ) (lines : List Line) → AreLines settle lines → All (IsLine settle) lines
 all-lines settle [] are = absurd are
 all-lines settle (cash ∷ securities) are =
     All-cons (IsLine settle) cash securities (inl are.0) (All-weaker (IsSecurityLine settle) (IsLine settle) (λ line is. inr is) securities are.1)
@@ -123,8 +125,11 @@ charged-sum : (n : ℕ) (book : BookContents) (leaf : Leaf) (pairs : List (Line 
 charged-sum n book leaf [] = omega arith
 charged-sum n book leaf (p ∷ pairs) =
     omega (
-      arith, sum_by-cons (charged n book leaf) p pairs, ap (λ m. cost_weight leaf * m) (sum_by-cons pair_cost p pairs),
-      sum_by-cons (limited n book leaf) p pairs, charged-sum n book leaf pairs,
+      arith,
+      sum_by-cons (charged n book leaf) p pairs,
+      ap (λ m. cost_weight leaf * m) (sum_by-cons pair_cost p pairs),
+      sum_by-cons (limited n book leaf) p pairs,
+      charged-sum n book leaf pairs,
     )
 
 -- the credits of all lines
@@ -137,8 +142,11 @@ unfolding limit_credit
 credited-sum book leaf [] = omega arith
 credited-sum book leaf (p ∷ pairs) =
     omega (
-      arith, sum_by-cons (credited book leaf) p pairs, sum_by-cons (limit_credit leaf) p pairs,
-      sum_by-cons (priced book leaf) p pairs, credited-sum book leaf pairs,
+      arith,
+      sum_by-cons (credited book leaf) p pairs,
+      sum_by-cons (limit_credit leaf) p pairs,
+      sum_by-cons (priced book leaf) p pairs,
+      credited-sum book leaf pairs,
     )
 
 -- a portfolio whose limit is credited at least what it takes costs at least the bound
@@ -151,11 +159,11 @@ bound-le n book ranges leaf plan limits well permitted covered inside granted =
     let pairs = zip book.lines plan in
     let worth = covered-worth book.needs leaf.prices (payments book plan) limits.needs.rising well.falling (sym well.every_date) covered in
     let by_line : paid_at book.needs leaf.prices (payments book plan) ≡ sum_by (priced book leaf) pairs =
-        sum-flat_map (at_rate (price_on book.needs leaf.prices)) (λ (p : Line × ℕ). line_payments book.settle p.0 p.1) pairs in
+    sum-flat_map (at_rate (price_on book.needs leaf.prices)) (λ (p : Line × ℕ). line_payments book.settle p.0 p.1) pairs in
     let charges = charged-sum n book leaf pairs in
     let credits = credited-sum book leaf pairs in
     let least = least-sum n book leaf book.lines ranges plan (λ line units is. coefficients-enclose book.settle line limits.settlement is units) (all-lines book.settle book.lines limits.lines)
-        permitted.units permitted.same_length inside in
+    permitted.units permitted.same_length inside in
     let exact = reduced-sum n book leaf pairs in
     let whole : priced_needs book.needs leaf.prices + sum_by (charged n book leaf) pairs ≤ cost_weight leaf * cost book plan + sum_by (credited book leaf) pairs = omega arith in
     let scaled = mul-le-mul_left COEFFICIENT_SCALE whole in
@@ -203,7 +211,9 @@ limited-le n settle weight (flow ∷ flows) =
     let power = low n (index360_of settle flow.day) in
     let price : one * limit_price n settle weight flow.day ≤ weight * power = omega arith in
     omega (
-      arith, mul-le-mul_right flow.cents.0 price, limited-le n settle weight flows,
+      arith,
+      mul-le-mul_right flow.cents.0 price,
+      limited-le n settle weight flows,
       ap (λ m. one * m) (sum_by-cons (at_rate (limit_price n settle weight)) flow flows),
       ap (λ m. weight * m) (sum_by-cons (at_rate (λ day. low n (index360_of settle day))) flow flows),
     )
@@ -214,8 +224,10 @@ value-by_day n settle [] = refl
 value-by_day n settle (flow ∷ flows) =
     let first : IndexedFlow = record { index = index360_of settle flow.day; cents = flow.cents.0 } in
     omega (
-      arith, sum_by-cons (λ (f : IndexedFlow). f.cents * low n f.index) first (indexed settle flows),
-      sum_by-cons (at_rate (λ day. low n (index360_of settle day))) flow flows, value-by_day n settle flows,
+      arith,
+      sum_by-cons (λ (f : IndexedFlow). f.cents * low n f.index) first (indexed settle flows),
+      sum_by-cons (at_rate (λ day. low n (index360_of settle day))) flow flows,
+      value-by_day n settle flows,
     )
 
 -- securities alone have the limit's weight
@@ -239,7 +251,10 @@ securities-limited n book leaf (line ∷ lines) (units ∷ plan) are =
     let own = ap (λ w. sum_by (at_rate (limit_price n book.settle w)) (line_payments book.settle line units)) weight in
     let rest = securities-limited n book leaf lines plan (All-tail (IsSecurityLine book.settle) line lines are) in
     omega (
-      arith, sum_by-cons (limited n book leaf) (line, units) (zip lines plan), own, rest,
+      arith,
+      sum_by-cons (limited n book leaf) (line, units) (zip lines plan),
+      own,
+      rest,
       sum_by-append (at_rate (limit_price n book.settle leaf.mu)) (line_payments book.settle line units) (security_payments book.settle (zip lines plan)),
     )
 
@@ -253,7 +268,10 @@ securities-credit book leaf (line ∷ lines) (units ∷ plan) are =
     let own = ap (λ w. w * line_cost line units) weight in
     let rest = securities-credit book leaf lines plan (All-tail (IsSecurityLine book.settle) line lines are) in
     omega (
-      arith, sum_by-cons (limit_credit leaf) (line, units) (zip lines plan), own, rest,
+      arith,
+      sum_by-cons (limit_credit leaf) (line, units) (zip lines plan),
+      own,
+      rest,
       ap (λ m. leaf.mu * m) (sum_by-cons pair_cost (line, units) (zip lines plan)),
     )
 
@@ -295,8 +313,13 @@ rival-limited limit book leaf rival limits is =
     split (cash ∷ lines) (units ∷ plan) are taken =
         let free = limited-free n book leaf cash units (cash-weight leaf cash are.0) in
         omega (
-          arith, taken, sum_by-cons (limited n book leaf) (cash, units) (zip lines plan), free,
-          sum_by-cons (limit_credit leaf) (cash, units) (zip lines plan), securities-limited n book leaf lines plan are.1, securities-credit book leaf lines plan are.1,
+          arith,
+          taken,
+          sum_by-cons (limited n book leaf) (cash, units) (zip lines plan),
+          free,
+          sum_by-cons (limit_credit leaf) (cash, units) (zip lines plan),
+          securities-limited n book leaf lines plan are.1,
+          securities-credit book leaf lines plan are.1,
         )
 
 pub bounds-rivals : BoundsRivals

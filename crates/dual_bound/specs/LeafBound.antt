@@ -1,21 +1,21 @@
 -- The lower bound of a leaf: Lagrangian duality for the least cost of an escrow. The needs are priced by day and the yield limit has
 -- a weight; then each line stands alone with its reduced cost, and the least of the reduced costs over the ranges bounds the
 -- cost of every portfolio within them. The form, its scales and its rounding are this project's own.
-use Rattle.std.specs.Prelude.{◌≡◌, ℕ, ◌+◌, ◌*◌, ◌/◌, ◌==◌, if◌then◌else◌, List, [], ◌∷◌, sum_by, ℤ, pos, ◌+ℤ◌, ◌-ℤ◌, ◌*ℤ◌, neg_ℤ, int_le, unsigned_abs}
+use Rattle.std.specs.Prelude.{ℕ, ◌+◌, ◌*◌, ◌/◌, ◌==◌, if◌then◌else◌, List, [], ◌∷◌, sum_by, ℤ, pos, ◌+ℤ◌, ◌-ℤ◌, ◌*ℤ◌, neg_ℤ, int_le, unsigned_abs}
 use Rattle.std.specs.Int.{int_min}
 use Rattle.std.specs.List.{zip}
 use Rattle.escrow_units.specs.Flows.{index360_of}
 use Rattle.escrow_units.specs.declared.security.Flow.{Flow}
 use Rattle.fixed_powers.specs.DiscountPowers.{low, one}
 use Rattle.offer_book.specs.Book.{BookContents}
-use Rattle.offer_book.specs.Coefficients.{Enclosure, cost_coefficients, pay_coefficients}
+use Rattle.offer_book.specs.Coefficients.{cost_coefficients, pay_coefficients}
 use Rattle.offer_book.specs.Portfolio.{line_cost, line_payments}
-use Rattle.offer_book.specs.declared.coefficients.PayCoefficients.{PayCoefficients}
 use Rattle.offer_book.specs.declared.coefficients.TheConstants.{COEFFICIENT_SCALE}
 use Rattle.offer_book.specs.declared.line.Line.{Line}
 use Rattle.offer_book.specs.declared.line.LineKind.{LineKind}
 use Rattle.offer_book.specs.declared.line.LineKind.TheVariants.{Cash, Market, Security}
 use Rattle.dual_bound.specs.declared.prices.TheConstants.{PRICE_SCALE}
+use Rattle.dual_bound.specs.declared.form.Form.{Form}
 use Rattle.dual_bound.specs.declared.ranges.Interval.{Interval}
 use Rattle.dual_bound.specs.declared.tree.Leaf.{Leaf}
 
@@ -65,12 +65,8 @@ reduced_cost n book leaf line units =
     *ℤ (cost_worth leaf line.kind *ℤ pos (line_cost line units)
     -ℤ signed_sum (λ flow. paid_worth n book leaf line.kind flow.day *ℤ pos flow.cents.0) (line_payments book.settle line units))
 
--- an affine form of a number of units: slope * units - slack
-pub record AffineForm : Type 0 where
-  pub slope : ℤ
-  pub slack : ℕ
-
-abbrev pub form_at : AffineForm → ℕ → ℤ
+-- an affine form at a number of units
+abbrev pub form_at : Form → ℕ → ℤ
 form_at form units = form.slope *ℤ pos units -ℤ pos form.slack
 
 -- of the two coefficients of an amount, the one with which a weight times it is least
@@ -78,7 +74,7 @@ abbrev pub least_side : ℤ → ℕ → ℕ → ℤ
 least_side weight low high = if int_le (pos 0) weight then weight *ℤ pos low else weight *ℤ pos high
 
 -- the form of a line: its reduced cost by the coefficients that make it least, so that it is never above the exact one
-unfoldable pub form_of : ℕ → BookContents → Leaf → Line → AffineForm
+unfoldable pub form_of : ℕ → BookContents → Leaf → Line → Form
 form_of n book leaf line = record {
   slope = least_side (cost_worth leaf line.kind) (cost_coefficients line).low (cost_coefficients line).high
       +ℤ signed_sum (λ pay. least_side (neg_ℤ (paid_worth n book leaf line.kind pay.day)) pay.low pay.high) (pay_coefficients book.settle line);

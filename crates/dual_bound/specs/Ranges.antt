@@ -1,5 +1,5 @@
 -- Ranges of units, one for each line, and how a split narrows them. All this is this project's own.
-use Rattle.std.specs.Prelude.{◌≡◌, ◌↔◌, ◌⊎◌, ℕ, zero, suc, ◌+◌, ◌<◌, ◌≤◌, ◌==◌, Bool, false, true, ◌&&◌, nat_lt, nat_le, if◌then◌else◌, IsTrue, List, [], ◌∷◌, map}
+use Rattle.std.specs.Prelude.{◌≡◌, ◌↔◌, ◌⊎◌, ℕ, zero, suc, ◌+◌, ◌≤◌, ◌==◌, Bool, false, true, ◌&&◌, nat_lt, nat_le, if◌then◌else◌, IsTrue, List, [], ◌∷◌, map}
 use Rattle.std.specs.List.{AllZip}
 use Rattle.offer_book.specs.Book.{BookContents, IsBook}
 use Rattle.offer_book.specs.Portfolio.{IsPermitted, IsPermittedUnits}
@@ -18,6 +18,10 @@ root_of lines = map whole_interval lines
 pub record LieIn (interval : Interval) (units : ℕ) : Type 0 where
   pub low : interval.low ≤ units
   pub high : units ≤ interval.high
+
+-- an interval of a line: its high end is at most the most of the line
+abbrev pub HasRoomFor : Line → Interval → Type 0
+HasRoomFor line interval = interval.high ≤ line.most
 
 -- a portfolio lies within ranges: each line's units lie in its interval
 abbrev pub IsWithin : List Interval → List ℕ → Type 0

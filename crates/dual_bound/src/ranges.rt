@@ -1,5 +1,5 @@
 //! Ranges of units, one for each line of a book.
-ghost use Rattle.std.specs.Prelude.{◌≡◌, ◌<◌, length, slice_index_or, IfOk, IsTrue};
+ghost use Rattle.std.specs.Prelude.{All, ◌≡◌, ◌<◌, ◌≤◌, length, slice_index_or, IfOk, IsTrue};
 ghost use Rattle.offer_book.specs.Book.{IsBook};
 ghost use Rattle.dual_bound.specs.Ranges.{AreTight, is_proper, is_single, narrowed, root_of, side_of as side_of_interval, tightened, whole_interval};
 
@@ -70,12 +70,14 @@ pub struct Ranges {
 }
 
 impl Model for Ranges {
-    ghost use Rattle.std.specs.Prelude.{List};
+    ghost use Rattle.std.specs.Prelude.{All, List, ◌≤◌};
     ghost use Rattle.dual_bound.specs.declared.ranges.Interval.{Interval};
 
     ghost Value = { List Interval };
 
     ghost view = { λ r. r.intervals.items };
+
+    ghost invariant = { λ r. All (λ interval. interval.low ≤ interval.high) r.intervals.items };
 }
 
 impl Ranges {
@@ -106,9 +108,10 @@ impl Ranges {
         self.intervals[usize::from(line)].high
     }
 
-    /// The intervals, in the order of the lines.
+    /// The intervals, in the order of the lines; in each the low end is at most the high one.
     pub fn intervals(&self) -> &[Interval]
-        ensures { result.now ≡ self.now }
+        ensures value { result.now ≡ self.now }
+        ensures ordered { All (λ interval. interval.low ≤ interval.high) self.now }
     {
         &self.intervals
     }

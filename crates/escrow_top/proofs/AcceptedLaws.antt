@@ -1,5 +1,5 @@
 -- What `yes` means, proved.
-use Rattle.std.proofs.Common.{◌≡◌, ℕ, ◌+◌, ◌-◌, ◌≤◌, Bool, true, false, nat_lt, ◌∙◌, Option, Some, None, MatchOption, Ok, List, length, ℤ, refl, sym, subst, arith}
+use Rattle.std.proofs.Common.{◌≡◌, ℕ, ◌+◌, ◌-◌, ◌≤◌, Bool, true, false, nat_lt, ◌∙◌, Option, Some, None, MatchOption, Ok, List, length, ℤ, refl, sym, ap, subst, arith}
 use Rattle.std.specs.Prelude.{option_map}
 use Rattle.std.proofs.lemmas.Bool.{ltb-false}
 use Rattle.std.proofs.lemmas.Bool.Decides.{nat_tests}
@@ -16,11 +16,13 @@ use Rattle.escrow_top.specs.InputFiles.{InputFiles}
 use Rattle.case_file.specs.Case.{CaseContents, IsKept}
 use Rattle.std.specs.Bool.{then_some}
 use Rattle.std.specs.Option.{option_or}
-use Rattle.escrow_top.specs.Answer.{first_not_offered, plan_of, plan_yield, is_leaf_weak, reason_against, reason_of, yes_text, weighed, weigh_of, certificate_answer, case_of, check_answer}
+use Rattle.cash_table.specs.Points.{plan_yield}
+use Rattle.escrow_top.specs.Answer.{Answer, first_unbuilt, first_not_offered, plan_of, is_leaf_weak, reason_against, reason_of, yes_text, weighed, weigh_of, certificate_answer, case_of, check_answer}
 use Rattle.escrow_top.specs.Accepted.{Accepted, IsUnopposed, YesExactly}
 use Rattle.escrow_top.specs.declared.status.Status.TheVariants as status
 use Rattle.escrow_top.specs.declared.verdict.Reason.{Reason}
 use Rattle.escrow_top.specs.declared.verdict.Reason.TheVariants as reason
+use Rattle.escrow_top.proofs.BuiltFacts.{IsWeighed, built, weighed-answer, without_interest}
 use Rattle.escrow_top.proofs.PlanFacts.{RiseFrom, none-found, one-plan, plan-buys, purchases-rise}
 use Rattle.escrow_top.proofs.PurchaseLaws.{plan_permitted}
 use Rattle.escrow_top.proofs.YieldFacts.{ends_are_exact, printed_yield}
@@ -42,12 +44,14 @@ is_taken case (Some certificate) done =
     let both = taken case certificate (reason_of case certificate) refl done in
     record { certificate = certificate; is_certificate = refl; none = both.0; said = both.1 }
 
--- the answer to a certificate is `yes` only where it is within its limit
-certificate_taken : (case : CaseContents) (cert : List ℕ) (long : Bool) → nat_lt CERTIFICATE_LIMIT (length cert) ≡ long → (certificate_answer case cert).status ≡ status.Done → IsTaken case (certificate_of (length case.book.needs) cert) × ((certificate_answer case cert).text ≡ (weigh_of case (certificate_of (length case.book.needs) cert)).text)
-certificate_taken case cert true is done = let never : status.Refused ≡ status.Done = rw is at done in absurd (cc)
-certificate_taken case cert false is done =
-    let claims : (weigh_of case (certificate_of (length case.book.needs) cert)).status ≡ status.Done = rw is at done in
-    (is_taken case (certificate_of (length case.book.needs) cert) claims, rw is refl)
+-- the answer to a certificate is `yes` only where it is weighed
+certificate_taken : (case : CaseContents) (cert : List ℕ) → IsWeighed case cert → (certificate_answer case cert).status ≡ status.Done → IsTaken case (certificate_of (length case.book.needs) cert)
+certificate_taken case cert w done =
+    let claims : (weigh_of case (certificate_of (length case.book.needs) cert)).status ≡ status.Done = rw w.is at done in
+    is_taken case (certificate_of (length case.book.needs) cert) claims
+
+weighed_done : (case : CaseContents) (cert : List ℕ) → (certificate_answer case cert).status ≡ status.Done → IsWeighed case cert
+weighed_done case cert done = weighed-answer case cert status.Done (λ e. cc) (λ e. cc) done
 
 -- where no reason stands, each test passes
 
@@ -105,39 +109,42 @@ meets_from_none book plan limits none =
 least_by_gap : (whole gap needs rival : ℕ) → whole - gap ≤ needs → needs ≤ rival → whole ≤ rival + gap
 least_by_gap whole gap needs rival borne dear = omega arith
 
-pub accepted : (files : InputFiles) (cert : List ℕ) (case : CaseContents) → case_of files ≡ Ok case → IsKept (rows_of files.rates) case → (certificate_answer case cert).status ≡ status.Done → Accepted files cert
+pub accepted : (files : InputFiles) (cert : List ℕ) (case : CaseContents) → case_of files ≡ Ok case
+    → IsKept (rows_of files.issue) (rows_of files.rates) (rows_of files.prices) case → (certificate_answer case cert).status ≡ status.Done → Accepted files cert
 accepted files cert case is_case kept done =
-    let taken = certificate_taken case cert (nat_lt CERTIFICATE_LIMIT (length cert)) refl done in
-    let yes = taken.0 in
+    let weighing = weighed_done case cert done in
+    let yes = certificate_taken case cert weighing done in
     let book = case.book in
+    let interest = without_interest book.settle book.lines kept.book.lines weighing.built in
     let plan = plan_of book yes.certificate.purchases in
     let unopposed = is_unopposed case yes.certificate yes.none in
     let tests = unopposed.tests in
     let permitted = plan_permitted book yes.certificate.purchases unopposed.offered in
-    let printed = printed_yield book plan kept.book kept.interest permitted in
+    let printed = printed_yield book plan kept.book interest permitted in
     record {
+      read = record { issue = kept.issue; rates = kept.rates; notes = kept.notes };
       case = case;
-      rates = kept.rates;
       certificate = yes.certificate;
       plan = plan;
       is_case = is_case;
-      is_rates = kept.is_rates;
+      is_read = record { issue = kept.is_issue; rates = kept.is_rates; notes = kept.is_notes };
       is_certificate = yes.is_certificate;
       buys = plan-buys book yes.certificate.purchases (purchases-rise (length book.needs) cert yes.certificate yes.is_certificate) unopposed.offered;
       right = record {
-        obeys = record { limits = kept.book; terms = kept.rules; interest = kept.interest; units = permitted };
+        obeys = record { limits = kept.book; rows = kept.rows; interest = interest; units = permitted };
         covered = meets_from_none book plan kept.book tests.covered;
         yields = record {
-          exact = ends_are_exact (indexed book.settle (security_flows book plan)) (security_cost book plan) case.limit (plan_yield book plan) printed (zero_yield book plan kept.book kept.interest permitted);
+          exact = ends_are_exact (indexed book.settle (security_flows book plan)) (security_cost book plan) case.limit (plan_yield book plan) printed (zero_yield book plan kept.book interest permitted);
           printed = printed;
         };
+        limit = kept.limit;
         cheapest = λ rival is_permitted is_met.
             least_by_gap (cost book plan) yes.certificate.gap (total_needs book) (cost book rival)
             (ltb-false (total_needs book) (cost book plan - yes.certificate.gap) tests.borne)
-            (meets_cost book rival kept.book kept.interest is_permitted is_met);
+            (meets_cost book rival kept.book interest is_permitted is_met);
         allowed = ltb-false case.allowance yes.certificate.gap tests.allowed;
       };
-      said = rw is_case (taken.1 ∙ yes.said);
+      said = rw is_case (ap (λ (answer : Answer). answer.text) weighing.is ∙ yes.said);
     }
 
 -- where no reason stands, each test passes, and `yes` is said
@@ -158,16 +165,15 @@ no_reason_stands case certificate plan limits rises unopposed =
     let allowed : nat_lt case.allowance certificate.gap ≡ false = under-test certificate.gap case.allowance unopposed.allowed in
     rw (offered, ← same, covered, borne, allowed) refl
 
-done_where_unopposed : (case : CaseContents) (cert : List ℕ) (certificate : CertificateContents) (plan : List ℕ) → IsBook case.book → length cert ≤ CERTIFICATE_LIMIT → certificate_of (length case.book.needs) cert ≡ Some certificate → IsUnopposed case certificate plan → (certificate_answer case cert).status ≡ status.Done
-done_where_unopposed case cert certificate plan limits within is unopposed =
+done_where_unopposed : (case : CaseContents) (cert : List ℕ) (certificate : CertificateContents) (plan : List ℕ) → IsBook case.book → first_unbuilt case.book.lines ≡ None → length cert ≤ CERTIFICATE_LIMIT → certificate_of (length case.book.needs) cert ≡ Some certificate → IsUnopposed case certificate plan → (certificate_answer case cert).status ≡ status.Done
+done_where_unopposed case cert certificate plan limits is_built within is unopposed =
     let short = under-test (length cert) CERTIFICATE_LIMIT within in
     let none = no_reason_stands case certificate plan limits (purchases-rise (length case.book.needs) cert certificate is) unopposed in
-    rw (short, is, none) refl
+    rw (short, is_built, is, none) refl
 
 unopposed_where_done : (case : CaseContents) (cert : List ℕ) (certificate : CertificateContents) → IsBook case.book → certificate_of (length case.book.needs) cert ≡ Some certificate → (certificate_answer case cert).status ≡ status.Done → (plan : List ℕ) × IsUnopposed case certificate plan
 unopposed_where_done case cert certificate limits is done =
-    let taken = certificate_taken case cert (nat_lt CERTIFICATE_LIMIT (length cert)) refl done in
-    let yes = taken.0 in
+    let yes = certificate_taken case cert (weighed_done case cert done) done in
     let some : Some yes.certificate ≡ Some certificate = sym yes.is_certificate ∙ is in
     let same : yes.certificate ≡ certificate = cc in
     let none : reason_of case certificate ≡ None = subst (λ (found : CertificateContents). reason_of case found ≡ None) same yes.none in
@@ -185,6 +191,7 @@ unopposed_where_done case cert certificate limits is done =
 
 -- `yes` exactly where no reason stands, of files that give a case
 pub yes_exactly : (files : InputFiles) (cert : List ℕ) → ((case : CaseContents) → case_of files ≡ Ok case → IsBook case.book) → YesExactly (check_answer files cert).status files cert
-yes_exactly files cert books case certificate is_case within is =
+yes_exactly files cert books case certificate is_case interest within is =
     let limits = books case is_case in
-    rw is_case ((λ done. unopposed_where_done case cert certificate limits is done), (λ found. done_where_unopposed case cert certificate found.0 limits within is found.1))
+    let is_built = built case.book.settle case.book.lines limits.lines interest in
+    rw is_case ((λ done. unopposed_where_done case cert certificate limits is done), (λ found. done_where_unopposed case cert certificate found.0 limits is_built within is found.1))

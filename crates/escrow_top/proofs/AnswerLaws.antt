@@ -8,13 +8,12 @@ use Rattle.escrow_desk.specs.declared.refusal.RefusalKind.TheVariants as too_lon
 use Rattle.row_fields.specs.RowForm.{refusal_of}
 use Rattle.escrow_top.specs.InputFiles.{InputFiles, FileNames, first_too_long, inputs_of}
 use Rattle.case_file.specs.Case.{CaseContents, IsKept, rows_case}
-use Rattle.escrow_top.specs.Answer.{Answer, answer_to, case_answer, case_of, certificate_answer, check_names, is_structure, named_answer, no_case_answer, refused, unbuilt_structure, usage, usage_text}
+use Rattle.escrow_top.specs.Answer.{Answer, answer_to, case_answer, case_of, certificate_answer, check_names, is_structure, named_answer, refused, unbuilt_structure, usage, usage_text}
 use Rattle.escrow_top.specs.Accepted.{Accepted}
 use Rattle.escrow_top.specs.NotAccepted.{NotAccepted}
 use Rattle.escrow_top.specs.Ending.{Answers, AnswersPart, HoldsWhereTold, IsAccepted, IsNotAccepted, IsNoCommand, LacksFile, NamedAnswers, NamedAnswersPart}
 use Rattle.escrow_top.specs.Reading.{AreRead, AreWithin, CertificateAnswers, FilesAnswer, IsTooLong, LacksCertificate, LacksInput, LacksNamed}
-use Rattle.case_file.specs.declared.fault.NoCase.{NoCase}
-use Rattle.case_file.specs.declared.fault.NoCase.TheVariants.{Refused}
+use Rattle.escrow_desk.specs.declared.refusal.Refusal.{Refusal}
 use Rattle.escrow_top.specs.declared.status.Status.{Status}
 use Rattle.escrow_top.specs.declared.status.Status.TheVariants as status
 use Rattle.escrow_top.proofs.AcceptedLaws.{accepted}
@@ -27,7 +26,7 @@ answered None case answer said = absurd said
 answered (Some cert) case answer said = ap Some (sym said)
 
 -- where the input files were read, what is answered to them is what their names are answered
-pub named_by : (content : Content) (names : FileNames) (texts : InputFiles) (case : Result CaseContents NoCase) → inputs_of content names ≡ Some texts → case_of texts ≡ case → named_answer content names ≡ option_and_then (λ cert. Some (case_answer case cert)) (if is_ok case then file_of content names.cert else Some [])
+pub named_by : (content : Content) (names : FileNames) (texts : InputFiles) (case : Result CaseContents Refusal) → inputs_of content names ≡ Some texts → case_of texts ≡ case → named_answer content names ≡ option_and_then (λ cert. Some (case_answer case cert)) (if is_ok case then file_of content names.cert else Some [])
 named_by content names texts case inputs is = rw (inputs, is) refl
 
 -- the certificate was read
@@ -42,7 +41,7 @@ certificate_lacks (Some content) names texts case read within is none =
     named_by content names texts (Ok case) (read-all content names texts read within) is ∙ (rw none refl)
 
 -- the input files give no case
-pub no_case_said : (told : Told) (names : FileNames) (texts : InputFiles) (why : NoCase) (answer : Answer) → AreRead told names texts → AreWithin texts → case_of texts ≡ Err why → answer ≡ no_case_answer why → FilesAnswer told names answer
+pub no_case_said : (told : Told) (names : FileNames) (texts : InputFiles) (why : Refusal) (answer : Answer) → AreRead told names texts → AreWithin texts → case_of texts ≡ Err why → answer ≡ refused why → FilesAnswer told names answer
 no_case_said None names texts why answer read within is said = tt
 no_case_said (Some content) names texts why answer read within is said =
     named_by content names texts (Err why) (read-all content names texts read within) is ∙ ap Some (sym said)
@@ -51,7 +50,7 @@ no_case_said (Some content) names texts why answer read within is said =
 pub long_named : (content : Content) (names : FileNames) (kind : FileKind) (found : Option InputFiles) → inputs_of content names ≡ found → IsSomeAnd found (λ texts. first_too_long texts ≡ Some kind) → named_answer content names ≡ Some (refused (refusal_of kind 0 too_long.TooLong))
 long_named content names kind None is long = absurd long
 long_named content names kind (Some texts) is long =
-    named_by content names texts (Err (Refused (refusal_of kind 0 too_long.TooLong))) is (rw long refl)
+    named_by content names texts (Err (refusal_of kind 0 too_long.TooLong)) is (rw long refl)
 
 pub too_long_said : (told : Told) (names : FileNames) (kind : FileKind) (answer : Answer) → IsTooLong told names kind → answer ≡ refused (refusal_of kind 0 too_long.TooLong) → FilesAnswer told names answer
 too_long_said None names kind answer long said = tt
@@ -81,11 +80,11 @@ answer_means Holds told names texts case (Err stop) reached read means said = sa
 answer_means Holds told names texts case (Ok reply) reached read means said =
     λ is. certificate_means Holds told names texts case (reply) reached read means said is
 
-pub answer_accepted : (told : Told) (names : FileNames) (texts : InputFiles) (case : CaseContents) (result : Result Answer Stop) → AreRead told names texts → AreWithin texts → rows_case (rows_of texts.issue) (rows_of texts.rates) (rows_of texts.prices) ≡ Ok case → IsKept (rows_of texts.rates) case → IfOk result (λ reply. CertificateAnswers told names.cert case (reply)) → IfOk result (λ reply. reply.status ≡ status.Done → HoldsWhereTold Accepted told names)
+pub answer_accepted : (told : Told) (names : FileNames) (texts : InputFiles) (case : CaseContents) (result : Result Answer Stop) → AreRead told names texts → AreWithin texts → rows_case (rows_of texts.issue) (rows_of texts.rates) (rows_of texts.prices) ≡ Ok case → IsKept (rows_of texts.issue) (rows_of texts.rates) (rows_of texts.prices) case → IfOk result (λ reply. CertificateAnswers told names.cert case (reply)) → IfOk result (λ reply. reply.status ≡ status.Done → HoldsWhereTold Accepted told names)
 answer_accepted told names texts case result read within is kept said =
     answer_means Accepted told names texts case result status.Done read (λ cert done. accepted texts cert case (rows_alone texts within ∙ is) kept done) said
 
-pub answer_not_accepted : (told : Told) (names : FileNames) (texts : InputFiles) (case : CaseContents) (result : Result Answer Stop) → AreRead told names texts → AreWithin texts → rows_case (rows_of texts.issue) (rows_of texts.rates) (rows_of texts.prices) ≡ Ok case → IsKept (rows_of texts.rates) case → IfOk result (λ reply. CertificateAnswers told names.cert case (reply)) → IfOk result (λ reply. reply.status ≡ status.No → HoldsWhereTold NotAccepted told names)
+pub answer_not_accepted : (told : Told) (names : FileNames) (texts : InputFiles) (case : CaseContents) (result : Result Answer Stop) → AreRead told names texts → AreWithin texts → rows_case (rows_of texts.issue) (rows_of texts.rates) (rows_of texts.prices) ≡ Ok case → IsKept (rows_of texts.issue) (rows_of texts.rates) (rows_of texts.prices) case → IfOk result (λ reply. CertificateAnswers told names.cert case (reply)) → IfOk result (λ reply. reply.status ≡ status.No → HoldsWhereTold NotAccepted told names)
 answer_not_accepted told names texts case result read within is kept said =
     answer_means NotAccepted told names texts case result status.No read (λ cert denied. not_accepted texts cert case (rows_alone texts within ∙ is) kept.book denied) said
 

@@ -1,12 +1,11 @@
 -- `yes` exactly where no reason stands, and the answer of `check` said of the bytes of the files.
-use Rattle.std.proofs.Common.{◌≡◌, ◌≢◌, ◌∙◌, ℕ, ◌+◌, ◌<◌, ◌≤◌, ◌&&◌, List, [], ◌∷◌, length, Bool, Option, Some, None, Result, Ok, Err, true, false, nat_lt, nat_eq, refl, sym, ap, subst, inl, inr, arith}
-use Rattle.std.specs.Prelude.{codes, IfOk, IfSome, IsSomeAnd, IsTrue, option_and_then, is_ok, if◌then◌else◌}
+use Rattle.std.proofs.Common.{◌≡◌, ◌≢◌, ◌∙◌, ℕ, List, [], ◌∷◌, length, Bool, Some, None, Result, Ok, Err, true, false, nat_eq, refl, sym, ap, subst, inl, inr, arith}
+use Rattle.std.specs.Prelude.{codes, IfOk, IsSomeAnd, IsTrue}
 use Rattle.std.specs.Bool.{then_some}
 use lib.Pointwise.{pointwise}
 use Rattle.std.proofs.lemmas.Bool.{and_parts, cases_lt}
-use Rattle.std.proofs.lemmas.Bool.Decides.{nat_tests}
 use Rattle.escrow_desk.specs.declared.limits.TheConstants.{FILE_LIMIT}
-use Rattle.escrow_desk.specs.Content.{Content, Told, file_of, with_said}
+use Rattle.escrow_desk.specs.Content.{Content, Told, file_of}
 use Rattle.escrow_desk.specs.Counts.{AllSteady, Counts, Rose, IsSteady}
 use Rattle.escrow_desk.specs.Rows.{rows_of}
 use Rattle.escrow_desk.specs.declared.refusal.FileKind.{FileKind}
@@ -14,13 +13,12 @@ use Rattle.escrow_desk.specs.declared.refusal.RefusalKind.TheVariants as too_lon
 use Rattle.row_fields.specs.RowForm.{refusal_of}
 use Rattle.offer_book.specs.Book.{IsBook}
 use Rattle.case_file.specs.Case.{CaseContents, IsKept, rows_case}
-use Rattle.case_file.specs.declared.fault.NoCase.{NoCase}
-use Rattle.case_file.specs.declared.fault.NoCase.TheVariants.{Refused}
+use Rattle.escrow_desk.specs.declared.refusal.Refusal.{Refusal}
 use Rattle.escrow_top.specs.InputFiles.{InputFiles, FileNames, first_too_long, inputs_of}
-use Rattle.escrow_top.specs.Answer.{Answer, case_answer, case_of, certificate_answer, check_answer, check_names, is_structure, named_answer, no_case_answer, refused}
+use Rattle.escrow_top.specs.Answer.{Answer, case_of, check_answer, check_names, is_structure, named_answer, refused}
 use Rattle.escrow_top.specs.Accepted.{YesExactly}
 use Rattle.escrow_top.specs.Ending.{IsAnswerTo, IsNoCommand, NamedAnswers, OfFiles, OfNamedFiles, is_reached}
-use Rattle.escrow_top.specs.Reading.{AreRead, AreThere, AreWithin, CertificateAnswers, FilesAnswer, IsTooLong}
+use Rattle.escrow_top.specs.Reading.{AreRead, AreThere, AreWithin, FilesAnswer, IsTooLong}
 use Rattle.escrow_top.specs.Stopping.{EndedAs}
 use Rattle.escrow_top.specs.declared.stop.Stop.{Stop}
 use Rattle.escrow_top.specs.declared.status.Status.{Status}
@@ -48,7 +46,7 @@ long-answer : (files : InputFiles) (cert : List ℕ) (kind : FileKind) → first
 long-answer files cert kind long = rw long refl
 
 -- the answer of the names, where the four files are there
-short-named : (content : Content) (names : FileNames) (files : InputFiles) (cert : List ℕ) (case : Result CaseContents NoCase) → AreThere content names files → AreWithin files → file_of content names.cert ≡ Some cert → case_of files ≡ case → named_answer content names ≡ Some (check_answer files cert)
+short-named : (content : Content) (names : FileNames) (files : InputFiles) (cert : List ℕ) (case : Result CaseContents Refusal) → AreThere content names files → AreWithin files → file_of content names.cert ≡ Some cert → case_of files ≡ case → named_answer content names ≡ Some (check_answer files cert)
 short-named content names files cert (Ok case) there within is is_case =
     named_by content names files (Ok case) (read-all content names files there within) is_case ∙ rw (is, is_case) refl
 short-named content names files cert (Err why) there within is is_case =
@@ -91,7 +89,7 @@ exactly-told (Some found) names reply said books = λ content files cert tells t
     let said_of : named_answer content names ≡ Some reply = subst (λ (x : Content). named_answer x names ≡ Some reply) same said in
     exactly-of content names files cert reply.status (named-there content names files cert there is) reply said_of refl (books content files tells there)
 
-books-read : (told : Told) (names : FileNames) (texts : InputFiles) (case : CaseContents) → AreRead told names texts → AreWithin texts → rows_case (rows_of texts.issue) (rows_of texts.rates) (rows_of texts.prices) ≡ Ok case → IsKept (rows_of texts.rates) case → (content : Content) (files : InputFiles) → told ≡ Some content → AreThere content names files → (other : CaseContents) → case_of files ≡ Ok other → IsBook other.book
+books-read : (told : Told) (names : FileNames) (texts : InputFiles) (case : CaseContents) → AreRead told names texts → AreWithin texts → rows_case (rows_of texts.issue) (rows_of texts.rates) (rows_of texts.prices) ≡ Ok case → IsKept (rows_of texts.issue) (rows_of texts.rates) (rows_of texts.prices) case → (content : Content) (files : InputFiles) → told ≡ Some content → AreThere content names files → (other : CaseContents) → case_of files ≡ Ok other → IsBook other.book
 books-read None names texts case read within is kept content files tells there other is_other = absurd (cc)
 books-read (Some found) names texts case read within is kept content files tells there other is_other =
     let same : found ≡ content = same-content found content tells in
@@ -101,13 +99,13 @@ books-read (Some found) names texts case read within is kept content files tells
     let one : case ≡ other = cc in
     subst (λ (x : CaseContents). IsBook x.book) one kept.book
 
-pub answer_exactly : (told : Told) (names : FileNames) (texts : InputFiles) (case : CaseContents) (result : Result Answer Stop) → AreRead told names texts → AreWithin texts → rows_case (rows_of texts.issue) (rows_of texts.rates) (rows_of texts.prices) ≡ Ok case → IsKept (rows_of texts.rates) case → IfOk result (λ reply. FilesAnswer told names (reply)) → IfOk result (λ reply. OfNamedFiles (YesExactly reply.status) told names)
+pub answer_exactly : (told : Told) (names : FileNames) (texts : InputFiles) (case : CaseContents) (result : Result Answer Stop) → AreRead told names texts → AreWithin texts → rows_case (rows_of texts.issue) (rows_of texts.rates) (rows_of texts.prices) ≡ Ok case → IsKept (rows_of texts.issue) (rows_of texts.rates) (rows_of texts.prices) case → IfOk result (λ reply. FilesAnswer told names (reply)) → IfOk result (λ reply. OfNamedFiles (YesExactly reply.status) told names)
 answer_exactly told names texts case (Err stop) read within is kept said = said
 answer_exactly told names texts case (Ok reply) read within is kept said = exactly-told told names (reply) said (books-read told names texts case read within is kept)
 
 -- files that give no case
 
-no-books : (told : Told) (names : FileNames) (texts : InputFiles) (why : NoCase) → AreRead told names texts → case_of texts ≡ Err why → (content : Content) (files : InputFiles) → told ≡ Some content → AreThere content names files → (case : CaseContents) → case_of files ≡ Ok case → IsBook case.book
+no-books : (told : Told) (names : FileNames) (texts : InputFiles) (why : Refusal) → AreRead told names texts → case_of texts ≡ Err why → (content : Content) (files : InputFiles) → told ≡ Some content → AreThere content names files → (case : CaseContents) → case_of files ≡ Ok case → IsBook case.book
 no-books None names texts why read is content files tells there case is_case = absurd (cc)
 no-books (Some found) names texts why read is content files tells there case is_case =
     let same : found ≡ content = same-content found content tells in
@@ -116,7 +114,7 @@ no-books (Some found) names texts why read is content files tells there case is_
     let both : Err why ≡ Ok case = sym is ∙ (ap case_of (sym files_same) ∙ is_case) in
     absurd (cc)
 
-pub no_case_exactly : (told : Told) (names : FileNames) (texts : InputFiles) (why : NoCase) (result : Result Answer Stop) → AreRead told names texts → AreWithin texts → rows_case (rows_of texts.issue) (rows_of texts.rates) (rows_of texts.prices) ≡ Err why → IfOk result (λ reply. FilesAnswer told names (reply)) → IfOk result (λ reply. OfNamedFiles (YesExactly reply.status) told names)
+pub no_case_exactly : (told : Told) (names : FileNames) (texts : InputFiles) (why : Refusal) (result : Result Answer Stop) → AreRead told names texts → AreWithin texts → rows_case (rows_of texts.issue) (rows_of texts.rates) (rows_of texts.prices) ≡ Err why → IfOk result (λ reply. FilesAnswer told names (reply)) → IfOk result (λ reply. OfNamedFiles (YesExactly reply.status) told names)
 no_case_exactly told names texts why (Err stop) read within is said = said
 no_case_exactly told names texts why (Ok reply) read within is said = exactly-told told names (reply) said (no-books told names texts why read (rows_alone texts within ∙ is))
 
@@ -136,7 +134,7 @@ long-books content names files kind long there case is_case =
     ]
   where
     never : {found : FileKind} → first_too_long files ≡ Some found → ⊥
-    never {found} over = let both : Err (Refused (refusal_of found 0 too_long.TooLong)) ≡ Ok case = rw over at is_case in cc
+    never {found} over = let both : Err (refusal_of found 0 too_long.TooLong) ≡ Ok case = rw over at is_case in cc
 
     within : AreWithin files → ⊥
     within short =

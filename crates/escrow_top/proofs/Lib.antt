@@ -1,3 +1,4 @@
+pub mod BuiltFacts
 pub mod CertificateFacts
 pub mod PurchaseFacts
 pub mod PurchaseLaws

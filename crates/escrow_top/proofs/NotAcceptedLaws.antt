@@ -1,5 +1,5 @@
 -- What `no` means, proved.
-use Rattle.std.proofs.Common.{◌≡◌, ◌∙◌, ℕ, ◌-◌, ◌≤◌, ◌<◌, Bool, true, false, not, cond, nat_lt, Option, Some, None, MatchOption, Ok, List, [], ◌∷◌, length, ℤ, refl, sym, ap, subst, arith}
+use Rattle.std.proofs.Common.{◌≡◌, ◌∙◌, ℕ, ◌-◌, Bool, true, false, not, cond, nat_lt, Option, Some, None, MatchOption, Ok, List, [], ◌∷◌, length, ℤ, refl, sym, ap, subst, arith}
 use Rattle.std.specs.Prelude.{option_map}
 use Rattle.std.proofs.lemmas.Bool.{ltb-false, ltb-true}
 use Rattle.std.proofs.lemmas.List.Elements.{All-cons, All-nil}
@@ -8,18 +8,18 @@ use Rattle.offer_book.specs.Portfolio.{IsFirstShort, IsPermitted, Meets, cost, t
 use Rattle.cash_table.specs.First.{first_short_of}
 use Rattle.cash_table.proofs.DayFacts.{first_short_is}
 use Rattle.case_file.specs.Case.{CaseContents}
-use Rattle.escrow_desk.specs.declared.limits.TheConstants.{CERTIFICATE_LIMIT}
 use Rattle.escrow_top.specs.CertificateForm.{CertificateContents, certificate_of}
 use Rattle.escrow_top.specs.InputFiles.{InputFiles}
 use Rattle.std.specs.Bool.{then_some}
 use Rattle.std.specs.Option.{option_or}
-use Rattle.escrow_top.specs.Answer.{case_of, certificate_answer, weigh_of, first_not_offered, is_leaf_weak, is_offered, plan_of, reason_against, reason_of, reason_text, weighed}
+use Rattle.escrow_top.specs.Answer.{Answer, case_of, certificate_answer, weigh_of, first_not_offered, is_leaf_weak, is_offered, plan_of, reason_against, reason_of, reason_text, weighed}
 use Rattle.escrow_top.specs.Accepted.{Buys, IsOffered}
 use Rattle.escrow_top.specs.NotAccepted.{IsFirstNotOffered, IsSound, NotAccepted, Stands, StandsAgainst}
 use Rattle.escrow_top.specs.declared.certificate.Purchase.{Purchase}
 use Rattle.escrow_top.specs.declared.status.Status.TheVariants as status
 use Rattle.escrow_top.specs.declared.verdict.Reason.{Reason}
 use Rattle.escrow_top.specs.declared.verdict.Reason.TheVariants as reason
+use Rattle.escrow_top.proofs.BuiltFacts.{weighed-answer}
 use Rattle.escrow_top.proofs.PlanFacts.{RiseFrom, not-offered, offered-from_test, plan-buys, purchases-rise}
 use Rattle.escrow_top.proofs.PurchaseLaws.{plan_permitted}
 
@@ -117,16 +117,11 @@ is_denied case (Some certificate) denied =
     let both = reasoned case certificate (reason_of case certificate) refl denied in
     record { certificate = certificate; why = both.why; is_certificate = refl; is = both.is; said = both.said }
 
-certificate_denied : (case : CaseContents) (cert : List ℕ) (long : Bool) → nat_lt CERTIFICATE_LIMIT (length cert) ≡ long → (certificate_answer case cert).status ≡ status.No → IsDenied case (certificate_of (length case.book.needs) cert) × ((certificate_answer case cert).text ≡ (weigh_of case (certificate_of (length case.book.needs) cert)).text)
-certificate_denied case cert true is denied = let never : status.Refused ≡ status.No = rw is at denied in absurd (cc)
-certificate_denied case cert false is denied =
-    let claims : (weigh_of case (certificate_of (length case.book.needs) cert)).status ≡ status.No = rw is at denied in
-    (is_denied case (certificate_of (length case.book.needs) cert) claims, rw is refl)
-
 pub not_accepted : (files : InputFiles) (cert : List ℕ) (case : CaseContents) → case_of files ≡ Ok case → IsBook case.book → (certificate_answer case cert).status ≡ status.No → NotAccepted files cert
 not_accepted files cert case is_case limits denied =
-    let found = certificate_denied case cert (nat_lt CERTIFICATE_LIMIT (length cert)) refl denied in
-    let no = found.0 in
+    let weighing = weighed-answer case cert status.No (λ e. cc) (λ e. cc) denied in
+    let claims : (weigh_of case (certificate_of (length case.book.needs) cert)).status ≡ status.No = rw weighing.is at denied in
+    let no = is_denied case (certificate_of (length case.book.needs) cert) claims in
     record {
       case = case;
       certificate = no.certificate;
@@ -134,5 +129,5 @@ not_accepted files cert case is_case limits denied =
       is_case = is_case;
       is_certificate = no.is_certificate;
       stands = offer_stands case no.certificate no.why (first_not_offered case.book.lines no.certificate.purchases) limits (purchases-rise (length case.book.needs) cert no.certificate no.is_certificate) refl no.is;
-      said = rw is_case (found.1 ∙ no.said);
+      said = rw is_case (ap (λ (answer : Answer). answer.text) weighing.is ∙ no.said);
     }

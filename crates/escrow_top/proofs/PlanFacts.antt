@@ -4,14 +4,14 @@ use Rattle.std.specs.Prelude.{All, IfSome, codes, option_and_then, if◌then◌e
 use Rattle.std.specs.List.{fold}
 use Rattle.std.proofs.lemmas.Bool.{and_parts, ltb-true, ltb-false, lt-ltb}
 use Rattle.std.proofs.lemmas.Bool.Decides.{nat_tests}
-use Rattle.std.proofs.lemmas.List.{get_or_default, get_or-set_same, get_or-set_other, get_or-replicate, length-set, length-replicate}
+use Rattle.std.proofs.lemmas.List.{get_or-set_same, get_or-set_other, get_or-replicate, length-set, length-replicate}
 use Rattle.std.proofs.lemmas.List.Elements.{All-nil, All-cons, All-head, All-tail, All-weaker}
 use Rattle.std.proofs.lemmas.Option.{get_or_from_slice_get, slice_get-get_or}
 use Rattle.offer_book.specs.declared.line.Line.{Line}
 use Rattle.offer_book.specs.Book.{BookContents}
-use Rattle.offer_book.specs.Portfolio.{IsPermittedUnits, permits}
+use Rattle.offer_book.specs.Portfolio.{permits}
 use Rattle.cash_table.proofs.PermitFacts.{permitted_from_test, test_from_permitted}
-use Rattle.case_file.specs.Case.{cash_line}
+use Rattle.offer_book.specs.CaseBook.{cash_line}
 use Rattle.escrow_top.specs.CertificateForm.{CertificateContents, Read, after, certificate_of, closing_gap, head_at, number_at, purchase_at, purchases_at}
 use Rattle.escrow_top.specs.Accepted.{Buys, IsOffered}
 use Rattle.escrow_top.specs.Answer.{is_offered, first_not_offered, plan_of}

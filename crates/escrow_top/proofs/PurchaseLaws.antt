@@ -8,7 +8,7 @@ use Rattle.offer_book.specs.declared.line.Line.{Line}
 use Rattle.offer_book.specs.Book.{BookContents}
 use Rattle.offer_book.specs.Portfolio.{IsPermitted, permits}
 use Rattle.cash_table.proofs.PermitFacts.{PassBelow, permitted_from_tests, passes_from_permitted}
-use Rattle.case_file.specs.Case.{cash_line}
+use Rattle.offer_book.specs.CaseBook.{cash_line}
 use Rattle.escrow_top.specs.Answer.{is_offered, first_not_offered, plan_of}
 use Rattle.escrow_top.specs.declared.certificate.Purchase.{Purchase}
 

@@ -1,47 +1,26 @@
 -- The yield that is printed of securities without interest, proved.
-use Rattle.std.proofs.Common.{◌≡◌, ◌∙◌, ℕ, ◌≤◌, ◌==◌, List, [], ◌∷◌, drop, ℤ, ◌≤ℤ◌, Bool, true, false, refl, sym, arith, subst}
-use Rattle.std.specs.Prelude.{All, if◌then◌else◌}
-use Rattle.std.specs.List.{flat_map, zip}
-use Rattle.std.proofs.lemmas.Int.{ints}
-use Rattle.std.proofs.lemmas.List.Elements.{All-map}
-use Rattle.escrow_units.specs.Calendar.{IsBaseDay, years_after_of}
-use Rattle.escrow_units.specs.DayNumber.{IsDayNumber}
-use Rattle.escrow_units.specs.Flows.{index360_of, indexed, FallWithinFortyYears}
+use Rattle.std.proofs.Common.{◌≡◌, ◌∙◌, ℕ, ◌==◌, List, [], ℤ, Bool, true, false, refl, sym, arith, subst, inl, inr}
+use Rattle.std.specs.Prelude.{if◌then◌else◌}
+use Rattle.escrow_units.specs.Flows.{indexed}
 use Rattle.escrow_units.specs.PresentValue.{IndexedFlow, YieldLiesIn}
-use Rattle.escrow_units.specs.SlgsTerms.{IsSettlement}
 use Rattle.escrow_units.specs.declared.security.Flow.{Flow}
-use Rattle.escrow_units.proofs.DayFacts.{thirty_day_place_of-years}
-use Rattle.escrow_units.proofs.YearFacts.{settlement-base}
-use Rattle.day_sums.specs.SummedLaws.{AreAboveZero}
-use Rattle.day_sums.proofs.SumFacts.{above-summed}
 use Rattle.fixed_powers.specs.PresentValues.{HasLaterAmount}
 use Rattle.offer_book.specs.Book.{AreWithoutInterest, BookContents, IsBook}
-use Rattle.offer_book.specs.Portfolio.{IsPermitted, line_payments, security_cost, security_flows}
-use Rattle.cash_table.proofs.FlowFacts.{flows_later, flows_within}
+use Rattle.offer_book.specs.Portfolio.{IsPermitted, security_cost, security_flows}
+use Rattle.cash_table.specs.LaterFlows.{HaveLaterAmount}
+use Rattle.cash_table.proofs.FlowFacts.{flows_within}
+use Rattle.cash_table.proofs.LaterFacts.{flows_later}
+use Rattle.cash_table.proofs.PointFacts.{indexes_near}
 use Rattle.cash_table.proofs.PortfolioLaws.{empty_at_no_cost, zero_interest_total}
 use Rattle.cash_table.proofs.YieldFacts.{total_cents-indexed}
 use Rattle.yield_enclosure.specs.declared.answer.YieldAnswer.{YieldAnswer}
 use Rattle.yield_enclosure.specs.declared.answer.YieldAnswer.TheVariants.{Empty, Between}
 use Rattle.yield_enclosure.proofs.ZeroYield.{zero_yield}
 use Rattle.escrow_top.specs.Accepted.{LiesInEnds, yield_without_interest}
-use Rattle.escrow_top.specs.Answer.{plan_yield}
+use Rattle.cash_table.specs.Points.{plan_yield}
 
-index-near : (settle day : ℤ) → IsSettlement settle → settle ≤ℤ day → day ≤ℤ years_after_of settle 40 → index360_of settle day ≤ 14_400
-index-near settle day is from by =
-    let own : IsDayNumber settle = (omega (arith, ints, is.0), omega (arith, ints, is.1)) in
-    let base : IsBaseDay day = settlement-base settle day is from by in
-    let due : IsDayNumber day = (omega (arith, ints, base.0), omega (arith, ints, base.1)) in
-    omega (arith, thirty_day_place_of-years settle day own due by)
-
-indexes-near : (settle : ℤ) (flows : List Flow) → IsSettlement settle → FallWithinFortyYears settle flows → All (λ (flow : IndexedFlow). flow.index ≤ 14_400) (indexed settle flows)
-indexes-near settle flows is within =
-    All-map (λ (flow : IndexedFlow). flow.index ≤ 14_400) (λ (flow : Flow). record { index = index360_of settle flow.day; cents = flow.cents.0 }) flows
-    (λ k d short. let falls = within k d short in index-near settle _ is falls.0 falls.1)
-
-later-amount : (settle : ℤ) (flows : List Flow) → AreAboveZero flows → All (λ (flow : Flow). 1 ≤ index360_of settle flow.day) flows → (flows ≡ [] → ⊥) → HasLaterAmount (indexed settle flows)
-later-amount settle [] above later some = absurd (some refl)
-later-amount settle (flow ∷ flows) above later some =
-    (0, record { index = index360_of settle flow.day; cents = flow.cents.0 }, omega arith, refl, (above 0 flow (omega arith), later 0 flow (omega arith)))
+later-amount : (settle : ℤ) (flows : List Flow) → HaveLaterAmount settle flows → (flows ≡ [] → ⊥) → HasLaterAmount (indexed settle flows)
+later-amount settle flows later some = elim later [ inl none ↦ absurd (some none) | inr amount ↦ amount ]
 
 yields-none : (book : BookContents) (plan : List ℕ) → security_flows book plan ≡ [] → security_cost book plan ≡ 0 → plan_yield book plan ≡ Empty
 yields-none book plan none free = rw (none, free) refl
@@ -50,8 +29,8 @@ yields-zero : (book : BookContents) (plan : List ℕ) → IsBook book → AreWit
 yields-zero book plan limits interest permitted some =
     let flows = security_flows book plan in
     zero_yield (indexed book.settle flows) (security_cost book plan)
-    (indexes-near book.settle flows limits.settlement (flows_within book plan limits))
-    (later-amount book.settle flows (above-summed (flat_map (λ p. line_payments book.settle p.0 p.1) (drop 1 (zip book.lines plan)))) (flows_later book plan limits) some)
+    (indexes_near book.settle flows limits.settlement (flows_within book plan limits))
+    (later-amount book.settle flows (flows_later book plan limits) some)
     (total_cents-indexed book.settle flows ∙ zero_interest_total book plan limits interest permitted)
 
 -- a test on the cost gives the yield

@@ -1,21 +1,27 @@
 -- What `yes` means.
-use Rattle.std.specs.Prelude.{◌≡◌, ◌≢◌, ◌↔◌, ℕ, ◌+◌, ◌<◌, ◌≤◌, ◌==◌, if◌then◌else◌, List, length, drop, All, slice_get, Some, Ok}
+use Rattle.std.specs.Prelude.{◌≡◌, ◌≢◌, ◌↔◌, ℕ, ◌+◌, ◌<◌, ◌≤◌, ◌==◌, if◌then◌else◌, List, length, All, slice_get, Some, Ok}
 use Rattle.escrow_desk.specs.declared.limits.TheConstants.{CERTIFICATE_LIMIT}
 use Rattle.escrow_units.specs.Flows.{indexed}
 use Rattle.escrow_units.specs.PresentValue.{IndexedFlow, YieldLiesIn}
 use Rattle.yield_enclosure.specs.declared.answer.YieldAnswer.{YieldAnswer}
 use Rattle.yield_enclosure.specs.declared.answer.YieldAnswer.TheVariants.{Empty, Negative, Between, Above}
 use Rattle.escrow_desk.specs.Rows.{rows_of}
+use Rattle.issue_schedule.specs.IssueForm.{issue_of}
+use Rattle.issue_schedule.specs.declared.issue.Issue.{Issue}
 use Rattle.rate_table.specs.RateForm.{rate_file_of}
 use Rattle.rate_table.specs.declared.table.RateFile.{RateFile}
+use Rattle.market_notes.specs.PriceForm.{note_file_of}
+use Rattle.market_notes.specs.declared.note.NoteFile.{NoteFile}
 use Rattle.offer_book.specs.declared.line.Line.{Line}
 use Rattle.offer_book.specs.Book.{BookContents, IsBook, AreWithoutInterest}
-use Rattle.offer_book.specs.Offers.{AreLinesOf}
+use Rattle.offer_book.specs.CaseBook.{IsBookOf}
 use Rattle.offer_book.specs.Portfolio.{IsPermitted, IsPermittedUnits, Meets, cost, security_cost, security_flows, total_needs}
 use Rattle.escrow_top.specs.CertificateForm.{CertificateContents, certificate_of}
 use Rattle.escrow_top.specs.InputFiles.{InputFiles}
 use Rattle.case_file.specs.Case.{CaseContents}
-use Rattle.escrow_top.specs.Answer.{case_of, check_answer, plan_yield, yes_text}
+use Rattle.case_file.specs.Limit.{RestsOn}
+use Rattle.escrow_top.specs.Answer.{case_of, check_answer, yes_text}
+use Rattle.cash_table.specs.Points.{plan_yield}
 use Rattle.escrow_top.specs.declared.certificate.Purchase.{Purchase}
 use Rattle.escrow_top.specs.declared.status.Status.{Status}
 use Rattle.escrow_top.specs.declared.status.Status.TheVariants as status
@@ -33,13 +39,26 @@ pub record Buys (book : BookContents) (purchases : List Purchase) (plan : List �
   pub bought : All (λ purchase. slice_get plan purchase.line ≡ Some purchase.units) purchases
   pub nothing_else : (line : ℕ) → line < length plan → All (λ purchase. purchase.line ≢ line) purchases → slice_get plan line ≡ Some 0
 
+-- what the rows of the three input files say
+pub record InputsRead : Type 0 where
+  pub issue : Issue
+  pub rates : RateFile
+  pub notes : NoteFile
+
+-- this is what their bytes say
+pub record SaysOf (files : InputFiles) (read : InputsRead) : Type 0 where
+  pub issue : issue_of (rows_of files.issue) ≡ Ok read.issue
+  pub rates : rate_file_of (rows_of files.rates) ≡ Ok read.rates
+  pub notes : note_file_of read.issue.settle (rows_of files.prices) ≡ Ok read.notes
+
 -- Of the escrow that a plan buys, each part of what a yes promises.
 
--- it obeys every term and denomination rule: each line is that of its offer in the rate file, with every rule of term, rate
--- and denomination, and its units are 0, or from the least to the most; so far no line bears interest
-pub record ObeysRules (book : BookContents) (rates : RateFile) (plan : List ℕ) : Type 0 where
+-- it obeys every term and denomination rule: the lines are opening cash, then one for each offer of the rate file, with every
+-- rule of term, rate and denomination, and then one for each note of the price file, in the order of their rows; and the units
+-- of each are 0, or from the least to the most. So far no line bears interest, and none is a note
+pub record ObeysRules (read : InputsRead) (book : BookContents) (plan : List ℕ) : Type 0 where
   pub limits : IsBook book
-  pub terms : AreLinesOf book.settle rates (drop 1 book.lines)
+  pub rows : IsBookOf read.issue read.rates read.notes book
   pub interest : AreWithoutInterest book.lines
   pub units : IsPermitted book plan
 
@@ -67,25 +86,26 @@ NoRivalSaves gap book plan =
 -- the escrow that a plan buys is right, with a gap: it obeys every term and denomination rule, its cash balance is negative
 -- on no date, its exact yield lies in the printed interval and within the limit, no rival costs less by more than the gap,
 -- and the issue allows the gap
-pub record IsRightEscrow (case : CaseContents) (rates : RateFile) (plan : List ℕ) (gap : ℕ) : Type 0 where
-  pub obeys : ObeysRules case.book rates plan
+pub record IsRightEscrow (read : InputsRead) (case : CaseContents) (plan : List ℕ) (gap : ℕ) : Type 0 where
+  pub obeys : ObeysRules read case.book plan
   pub covered : Meets case.book plan
   pub yields : YieldsWithin case.limit case.book plan
+  pub limit : RestsOn read.issue case.limit
   pub cheapest : NoRivalSaves gap case.book plan
   pub allowed : gap ≤ case.allowance
 
--- the bytes of the four files give a case and the rates that it was read with, and a certificate, whose purchases a plan
--- buys; that escrow is right, and this is said of it
+-- the bytes of the four files say what makes a case, and a certificate, whose purchases a plan buys; that escrow is right,
+-- and this is said of it
 pub record Accepted (files : InputFiles) (cert : List ℕ) : Type 0 where
+  pub read : InputsRead
   pub case : CaseContents
-  pub rates : RateFile
   pub certificate : CertificateContents
   pub plan : List ℕ
   pub is_case : case_of files ≡ Ok case
-  pub is_rates : rate_file_of (rows_of files.rates) ≡ Ok rates
+  pub is_read : SaysOf files read
   pub is_certificate : certificate_of (length case.book.needs) cert ≡ Some certificate
   pub buys : Buys case.book certificate.purchases plan
-  pub right : IsRightEscrow case rates plan certificate.gap
+  pub right : IsRightEscrow read case plan certificate.gap
   pub said : (check_answer files cert).text ≡ yes_text case plan certificate.gap
 
 -- no reason stands against a certificate: a plan buys its purchases, each of which is offered, and covers the needs on every
@@ -96,11 +116,13 @@ pub record IsUnopposed (case : CaseContents) (certificate : CertificateContents)
   pub borne : cost case.book plan ≤ total_needs case.book + certificate.gap
   pub allowed : certificate.gap ≤ case.allowance
 
--- of bytes that give a case and a certificate within its limit, `Done` is answered where, and only where, no reason stands
+-- of bytes that give a case without interest and notes, and a certificate within its limit, `Done` is answered where, and
+-- only where, no reason stands
 abbrev pub YesExactly : Status → InputFiles → List ℕ → Type 0
 YesExactly reached files cert =
     (case : CaseContents) (certificate : CertificateContents)
     → case_of files ≡ Ok case
+    → AreWithoutInterest case.book.lines
     → length cert ≤ CERTIFICATE_LIMIT
     → certificate_of (length case.book.needs) cert ≡ Some certificate
     → (reached ≡ status.Done) ↔ ((plan : List ℕ) × IsUnopposed case certificate plan)

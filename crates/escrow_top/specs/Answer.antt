@@ -1,7 +1,7 @@
 -- What `check` answers: a status and the text that is said. The texts are this project's own.
-use Rattle.std.specs.Prelude.{ℕ, ◌-◌, Bool, false, not, ◌&&◌, nat_lt, nat_eq, if◌then◌else◌, List, [], ◌∷◌, ◌++◌, length, replicate, slice_index_or, slice_set, Option, Some, None, option_map, Result, Ok, Err, is_ok, codes, decimal}
+use Rattle.std.specs.Prelude.{ℕ, ◌-◌, Bool, false, true, not, ◌&&◌, nat_lt, nat_eq, if◌then◌else◌, List, [], ◌∷◌, ◌++◌, length, replicate, slice_index_or, slice_set, Option, Some, None, option_map, Result, Ok, Err, is_ok, codes, decimal}
 use Rattle.std.specs.Bool.{then_some}
-use Rattle.std.specs.List.{find, fold}
+use Rattle.std.specs.List.{find, fold, list_any}
 use Rattle.std.specs.Option.{option_or}
 use lib.Pointwise.{pointwise}
 use Rattle.escrow_desk.specs.Content.{Content, file_of}
@@ -14,20 +14,20 @@ use Rattle.escrow_desk.specs.declared.refusal.RefusalKind.{RefusalKind}
 use Rattle.escrow_desk.specs.declared.refusal.RefusalKind.TheVariants as kind
 use Rattle.escrow_units.specs.DateText.{day_text}
 use Rattle.escrow_units.specs.Digits.{fixed}
-use Rattle.escrow_units.specs.Flows.{indexed}
 use Rattle.row_fields.specs.RowForm.{refusal_of}
 use Rattle.offer_book.specs.declared.line.Line.{Line}
 use Rattle.offer_book.specs.Book.{BookContents}
-use Rattle.offer_book.specs.Portfolio.{permits, total_needs, cost, security_cost, security_flows}
+use Rattle.offer_book.specs.CaseBook.{cash_line}
+use Rattle.offer_book.specs.declared.line.LineKind.{LineKind}
+use Rattle.offer_book.specs.declared.line.LineKind.TheVariants.{Cash, Market, Security}
+use Rattle.offer_book.specs.Portfolio.{permits, total_needs, cost}
 use Rattle.cash_table.specs.First.{first_short_of}
-use Rattle.yield_enclosure.specs.YieldAnswers.{yield_answer_of}
+use Rattle.cash_table.specs.Points.{plan_yield}
 use Rattle.yield_enclosure.specs.declared.answer.YieldAnswer.{YieldAnswer}
 use Rattle.yield_enclosure.specs.declared.answer.YieldAnswer.TheVariants as yields
 use Rattle.escrow_top.specs.CertificateForm.{CertificateContents, certificate_of, ◌>>=◌}
 use Rattle.escrow_top.specs.InputFiles.{InputFiles, FileNames, first_too_long, inputs_of}
-use Rattle.case_file.specs.Case.{CaseContents, cash_line, rows_case}
-use Rattle.case_file.specs.declared.fault.NoCase.{NoCase}
-use Rattle.case_file.specs.declared.fault.NoCase.TheVariants.{Refused, Unbuilt}
+use Rattle.case_file.specs.Case.{CaseContents, rows_case}
 use Rattle.escrow_top.specs.declared.certificate.Purchase.{Purchase}
 use Rattle.escrow_top.specs.declared.status.Status.{Status}
 use Rattle.escrow_top.specs.declared.status.Status.TheVariants as status
@@ -79,10 +79,6 @@ reason_text (reason.NotPermitted line) = text_line (codes "no NotPermitted ") (d
 reason_text (reason.ShortOn day) = text_line (codes "no ShortOn ") (day_text day)
 reason_text (reason.WeakLeaf node) = text_line (codes "no WeakLeaf ") (decimal node)
 reason_text reason.GapAbove = text_line (codes "no GapAbove") []
-
--- the yield of a portfolio's securities, as an interval
-abbrev pub plan_yield : BookContents → List ℕ → YieldAnswer
-plan_yield book plan = yield_answer_of (indexed book.settle (security_flows book plan)) (security_cost book plan)
 
 -- both ends of a yield's interval, in percent, or a word for a yield without ends; no accepted portfolio yields above
 abbrev pub yield_words : YieldAnswer → List ℕ
@@ -156,27 +152,49 @@ abbrev pub weigh_of : CaseContents → Option CertificateContents → Answer
 weigh_of case None = unbuilt file.Cert
 weigh_of case (Some certificate) = weighed case (plan_of case.book certificate.purchases) certificate.gap (reason_of case certificate)
 
--- the answer to the bytes of a certificate
+-- a SLGS security bears interest, and a note is what is bought
+abbrev pub kind_bears_interest : LineKind → Bool
+kind_bears_interest Cash = false
+kind_bears_interest (Security slgs) = nat_lt 0 slgs.rate.0
+kind_bears_interest (Market note) = false
+
+abbrev pub bears_interest : Line → Bool
+bears_interest line = kind_bears_interest line.kind
+
+abbrev pub is_note_kind : LineKind → Bool
+is_note_kind Cash = false
+is_note_kind (Security slgs) = false
+is_note_kind (Market note) = true
+
+abbrev pub is_note : Line → Bool
+is_note line = is_note_kind line.kind
+
+-- the file with lines that aren't built yet: first that of offers that bear interest, and then that of notes
+abbrev pub first_unbuilt : List Line → Option FileKind
+first_unbuilt lines =
+    option_or (then_some (list_any bears_interest lines) file.Rates) (then_some (list_any is_note lines) file.Prices)
+
+-- the answer to a certificate that isn't too long
+abbrev pub answer_within : CaseContents → List ℕ → Option FileKind → Answer
+answer_within case cert (Some kind) = unbuilt kind
+answer_within case cert None = weigh_of case (certificate_of (length case.book.needs) cert)
+
+-- the answer to the bytes of a certificate: what isn't built yet is tried after all that refuses a file
 abbrev pub certificate_answer : CaseContents → List ℕ → Answer
 certificate_answer case cert =
     if nat_lt CERTIFICATE_LIMIT (length cert) then refused (refusal_of file.Cert 0 kind.TooLong)
-    else weigh_of case (certificate_of (length case.book.needs) cert)
-
--- the answer where the input files give no case
-abbrev pub no_case_answer : NoCase → Answer
-no_case_answer (Refused refusal) = refused refusal
-no_case_answer (Unbuilt kind) = unbuilt kind
+    else answer_within case cert (first_unbuilt case.book.lines)
 
 -- the case of the bytes of the input files, or what is first to refuse it: their lengths are tried before their rows
-abbrev pub case_of_texts : Option FileKind → InputFiles → Result CaseContents NoCase
-case_of_texts (Some too_long) texts = Err (Refused (refusal_of too_long 0 kind.TooLong))
+abbrev pub case_of_texts : Option FileKind → InputFiles → Result CaseContents Refusal
+case_of_texts (Some too_long) texts = Err (refusal_of too_long 0 kind.TooLong)
 case_of_texts None texts = rows_case (rows_of texts.issue) (rows_of texts.rates) (rows_of texts.prices)
 
-abbrev pub case_of : InputFiles → Result CaseContents NoCase
+abbrev pub case_of : InputFiles → Result CaseContents Refusal
 case_of texts = case_of_texts (first_too_long texts) texts
 
-abbrev pub case_answer : Result CaseContents NoCase → List ℕ → Answer
-case_answer (Err why) cert = no_case_answer why
+abbrev pub case_answer : Result CaseContents Refusal → List ℕ → Answer
+case_answer (Err refusal) cert = refused refusal
 case_answer (Ok case) cert = certificate_answer case cert
 
 -- what `check` answers to the bytes of the four files

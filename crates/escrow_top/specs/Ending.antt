@@ -40,12 +40,6 @@ is_checked status.Refused = true
 is_checked status.Unbuilt = true
 is_checked status = false
 
--- the input files gave no case
-abbrev pub is_stopped : Status → Bool
-is_stopped status.Refused = true
-is_stopped status.Unbuilt = true
-is_stopped status = false
-
 -- of an answer, where there is one: this is the status, and its text was said; no file changed
 abbrev pub IsSaid : Content → Option Answer → Status → Told → Type 0
 IsSaid content found status new =

@@ -1,21 +1,20 @@
 //! Answers: their status and their text.
 
 ghost use Rattle.std.specs.Prelude.{◌≡◌, ◌++◌, IfOk, IsTrue, OnOk};
-ghost use Rattle.escrow_top.specs.Answer.{text_line, reason_text, plan_yield as plan_yield_of, yes_text as yes_text_of, yield_words as yield_words_of, file_word as file_word_of, kind_word as kind_word_of, unbuilt as unbuilt_answer, refused as refused_answer, no_case_answer, refused_text, accepted, not_accepted};
+ghost use Rattle.escrow_top.specs.Answer.{text_line, reason_text, yes_text as yes_text_of, yield_words as yield_words_of, file_word as file_word_of, kind_word as kind_word_of, unbuilt as unbuilt_answer, refused as refused_answer, refused_text, accepted, not_accepted};
 ghost use Rattle.case_file.specs.Case.{case_view};
-ghost use Rattle.escrow_top.specs.Ending.{is_checked, is_stopped};
+ghost use Rattle.escrow_top.specs.Ending.{is_checked};
 ghost use Rattle.offer_book.specs.Portfolio.{IsPermitted};
 
 use crate::status::Status;
 use crate::verdict::Reason;
-use case_file::{Case, NoCase};
-use cash_table::{Plan, cost, flows, security_cost};
+use case_file::Case;
+use cash_table::{Plan, cost, plan_yield};
 use escrow_desk::{FileKind, NoMemory, Refusal, RefusalKind};
 use escrow_units::{Cents, print_cents, print_day, print_yield};
-use offer_book::Book;
 use std::alloc::Global;
 use std::marker::Model;
-use yield_enclosure::{YieldAnswer, interval};
+use yield_enclosure::YieldAnswer;
 
 /// A status, and the text that is said with it.
 #[derive(Debug, Drop)]
@@ -144,31 +143,6 @@ pub(crate) fn unbuilt(alloc: Global, kind: FileKind) -> Result<Answer, NoMemory>
         status: Status::Unbuilt,
         text: one_line(alloc, b"unbuilt ", file_word(kind))?,
     })
-}
-
-/// The answer where the input files give no case.
-pub(crate) fn without_case(alloc: Global, why: NoCase) -> Result<Answer, NoMemory>
-    ensures answer { IfOk result (λ answer. answer ≡ no_case_answer why) }
-    ensures status { IfOk result (λ answer. IsTrue (is_stopped answer.status)) }
-{
-    match why {
-        NoCase::Refused(refusal) => refused(alloc, &refusal),
-        NoCase::Unbuilt(kind) => unbuilt(alloc, kind),
-    }
-}
-
-// The yield of a portfolio's securities, as an interval.
-fn plan_yield(alloc: Global, book: &Book, plan: &Plan) -> Result<YieldAnswer, NoMemory>
-    requires { IsPermitted book.now plan.now }
-    ensures { IfOk result (λ answer. answer ≡ plan_yield_of book.now plan.now) }
-{
-    let flows = flows(alloc, book, plan)?;
-    interval(
-        alloc,
-        book.settle(),
-        flows.as_slice(),
-        security_cost(book, plan),
-    )
 }
 
 // A yield in words: both ends of its interval, in percent, or a word where it has none.

@@ -1,7 +1,7 @@
 //! `check`, from the names of its files to its answer.
 
 ghost use Rattle.std.specs.Prelude.{◌≡◌, ◌≤◌, IfOk, IsErrOf, IsTrue, length};
-ghost use Rattle.escrow_top.specs.Answer.{certificate_answer, weigh_of, refused as refused_answer};
+ghost use Rattle.escrow_top.specs.Answer.{answer_within, certificate_answer, first_unbuilt as first_unbuilt_of, refused as refused_answer};
 ghost use Rattle.row_fields.specs.RowForm.{refusal_of};
 ghost use Rattle.case_file.specs.Case.{case_view};
 ghost use Rattle.escrow_top.specs.CertificateForm.{certificate_of};
@@ -11,14 +11,15 @@ ghost use Rattle.escrow_top.specs.Accepted.{Accepted, YesExactly};
 ghost use Rattle.escrow_top.specs.NotAccepted.{NotAccepted};
 ghost use Rattle.escrow_top.specs.Stopping.{CountsStep};
 
-use crate::answer::{Answer, refused, unbuilt, without_case};
+use crate::answer::{Answer, refused, unbuilt};
 use crate::certificate::read_certificate;
 use crate::files::{FileNames, FileText, InputFiles, Inputs, read_file, read_inputs};
 use crate::status::Status;
 use crate::stop::Stop;
+use crate::unbuilt::first_unbuilt;
 use crate::verdict::weigh;
-use case_file::{Case, CaseFault, read_case};
-use escrow_desk::{CERTIFICATE_LIMIT, Desk, FileKind, NoMemory, Refusal, RefusalKind};
+use case_file::{Case, read_case};
+use escrow_desk::{CERTIFICATE_LIMIT, CaseError, Desk, FileKind, NoMemory, Refusal, RefusalKind};
 use std::alloc::Global;
 
 // The answer that a file has more bytes than its limit.
@@ -34,11 +35,14 @@ fn too_long(alloc: Global, file: FileKind) -> Result<Answer, NoMemory>
     refused(alloc, &refusal)
 }
 
-// The answer to the bytes of a certificate within its limit.
+// The answer to the bytes of a certificate within its limit. What isn't built yet is tried first.
 fn answer_to_bytes(alloc: Global, case: &Case, bytes: &[u8]) -> Result<Answer, NoMemory>
-    ensures answer { IfOk result (λ answer. answer ≡ weigh_of (case_view case.now) (certificate_of (length case.now.book.needs) bytes.now)) }
+    ensures answer { IfOk result (λ answer. answer ≡ answer_within (case_view case.now) bytes.now (first_unbuilt_of case.now.book.lines)) }
     ensures status { IfOk result (λ answer. IsTrue (is_checked answer.status)) }
 {
+    if let Some(kind) = first_unbuilt(case.book.lines()) {
+        return unbuilt(alloc, kind);
+    }
     match read_certificate(alloc, bytes, case.book.need_count())? {
         Some(certificate) => weigh(alloc, case, &certificate),
         None => unbuilt(alloc, FileKind::Cert),
@@ -90,8 +94,8 @@ fn answer_to_files<D: Desk>(
         files.prices.as_slice(),
     ) {
         Ok(case) => answer_to_certificate(alloc, desk, names.cert, &case),
-        Err(CaseFault::NoCase(why)) => Ok(without_case(alloc, why)?),
-        Err(CaseFault::NoMemory) => Err(Stop::NoMemory),
+        Err(CaseError::Refused(refusal)) => Ok(refused(alloc, &refusal)?),
+        Err(CaseError::NoMemory) => Err(Stop::NoMemory),
     }
 }
 

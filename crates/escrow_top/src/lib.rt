@@ -10,6 +10,7 @@ mod needs;
 mod program;
 mod status;
 mod stop;
+mod unbuilt;
 mod verdict;
 
 pub use program::run;

@@ -119,6 +119,14 @@ fn accepted_certificates(rt: HostRuntime) -> Result<(), Fail> {
             said: b"yes\ncost 1000.00\nyield 0.00000000 0.00000000\nlimit 4.00100000\ngap 0.00\n",
         },
         Row {
+            files: Files {
+                prices: b"terms,1000,1000\n",
+                ..FIRST
+            },
+            status: Status::Done,
+            said: FIRST_TEXT,
+        },
+        Row {
             files: SECOND,
             status: Status::Done,
             said: b"yes\ncost 5500.00\nyield 0.00000000 0.00000000\nlimit 4.00100000\ngap 0.00\n",
@@ -402,16 +410,72 @@ fn refused_rates(rt: HostRuntime) -> Result<(), Fail> {
     Ok(())
 }
 
+// A note on offer, and the need that it pays.
+const NOTE: Files = Files {
+    issue: b"settle,2025-01-15\nneed,2025-07-15,102000.00\nrestricted,4.00\nallowance,0.01\n",
+    rates: b"",
+    prices: b"terms,1000,1000\nnote,2025-07-15,4.000,100,200000\n",
+    cert: b"escrow-certificate 1\nportfolio 1\nbuy 1 100\ngap 1\nnodes 1\nl 1 0 980392156862\nend\n",
+};
+
+#[test]
+fn refused_prices(rt: HostRuntime) -> Result<(), Fail> {
+    let faults: [(&[u8], &[u8], &[u8]); 5] = [
+        (
+            NOTE.issue,
+            b"note,2025-07-15,4.000,100,200000\n",
+            b"refused prices row 1 Missing\n",
+        ),
+        (
+            NOTE.issue,
+            b"terms,1000,1000\nnote,2025-01-15,4.000,100,200000\n",
+            b"refused prices row 2 Matured\n",
+        ),
+        (
+            b"settle,2025-05-30\nneed,2025-07-15,102000.00\nrestricted,4.00\n",
+            b"terms,1000,1000\nnote,2025-05-31,4.000,100,200000\n",
+            b"refused prices row 2 Matured\n",
+        ),
+        (
+            NOTE.issue,
+            b"terms,1000,1000\nnote,2025-07-15,4.000,9.99,200000\n",
+            b"refused prices row 2 PriceRange\n",
+        ),
+        (
+            NOTE.issue,
+            b"terms,1000,1000\nterms,1000,1000\n",
+            b"refused prices row 2 Repeated\n",
+        ),
+    ];
+    for (issue, prices, said) in &faults {
+        let files = Files {
+            issue,
+            prices,
+            ..NOTE
+        };
+        let ran = outcome_of(rt.alloc(), &CHECK, &files, u64::MAX)?;
+        assert_eq!(rt; ran.status, Status::Refused);
+        assert_eq!(rt; ran.desk.said(), *said);
+    }
+    Ok(())
+}
+
 // The order in which files that are at fault together are told: lengths, then the issue's rows, the rates' rows, the
-// prices, the rules of the offers, what isn't built yet, and the certificate.
+// prices' rows, the rules of the offers, the computed yield, what isn't built yet, and the certificate's text.
 #[test]
 fn order_of_refusals(rt: HostRuntime) -> Result<(), Fail> {
+    let faulty_prices = b"terms,1000,x\n";
+    let faulty_offer = b"terms,1000,100\noffer,2025-01-29,0.00,,10000\n";
+    let interest =
+        b"terms,1000,100\nrate,2025-01-15,2025-12-31,4.00\noffer,2025-02-14,4.00,,10000\n";
+    let negative = b"settle,2025-01-15\nprice,100000.00\npay,2025-07-15,99000.00\n";
+    let computed = b"settle,2025-01-15\nprice,100000.00\npay,2025-07-15,102000.00\n";
     let rows = [
         Row {
             files: Files {
                 issue: b"settle,2025-01-15\nneed,x,1.00\n",
                 rates: b"offer\n",
-                prices: b"terms,1000,1000\n",
+                prices: faulty_prices,
                 cert: b"",
             },
             status: Status::Refused,
@@ -420,7 +484,7 @@ fn order_of_refusals(rt: HostRuntime) -> Result<(), Fail> {
         Row {
             files: Files {
                 rates: b"offer\n",
-                prices: b"terms,1000,1000\n",
+                prices: faulty_prices,
                 ..FIRST
             },
             status: Status::Refused,
@@ -428,17 +492,18 @@ fn order_of_refusals(rt: HostRuntime) -> Result<(), Fail> {
         },
         Row {
             files: Files {
-                rates: b"terms,1000,100\noffer,2025-01-29,0.00,,10000\n",
-                prices: b"terms,1000,1000\n",
+                rates: faulty_offer,
+                prices: faulty_prices,
                 ..FIRST
             },
-            status: Status::Unbuilt,
-            said: b"unbuilt prices\n",
+            status: Status::Refused,
+            said: b"refused prices row 1 BadNumber\n",
         },
         Row {
             files: Files {
-                issue: b"settle,2025-01-15\nprice,100000.00\npay,2025-07-15,102000.00\n",
-                rates: b"terms,1000,100\noffer,2025-01-29,0.00,,10000\n",
+                issue: negative,
+                rates: faulty_offer,
+                prices: NOTE.prices,
                 ..FIRST
             },
             status: Status::Refused,
@@ -446,21 +511,28 @@ fn order_of_refusals(rt: HostRuntime) -> Result<(), Fail> {
         },
         Row {
             files: Files {
-                issue: b"settle,2025-01-15\nprice,100000.00\npay,2025-07-15,102000.00\n",
-                rates: b"terms,1000,100\nrate,2025-01-15,2025-12-31,4.00\noffer,2025-02-14,4.00,,10000\n",
+                issue: negative,
+                rates: interest,
+                prices: NOTE.prices,
                 ..FIRST
             },
-            status: Status::Unbuilt,
-            said: b"unbuilt issue\n",
+            status: Status::Refused,
+            said: b"refused issue row 2 OutOfRange\n",
         },
         Row {
             files: Files {
-                rates: b"terms,1000,100\nrate,2025-01-15,2025-12-31,4.00\noffer,2025-02-14,4.00,,10000\n",
+                issue: computed,
+                rates: interest,
+                prices: NOTE.prices,
                 cert: b"",
-                ..FIRST
             },
             status: Status::Unbuilt,
             said: b"unbuilt rates\n",
+        },
+        Row {
+            files: Files { cert: b"", ..NOTE },
+            status: Status::Unbuilt,
+            said: b"unbuilt prices\n",
         },
         Row {
             files: Files { cert: b"", ..FIRST },
@@ -519,7 +591,11 @@ fn limits_of_files(rt: HostRuntime) -> Result<(), Fail> {
         Vec::new(alloc),
         b"refused prices row 0 TooManyLines\n",
     )?;
-    let rates = Vec::from_slice(alloc, FIRST.rates)?;
+    // What isn't built yet is tried after the length of the certificate.
+    let rates = Vec::from_slice(
+        alloc,
+        b"terms,1000,100\nrate,2025-01-15,2025-12-31,4.00\noffer,2025-02-14,4.00,,10000\n",
+    )?;
     let cert = vec![in alloc; b'x'; 67_108_865]?;
     try_bytes(&rt, alloc, rates, cert, b"refused cert row 0 TooLong\n")
 }

@@ -1,5 +1,5 @@
 -- What each issue that is read keeps. The limits are this project's own.
-use Rattle.std.specs.Prelude.{◌≡◌, ℕ, ◌^◌, ◌≤◌, ◌<ℤ◌, ◌≤ℤ◌, ℤ, length, All, IfSome}
+use Rattle.std.specs.Prelude.{◌≡◌, ℕ, ◌≤◌, ◌<ℤ◌, ◌≤ℤ◌, ℤ, length, All, IfSome}
 use Rattle.escrow_units.specs.Calendar.{years_after_of}
 use Rattle.escrow_units.specs.SlgsTerms.{IsSettlement}
 use Rattle.escrow_units.specs.declared.limits.TheConstants.{AMOUNT_LIMIT, GREATEST_GIVEN_YIELD, GREATEST_PRICE, GREATEST_RATE, LEAST_PRICE, MOST_NEED_DATES}

@@ -1,14 +1,14 @@
 -- How much a note can cost and pay.
-use Rattle.std.proofs.Common.{◌≡◌, ◌∙◌, ℕ, ◌+◌, ◌*◌, ◌^◌, ◌<◌, ◌≤◌, zero, suc, refl, sym, ap, subst, arith, ℤ, pos, ◌+ℤ◌, ◌≤ℤ◌, ◌<ℤ◌, Bool, true, false, if◌then◌else◌, List, [], ◌∷◌, map, length, get_or}
+use Rattle.std.proofs.Common.{◌≡◌, ℕ, ◌+◌, ◌*◌, ◌^◌, ◌<◌, ◌≤◌, zero, suc, refl, arith, ℤ, ◌≤ℤ◌, ◌<ℤ◌, Bool, true, false, if◌then◌else◌, length, get_or}
 use Rattle.std.specs.Prelude.{All}
 use Rattle.std.specs.Ordering.{int_eq}
-use Rattle.std.proofs.Math.Nat.{mul-le-mul, mul-le-mul_right}
+use Rattle.std.proofs.Math.Nat.{mul-le-mul}
 use Rattle.std.proofs.lemmas.List.{length-map}
 use Rattle.std.proofs.lemmas.List.Elements.{All-map, All-weaker}
 use Rattle.jiff_core.proofs.SignedLemmas.{signed_arith}
 use Rattle.escrow_units.specs.Calendar.{years_after_of}
 use Rattle.escrow_units.specs.Flows.{total, FallWithinFortyYears}
-use Rattle.escrow_units.specs.Interest.{earned_of, face_price_of, half_coupon_of}
+use Rattle.escrow_units.specs.Interest.{face_price_of, half_coupon_of}
 use Rattle.escrow_units.specs.Rounding.{near}
 use Rattle.escrow_units.specs.Series.{days_between_of}
 use Rattle.escrow_units.specs.declared.security.Flow.{Flow}
@@ -87,6 +87,9 @@ accrued note h =
 
 pub accrual-some : (note : Note) → IsNote note → 0 < (accrual_of note).year
 accrual-some note h = omega (arith, (accrued note h).half)
+
+pub accrual-short : (note : Note) → IsNote note → 3 * (accrual_of note).parts ≤ 4 * (accrual_of note).year
+accrual-short note h = omega (arith, (accrued note h).passed, (accrued note h).half)
 
 accrued-small : (note : Note) (face : ℕ) → IsNote note → face ≤ 10 ^ 11 → accrued_interest note face ≤ 16 * 10 ^ 9
 unfolding accrued_interest

@@ -1,9 +1,9 @@
 -- Coefficients enclose what units cost and pay.
-use Rattle.std.proofs.Common.{◌≡◌, ◌∙◌, ℕ, zero, suc, min, ◌+◌, ◌*◌, ◌/◌, ◌%◌, ◌^◌, ◌<◌, ◌≤◌, refl, sym, ap, arith, inl, inr, List, [], ◌∷◌, map, ℤ, Bool, true, false, if◌then◌else◌, length, take}
+use Rattle.std.proofs.Common.{◌≡◌, ◌∙◌, ℕ, ◌+◌, ◌*◌, ◌/◌, ◌^◌, ◌<◌, ◌≤◌, refl, ap, arith, inl, inr, List, [], ◌∷◌, map, ℤ, Bool, true, false, if◌then◌else◌, length, take}
 use Rattle.std.specs.Int.{div_ceil}
 use Rattle.std.specs.List.{AllZip}
 use Rattle.std.specs.Ordering.{int_eq}
-use Rattle.std.proofs.Math.Nat.{div-eq_of_lt, div-le_self, mul-div-le, mul-le-mul_left, mul-le-mul_right}
+use Rattle.std.proofs.Math.Nat.{div-eq_of_lt, mul-div-le, mul-le-mul_left, mul-le-mul_right}
 use Rattle.std.proofs.lemmas.Bool.{cases_lt}
 use Rattle.std.proofs.lemmas.Bool.Decides.{nat_tests}
 use Rattle.std.specs.Prelude.{◌==◌}
@@ -21,17 +21,16 @@ use Rattle.market_notes.specs.NoteFlows as notes
 use Rattle.market_notes.specs.NoteTerms.{IsNote}
 use Rattle.market_notes.specs.declared.note.Note.{Note}
 use Rattle.market_notes.proofs.AmountFacts.{accrual-some}
-use Rattle.slgs_interest.specs.PaymentLaws.{IsShort}
 use Rattle.slgs_interest.specs.Payments as slgs
-use Rattle.offer_book.specs.Book.{IsCashLine, IsLine, IsSecurity, IsSecurityLine}
-use Rattle.offer_book.specs.Coefficients.{CoefficientsEnclose, Encloses, EnclosesPayment, EnclosesUnits, Enclosure, cost_coefficients, half_year_accrual, interest_high, interest_low, interest_slack, kind_costs, kind_pays, note_paid_on, paid_on, pay_coefficients, slgs_paid_on}
-use Rattle.offer_book.specs.Portfolio.{kind_cost, kind_payments, line_cost, line_payments, par}
+use Rattle.offer_book.specs.Book.{IsLine, IsSecurity}
+use Rattle.offer_book.specs.Coefficients.{Encloses, EnclosesPayment, EnclosesUnits, half_year_accrual, interest_high, interest_low, interest_slack, kind_costs, kind_pays, note_paid_on, paid_on, slgs_paid_on}
+use Rattle.offer_book.specs.Portfolio.{kind_cost, kind_payments}
 use Rattle.offer_book.specs.declared.coefficients.PayCoefficients.{PayCoefficients}
 use Rattle.offer_book.specs.declared.coefficients.TheConstants.{COEFFICIENT_SCALE}
 use Rattle.offer_book.specs.declared.line.Line.{Line}
 use Rattle.offer_book.specs.declared.line.LineKind.{LineKind}
 use Rattle.offer_book.specs.declared.line.LineKind.TheVariants.{Cash, Market, Security}
-use Rattle.offer_book.proofs.LineFacts.{cash-payments, is_short}
+use Rattle.offer_book.proofs.LineFacts.{is_short}
 
 -- a factor above 0 of both sides
 cancel : (b m n : ℕ) → 0 < b → b * m ≤ b * n → m ≤ n

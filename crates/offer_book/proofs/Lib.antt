@@ -1,4 +1,5 @@
 pub mod BookFacts
+pub mod CoefficientBounds
 pub mod CoefficientFacts
 pub mod LineFacts
 pub mod MarketFacts

@@ -1,5 +1,5 @@
 -- What units of a line cost and pay.
-use Rattle.std.proofs.Common.{◌≡◌, ℕ, ◌+◌, ◌*◌, ◌^◌, ◌≤◌, zero, suc, refl, sym, ap, subst, arith, inl, inr, ℤ, ◌≤ℤ◌, ◌<ℤ◌, Bool, true, false, if◌then◌else◌, List, [], ◌∷◌, length, get_or, pos, ◌+ℤ◌, int_le, int_lt}
+use Rattle.std.proofs.Common.{◌≡◌, ℕ, ◌+◌, ◌*◌, ◌^◌, ◌≤◌, zero, suc, refl, sym, ap, subst, arith, inl, inr, ℤ, ◌≤ℤ◌, ◌<ℤ◌, Bool, true, false, if◌then◌else◌, List, [], ◌∷◌, length, get_or, pos, ◌+ℤ◌, int_le}
 use Rattle.std.specs.List.{All}
 use Rattle.std.specs.Ordering.{int_eq}
 use Rattle.std.proofs.Math.Nat.{mul-le-mul, mul-le-mul_left, mul-le-mul_right}
@@ -15,12 +15,9 @@ use Rattle.escrow_units.specs.Rounding.{near}
 use Rattle.escrow_units.specs.SlgsTerms.{IsSettlement}
 use Rattle.escrow_units.specs.declared.security.Flow.{Flow}
 use Rattle.escrow_units.specs.declared.security.Slgs.{Slgs}
-use Rattle.escrow_units.specs.declared.security.SlgsKind.{SlgsKind}
-use Rattle.escrow_units.specs.declared.security.SlgsKind.TheVariants as kind
 use Rattle.escrow_units.proofs.SeriesFacts.{years_after_of-none}
 use Rattle.escrow_units.proofs.YearFacts.{years_after_of-passes}
-use Rattle.slgs_interest.specs.Payments.{payment_dates, payments_of, payment_on, interest_on, principal_on, first_interest, first_accrual_of, before_first, second_before_first}
-use Rattle.escrow_units.specs.Series.{days_between_of}
+use Rattle.slgs_interest.specs.Payments.{payment_dates, payments_of, payment_on, interest_on, principal_on, first_interest, first_accrual_of}
 use Rattle.slgs_interest.specs.PaymentLaws.{AreSmall, AreWithinTerm, IsShort}
 use Rattle.escrow_units.proofs.RoundingFacts.{near-zero}
 use Rattle.slgs_interest.proofs.PaymentFacts.{first-short, payments-face, payments-interest, payments-principal, payments-small, payments-within}
@@ -256,7 +253,7 @@ dates-kept : (slgs : Slgs) → All (λ date. int_le slgs.first date ≡ true) (p
 unfolding payment_dates
 dates-kept slgs = filter_passes (λ date. int_le slgs.first date) _
 
-payments_of-late : (slgs : Slgs) (face : ℕ) → IsPaid slgs → All (λ flow. (slgs.settle +ℤ pos 15) ≤ℤ flow.day) (payments_of slgs face)
+pub payments_of-late : (slgs : Slgs) (face : ℕ) → IsPaid slgs → All (λ flow. (slgs.settle +ℤ pos 15) ≤ℤ flow.day) (payments_of slgs face)
 unfolding payments_of
 payments_of-late slgs face p =
     All-map (λ (flow : Flow). (slgs.settle +ℤ pos 15) ≤ℤ flow.day) (payment_on slgs face) (payment_dates slgs)

@@ -1,13 +1,11 @@
 -- Rounded interest.
-use Rattle.std.proofs.Common.{◌≡◌, ℕ, ◌+◌, ◌*◌, ◌^◌, ◌<◌, ◌≤◌, sym, ap, arith, refl}
+use Rattle.std.proofs.Common.{◌≡◌, ℕ, ◌+◌, ◌*◌, ◌^◌, ◌<◌, ◌≤◌, arith, refl}
 use Rattle.std.proofs.Math.Nat.{mul-div-mul_right, mul-le-mul, mul-le-mul_right}
-use Rattle.std.specs.Prelude.{ℤ, pos, ◌+ℤ◌, ◌≤ℤ◌, ◌<ℤ◌, int_lt, Bool, true, false, if◌then◌else◌}
-use Rattle.escrow_units.proofs.FlowFacts.{days_between_of-count, days_between_of-some, int_lt-not, int_lt-test}
+use Rattle.std.specs.Prelude.{ℤ, pos, ◌+ℤ◌, ◌≤ℤ◌, ◌<ℤ◌}
+use Rattle.escrow_units.proofs.FlowFacts.{days_between_of-count, int_lt-not, int_lt-test}
 use Rattle.escrow_units.proofs.RoundingFacts.{near-at-most, near-zero}
-use Rattle.jiff_core.proofs.SignedLemmas.{signed_arith}
 use Rattle.escrow_units.specs.Rounding.{near}
 use Rattle.escrow_units.specs.Interest.{earned_of, half_coupon_of}
-use Rattle.escrow_units.specs.Series.{days_between_of}
 use Rattle.slgs_interest.specs.Payments.{accrual_to}
 
 -- the same part of a whole

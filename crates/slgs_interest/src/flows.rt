@@ -8,7 +8,8 @@ ghost use Rattle.slgs_interest.specs.Payments.{before_first, payment_dates, paym
 use crate::interest::accrual_by;
 use arrayvec::ArrayVec;
 use escrow_units::{
-    Cents, Day, Flow, GREATEST_RATE, SeriesDates, Slgs, StepRule, earned, half_coupon, series_around,
+    Cents, Day, Flow, GREATEST_RATE, SeriesDates, Slgs, StepRule, earned, half_coupon,
+    series_around,
 };
 
 /// The dates of a security's series around the day before its first payment: it pays on those after.

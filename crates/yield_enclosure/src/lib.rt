@@ -8,7 +8,7 @@ mod timeline;
 
 pub use answer::YieldAnswer;
 pub use enclosure::{interval, within};
-pub use laws::zero_yield_law;
+pub use laws::{limit_laws, zero_yield_law};
 
 #[cfg(test)]
 mod tests;

@@ -211,6 +211,7 @@ fn known_yields(rt: HostRuntime) -> Result<(), Fail> {
         },
     ];
     zero_yield_law();
+    limit_laws();
     for row in &rows {
         assert_eq!(rt;
             answer(rt.alloc(), &row.flows, row.cost),

@@ -1,3 +1,4 @@
+use Rattle.bound_certificate.proofs.SayFacts.{texts_say}
 use Rattle.bound_certificate.proofs.TextFacts.{text-found, text-good, text-one}
 use Rattle.bound_certificate.proofs.laws.text_laws.Goals as goal
 
@@ -6,3 +7,6 @@ returns-clause-exact c dates bytes = (λ none. text-found dates bytes none, λ s
 
 pub returns-clause-one : goal.returns-clause-one
 returns-clause-one c = text-one
+
+pub returns-clause-said : goal.returns-clause-said
+returns-clause-said c = texts_say

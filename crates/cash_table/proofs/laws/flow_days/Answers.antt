@@ -1,4 +1,5 @@
-use Rattle.cash_table.proofs.FlowFacts.{flows_within, flows_later}
+use Rattle.cash_table.proofs.FlowFacts.{flows_within}
+use Rattle.cash_table.proofs.LaterFacts.{flows_later}
 use Rattle.cash_table.proofs.laws.flow_days.Goals as goal
 
 pub returns-clause-within : goal.returns-clause-within

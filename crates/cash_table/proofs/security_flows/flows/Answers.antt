@@ -1,18 +1,16 @@
-use Rattle.std.proofs.Common.{◌≡◌, ◌≤◌, ◌*◌, ◌^◌, List, ℤ, ◌∙◌, sym, ap, subst, arith}
-use Rattle.std.specs.List.{All}
+use Rattle.std.proofs.Common.{◌≡◌, ◌≤◌, ◌*◌, ◌^◌, List, ◌∙◌, sym, ap, subst, arith}
 use Rattle.std.proofs.lemmas.List.{take_rest}
 use Rattle.std.proofs.lemmas.Result.{IfOk-weaker}
-use Rattle.escrow_units.specs.Flows.{index360_of, total, FallWithinFortyYears}
+use Rattle.escrow_units.specs.Flows.{total, FallWithinFortyYears}
 use Rattle.escrow_units.proofs.YearFacts.{years-follow}
 use Rattle.escrow_units.specs.declared.security.Flow.{Flow}
 use Rattle.day_sums.specs.Table.{SpanSums}
 use Rattle.offer_book.specs.Portfolio.{security_flows}
+use Rattle.cash_table.specs.LaterFlows.{HaveLaterAmount}
+use Rattle.cash_table.proofs.LaterFacts.{flows_later}
 use Rattle.cash_table.proofs.CostFacts.{drop-zip}
-use Rattle.cash_table.proofs.FlowFacts.{lines_after_cash, flows_within, flows_later, flows_at_most, securities_permitted, securities_at_most}
+use Rattle.cash_table.proofs.FlowFacts.{lines_after_cash, flows_within, flows_at_most, securities_permitted, securities_at_most}
 use Rattle.cash_table.proofs.security_flows.flows.Goals as goal
-
-abbrev AreLater : ℤ → List Flow → Type 0
-AreLater settle flows = All (λ flow. 1 ≤ index360_of settle flow.day) flows
 
 abbrev IsBounded : List Flow → Type 0
 IsBounded flows = total flows ≤ 89 * 10 ^ 13
@@ -33,9 +31,9 @@ returns-clause-within c =
 
 pub returns-clause-later : goal.returns-clause-later
 returns-clause-later c =
-    IfOk-weaker c.into_flows.result (λ flows. flows.items ≡ c.add_bought.new.sums.sums) (λ flows. AreLater c.args.book.now.settle flows.items)
+    IfOk-weaker c.into_flows.result (λ flows. flows.items ≡ c.add_bought.new.sums.sums) (λ flows. HaveLaterAmount c.args.book.now.settle flows.items)
     (λ flows same. let sums : c.add_bought.new.sums.sums ≡ security_flows c.args.book.now c.args.plan.now = simp (take_rest, drop-zip, c.settle-settle.ensures, c.lines-lines.ensures.value, c.units.ensures) at (ap (λ (s : SpanSums). s.sums) c.add_bought.ensures) in
-    subst (AreLater c.args.book.now.settle) (sym (same ∙ sums)) (flows_later c.args.book.now c.args.plan.now c.lines-lines.ensures.limits)) c.into_flows.ensures.value
+    subst (HaveLaterAmount c.args.book.now.settle) (sym (same ∙ sums)) (flows_later c.args.book.now c.args.plan.now c.lines-lines.ensures.limits)) c.into_flows.ensures.value
 
 pub returns-clause-bound : goal.returns-clause-bound
 returns-clause-bound c =

@@ -1,4 +1,4 @@
-use Rattle.day_sums.proofs.Uniqueness.{are-sums, unique, keep-total, keep-total_by, fall-within, nothing, in-steps}
+use Rattle.day_sums.proofs.Uniqueness.{are-sums, unique, keep-total, keep-total_by, keep-weighted, fall-within, nothing, in-steps}
 use Rattle.day_sums.proofs.laws.summed_laws.Goals as goal
 
 pub returns-clause-sums : goal.returns-clause-sums
@@ -21,3 +21,6 @@ returns-clause-nothing c = nothing
 
 pub returns-clause-steps : goal.returns-clause-steps
 returns-clause-steps c = in-steps
+
+pub returns-clause-weighted : goal.returns-clause-weighted
+returns-clause-weighted c = keep-weighted

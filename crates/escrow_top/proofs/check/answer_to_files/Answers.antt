@@ -13,7 +13,7 @@ returns-in-Ok-clause-yes g c =
     let rates = c.as_slice-2.ensures.value in
     let prices = c.as_slice-3.ensures.value in
     let is = rw (issue, rates, prices) at c.in-Ok.ensures.case in
-    let kept = rw rates at c.in-Ok.ensures.kept in
+    let kept = rw (issue, rates, prices) at c.in-Ok.ensures.kept in
     answer_accepted (g.D.Desk.told c.args.desk.now) (names_view c.args.names.now) (files_view c.args.files.now) (case_view c.in-Ok.case)
     c.answer_to_certificate.result c.requires.read c.requires.within is kept c.answer_to_certificate.ensures.answer
 
@@ -23,7 +23,7 @@ returns-in-Ok-clause-no g c =
     let rates = c.as_slice-2.ensures.value in
     let prices = c.as_slice-3.ensures.value in
     let is = rw (issue, rates, prices) at c.in-Ok.ensures.case in
-    let kept = rw rates at c.in-Ok.ensures.kept in
+    let kept = rw (issue, rates, prices) at c.in-Ok.ensures.kept in
     answer_not_accepted (g.D.Desk.told c.args.desk.now) (names_view c.args.names.now) (files_view c.args.files.now) (case_view c.in-Ok.case)
     c.answer_to_certificate.result c.requires.read c.requires.within is kept c.answer_to_certificate.ensures.answer
 
@@ -33,7 +33,7 @@ returns-in-Ok-clause-exactly g c =
     let rates = c.as_slice-2.ensures.value in
     let prices = c.as_slice-3.ensures.value in
     let is = rw (issue, rates, prices) at c.in-Ok.ensures.case in
-    let kept = rw rates at c.in-Ok.ensures.kept in
+    let kept = rw (issue, rates, prices) at c.in-Ok.ensures.kept in
     let told = g.D.Desk.told c.args.desk.now in
     let names = names_view c.args.names.now in
     let files = files_view c.args.files.now in

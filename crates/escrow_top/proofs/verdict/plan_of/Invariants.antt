@@ -1,4 +1,4 @@
-use Rattle.std.proofs.Common.{◌≡◌, length, take, None}
+use Rattle.std.proofs.Common.{◌≡◌, take, None}
 use Rattle.offer_book.specs.Portfolio.{IsPermitted}
 use Rattle.escrow_top.specs.Answer.{first_not_offered, plan_of}
 use Rattle.escrow_top.proofs.verdict.plan_of.Given as goal

@@ -1,4 +1,4 @@
-use Rattle.std.proofs.Common.{◌≡◌, ◌∙◌, ◌<◌, ◌≤◌, length, get_or, sym, ap, subst, arith}
+use Rattle.std.proofs.Common.{◌∙◌, length, sym, ap, arith}
 use Rattle.dual_bound.proofs.RangeFacts.{proper-both, proper-first, proper-from, proper-past}
 use Rattle.dual_bound.proofs.ranges.Ranges.proper.Goals as goal
 

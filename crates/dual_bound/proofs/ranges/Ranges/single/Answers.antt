@@ -1,4 +1,4 @@
-use Rattle.std.proofs.Common.{◌≡◌, ◌∙◌, ◌<◌, ◌≤◌, length, get_or, sym, ap, subst, arith}
+use Rattle.std.proofs.Common.{◌∙◌, sym, ap, arith}
 use Rattle.dual_bound.specs.Ranges.{is_single}
 use Rattle.dual_bound.proofs.RangeFacts.{not-single, single-all}
 use Rattle.dual_bound.proofs.ranges.Ranges.single.Goals as goal

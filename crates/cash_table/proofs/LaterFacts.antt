@@ -1,0 +1,172 @@
+-- Where securities are bought, one pays above 0 at an index of 1 or more.
+use Rattle.std.proofs.Common.{◌≡◌, ◌∙◌, ◌⊎◌, ℕ, zero, suc, ◌+◌, ◌<◌, ◌≤◌, refl, sym, ap, subst, arith, ℤ, pos, ◌+ℤ◌, ◌≤ℤ◌, inl, inr, List, [], ◌∷◌, ◌++◌}
+use Rattle.std.specs.Ordering.{int_eq}
+use Rattle.std.specs.List.{All, Any, flat_map, zip}
+use Rattle.std.proofs.lemmas.Bool.{cases_lt}
+use Rattle.std.proofs.lemmas.Int.{ints}
+use Rattle.std.proofs.lemmas.List.{length-map, get_or-map}
+use Rattle.std.proofs.lemmas.List.Elements.{All-head, All-tail, All-nil, All-append, All-map, All-weaker}
+use Rattle.std.proofs.lemmas.List.Sums.{sum_by-cons}
+use Rattle.escrow_units.specs.Calendar.{years_after_of}
+use Rattle.escrow_units.specs.DayNumber.{IsDayNumber}
+use Rattle.escrow_units.specs.Flows.{FallWithinFortyYears, index360_of, indexed, total}
+use Rattle.escrow_units.specs.Interest.{half_coupon_of}
+use Rattle.escrow_units.specs.PresentValue.{IndexedFlow}
+use Rattle.escrow_units.specs.SlgsTerms.{IsSettlement}
+use Rattle.escrow_units.specs.declared.security.Flow.{Flow}
+use Rattle.escrow_units.proofs.FlowFacts.{choice-true}
+use Rattle.escrow_units.proofs.IndexFacts.{thirty_day_place_of-apart}
+use Rattle.escrow_units.proofs.YearFacts.{settlement-base}
+use Rattle.fixed_powers.specs.PresentValues.{HasLaterAmount}
+use Rattle.day_sums.specs.Summed.{cents_on, summed}
+use Rattle.day_sums.specs.SummedLaws.{AreAboveZero}
+use Rattle.day_sums.proofs.SumFacts.{above-summed, count-summed}
+use Rattle.day_sums.proofs.Uniqueness.{here, here-same}
+use Rattle.market_notes.specs.NoteFlows as market
+use Rattle.market_notes.specs.declared.note.Note.{Note}
+use Rattle.market_notes.proofs.AmountFacts.{dates-counted}
+use Rattle.market_notes.proofs.FlowFacts.{payments-end}
+use Rattle.market_notes.proofs.SeriesFacts.{term}
+use Rattle.slgs_interest.specs.Payments.{payments_of}
+use Rattle.offer_book.specs.declared.line.LineKind.{LineKind}
+use Rattle.offer_book.specs.declared.line.LineKind.TheVariants.{Cash, Market, Security}
+use Rattle.offer_book.specs.declared.line.Line.{Line}
+use Rattle.offer_book.specs.Book.{AreLines, BookContents, IsBook, IsSecurity, IsSecurityLine}
+use Rattle.offer_book.specs.Portfolio.{kind_payments, par, security_flows}
+use Rattle.offer_book.proofs.LineFacts.{is_paid, line_payments-none, line_payments-par, line_payments-within, par-some, payments_of-late}
+use Rattle.cash_table.specs.LaterFlows.{HaveLaterAmount}
+use Rattle.cash_table.proofs.BalanceLaws.{any_here, any_later, eq_test, some_on}
+use Rattle.cash_table.proofs.PaymentFacts.{pair_payments, total-payments}
+use Rattle.cash_table.proofs.PortfolioLaws.{empty_from_nothing}
+use Rattle.cash_table.proofs.ZipFacts.{sum_by-zero}
+
+-- an amount above 0 at an index of 1 or more
+abbrev IsLaterAmount : ℤ → Flow → Type 0
+IsLaterAmount settle flow = (0 < flow.cents.0) × (1 ≤ index360_of settle flow.day)
+
+-- elements of one of two lists
+any_front : {X : Type 0} (P : X → Type 0) (xs ys : List X) → Any P xs → Any P (xs ++ ys)
+any_front P [] ys (k, x, within, at, holds) = absurd (omega (arith, within))
+any_front P (y ∷ xs) ys (zero, x, within, at, holds) = any_here P y (xs ++ ys) (subst P (sym at) holds)
+any_front P (y ∷ xs) ys (suc k, x, within, at, holds) = any_later P y (xs ++ ys) (any_front P xs ys (k, x, omega (arith, within), at, holds))
+
+any_back : {X : Type 0} (P : X → Type 0) (xs ys : List X) → Any P ys → Any P (xs ++ ys)
+any_back P [] ys any = any
+any_back P (x ∷ xs) ys any = any_later P x (xs ++ ys) (any_back P xs ys any)
+
+-- a day of 15 days after settlement or later has an index of at least 1
+index_some : (settle day : ℤ) → IsSettlement settle → (settle +ℤ pos 15) ≤ℤ day → day ≤ℤ years_after_of settle 40 → 1 ≤ index360_of settle day
+index_some settle day h late within =
+    let own : IsDayNumber settle = (omega (arith, ints, h.0), omega (arith, ints, h.1)) in
+    let base = settlement-base settle day h (omega (arith, ints, late)) within in
+    let is_day : IsDayNumber day = (omega (arith, ints, base.0), omega (arith, ints, base.1)) in
+    omega (arith, thirty_day_place_of-apart settle day own is_day (omega (arith, ints, late)))
+
+-- amounts that come to something have one above 0
+some_above : (settle : ℤ) (flows : List Flow) → IsSettlement settle → All (λ flow. (settle +ℤ pos 15) ≤ℤ flow.day) flows → FallWithinFortyYears settle flows → 0 < total flows → Any (IsLaterAmount settle) flows
+some_above settle [] h late within some = absurd (omega (arith, some))
+some_above settle (flow ∷ flows) h late within some = elim (cases_lt 0 flow.cents.0) [
+  | inl above ↦
+      any_here (IsLaterAmount settle) flow flows
+      (above, index_some settle flow.day h (All-head (λ (f : Flow). (settle +ℤ pos 15) ≤ℤ f.day) flow flows late) (All-head (λ (f : Flow). (settle ≤ℤ f.day) × (f.day ≤ℤ years_after_of settle 40)) flow flows within).1)
+  | inr none ↦
+      any_later (IsLaterAmount settle) flow flows
+      (some_above settle flows h (All-tail (λ (f : Flow). (settle +ℤ pos 15) ≤ℤ f.day) flow flows late) (All-tail (λ (f : Flow). (settle ≤ℤ f.day) × (f.day ≤ℤ years_after_of settle 40)) flow flows within)
+      (omega (arith, some, none, sum_by-cons (λ (f : Flow). f.cents.0) flow flows)))
+]
+
+-- a note pays its face at maturity
+note_parts : (note : Note) (face : ℕ) → All (λ flow. flow.cents.0 ≡ half_coupon_of face note.coupon.0 + market.principal_on note face flow.day) (market.payments_of note face)
+unfolding market.payments_of
+note_parts note face =
+    All-map (λ (flow : Flow). flow.cents.0 ≡ half_coupon_of face note.coupon.0 + market.principal_on note face flow.day) (market.payment_on note face) (market.payment_dates note) (λ k d lt. refl)
+
+last_of : (P : Flow → Type 0) (before : List Flow) (last : Flow) → All P (before ++ last ∷ []) → P last
+last_of P [] last all = All-head P last [] all
+last_of P (flow ∷ before) last all = last_of P before last (All-tail P flow (before ++ last ∷ []) all)
+
+note_later : (settle : ℤ) (note : Note) (face : ℕ) → IsSecurity settle (Market note) → 1 ≤ face → Any (IsLaterAmount settle) (market.payments_of note face)
+note_later settle note face security some =
+    let dates = dates-counted note security.1 in
+    let «end» = payments-end note face dates.count (term note security.1) dates.has in
+    let parts = last_of (λ flow. flow.cents.0 ≡ half_coupon_of face note.coupon.0 + market.principal_on note face flow.day) «end».before «end».last (rw «end».order at (note_parts note face)) in
+    let principal = choice-true (int_eq «end».last.day note.maturity) face 0 (eq_test «end».last.day note.maturity «end».falls) in
+    let index : 1 ≤ index360_of settle «end».last.day = rw («end».falls, ← security.0) security.1.index in
+    rw «end».order (any_back (IsLaterAmount settle) «end».before («end».last ∷ []) (any_here (IsLaterAmount settle) «end».last [] (omega (arith, parts, principal, some), index)))
+
+-- a bought security pays later
+line_later : (settle : ℤ) (line : Line) (units : ℕ) → IsSettlement settle → IsSecurityLine settle line → 1 ≤ units → Any (IsLaterAmount settle) (pair_payments settle (line, units))
+line_later settle line units h security some =
+    of_kind line.kind refl
+  where
+    of_kind : (kind : LineKind) → line.kind ≡ kind → Any (IsLaterAmount settle) (pair_payments settle (line, units))
+    of_kind Cash is = absurd (subst (IsSecurity settle) is security.security)
+    of_kind (Security slgs) is =
+        let own = subst (IsSecurity settle) is security.security in
+        let pays : pair_payments settle (line, units) ≡ payments_of slgs (par line units) = ap (λ (kind : LineKind). kind_payments settle kind (par line units)) is in
+        let late : All (λ flow. (settle +ℤ pos 15) ≤ℤ flow.day) (payments_of slgs (par line units)) =
+        All-weaker (λ (flow : Flow). (slgs.settle +ℤ pos 15) ≤ℤ flow.day) (λ flow. (settle +ℤ pos 15) ≤ℤ flow.day) (λ flow far. omega (arith, ints, far, own.0)) (payments_of slgs (par line units)) (payments_of-late slgs (par line units) (is_paid settle slgs h own)) in
+        some_above settle (pair_payments settle (line, units)) h (rw pays late) (line_payments-within settle line units h (inr security))
+        (omega (arith, line_payments-par settle line units h security, par-some settle line units security some))
+    of_kind (Market note) is =
+        let own = subst (IsSecurity settle) is security.security in
+        let pays : pair_payments settle (line, units) ≡ market.payments_of note (par line units) = ap (λ (kind : LineKind). kind_payments settle kind (par line units)) is in
+        rw pays (note_later settle note (par line units) own (omega (arith, par-some settle line units security some)))
+
+abbrev AreNone : List Flow → Type 0
+AreNone flows = All (λ flow. flow.cents.0 ≡ 0) flows
+
+-- nothing is paid, or something later
+lines_later : (settle : ℤ) (lines : List Line) (plan : List ℕ) → IsSettlement settle → All (IsSecurityLine settle) lines
+    → AreNone (flat_map (pair_payments settle) (zip lines plan)) ⊎ Any (IsLaterAmount settle) (flat_map (pair_payments settle) (zip lines plan))
+lines_later settle [] plan h securities = inl (All-nil (λ (flow : Flow). flow.cents.0 ≡ 0))
+lines_later settle (line ∷ lines) [] h securities = inl (All-nil (λ (flow : Flow). flow.cents.0 ≡ 0))
+lines_later settle (line ∷ lines) (units ∷ plan) h securities =
+    let first = pair_payments settle (line, units) in
+    let others = flat_map (pair_payments settle) (zip lines plan) in
+    elim (cases_lt 0 units) [
+      | inl some ↦ inr (any_front (IsLaterAmount settle) first others (line_later settle line units h (All-head (IsSecurityLine settle) line lines securities) some))
+      | inr none ↦ elim (lines_later settle lines plan h (All-tail (IsSecurityLine settle) line lines securities)) [
+        | inl nothing ↦ inl (All-append (λ (flow : Flow). flow.cents.0 ≡ 0) first others (line_payments-none settle line units (omega (arith, none))) nothing)
+        | inr later ↦ inr (any_back (IsLaterAmount settle) first others later)
+      ]
+    ]
+
+-- an amount of a day above 0 is in the sums
+on_any : (day : ℤ) (flows : List Flow) → Any (λ flow. (0 < flow.cents.0) × (flow.day ≡ day)) flows → 0 < cents_on day flows
+on_any day [] (k, x, within, at, holds) = absurd (omega (arith, within))
+on_any day (flow ∷ flows) (zero, x, within, at, holds) =
+    let own = subst (λ (f : Flow). (0 < f.cents.0) × (f.day ≡ day)) (sym at) holds in
+    omega (arith, sum_by-cons (here day) flow flows, here-same day flow own.1, own.0)
+on_any day (flow ∷ flows) (suc k, x, within, at, holds) =
+    omega (arith, sum_by-cons (here day) flow flows, on_any day flows (k, x, omega (arith, within), at, holds))
+
+indexed_later : (settle day : ℤ) (flows : List Flow) → AreAboveZero flows → Any (λ flow. flow.day ≡ day) flows → 1 ≤ index360_of settle day → HasLaterAmount (indexed settle flows)
+indexed_later settle day flows above (k, x, within, at, falls) index =
+    let entry : Flow → IndexedFlow = λ flow. record { index = index360_of settle flow.day; cents = flow.cents.0 } in
+    let some : 1 ≤ x.cents.0 = rw at at (above k x within) in (
+      k,
+      entry x,
+      omega (arith, within, length-map flows entry),
+      get_or-map entry flows k x (entry x) within ∙ ap entry at,
+      (omega (arith, some), rw falls index),
+    )
+
+sums_later : (settle : ℤ) (flows : List Flow) → Any (IsLaterAmount settle) flows → HasLaterAmount (indexed settle (summed flows))
+sums_later settle flows (k, x, within, at, holds) =
+    let on = on_any x.day flows (k, x, within, at, (holds.0, refl)) in
+    let summed_up : cents_on x.day (summed flows) ≡ cents_on x.day flows = count-summed (λ d. int_eq d x.day) flows in
+    indexed_later settle x.day (summed flows) (above-summed flows) (some_on x.day (summed flows) (omega (arith, on, summed_up))) holds.1
+
+pub flows_later : (book : BookContents) (plan : List ℕ) → IsBook book → HaveLaterAmount book.settle (security_flows book plan)
+flows_later book plan limits = of_lines book.lines plan limits.lines refl
+  where
+    of_lines : (lines : List Line) (plan : List ℕ) → AreLines book.settle lines → book.lines ≡ lines → HaveLaterAmount book.settle (security_flows book plan)
+    of_lines [] plan are is = absurd are
+    of_lines (cash ∷ securities) [] are is = inl (empty_from_nothing book [] (rw is refl))
+    of_lines (cash ∷ securities) (units ∷ plan) are is = elim (lines_later book.settle securities plan limits.settlement are.1) [
+      | inl nothing ↦
+          inl (empty_from_nothing book (units ∷ plan)
+          (rw is (omega (arith, total-payments book.settle (zip securities plan), sum_by-zero (λ (flow : Flow). flow.cents.0) (flat_map (pair_payments book.settle) (zip securities plan)) nothing))))
+      | inr later ↦ inr (rw is (sums_later book.settle (flat_map (pair_payments book.settle) (zip securities plan)) later))
+    ]

@@ -1,0 +1,334 @@
+-- Forms, reduced costs and bounds within 128 bits, and between -10^37 and 10^37.
+use Rattle.std.proofs.Common.{◌≡◌, ◌∙◌, ℕ, zero, suc, ◌+◌, ◌*◌, ◌^◌, ◌<◌, ◌≤◌, ◌==◌, refl, sym, ap, arith, inl, inr, ◌⊎◌, List, [], ◌∷◌, All, ℤ, pos, ◌+ℤ◌, ◌-ℤ◌, ◌*ℤ◌, unsigned_abs, Bool, true, false, if◌then◌else◌, length, get_or, take}
+use Rattle.std.specs.Int.{int_min}
+use Rattle.std.specs.List.{AllZip, sum_by, zip}
+use Rattle.std.proofs.Math.Nat.{mul-le-mul, mul-le-mul_left, mul-le-mul_right}
+use Rattle.std.proofs.lemmas.Int.{clamps, ints, unsigned_abs-mul}
+use Rattle.std.proofs.lemmas.List.Elements.{All-head, All-tail}
+use Rattle.std.proofs.lemmas.List.{take_all}
+use Rattle.std.proofs.lemmas.List.Sums.{sum_by-cons, sum_by-take-le, sum_by_more}
+use Rattle.std.proofs.lemmas.Slice.Zip.{length-zip}
+use Rattle.escrow_units.specs.Flows.{total}
+use Rattle.escrow_units.specs.SlgsTerms.{IsSettlement}
+use Rattle.escrow_units.specs.declared.limits.TheConstants.{AMOUNT_LIMIT}
+use Rattle.escrow_units.specs.declared.security.Flow.{Flow}
+use Rattle.offer_book.proofs.LineFacts.{cash-at_most, line_payments-little, line_payments-total, par-at_most, security-at_most}
+use Rattle.offer_book.specs.Book.{AreLines, BookContents, IsBook, IsCashLine, IsLine, IsSecurityLine}
+use Rattle.offer_book.specs.Coefficients.{cost_coefficients, pay_coefficients}
+use Rattle.offer_book.specs.Portfolio.{line_cost, line_payments}
+use Rattle.offer_book.specs.declared.coefficients.TheConstants.{COEFFICIENT_SCALE}
+use Rattle.offer_book.specs.declared.line.Line.{Line}
+use Rattle.dual_bound.specs.LeafBound.{bound_of, cost_worth, form_at, form_of, least_side, least_within, paid_worth, priced_needs, reduced_cost, signed_sum}
+use Rattle.dual_bound.specs.Ranges.{HasRoomFor}
+use Rattle.dual_bound.specs.Tree.{IsLeaf}
+use Rattle.dual_bound.specs.declared.form.Form.{Form}
+use Rattle.dual_bound.specs.declared.prices.TheConstants.{PRICE_SCALE}
+use Rattle.dual_bound.specs.declared.ranges.Interval.{Interval}
+use Rattle.dual_bound.specs.declared.tree.Leaf.{Leaf}
+use Rattle.dual_bound.proofs.FormFacts.{form_of-is}
+use Rattle.dual_bound.proofs.Signed.{signed_sum_more}
+use Rattle.dual_bound.proofs.Sizes.{IsLight, abs-sum, cash-once, cost-sized, cost_worth-light, paid_worth-light, pays-few, pays-sized, pays_slack-small, pays_slope, pays_slope-small, side-small}
+
+-- ---- the form of a line
+-- a slope, by the step of the line and how many dates it pays on
+form-slope : (n : ℕ) (book : BookContents) (leaf : Leaf) (line : Line) → IsSettlement book.settle → IsLeaf (length book.needs) leaf → IsLine book.settle line
+    → unsigned_abs (form_of n book leaf line).slope
+    ≤ PRICE_SCALE * (4_000_000_000 * line.step) + length (pay_coefficients book.settle line) * (2 * PRICE_SCALE * (1_400_000_000 * line.step))
+form-slope n book leaf line h well is =
+    let weight = paid_worth n book leaf line.kind in
+    let own = cost_worth leaf line.kind in
+    let costs = cost-sized book.settle line is in
+    let first = side-small own (cost_coefficients line).low (cost_coefficients line).high PRICE_SCALE (4_000_000_000 * line.step) (cost_worth-light leaf line.kind well.limit) costs.low costs.high in
+    let rest = pays_slope-small weight line.step (pay_coefficients book.settle line) (paid_worth-light n book leaf line.kind well) (pays-sized book.settle line h is) in
+    omega (
+      arith,
+      first,
+      rest,
+      ap (λ (f : Form). unsigned_abs f.slope) (form_of-is n book leaf line),
+      abs-sum (least_side own (cost_coefficients line).low (cost_coefficients line).high) (pays_slope weight (pay_coefficients book.settle line)),
+    )
+
+pub form-slack : (n : ℕ) (book : BookContents) (leaf : Leaf) (line : Line) → IsSettlement book.settle → IsLeaf (length book.needs) leaf → IsLine book.settle line
+    → (form_of n book leaf line).slack ≤ 10 ^ 23
+form-slack n book leaf line h well is =
+    let weight = paid_worth n book leaf line.kind in
+    let first = mul-le-mul (cost_worth-light leaf line.kind well.limit) (cost-sized book.settle line is).slack in
+    let rest = pays_slack-small weight line.step (pay_coefficients book.settle line) (paid_worth-light n book leaf line.kind well) (pays-sized book.settle line h is) in
+    omega (arith, first, rest, ap (λ (f : Form). f.slack) (form_of-is n book leaf line), few is)
+  where
+    few : IsLine book.settle line → length (pay_coefficients book.settle line) ≤ 84
+    few (inl cash) = omega (arith, cash-once book.settle line cash)
+    few (inr security) = pays-few book.settle line h security
+
+-- what units of a line of securities add by the slope
+form-units : (n : ℕ) (book : BookContents) (leaf : Leaf) (line : Line) (units : ℕ) → IsSettlement book.settle → IsLeaf (length book.needs) leaf → IsSecurityLine book.settle line → units ≤ line.most
+    → unsigned_abs (form_of n book leaf line).slope * units ≤ 24 * 10 ^ 33
+form-units n book leaf line units h well security most =
+    let slope = form-slope n book leaf line h well (inr security) in
+    let few = mul-le-mul_right (2 * PRICE_SCALE * (1_400_000_000 * line.step)) (pays-few book.settle line h security) in
+    let whole : unsigned_abs (form_of n book leaf line).slope ≤ 239_200_000_000_000_000_000_000 * line.step = omega (arith, slope, few) in
+    omega (arith, mul-le-mul_right units whole, par-at_most book.settle line units security most)
+
+form-cash : (n : ℕ) (book : BookContents) (leaf : Leaf) (line : Line) (units : ℕ) → IsSettlement book.settle → IsLeaf (length book.needs) leaf → IsCashLine line → units ≤ line.most
+    → unsigned_abs (form_of n book leaf line).slope * units ≤ 7 * 10 ^ 34
+form-cash n book leaf line units h well cash most =
+    let slope = form-slope n book leaf line h well (inl cash) in
+    let once = ap (λ k. k * (2 * PRICE_SCALE * (1_400_000_000 * line.step))) (cash-once book.settle line cash) in
+    let whole : unsigned_abs (form_of n book leaf line).slope ≤ 6_800_000_000_000_000_000_000 = omega (arith, slope, once, cash.step) in
+    omega (arith, mul-le-mul whole (few line.most most cash.most))
+  where
+    few : (most : ℕ) → units ≤ most → most ≤ AMOUNT_LIMIT → units ≤ 10_000_000_000_000
+    few most a b = omega arith
+
+pub form-times : (n : ℕ) (book : BookContents) (leaf : Leaf) (line : Line) (units : ℕ) → IsSettlement book.settle → IsLeaf (length book.needs) leaf → IsLine book.settle line → units ≤ line.most
+    → unsigned_abs (form_of n book leaf line).slope * units ≤ 7 * 10 ^ 34
+form-times n book leaf line units h well (inl cash) most = form-cash n book leaf line units h well cash most
+form-times n book leaf line units h well (inr security) most = omega (arith, form-units n book leaf line units h well security most)
+
+at-small : (form : Form) (units most : ℕ) → unsigned_abs form.slope * units ≤ most → form.slack ≤ 10 ^ 23 → unsigned_abs (form_at form units) ≤ most + 10 ^ 23
+at-small form units most slope slack = omega (arith, ints, unsigned_abs-mul form.slope (pos units))
+
+-- ---- reduced costs
+worth-small : (weight : ℤ → ℤ) (flows : List Flow) → IsLight weight → unsigned_abs (signed_sum (λ (flow : Flow). weight flow.day *ℤ pos flow.cents.0) flows) ≤ 2 * PRICE_SCALE * total flows
+worth-small weight [] light = omega arith
+worth-small weight (flow ∷ flows) light =
+    omega (
+      arith,
+      abs-sum (weight flow.day *ℤ pos flow.cents.0) (signed_sum (λ (f : Flow). weight f.day *ℤ pos f.cents.0) flows),
+      unsigned_abs-mul (weight flow.day) (pos flow.cents.0),
+      mul-le-mul_right flow.cents.0 (light flow.day),
+      sum_by-cons (λ (f : Flow). f.cents.0) flow flows,
+      worth-small weight flows light,
+    )
+
+reduced-within : (n : ℕ) (book : BookContents) (leaf : Leaf) (line : Line) (units cost paid : ℕ) → IsLeaf (length book.needs) leaf
+    → line_cost line units ≤ cost → total (line_payments book.settle line units) ≤ paid
+    → unsigned_abs (reduced_cost n book leaf line units) ≤ COEFFICIENT_SCALE * (PRICE_SCALE * cost + 2 * PRICE_SCALE * paid)
+unfolding reduced_cost
+reduced-within n book leaf line units cost paid well few little =
+    let weight = paid_worth n book leaf line.kind in
+    let own = cost_worth leaf line.kind in
+    let sum = signed_sum (λ (flow : Flow). weight flow.day *ℤ pos flow.cents.0) (line_payments book.settle line units) in
+    let worth = worth-small weight (line_payments book.settle line units) (paid_worth-light n book leaf line.kind well) in
+    let first = mul-le-mul (cost_worth-light leaf line.kind well.limit) few in
+    let product = unsigned_abs-mul own (pos (line_cost line units)) in
+    let whole = unsigned_abs-mul (pos COEFFICIENT_SCALE) (own *ℤ pos (line_cost line units) -ℤ sum) in
+    let apart = abs-apart (own *ℤ pos (line_cost line units)) sum in
+    let inner : unsigned_abs (own *ℤ pos (line_cost line units) -ℤ sum) ≤ PRICE_SCALE * cost + 2 * PRICE_SCALE * paid = omega (arith, apart, worth, first, product, little) in
+    omega (arith, whole, mul-le-mul_left COEFFICIENT_SCALE inner)
+  where
+    abs-apart : (a b : ℤ) → unsigned_abs (a -ℤ b) ≤ unsigned_abs a + unsigned_abs b
+    abs-apart a b = omega (arith, ints)
+
+reduced-cash : (n : ℕ) (book : BookContents) (leaf : Leaf) (line : Line) (units : ℕ) → IsSettlement book.settle → IsLeaf (length book.needs) leaf → IsCashLine line → units ≤ line.most
+    → unsigned_abs (reduced_cost n book leaf line units) ≤ 5 * 10 ^ 34
+reduced-cash n book leaf line units h well cash most =
+    omega (arith, reduced-within n book leaf line units (10 ^ 13) (2 * 10 ^ 13) well (cash-at_most line units cash most) (line_payments-total book.settle line units h (inl cash) most))
+
+reduced-security : (n : ℕ) (book : BookContents) (leaf : Leaf) (line : Line) (units : ℕ) → IsSettlement book.settle → IsLeaf (length book.needs) leaf → IsSecurityLine book.settle line → units ≤ line.most
+    → unsigned_abs (reduced_cost n book leaf line units) ≤ 8 * 10 ^ 33
+reduced-security n book leaf line units h well security most =
+    omega (arith, reduced-within n book leaf line units (316 * 10 ^ 9) (346 * 10 ^ 10) well (security-at_most book.settle line units security most) (line_payments-little book.settle line units h security most))
+
+-- ---- the least of a line
+min-small : (a b : ℤ) (most : ℕ) → unsigned_abs a ≤ most → unsigned_abs b ≤ most → unsigned_abs (int_min a b) ≤ most
+min-small a b most first second = omega (arith, ints, clamps)
+
+least-within : (n : ℕ) (book : BookContents) (leaf : Leaf) (line : Line) (interval : Interval) (most : ℕ) → interval.low ≤ interval.high → HasRoomFor line interval
+    → (line.least ≤ line.most) ⊎ (line.most ≡ 0)
+    → ((units : ℕ) → units ≤ line.most → unsigned_abs (reduced_cost n book leaf line units) ≤ most)
+    → ((units : ℕ) → units ≤ line.most → unsigned_abs (form_at (form_of n book leaf line) units) ≤ most)
+    → unsigned_abs (least_within n book leaf line interval) ≤ most
+least-within n book leaf line interval most ordered room order exact at = by (interval.low == interval.high) refl (interval.low == 0) refl order
+  where
+    low : interval.low ≤ line.most
+    low = omega (arith, ordered, room)
+
+    by : (one : Bool) → (interval.low == interval.high) ≡ one → (none : Bool) → (interval.low == 0) ≡ none → (line.least ≤ line.most) ⊎ (line.most ≡ 0)
+        → unsigned_abs (if one
+        then reduced_cost n book leaf line interval.low
+        else if none
+        then int_min (pos 0) (int_min (form_at (form_of n book leaf line) line.least) (form_at (form_of n book leaf line) interval.high))
+        else int_min (form_at (form_of n book leaf line) interval.low) (form_at (form_of n book leaf line) interval.high)) ≤ most
+    by true e none f order = exact interval.low low
+    by false e true f (inl least) =
+        min-small (pos 0) (int_min (form_at (form_of n book leaf line) line.least) (form_at (form_of n book leaf line) interval.high)) most (omega arith)
+        (min-small (form_at (form_of n book leaf line) line.least) (form_at (form_of n book leaf line) interval.high) most (at line.least least) (at interval.high room))
+    by false e true f (inr none) = absurd (grind (arith, low, room, ordered))
+    by false e false f order = min-small (form_at (form_of n book leaf line) interval.low) (form_at (form_of n book leaf line) interval.high) most (at interval.low low) (at interval.high room)
+
+least-cash : (n : ℕ) (book : BookContents) (leaf : Leaf) (line : Line) (interval : Interval) → IsSettlement book.settle → IsLeaf (length book.needs) leaf → IsCashLine line
+    → interval.low ≤ interval.high → HasRoomFor line interval → unsigned_abs (least_within n book leaf line interval) ≤ 71 * 10 ^ 33
+least-cash n book leaf line interval h well cash ordered room =
+    least-within n book leaf line interval (71 * 10 ^ 33) ordered room (order line.most refl)
+    (λ units most. omega (arith, reduced-cash n book leaf line units h well cash most))
+    (λ units most. omega (arith, at-small (form_of n book leaf line) units (7 * 10 ^ 34) (form-cash n book leaf line units h well cash most) (form-slack n book leaf line h well (inl cash))))
+  where
+    order : (most : ℕ) → line.most ≡ most → (line.least ≤ line.most) ⊎ (line.most ≡ 0)
+    order zero e = inr e
+    order (suc m) e = inl (omega (arith, cash.least, e))
+
+least-security : (n : ℕ) (book : BookContents) (leaf : Leaf) (line : Line) (interval : Interval) → IsSettlement book.settle → IsLeaf (length book.needs) leaf → IsSecurityLine book.settle line
+    → interval.low ≤ interval.high → HasRoomFor line interval → unsigned_abs (least_within n book leaf line interval) ≤ 25 * 10 ^ 33
+least-security n book leaf line interval h well security ordered room =
+    least-within n book leaf line interval (25 * 10 ^ 33) ordered room (inl security.ordered)
+    (λ units most. omega (arith, reduced-security n book leaf line units h well security most))
+    (λ units most. omega (arith, at-small (form_of n book leaf line) units (24 * 10 ^ 33) (form-units n book leaf line units h well security most) (form-slack n book leaf line h well (inr security))))
+
+pub least-small : (n : ℕ) (book : BookContents) (leaf : Leaf) (line : Line) (interval : Interval) → IsSettlement book.settle → IsLeaf (length book.needs) leaf → IsLine book.settle line
+    → interval.low ≤ interval.high → HasRoomFor line interval → unsigned_abs (least_within n book leaf line interval) ≤ 71 * 10 ^ 33
+least-small n book leaf line interval h well (inl cash) ordered room = least-cash n book leaf line interval h well cash ordered room
+least-small n book leaf line interval h well (inr security) ordered room = omega (arith, least-security n book leaf line interval h well security ordered room)
+
+-- ---- the bound
+pub priced-small : (needs : List Flow) (prices : List ℕ) → All (λ price. price ≤ 2 * PRICE_SCALE) prices → priced_needs needs prices ≤ 2 * PRICE_SCALE * total needs
+unfolding priced_needs
+priced-small [] prices small = omega arith
+priced-small (need ∷ needs) [] small = omega arith
+priced-small (need ∷ needs) (price ∷ prices) small =
+    omega (
+      arith,
+      sum_by-cons (λ (p : Flow × ℕ). p.0.cents.0 * p.1) (need, price) (zip needs prices),
+      sum_by-cons (λ (f : Flow). f.cents.0) need needs,
+      mul-le-mul_left need.cents.0 (All-head (λ (p : ℕ). p ≤ 2 * PRICE_SCALE) price prices small),
+      priced-small needs prices (All-tail (λ (p : ℕ). p ≤ 2 * PRICE_SCALE) price prices small),
+    )
+
+securities-sum : (n : ℕ) (book : BookContents) (leaf : Leaf) (lines : List Line) (ranges : List Interval) → IsSettlement book.settle → IsLeaf (length book.needs) leaf
+    → All (IsSecurityLine book.settle) lines → AllZip HasRoomFor lines ranges → All (λ interval. interval.low ≤ interval.high) ranges
+    → unsigned_abs (signed_sum (λ (p : Line × Interval). least_within n book leaf p.0 p.1) (zip lines ranges)) ≤ length lines * (25 * 10 ^ 33)
+securities-sum n book leaf [] [] h well are room ordered = omega arith
+securities-sum n book leaf [] (interval ∷ ranges) h well are room ordered = absurd room
+securities-sum n book leaf (line ∷ lines) [] h well are room ordered = absurd room
+securities-sum n book leaf (line ∷ lines) (interval ∷ ranges) h well are room ordered =
+    let own = least-security n book leaf line interval h well (All-head (IsSecurityLine book.settle) line lines are) (All-head (λ (i : Interval). i.low ≤ i.high) interval ranges ordered) room.0 in
+    let rest = securities-sum n book leaf lines ranges h well (All-tail (IsSecurityLine book.settle) line lines are) room.1 (All-tail (λ (i : Interval). i.low ≤ i.high) interval ranges ordered) in
+    omega (arith, own, rest, abs-sum (least_within n book leaf line interval) (signed_sum (λ (p : Line × Interval). least_within n book leaf p.0 p.1) (zip lines ranges)))
+
+lines-sum : (n : ℕ) (book : BookContents) (leaf : Leaf) (lines : List Line) (ranges : List Interval) → IsSettlement book.settle → IsLeaf (length book.needs) leaf
+    → AreLines book.settle lines → AllZip HasRoomFor lines ranges → All (λ interval. interval.low ≤ interval.high) ranges
+    → unsigned_abs (signed_sum (λ (p : Line × Interval). least_within n book leaf p.0 p.1) (zip lines ranges)) ≤ 71 * 10 ^ 33 + 256 * (25 * 10 ^ 33)
+lines-sum n book leaf [] ranges h well are room ordered = absurd are
+lines-sum n book leaf (cash ∷ lines) [] h well are room ordered = absurd room
+lines-sum n book leaf (cash ∷ lines) (interval ∷ ranges) h well are room ordered =
+    let own = least-cash n book leaf cash interval h well are.0 (All-head (λ (i : Interval). i.low ≤ i.high) interval ranges ordered) room.0 in
+    let rest = securities-sum n book leaf lines ranges h well are.1 room.1 (All-tail (λ (i : Interval). i.low ≤ i.high) interval ranges ordered) in
+    omega (arith, own, rest, mul-le-mul_right (25 * 10 ^ 33) are.2, abs-sum (least_within n book leaf cash interval) (signed_sum (λ (p : Line × Interval). least_within n book leaf p.0 p.1) (zip lines ranges)))
+
+pub bound-small : (n : ℕ) (book : BookContents) (ranges : List Interval) (leaf : Leaf) → IsBook book → IsLeaf (length book.needs) leaf
+    → AllZip HasRoomFor book.lines ranges → All (λ interval. interval.low ≤ interval.high) ranges → unsigned_abs (bound_of n book ranges leaf) < 10 ^ 37
+unfolding bound_of
+bound-small n book ranges leaf limits well room ordered =
+    let needs = priced-small book.needs leaf.prices well.range in
+    let few = mul-le-mul_left (2 * PRICE_SCALE) limits.needs.small in
+    let sum = lines-sum n book leaf book.lines ranges limits.settlement well limits.lines room ordered in
+    omega (
+      arith,
+      needs,
+      few,
+      sum,
+      abs-sum (pos (COEFFICIENT_SCALE * priced_needs book.needs leaf.prices)) (signed_sum (λ (p : Line × Interval). least_within n book leaf p.0 p.1) (zip book.lines ranges)),
+    )
+
+-- ---- a pair of two lists at a place
+pub zip-at : {A B : Type 0} (xs : List A) (ys : List B) (place : ℕ) (x : A) (y : B) → place < length xs → length xs ≡ length ys
+    → get_or (zip xs ys) place (x, y) ≡ (get_or xs place x, get_or ys place y)
+zip-at [] ys place x y few same = absurd (omega arith)
+zip-at (first ∷ xs) [] place x y few same = absurd (omega arith)
+zip-at (first ∷ xs) (there ∷ ys) zero x y few same = refl
+zip-at (first ∷ xs) (there ∷ ys) (suc place) x y few same = zip-at xs ys place x y (omega arith) (omega arith)
+
+pub room-length : (lines : List Line) (ranges : List Interval) → AllZip HasRoomFor lines ranges → length lines ≡ length ranges
+room-length [] [] room = refl
+room-length [] (interval ∷ ranges) room = absurd room
+room-length (line ∷ lines) [] room = absurd room
+room-length (line ∷ lines) (interval ∷ ranges) room = ap suc (room-length lines ranges room.1)
+
+pub room-at : (lines : List Line) (ranges : List Interval) (place : ℕ) (line : Line) (interval : Interval) → AllZip HasRoomFor lines ranges → place < length lines
+    → HasRoomFor (get_or lines place line) (get_or ranges place interval)
+room-at [] ranges place line interval room few = absurd (omega arith)
+room-at (first ∷ lines) [] place line interval room few = absurd room
+room-at (first ∷ lines) (there ∷ ranges) zero line interval room few = room.0
+room-at (first ∷ lines) (there ∷ ranges) (suc place) line interval room few = room-at lines ranges place line interval room.1 (omega arith)
+
+-- ---- the least of a line, by its interval
+pub least-one : (n : ℕ) (book : BookContents) (leaf : Leaf) (line : Line) (interval : Interval) → interval.low ≡ interval.high
+    → reduced_cost n book leaf line interval.low ≡ least_within n book leaf line interval
+least-one n book leaf line interval same =
+    let test : (interval.low == interval.high) ≡ true = grind arith in
+    rw test refl
+
+pub least-from_none : (n : ℕ) (book : BookContents) (leaf : Leaf) (line : Line) (interval : Interval) (form : Form) → form ≡ form_of n book leaf line
+    → (interval.low ≡ interval.high → ⊥) → interval.low ≡ 0
+    → int_min (pos 0) (int_min (form_at form line.least) (form_at form interval.high)) ≡ least_within n book leaf line interval
+least-from_none n book leaf line interval form is apart none =
+    let test : (interval.low == interval.high) ≡ false = grind (arith, apart) in
+    let from : (interval.low == 0) ≡ true = grind arith in
+    rw (test, from) (ap (λ (f : Form). int_min (pos 0) (int_min (form_at f line.least) (form_at f interval.high))) is)
+
+pub least-between : (n : ℕ) (book : BookContents) (leaf : Leaf) (line : Line) (interval : Interval) (form : Form) → form ≡ form_of n book leaf line
+    → (interval.low ≡ interval.high → ⊥) → (interval.low ≡ 0 → ⊥)
+    → int_min (form_at form interval.low) (form_at form interval.high) ≡ least_within n book leaf line interval
+least-between n book leaf line interval form is apart some =
+    let test : (interval.low == interval.high) ≡ false = grind (arith, apart) in
+    let from : (interval.low == 0) ≡ false = grind (arith, some) in
+    rw (test, from) (ap (λ (f : Form). int_min (form_at f interval.low) (form_at f interval.high)) is)
+
+-- the least purchase of a line whose interval has more than one number
+pub least-room : (settle : ℤ) (line : Line) (interval : Interval) → IsLine settle line → interval.low ≤ interval.high → HasRoomFor line interval → (interval.low ≡ interval.high → ⊥) → line.least ≤ line.most
+least-room settle line interval (inl cash) ordered room apart = omega (arith, cash.least, some)
+  where
+    some : 1 ≤ line.most
+    some = grind (arith, ordered, room, apart)
+least-room settle line interval (inr security) ordered room apart = security.ordered
+
+-- ---- the needs, one after another
+abbrev pub priced_need : Flow × ℕ → ℕ
+priced_need p = p.0.cents.0 * p.1
+
+pub priced-more : (needs : List Flow) (prices : List ℕ) (place : ℕ) (need : Flow) (cents price worth : ℕ) → place < length needs → length needs ≡ length prices
+    → cents ≡ (get_or needs place need).cents.0 → price ≡ get_or prices place 0 → worth ≡ sum_by priced_need (take place (zip needs prices))
+    → worth + cents * price ≡ sum_by priced_need (take (place + 1) (zip needs prices))
+priced-more needs prices place need cents price worth few same cents_is price_is so_far =
+    let there : place < length (zip needs prices) = omega (arith, length-zip needs prices) in
+    let here : priced_need (get_or (zip needs prices) place (need, 0)) ≡ cents * price =
+    ap priced_need (zip-at needs prices place need 0 few same) ∙ (λ i. sym cents_is i * sym price_is i) in
+    omega (arith, so_far, here, sum_by_more priced_need (zip needs prices) place (need, 0) there)
+
+pub priced-part : (needs : List Flow) (prices : List ℕ) (place : ℕ) → All (λ price. price ≤ 2 * PRICE_SCALE) prices → total needs ≤ AMOUNT_LIMIT
+    → sum_by priced_need (take place (zip needs prices)) ≤ 2 * 10 ^ 25
+unfolding priced_needs
+priced-part needs prices place small few =
+    omega (arith, sum_by-take-le priced_need (zip needs prices) place, priced-small needs prices small, mul-le-mul_left (2 * PRICE_SCALE) few)
+
+pub priced-all : (needs : List Flow) (prices : List ℕ) (place worth : ℕ) → length needs ≤ place → length needs ≡ length prices
+    → worth ≡ sum_by priced_need (take place (zip needs prices)) → worth ≡ priced_needs needs prices
+unfolding priced_needs
+priced-all needs prices place worth all same so_far =
+    so_far ∙ ap (sum_by priced_need) (take_all place (zip needs prices) (omega (arith, length-zip needs prices)))
+
+-- ---- the lines, one after another
+pub bound-more : (first so_far own : ℤ) (f : Line × Interval → ℤ) (lines : List Line) (ranges : List Interval) (place : ℕ) (line : Line) (interval : Interval)
+    → place < length lines → length lines ≡ length ranges → line ≡ get_or lines place line → interval ≡ get_or ranges place interval
+    → so_far ≡ first +ℤ signed_sum f (take place (zip lines ranges)) → own ≡ f (line, interval)
+    → so_far +ℤ own ≡ first +ℤ signed_sum f (take (place + 1) (zip lines ranges))
+bound-more first so_far own f lines ranges place line interval few same line_is interval_is so_far_is own_is =
+    let there : place < length (zip lines ranges) = omega (arith, length-zip lines ranges) in
+    let here : f (get_or (zip lines ranges) place (line, interval)) ≡ own =
+    ap f (zip-at lines ranges place line interval few same) ∙ (λ i. f (sym line_is i, sym interval_is i)) ∙ sym own_is in
+    joined _ _ _ _ _ _ so_far_is here (signed_sum_more f (zip lines ranges) place (line, interval) there)
+  where
+    joined : (first so_far own sum term whole : ℤ) → so_far ≡ first +ℤ sum → term ≡ own → whole ≡ sum +ℤ term → so_far +ℤ own ≡ first +ℤ whole
+    joined first so_far own sum term whole a b e = omega (arith, ints)
+
+pub bound-all : (n : ℕ) (book : BookContents) (ranges : List Interval) (leaf : Leaf) (place : ℕ) (bound : ℤ) → length book.lines ≤ place
+    → bound ≡ pos (COEFFICIENT_SCALE * priced_needs book.needs leaf.prices) +ℤ signed_sum (λ (p : Line × Interval). least_within n book leaf p.0 p.1) (take place (zip book.lines ranges))
+    → bound ≡ bound_of n book ranges leaf
+unfolding bound_of
+bound-all n book ranges leaf place bound all so_far =
+    so_far ∙ ap (λ pairs. pos (COEFFICIENT_SCALE * priced_needs book.needs leaf.prices) +ℤ signed_sum (λ (p : Line × Interval). least_within n book leaf p.0 p.1) pairs)
+    (take_all place (zip book.lines ranges) (omega (arith, length-zip book.lines ranges)))
+
+pub lines-few : (settle : ℤ) (lines : List Line) → AreLines settle lines → length lines ≤ 257
+lines-few settle [] are = absurd are
+lines-few settle (cash ∷ securities) are = omega (arith, are.2)

@@ -1,0 +1,88 @@
+//! Affine forms of a number of units.
+ghost use Rattle.std.specs.Prelude.{◌≡◌, ◌*◌, ◌^◌, ◌≤◌, unsigned_abs};
+ghost use Rattle.dual_bound.specs.LeafBound.{form_at, least_side as least_side_of};
+
+use offer_book::PayCoefficients;
+
+/// An affine form of a number of units: `slope * units - slack`.
+#[derive(Clone, Copy, Debug, PartialEq, Eq)]
+pub struct Form {
+    /// What each unit adds.
+    pub slope: i128,
+    /// What is taken away, however many units there are.
+    pub slack: u128,
+}
+
+// Of the two coefficients of an amount, the weight times the one with which it is least.
+fn least_side(weight: i128, low: u128, high: u128) -> i128
+    requires weight { unsigned_abs weight ≤ 2 * 10 ^ 12 }
+    requires low { low ≤ 10 ^ 18 }
+    requires high { high ≤ 10 ^ 18 }
+    ensures value { result ≡ least_side_of weight low high }
+    ensures small { unsigned_abs result ≤ 2 * 10 ^ 30 }
+{
+    if weight >= 0 {
+        weight * low as i128
+    } else {
+        weight * high as i128
+    }
+}
+
+impl Form {
+    ghost use Rattle.std.specs.Prelude.{◌+◌, ◌+ℤ◌, neg_ℤ};
+
+    /// The least that a weight times an amount can be, where the amount lies from `low * units - slack` to
+    /// `high * units + slack`. The weight is at most 2 * 10^12, and the coefficients are at most 10^18 and the slack at most
+    /// 10^9.
+    pub(crate) fn of_amount(weight: i128, low: u128, high: u128, slack: u128) -> Form
+        requires weight { unsigned_abs weight ≤ 2 * 10 ^ 12 }
+        requires low { low ≤ 10 ^ 18 }
+        requires high { high ≤ 10 ^ 18 }
+        requires slack { slack ≤ 10 ^ 9 }
+        ensures value { result ≡ record { slope = least_side_of weight low high; slack = unsigned_abs weight * slack } }
+        ensures slope { unsigned_abs result.slope ≤ 2 * 10 ^ 30 }
+        ensures slack { result.slack ≤ 2 * 10 ^ 21 }
+    {
+        Form {
+            slope: least_side(weight, low, high),
+            slack: weight.unsigned_abs() * slack,
+        }
+    }
+
+    /// The least that a payment can add, where each cent of it is worth so much: what it is worth is taken away. The worth is at
+    /// most 2 * 10^12, and the coefficients are at most 10^18 and the slack at most 10^9.
+    pub(crate) fn of_payment(worth: i128, pay: &PayCoefficients) -> Form
+        requires worth { unsigned_abs worth ≤ 2 * 10 ^ 12 }
+        requires low { pay.now.low ≤ 10 ^ 18 }
+        requires high { pay.now.high ≤ 10 ^ 18 }
+        requires slack { pay.now.slack ≤ 10 ^ 9 }
+        ensures value { result ≡ record { slope = least_side_of (neg_ℤ worth) pay.now.low pay.now.high; slack = unsigned_abs (neg_ℤ worth) * pay.now.slack } }
+        ensures slope { unsigned_abs result.slope ≤ 2 * 10 ^ 30 }
+        ensures slack { result.slack ≤ 2 * 10 ^ 21 }
+    {
+        Form::of_amount(-worth, pay.low, pay.high, pay.slack)
+    }
+
+    /// The sum of two forms, whose slopes are at most 10^33, and whose slacks are at most 10^25.
+    pub(crate) fn plus(self, other: Form) -> Form
+        requires slope { unsigned_abs self.slope ≤ 10 ^ 33 }
+        requires slack { self.slack ≤ 10 ^ 25 }
+        requires other_slope { unsigned_abs other.slope ≤ 10 ^ 33 }
+        requires other_slack { other.slack ≤ 10 ^ 25 }
+        ensures { result ≡ record { slope = self.slope +ℤ other.slope; slack = self.slack + other.slack } }
+    {
+        Form {
+            slope: self.slope + other.slope,
+            slack: self.slack + other.slack,
+        }
+    }
+
+    /// The form at a number of units. What the units add is at most 7 * 10^34, and the slack at most 10^24.
+    pub fn at(&self, units: u64) -> i128
+        requires slope { unsigned_abs self.now.slope * units ≤ 7 * 10 ^ 34 }
+        requires slack { self.now.slack ≤ 10 ^ 24 }
+        ensures { result ≡ form_at self.now units }
+    {
+        self.slope * i128::from(units) - self.slack as i128
+    }
+}

@@ -1,0 +1,215 @@
+//! The lower bound of a leaf, one line after another.
+ghost use Rattle.std.specs.List.{AllZip};
+ghost use Rattle.std.specs.Prelude.{All, ◌≡◌, ◌*◌, ◌^◌, ◌<◌, ◌≤◌, ◌≤ℤ◌, ◌*ℤ◌, ◌-ℤ◌, ℕ, ℤ, pos, length, unsigned_abs};
+ghost use Rattle.escrow_units.specs.Calendar.{years_after_of};
+ghost use Rattle.escrow_units.specs.Flows.{total};
+ghost use Rattle.escrow_units.specs.SlgsTerms.{IsSettlement};
+ghost use Rattle.fixed_powers.specs.DiscountPowers.{PowerTable};
+ghost use Rattle.offer_book.specs.Book.{BookContents, IsBook, IsLine};
+ghost use Rattle.dual_bound.specs.LeafBound.{bound_of, cost_weight as cost_weight_of, cost_worth as cost_worth_of, form_of, least_within, limit_price as limit_price_of, limit_weight as limit_weight_of, paid_worth as paid_worth_of, priced_needs as priced_needs_of, price_on as price_on_date, reduced_cost as reduced_cost_of};
+ghost use Rattle.dual_bound.specs.Ranges.{HasRoomFor};
+ghost use Rattle.dual_bound.specs.Tree.{IsLeaf};
+
+use crate::form::Form;
+use crate::prices::PRICE_SCALE;
+use crate::ranges::{Interval, Ranges};
+use crate::tree::Leaf;
+use escrow_units::{AMOUNT_LIMIT, Cents, Day, Flow, GREATEST_INDEX, index360};
+use fixed_powers::{ONE, Powers, Side};
+use offer_book::{Book, COEFFICIENT_SCALE, Line, LineKind};
+
+/// The price of a day: that of the first need date on or after it, and 0 where there is none.
+pub(crate) fn price_on(needs: &[Flow], prices: &[u64], day: Day) -> u64
+    requires { length needs.now ≡ length prices.now }
+    ensures { result ≡ price_on_date needs.now prices.now day }
+{
+    for place in 0..needs.len() {
+        if day <= needs[place].day {
+            return prices[place];
+        }
+    }
+    0
+}
+
+/// The weight of a cent of cost.
+pub(crate) fn cost_weight(leaf: &Leaf) -> u64
+    ensures { result ≡ cost_weight_of leaf.now }
+{
+    if leaf.whole { PRICE_SCALE } else { 0 }
+}
+
+/// The weight of the limit on a line of some kind.
+pub(crate) fn limit_weight(leaf: &Leaf, kind: LineKind) -> u64
+    ensures { result ≡ limit_weight_of leaf.now kind }
+{
+    match kind {
+        LineKind::Cash => 0,
+        LineKind::Security(_) | LineKind::Market(_) => leaf.mu,
+    }
+}
+
+/// What a cent that a line of some kind costs counts, in units of 1 / [`PRICE_SCALE`].
+pub(crate) fn cost_worth(leaf: &Leaf, kind: LineKind) -> i128
+    requires { leaf.now.mu ≤ PRICE_SCALE }
+    ensures value { result ≡ cost_worth_of leaf.now kind }
+    ensures light { unsigned_abs result ≤ PRICE_SCALE }
+{
+    i128::from(cost_weight(leaf)) - i128::from(limit_weight(leaf, kind))
+}
+
+// What the limit takes from a cent that is paid on a day, by the powers of a yield.
+fn limit_price(settle: Day, powers: &Powers, weight: u64, day: Day) -> u64
+    requires side { powers.now.side ≡ Side.Low }
+    requires longest { powers.now.longest ≡ GREATEST_INDEX }
+    requires weight { weight ≤ PRICE_SCALE }
+    requires from { settle ≤ℤ day }
+    requires to { day ≤ℤ years_after_of settle 40 }
+    ensures { result ≡ limit_price_of powers.now.yield_units settle weight day }
+{
+    let power = powers.power(index360(settle, day));
+    (u128::from(weight) * u128::from(power) / u128::from(ONE)) as u64
+}
+
+// What a cent that a line of some kind pays on a day is worth, in units of 1 / PRICE_SCALE.
+fn paid_worth(book: &Book, powers: &Powers, leaf: &Leaf, kind: LineKind, day: Day) -> i128
+    requires leaf { IsLeaf (length book.now.needs) leaf.now }
+    requires side { powers.now.side ≡ Side.Low }
+    requires longest { powers.now.longest ≡ GREATEST_INDEX }
+    requires from { book.now.settle ≤ℤ day }
+    requires to { day ≤ℤ years_after_of book.now.settle 40 }
+    ensures value { result ≡ paid_worth_of powers.now.yield_units book.now leaf.now kind day }
+    ensures light { unsigned_abs result ≤ 2 * PRICE_SCALE }
+{
+    let price = price_on(book.needs(), leaf.prices.as_slice(), day);
+    let limit = limit_price(book.settle(), powers, limit_weight(leaf, kind), day);
+    i128::from(price) - i128::from(limit)
+}
+
+// The form of a line.
+#[tactic(auto, unfolding(crate::specs::LeafBound::form_of))]
+fn form(book: &Book, powers: &Powers, leaf: &Leaf, line: &Line) -> Form
+    requires limits { IsBook book.now }
+    requires leaf { IsLeaf (length book.now.needs) leaf.now }
+    requires side { powers.now.side ≡ Side.Low }
+    requires longest { powers.now.longest ≡ GREATEST_INDEX }
+    requires line { IsLine book.now.settle line.now }
+    ensures { result ≡ form_of powers.now.yield_units book.now leaf.now line.now }
+{
+    let coefficients = line.coefficients(book.settle());
+    let mut form = Form::of_amount(
+        cost_worth(leaf, line.kind),
+        coefficients.cost_low,
+        coefficients.cost_high,
+        coefficients.cost_slack,
+    );
+    for pay in coefficients.pays.as_slice() {
+        let worth = paid_worth(book, powers, leaf, line.kind, pay.day);
+        form = form.plus(Form::of_payment(worth, pay));
+    }
+    form
+}
+
+// So many cents at what each is worth.
+fn weighed(worth: i128, cents: Cents) -> i128
+    requires worth { unsigned_abs worth ≤ 2 * 10 ^ 12 }
+    requires cents { cents.0 ≤ 2 * 10 ^ 13 }
+    ensures value { result ≡ worth *ℤ pos cents.0 }
+    ensures small { unsigned_abs result ≤ 4 * 10 ^ 25 }
+{
+    worth * i128::from(cents.0)
+}
+
+// What a line costs less what it pays, weighed, times the scale of coefficients.
+fn scaled_difference(cost: i128, paid: i128) -> i128
+    requires cost { unsigned_abs cost ≤ 4 * 10 ^ 25 }
+    requires paid { unsigned_abs paid ≤ 4 * 10 ^ 27 }
+    ensures { result ≡ pos COEFFICIENT_SCALE *ℤ (cost -ℤ paid) }
+{
+    i128::from(COEFFICIENT_SCALE) * (cost - paid)
+}
+
+// The reduced cost of units of a line, scaled.
+#[tactic(auto, unfolding(crate::specs::LeafBound::reduced_cost))]
+fn reduced_cost(book: &Book, powers: &Powers, leaf: &Leaf, line: &Line, units: u64) -> i128
+    requires limits { IsBook book.now }
+    requires leaf { IsLeaf (length book.now.needs) leaf.now }
+    requires side { powers.now.side ≡ Side.Low }
+    requires longest { powers.now.longest ≡ GREATEST_INDEX }
+    requires line { IsLine book.now.settle line.now }
+    requires units { units ≤ line.now.most }
+    ensures { result ≡ reduced_cost_of powers.now.yield_units book.now leaf.now line.now units }
+{
+    let mut paid = 0i128;
+    for flow in line.payments(book.settle(), units).as_slice() {
+        let worth = paid_worth(book, powers, leaf, line.kind, flow.day);
+        paid += weighed(worth, flow.cents);
+    }
+    let cost = weighed(cost_worth(leaf, line.kind), line.cost(units));
+    scaled_difference(cost, paid)
+}
+
+// The least that a line can add within an interval.
+fn least(book: &Book, powers: &Powers, leaf: &Leaf, line: &Line, interval: Interval) -> i128
+    requires limits { IsBook book.now }
+    requires leaf { IsLeaf (length book.now.needs) leaf.now }
+    requires side { powers.now.side ≡ Side.Low }
+    requires longest { powers.now.longest ≡ GREATEST_INDEX }
+    requires line { IsLine book.now.settle line.now }
+    requires ordered { interval.low ≤ interval.high }
+    requires high { interval.high ≤ line.now.most }
+    ensures value { result ≡ least_within powers.now.yield_units book.now leaf.now line.now interval }
+    ensures size { unsigned_abs result ≤ 71 * 10 ^ 33 }
+{
+    if interval.low == interval.high {
+        return reduced_cost(book, powers, leaf, line, interval.low);
+    }
+    let form = form(book, powers, leaf, line);
+    let at_high = form.at(interval.high);
+    if interval.low == 0 {
+        0i128.min(form.at(line.least).min(at_high))
+    } else {
+        form.at(interval.low).min(at_high)
+    }
+}
+
+// What the needs are worth at a leaf's prices.
+fn priced_needs(needs: &[Flow], prices: &[u64]) -> u128
+    requires same { length needs.now ≡ length prices.now }
+    requires prices { All (λ price. price ≤ 2 * PRICE_SCALE) prices.now }
+    requires needs { total needs.now ≤ AMOUNT_LIMIT }
+    ensures value { result ≡ priced_needs_of needs.now prices.now }
+    ensures size { result ≤ 2 * 10 ^ 25 }
+{
+    let mut worth = 0;
+    for place in 0..needs.len() {
+        worth += u128::from(needs[place].cents.0) * u128::from(prices[place]);
+    }
+    worth
+}
+
+/// The lower bound of a leaf over ranges, at the yield of the powers, scaled: what the needs are worth at its prices, and the
+/// least that each line can add within its interval. [`bound_laws`](crate::bound_laws) says what it bounds.
+///
+/// The leaf keeps its limits, with one price for each need date; the ranges have an interval for each line of the book,
+/// whose high end is at most the line's most; and the powers are of the low side, of 0 to 14,400 index days. The bound is in
+/// units of a cent over [`COEFFICIENT_SCALE`] times [`PRICE_SCALE`], and lies between -10^37 and 10^37. It takes no memory.
+///
+/// It reads each date of each line anew: [`Columns`](crate::Columns) gives the same bound, fast.
+#[tactic(auto, unfolding(crate::specs::LeafBound::bound_of))]
+pub fn bound(book: &Book, powers: &Powers, ranges: &Ranges, leaf: &Leaf) -> i128
+    requires leaf { IsLeaf (length book.now.needs) leaf.now }
+    requires side { powers.now.side ≡ Side.Low }
+    requires longest { powers.now.longest ≡ GREATEST_INDEX }
+    requires ranges { AllZip HasRoomFor book.now.lines ranges.now }
+    ensures value { result ≡ bound_of powers.now.yield_units book.now ranges.now leaf.now }
+    ensures size { unsigned_abs result < 10 ^ 37 }
+{
+    let lines = book.lines();
+    let intervals = ranges.intervals();
+    let mut bound = COEFFICIENT_SCALE as i128
+        * priced_needs(book.needs(), leaf.prices.as_slice()) as i128;
+    for place in 0..lines.len() {
+        bound += least(book, powers, leaf, &lines[place], intervals[place]);
+    }
+    bound
+}

@@ -1,0 +1,4 @@
+pub mod Acceptance
+pub mod Meaning
+pub mod Reasons
+pub mod Verdicts
