@@ -1,0 +1,5 @@
+pub mod Heap
+pub mod Pool
+pub mod Queue
+pub mod Tree
+pub mod Way
