@@ -119,7 +119,7 @@ judged-is case bytes cert text (Some (reason.BadSplit node)) of same = (cert, te
 judged-is case bytes cert text (Some (reason.WeakLeaf node)) of same = (cert, text, same)
 judged-is case bytes cert text (Some reason.GapAbove) of same = (cert, text, same)
 
-judged-by : (case : CaseContents) (cert : Certificate) → judged case cert ≡ verdict_by case cert (reason_of case cert)
+pub judged-by : (case : CaseContents) (cert : Certificate) → judged case cert ≡ verdict_by case cert (reason_of case cert)
 unfolding judged
 judged-by case cert = refl
 

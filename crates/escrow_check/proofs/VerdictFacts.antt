@@ -119,11 +119,11 @@ yields-within limit book plan limits within =
 
 -- ---- a yes with a portfolio
 -- what its verdict tells
-record IsYes (case : CaseContents) (cert : Certificate) (portfolio : Portfolio) : Type 0 where
-  none : reason_of case cert ≡ None
-  told : yes_of case cert.buys cert.gap ≡ verdict.Yes portfolio
+pub record IsYes (case : CaseContents) (cert : Certificate) (portfolio : Portfolio) : Type 0 where
+  pub none : reason_of case cert ≡ None
+  pub told : yes_of case cert.buys cert.gap ≡ verdict.Yes portfolio
 
-yes-told : (case : CaseContents) (cert : Certificate) (portfolio : Portfolio) → judged case cert ≡ verdict.Yes portfolio → IsYes case cert portfolio
+pub yes-told : (case : CaseContents) (cert : Certificate) (portfolio : Portfolio) → judged case cert ≡ verdict.Yes portfolio → IsYes case cert portfolio
 unfolding judged
 yes-told case cert portfolio said = by (reason_of case cert) refl said
   where
@@ -207,7 +207,7 @@ yes_is_right case cert portfolio heard said =
     subst (IsRightPortfolio case cert) bought.is (right case cert bought.buys heard bought.named (unopposed case cert bought.buys bought.named told.none))
 
 -- ---- a yes without a portfolio
-none-told : (case : CaseContents) (cert : Certificate) → judged case cert ≡ verdict.YesNone → (reason_of case cert ≡ None) × (cert.buys ≡ None)
+pub none-told : (case : CaseContents) (cert : Certificate) → judged case cert ≡ verdict.YesNone → (reason_of case cert ≡ None) × (cert.buys ≡ None)
 unfolding judged
 none-told case cert said = by (reason_of case cert) refl said
   where

@@ -11,7 +11,6 @@ use Rattle.escrow_desk.specs.Rows.{rows_of}
 use Rattle.escrow_desk.specs.declared.refusal.FileKind.{FileKind}
 use Rattle.escrow_desk.specs.declared.refusal.RefusalKind.TheVariants as too_long
 use Rattle.row_fields.specs.RowForm.{refusal_of}
-use Rattle.offer_book.specs.Book.{IsBook}
 use Rattle.case_file.specs.Case.{CaseContents, IsKept, rows_case}
 use Rattle.escrow_desk.specs.declared.refusal.Refusal.{Refusal}
 use Rattle.escrow_top.specs.InputFiles.{InputFiles, FileNames, first_too_long, inputs_of}
@@ -23,7 +22,7 @@ use Rattle.escrow_top.specs.Stopping.{EndedAs}
 use Rattle.escrow_top.specs.declared.stop.Stop.{Stop}
 use Rattle.escrow_top.specs.declared.status.Status.{Status}
 use Rattle.escrow_top.specs.declared.status.Status.TheVariants as status
-use Rattle.escrow_top.proofs.AcceptedLaws.{yes_exactly}
+use Rattle.escrow_top.proofs.AcceptedLaws.{KeepsLimits, yes_exactly}
 use Rattle.escrow_top.proofs.AnswerLaws.{long_named, named_by}
 use Rattle.escrow_top.proofs.InputFacts.{read-all, read-long_issue, read-long_rates, read-long_prices, over-issue, over-rates, over-prices, rows_alone, texts_of, within-all}
 
@@ -77,19 +76,19 @@ named-there content names files cert there is =
 
 -- `yes` exactly, by the files as they were read
 
-exactly-of : (content : Content) (names : FileNames) (files : InputFiles) (cert : List ℕ) (reached : Status) → named_answer content names ≡ Some (check_answer files cert) → (answer : Answer) → named_answer content names ≡ Some answer → answer.status ≡ reached → ((case : CaseContents) → case_of files ≡ Ok case → IsBook case.book) → YesExactly reached files cert
+exactly-of : (content : Content) (names : FileNames) (files : InputFiles) (cert : List ℕ) (reached : Status) → named_answer content names ≡ Some (check_answer files cert) → (answer : Answer) → named_answer content names ≡ Some answer → answer.status ≡ reached → ((case : CaseContents) → case_of files ≡ Ok case → KeepsLimits case) → YesExactly reached files cert
 exactly-of content names files cert reached there answer is status_is books =
     let same : answer ≡ check_answer files cert = some-same answer (check_answer files cert) (sym is ∙ there) in
     subst (λ found. YesExactly found files cert) (sym (ap (λ (a : Answer). a.status) same) ∙ status_is) (yes_exactly files cert books)
 
-exactly-told : (told : Told) (names : FileNames) (reply : Answer) → FilesAnswer told names reply → ((content : Content) (files : InputFiles) → told ≡ Some content → AreThere content names files → (case : CaseContents) → case_of files ≡ Ok case → IsBook case.book) → OfNamedFiles (YesExactly reply.status) told names
+exactly-told : (told : Told) (names : FileNames) (reply : Answer) → FilesAnswer told names reply → ((content : Content) (files : InputFiles) → told ≡ Some content → AreThere content names files → (case : CaseContents) → case_of files ≡ Ok case → KeepsLimits case) → OfNamedFiles (YesExactly reply.status) told names
 exactly-told None names reply said books = λ content files cert tells there is. absurd (cc)
 exactly-told (Some found) names reply said books = λ content files cert tells there is.
     let same : found ≡ content = same-content found content tells in
     let said_of : named_answer content names ≡ Some reply = subst (λ (x : Content). named_answer x names ≡ Some reply) same said in
     exactly-of content names files cert reply.status (named-there content names files cert there is) reply said_of refl (books content files tells there)
 
-books-read : (told : Told) (names : FileNames) (texts : InputFiles) (case : CaseContents) → AreRead told names texts → AreWithin texts → rows_case (rows_of texts.issue) (rows_of texts.rates) (rows_of texts.prices) ≡ Ok case → IsKept (rows_of texts.issue) (rows_of texts.rates) (rows_of texts.prices) case → (content : Content) (files : InputFiles) → told ≡ Some content → AreThere content names files → (other : CaseContents) → case_of files ≡ Ok other → IsBook other.book
+books-read : (told : Told) (names : FileNames) (texts : InputFiles) (case : CaseContents) → AreRead told names texts → AreWithin texts → rows_case (rows_of texts.issue) (rows_of texts.rates) (rows_of texts.prices) ≡ Ok case → IsKept (rows_of texts.issue) (rows_of texts.rates) (rows_of texts.prices) case → (content : Content) (files : InputFiles) → told ≡ Some content → AreThere content names files → (other : CaseContents) → case_of files ≡ Ok other → KeepsLimits other
 books-read None names texts case read within is kept content files tells there other is_other = absurd (cc)
 books-read (Some found) names texts case read within is kept content files tells there other is_other =
     let same : found ≡ content = same-content found content tells in
@@ -97,7 +96,7 @@ books-read (Some found) names texts case read within is kept content files tells
     let files_same : files ≡ texts = one-files content names files texts there read_of in
     let both : Ok case ≡ Ok other = sym (rows_alone texts within ∙ is) ∙ (ap case_of (sym files_same) ∙ is_other) in
     let one : case ≡ other = cc in
-    subst (λ (x : CaseContents). IsBook x.book) one kept.book
+    subst KeepsLimits one (kept.book, kept.terms)
 
 pub answer_exactly : (told : Told) (names : FileNames) (texts : InputFiles) (case : CaseContents) (result : Result Answer Stop) → AreRead told names texts → AreWithin texts → rows_case (rows_of texts.issue) (rows_of texts.rates) (rows_of texts.prices) ≡ Ok case → IsKept (rows_of texts.issue) (rows_of texts.rates) (rows_of texts.prices) case → IfOk result (λ reply. FilesAnswer told names (reply)) → IfOk result (λ reply. OfNamedFiles (YesExactly reply.status) told names)
 answer_exactly told names texts case (Err stop) read within is kept said = said
@@ -105,7 +104,7 @@ answer_exactly told names texts case (Ok reply) read within is kept said = exact
 
 -- files that give no case
 
-no-books : (told : Told) (names : FileNames) (texts : InputFiles) (why : Refusal) → AreRead told names texts → case_of texts ≡ Err why → (content : Content) (files : InputFiles) → told ≡ Some content → AreThere content names files → (case : CaseContents) → case_of files ≡ Ok case → IsBook case.book
+no-books : (told : Told) (names : FileNames) (texts : InputFiles) (why : Refusal) → AreRead told names texts → case_of texts ≡ Err why → (content : Content) (files : InputFiles) → told ≡ Some content → AreThere content names files → (case : CaseContents) → case_of files ≡ Ok case → KeepsLimits case
 no-books None names texts why read is content files tells there case is_case = absurd (cc)
 no-books (Some found) names texts why read is content files tells there case is_case =
     let same : found ≡ content = same-content found content tells in
@@ -120,7 +119,7 @@ no_case_exactly told names texts why (Ok reply) read within is said = exactly-to
 
 -- a file over its limit gives no case: what is read up to it is the front of the files that are there
 
-long-books : (content : Content) (names : FileNames) (files : InputFiles) (kind : FileKind) → IsSomeAnd (inputs_of content names) (λ texts. first_too_long texts ≡ Some kind) → AreThere content names files → (case : CaseContents) → case_of files ≡ Ok case → IsBook case.book
+long-books : (content : Content) (names : FileNames) (files : InputFiles) (kind : FileKind) → IsSomeAnd (inputs_of content names) (λ texts. first_too_long texts ≡ Some kind) → AreThere content names files → (case : CaseContents) → case_of files ≡ Ok case → KeepsLimits case
 long-books content names files kind long there case is_case =
     elim (cases_lt FILE_LIMIT (length files.issue)) [
       | inl over ↦ absurd (never (over-issue files.issue files.rates files.prices over))
@@ -146,7 +145,7 @@ long-books content names files kind long there case is_case =
 pub too_long_exactly : (told : Told) (names : FileNames) (kind : FileKind) (reply : Answer) → IsTooLong told names kind → FilesAnswer told names (reply) → OfNamedFiles (YesExactly reply.status) told names
 too_long_exactly told names kind reply long said = exactly-told told names (reply) said (books told long)
   where
-    books : (found : Told) → IsTooLong found names kind → (content : Content) (files : InputFiles) → found ≡ Some content → AreThere content names files → (case : CaseContents) → case_of files ≡ Ok case → IsBook case.book
+    books : (found : Told) → IsTooLong found names kind → (content : Content) (files : InputFiles) → found ≡ Some content → AreThere content names files → (case : CaseContents) → case_of files ≡ Ok case → KeepsLimits case
     books None long content files tells there case is_case = absurd (cc)
     books (Some found) long content files tells there case is_case =
         let same : found ≡ content = same-content found content tells in

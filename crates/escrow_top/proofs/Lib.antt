@@ -1,11 +1,6 @@
-pub mod BuiltFacts
-pub mod CertificateFacts
-pub mod PurchaseFacts
-pub mod PurchaseLaws
-pub mod PlanFacts
 pub mod InputFacts
-pub mod YieldFacts
 pub mod AcceptedLaws
 pub mod NotAcceptedLaws
 pub mod AnswerLaws
 pub mod ExactLaws
+pub mod HearingFacts

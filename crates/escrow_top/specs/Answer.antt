@@ -1,8 +1,6 @@
 -- What `check` answers: a status and the text that is said. The texts are this project's own.
-use Rattle.std.specs.Prelude.{ℕ, ◌-◌, Bool, false, true, not, ◌&&◌, nat_lt, nat_eq, if◌then◌else◌, List, [], ◌∷◌, ◌++◌, length, replicate, slice_index_or, slice_set, Option, Some, None, option_map, Result, Ok, Err, is_ok, codes, decimal}
+use Rattle.std.specs.Prelude.{ℕ, Bool, false, nat_lt, nat_eq, if◌then◌else◌, List, [], ◌∷◌, ◌++◌, length, Option, Some, None, Result, Ok, Err, is_ok, codes, decimal}
 use Rattle.std.specs.Bool.{then_some}
-use Rattle.std.specs.List.{find, fold, list_any}
-use Rattle.std.specs.Option.{option_or}
 use lib.Pointwise.{pointwise}
 use Rattle.escrow_desk.specs.Content.{Content, file_of}
 use Rattle.escrow_desk.specs.Rows.{rows_of}
@@ -15,24 +13,20 @@ use Rattle.escrow_desk.specs.declared.refusal.RefusalKind.TheVariants as kind
 use Rattle.escrow_units.specs.DateText.{day_text}
 use Rattle.escrow_units.specs.Digits.{fixed}
 use Rattle.row_fields.specs.RowForm.{refusal_of}
-use Rattle.offer_book.specs.declared.line.Line.{Line}
-use Rattle.offer_book.specs.Book.{BookContents}
-use Rattle.offer_book.specs.CaseBook.{cash_line}
-use Rattle.offer_book.specs.declared.line.LineKind.{LineKind}
-use Rattle.offer_book.specs.declared.line.LineKind.TheVariants.{Cash, Market, Security}
-use Rattle.offer_book.specs.Portfolio.{permits, total_needs, cost}
-use Rattle.cash_table.specs.First.{first_short_of}
-use Rattle.cash_table.specs.Points.{plan_yield}
 use Rattle.yield_enclosure.specs.declared.answer.YieldAnswer.{YieldAnswer}
 use Rattle.yield_enclosure.specs.declared.answer.YieldAnswer.TheVariants as yields
-use Rattle.escrow_top.specs.CertificateForm.{CertificateContents, certificate_of, ◌>>=◌}
-use Rattle.escrow_top.specs.InputFiles.{InputFiles, FileNames, first_too_long, inputs_of}
+use Rattle.bound_certificate.specs.declared.fault.FaultKind.{FaultKind}
+use Rattle.bound_certificate.specs.declared.fault.FaultKind.TheVariants as fault
 use Rattle.case_file.specs.Case.{CaseContents, rows_case}
-use Rattle.escrow_top.specs.declared.certificate.Purchase.{Purchase}
+use Rattle.escrow_check.specs.Verdicts.{verdict_of}
+use Rattle.escrow_check.specs.declared.verdict.Portfolio.{Portfolio}
+use Rattle.escrow_check.specs.declared.verdict.Reason.{Reason}
+use Rattle.escrow_check.specs.declared.verdict.Reason.TheVariants as reason
+use Rattle.escrow_check.specs.declared.verdict.Verdict.{Verdict}
+use Rattle.escrow_check.specs.declared.verdict.Verdict.TheVariants as verdict
+use Rattle.escrow_top.specs.InputFiles.{InputFiles, FileNames, ◌>>=◌, first_too_long, inputs_of}
 use Rattle.escrow_top.specs.declared.status.Status.{Status}
 use Rattle.escrow_top.specs.declared.status.Status.TheVariants as status
-use Rattle.escrow_top.specs.declared.verdict.Reason.{Reason}
-use Rattle.escrow_top.specs.declared.verdict.Reason.TheVariants as reason
 
 -- a status, and what is said with it
 pub record Answer : Type 0 where
@@ -43,40 +37,21 @@ pub record Answer : Type 0 where
 abbrev pub text_line : List ℕ → List ℕ → List ℕ
 text_line words value = words ++ value ++ 10 ∷ []
 
--- a purchase names a line of the book, and its units are permitted
-abbrev pub is_offered : List Line → Purchase → Bool
-is_offered lines purchase =
-    nat_lt purchase.line (length lines) && permits (slice_index_or lines purchase.line (cash_line 0)) purchase.units
+abbrev pub fault_word : FaultKind → List ℕ
+fault_word fault.Header = codes "Header"
+fault_word fault.Number = codes "Number"
+fault_word fault.Order = codes "Order"
+fault_word fault.Count = codes "Count"
+fault_word fault.Truncated = codes "Truncated"
+fault_word fault.Trailing = codes "Trailing"
 
--- the first purchase that isn't offered
-abbrev pub first_not_offered : List Line → List Purchase → Option Purchase
-first_not_offered lines purchases = find (λ purchase. not (is_offered lines purchase)) purchases
-
--- the plan of purchases over a book: 0 units of each line, but for those that are bought
-abbrev pub plan_of : BookContents → List Purchase → List ℕ
-plan_of book purchases =
-    fold (λ plan purchase. slice_set plan purchase.line purchase.units) (replicate (length book.lines) 0) purchases
-
--- the one leaf doesn't bear out the cost less the gap: at the price 1 the needs sum to less
-abbrev pub is_leaf_weak : BookContents → List ℕ → ℕ → Bool
-is_leaf_weak book plan gap = nat_lt (total_needs book) (cost book plan - gap)
-
--- why a permitted portfolio isn't accepted with a gap: the first reason that stands
-abbrev pub reason_against : CaseContents → List ℕ → ℕ → Option Reason
-reason_against case plan gap =
-    option_or (option_map reason.ShortOn (first_short_of case.book plan))
-    (option_or (then_some (is_leaf_weak case.book plan gap) (reason.WeakLeaf 1))
-    (then_some (nat_lt case.allowance gap) reason.GapAbove))
-
--- why a certificate isn't accepted: the first reason that stands
-abbrev pub reason_of : CaseContents → CertificateContents → Option Reason
-reason_of case certificate =
-    option_or (option_map (λ purchase. reason.NotPermitted purchase.line) (first_not_offered case.book.lines certificate.purchases))
-    (reason_against case (plan_of case.book certificate.purchases) certificate.gap)
-
+-- a reason in words: with the line of a text and what is wrong with it, a line of the case, a day, or a node
 abbrev pub reason_text : Reason → List ℕ
+reason_text (reason.Grammar found) = text_line (codes "no Grammar ") (decimal found.line ++ 32 ∷ fault_word found.kind)
 reason_text (reason.NotPermitted line) = text_line (codes "no NotPermitted ") (decimal line)
 reason_text (reason.ShortOn day) = text_line (codes "no ShortOn ") (day_text day)
+reason_text reason.YieldAbove = text_line (codes "no YieldAbove") []
+reason_text (reason.BadSplit node) = text_line (codes "no BadSplit ") (decimal node)
 reason_text (reason.WeakLeaf node) = text_line (codes "no WeakLeaf ") (decimal node)
 reason_text reason.GapAbove = text_line (codes "no GapAbove") []
 
@@ -88,24 +63,21 @@ yield_words (yields.Between lo hi) = fixed 8 lo.0 ++ 32 ∷ fixed 8 hi.0
 yield_words yields.Above = codes "above"
 
 -- `yes` and the summary of a portfolio
-abbrev pub yes_text : CaseContents → List ℕ → ℕ → List ℕ
-yes_text case plan gap =
-    text_line (codes "yes") [] ++ text_line (codes "cost ") (fixed 2 (cost case.book plan))
-    ++ text_line (codes "yield ") (yield_words (plan_yield case.book plan))
-    ++ text_line (codes "limit ") (fixed 8 case.limit) ++ text_line (codes "gap ") (fixed 2 gap)
+abbrev pub yes_text : CaseContents → Portfolio → List ℕ
+yes_text case portfolio =
+    text_line (codes "yes") [] ++ text_line (codes "cost ") (fixed 2 portfolio.cost.0)
+    ++ text_line (codes "yield ") (yield_words portfolio.answer)
+    ++ text_line (codes "limit ") (fixed 8 case.limit) ++ text_line (codes "gap ") (fixed 2 portfolio.gap.0)
 
--- a portfolio is accepted with a gap
-abbrev pub accepted : CaseContents → List ℕ → ℕ → Answer
-accepted case plan gap = record { status = status.Done; text = yes_text case plan gap }
+-- there is no rival
+abbrev pub none_text : List ℕ
+none_text = text_line (codes "yes none") []
 
--- a certificate isn't accepted, for a reason
-abbrev pub not_accepted : Reason → Answer
-not_accepted reason = record { status = status.No; text = reason_text reason }
-
--- a portfolio with a gap is accepted where no reason stands against it
-abbrev pub weighed : CaseContents → List ℕ → ℕ → Option Reason → Answer
-weighed case plan gap None = accepted case plan gap
-weighed case plan gap (Some reason) = not_accepted reason
+-- the answer to a verdict
+abbrev pub verdict_answer : CaseContents → Verdict → Answer
+verdict_answer case (verdict.Yes portfolio) = record { status = status.Done; text = yes_text case portfolio }
+verdict_answer case verdict.YesNone = record { status = status.Done; text = none_text }
+verdict_answer case (verdict.No why) = record { status = status.No; text = reason_text why }
 
 abbrev pub file_word : FileKind → List ℕ
 file_word file.Issue = codes "issue"
@@ -143,47 +115,11 @@ refused_text refusal =
 abbrev pub refused : Refusal → Answer
 refused refusal = record { status = status.Refused; text = refused_text refusal }
 
--- the form of a file isn't built yet
-abbrev pub unbuilt : FileKind → Answer
-unbuilt kind = record { status = status.Unbuilt; text = text_line (codes "unbuilt ") (file_word kind) }
-
--- the answer to a certificate that may be read; other forms aren't built yet
-abbrev pub weigh_of : CaseContents → Option CertificateContents → Answer
-weigh_of case None = unbuilt file.Cert
-weigh_of case (Some certificate) = weighed case (plan_of case.book certificate.purchases) certificate.gap (reason_of case certificate)
-
--- a SLGS security bears interest, and a note is what is bought
-abbrev pub kind_bears_interest : LineKind → Bool
-kind_bears_interest Cash = false
-kind_bears_interest (Security slgs) = nat_lt 0 slgs.rate.0
-kind_bears_interest (Market note) = false
-
-abbrev pub bears_interest : Line → Bool
-bears_interest line = kind_bears_interest line.kind
-
-abbrev pub is_note_kind : LineKind → Bool
-is_note_kind Cash = false
-is_note_kind (Security slgs) = false
-is_note_kind (Market note) = true
-
-abbrev pub is_note : Line → Bool
-is_note line = is_note_kind line.kind
-
--- the file with lines that aren't built yet: first that of offers that bear interest, and then that of notes
-abbrev pub first_unbuilt : List Line → Option FileKind
-first_unbuilt lines =
-    option_or (then_some (list_any bears_interest lines) file.Rates) (then_some (list_any is_note lines) file.Prices)
-
--- the answer to a certificate that isn't too long
-abbrev pub answer_within : CaseContents → List ℕ → Option FileKind → Answer
-answer_within case cert (Some kind) = unbuilt kind
-answer_within case cert None = weigh_of case (certificate_of (length case.book.needs) cert)
-
--- the answer to the bytes of a certificate: what isn't built yet is tried after all that refuses a file
+-- the answer to the bytes of a certificate: its length is tried before its lines
 abbrev pub certificate_answer : CaseContents → List ℕ → Answer
 certificate_answer case cert =
     if nat_lt CERTIFICATE_LIMIT (length cert) then refused (refusal_of file.Cert 0 kind.TooLong)
-    else answer_within case cert (first_unbuilt case.book.lines)
+    else verdict_answer case (verdict_of case cert)
 
 -- the case of the bytes of the input files, or what is first to refuse it: their lengths are tried before their rows
 abbrev pub case_of_texts : Option FileKind → InputFiles → Result CaseContents Refusal

@@ -37,7 +37,6 @@ abbrev pub is_checked : Status → Bool
 is_checked status.Done = true
 is_checked status.No = true
 is_checked status.Refused = true
-is_checked status.Unbuilt = true
 is_checked status = false
 
 -- of an answer, where there is one: this is the status, and its text was said; no file changed

@@ -1,7 +1,5 @@
-pub mod CertificateForm
 pub mod InputFiles
 pub mod Answer
-pub mod Bought
 pub mod Ending
 pub mod Accepted
 pub mod NotAccepted

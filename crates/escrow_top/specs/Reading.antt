@@ -1,6 +1,6 @@
 -- What was read of the files that a desk tells.
 use Rattle.std.specs.Prelude.{◌≡◌, ℕ, ◌≤◌, ◌<◌, List, length, Some, None, MatchOption, IsSomeAnd}
-use Rattle.escrow_desk.specs.declared.limits.TheConstants.{FILE_LIMIT}
+use Rattle.escrow_desk.specs.declared.limits.TheConstants.{CERTIFICATE_LIMIT, FILE_LIMIT}
 use Rattle.escrow_desk.specs.Content.{Content, Told, file_of}
 use Rattle.escrow_desk.specs.declared.refusal.FileKind.{FileKind}
 use Rattle.escrow_top.specs.declared.files.FileNames.{FileNames as CodeNames}
@@ -11,7 +11,10 @@ use Rattle.escrow_top.specs.declared.files.Inputs.{Inputs}
 use Rattle.escrow_top.specs.declared.files.Inputs.TheVariants as inputs
 use Rattle.escrow_top.specs.InputFiles.{InputFiles, FileNames, first_too_long, inputs_of}
 use Rattle.case_file.specs.Case.{CaseContents}
+use Rattle.escrow_check.specs.Verdicts.{verdict_of}
 use Rattle.escrow_top.specs.Answer.{Answer, certificate_answer, named_answer}
+use Rattle.escrow_top.specs.declared.hearing.Heard.{Heard}
+use Rattle.escrow_top.specs.declared.hearing.Heard.TheVariants as heard
 
 -- the names as bytes
 abbrev pub names_view : CodeNames → FileNames
@@ -69,6 +72,15 @@ KeepToLimits (inputs.TooLong kind) = Unit {0}
 -- one of the input files that are read isn't there
 abbrev pub LacksInput : Told → FileNames → Type 0
 LacksInput told names = MatchOption told (Unit {0}) (λ content. inputs_of content names ≡ None)
+
+-- what was read of the bytes of a certificate: the verdict on them, or that they are more than the limit
+abbrev pub IsHeardOf : CaseContents → List ℕ → Heard → Type 0
+IsHeardOf case file (heard.Whole told) = (length file ≤ CERTIFICATE_LIMIT) × (told ≡ verdict_of case file)
+IsHeardOf case file heard.TooLong = CERTIFICATE_LIMIT < length file
+
+-- the same of the certificate of a name on a desk that tells
+abbrev pub IsHeard : Told → List ℕ → CaseContents → Heard → Type 0
+IsHeard told name case found = MatchOption told (Unit {0}) (λ content. IsSomeAnd (file_of content name) (λ file. IsHeardOf case file found))
 
 -- the certificate of the name is there, and this is the answer to it
 abbrev pub CertificateAnswers : Told → List ℕ → CaseContents → Answer → Type 0

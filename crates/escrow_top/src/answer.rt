@@ -1,17 +1,17 @@
 //! Answers: their status and their text.
 
-ghost use Rattle.std.specs.Prelude.{◌≡◌, ◌++◌, IfOk, IsTrue, OnOk};
-ghost use Rattle.escrow_top.specs.Answer.{text_line, reason_text, yes_text as yes_text_of, yield_words as yield_words_of, file_word as file_word_of, kind_word as kind_word_of, unbuilt as unbuilt_answer, refused as refused_answer, refused_text, accepted, not_accepted};
+ghost use Rattle.std.specs.Prelude.{◌≡◌, ◌++◌, IfOk, IsTrue, OnOk, decimal};
+ghost use Rattle.escrow_check.specs.declared.verdict.Reason.TheVariants.{Grammar};
+ghost use Rattle.escrow_top.specs.Answer.{fault_word as fault_word_of, file_word as file_word_of, kind_word as kind_word_of, none_text, reason_text, refused as refused_answer, refused_text, text_line, verdict_answer as verdict_answer_of, yes_text as yes_text_of, yield_words as yield_words_of};
 ghost use Rattle.case_file.specs.Case.{case_view};
 ghost use Rattle.escrow_top.specs.Ending.{is_checked};
-ghost use Rattle.offer_book.specs.Portfolio.{IsPermitted};
 
 use crate::status::Status;
-use crate::verdict::Reason;
+use bound_certificate::{CertFault, FaultKind};
 use case_file::Case;
-use cash_table::{Plan, cost, plan_yield};
+use escrow_check::{Portfolio, Reason, Verdict};
 use escrow_desk::{FileKind, NoMemory, Refusal, RefusalKind};
-use escrow_units::{Cents, print_cents, print_day, print_yield};
+use escrow_units::{print_cents, print_day, print_yield};
 use std::alloc::Global;
 use std::marker::Model;
 use yield_enclosure::YieldAnswer;
@@ -50,22 +50,49 @@ fn one_line(alloc: Global, words: &[u8], value: &[u8]) -> Result<Vec<u8>, NoMemo
     Ok(text)
 }
 
+// What is wrong with a line of a certificate, in the texts.
+fn fault_word(kind: FaultKind) -> &'static [u8]
+    ensures { result.now ≡ fault_word_of kind }
+{
+    match kind {
+        FaultKind::Header => b"Header",
+        FaultKind::Number => b"Number",
+        FaultKind::Order => b"Order",
+        FaultKind::Count => b"Count",
+        FaultKind::Truncated => b"Truncated",
+        FaultKind::Trailing => b"Trailing",
+    }
+}
+
+// The text of a line of a certificate that isn't one.
+fn fault_line(alloc: Global, fault: CertFault) -> Result<Vec<u8>, NoMemory>
+    ensures { IfOk result (λ text. text.items ≡ reason_text (Grammar fault)) }
+{
+    let mut text = Vec::new(alloc);
+    text.extend_from_slice(b"no Grammar ")?;
+    text.extend_from_slice(fault.line.to_string(alloc)?.as_bytes())?;
+    push_line(&mut text, b" ", fault_word(fault.kind))?;
+    Ok(text)
+}
+
+// The text of a reason with a number.
+fn numbered_line(alloc: Global, words: &[u8], number: u32) -> Result<Vec<u8>, NoMemory>
+    ensures { IfOk result (λ text. text.items ≡ text_line words.now (decimal number)) }
+{
+    one_line(alloc, words, number.to_string(alloc)?.as_bytes())
+}
+
 // The text of a reason.
 fn reason_line(alloc: Global, reason: Reason) -> Result<Vec<u8>, NoMemory>
     ensures { IfOk result (λ text. text.items ≡ reason_text reason) }
 {
     match reason {
-        Reason::NotPermitted(line) => {
-            one_line(
-                alloc,
-                b"no NotPermitted ",
-                line.to_string(alloc)?.as_bytes(),
-            )
-        }
+        Reason::Grammar(fault) => fault_line(alloc, fault),
+        Reason::NotPermitted(line) => numbered_line(alloc, b"no NotPermitted ", u32::from(line)),
         Reason::ShortOn(day) => one_line(alloc, b"no ShortOn ", print_day(day).as_bytes()),
-        Reason::WeakLeaf(node) => {
-            one_line(alloc, b"no WeakLeaf ", node.to_string(alloc)?.as_bytes())
-        }
+        Reason::YieldAbove => one_line(alloc, b"no YieldAbove", b""),
+        Reason::BadSplit(node) => numbered_line(alloc, b"no BadSplit ", node),
+        Reason::WeakLeaf(node) => numbered_line(alloc, b"no WeakLeaf ", node),
         Reason::GapAbove => one_line(alloc, b"no GapAbove", b""),
     }
 }
@@ -134,17 +161,6 @@ pub(crate) fn refused(alloc: Global, refusal: &Refusal) -> Result<Answer, NoMemo
     })
 }
 
-/// The answer that the form of a file isn't built yet.
-pub(crate) fn unbuilt(alloc: Global, kind: FileKind) -> Result<Answer, NoMemory>
-    ensures answer { IfOk result (λ answer. answer ≡ unbuilt_answer kind) }
-    ensures status { IfOk result (λ answer. answer.status ≡ Status.Unbuilt) }
-{
-    Ok(Answer {
-        status: Status::Unbuilt,
-        text: one_line(alloc, b"unbuilt ", file_word(kind))?,
-    })
-}
-
 // A yield in words: both ends of its interval, in percent, or a word where it has none.
 fn yield_words(alloc: Global, answer: YieldAnswer) -> Result<Vec<u8>, NoMemory>
     ensures { IfOk result (λ words. words.items ≡ yield_words_of answer) }
@@ -164,42 +180,31 @@ fn yield_words(alloc: Global, answer: YieldAnswer) -> Result<Vec<u8>, NoMemory>
 }
 
 // `yes` and the summary of a portfolio.
-fn yes_text(alloc: Global, case: &Case, plan: &Plan, gap: u64) -> Result<Vec<u8>, NoMemory>
-    requires { IsPermitted case.now.book plan.now }
-    ensures { IfOk result (λ text. text.items ≡ yes_text_of (case_view case.now) plan.now gap) }
+fn yes_text(alloc: Global, case: &Case, portfolio: &Portfolio) -> Result<Vec<u8>, NoMemory>
+    ensures { IfOk result (λ text. text.items ≡ yes_text_of (case_view case.now) portfolio.now) }
 {
     let mut text = one_line(alloc, b"yes", b"")?;
-    push_line(
-        &mut text,
-        b"cost ",
-        print_cents(cost(&case.book, plan)).as_bytes(),
-    )?;
-    let words = yield_words(alloc, plan_yield(alloc, &case.book, plan)?)?;
+    push_line(&mut text, b"cost ", print_cents(portfolio.cost).as_bytes())?;
+    let words = yield_words(alloc, portfolio.answer)?;
     push_line(&mut text, b"yield ", words.as_slice())?;
     push_line(&mut text, b"limit ", print_yield(case.limit).as_bytes())?;
-    push_line(&mut text, b"gap ", print_cents(Cents(gap)).as_bytes())?;
+    push_line(&mut text, b"gap ", print_cents(portfolio.gap).as_bytes())?;
     Ok(text)
 }
 
-/// The answer that accepts a portfolio with a gap.
-pub(crate) fn yes(alloc: Global, case: &Case, plan: &Plan, gap: u64) -> Result<Answer, NoMemory>
-    requires { IsPermitted case.now.book plan.now }
-    ensures answer { IfOk result (λ answer. answer ≡ accepted (case_view case.now) plan.now gap) }
+/// The answer to a verdict.
+pub(crate) fn verdict_answer(
+    alloc: Global,
+    case: &Case,
+    verdict: &Verdict,
+) -> Result<Answer, NoMemory>
+    ensures answer { IfOk result (λ answer. answer ≡ verdict_answer_of (case_view case.now) verdict.now) }
     ensures status { IfOk result (λ answer. IsTrue (is_checked answer.status)) }
 {
-    Ok(Answer {
-        status: Status::Done,
-        text: yes_text(alloc, case, plan, gap)?,
-    })
-}
-
-/// The answer that doesn't accept a certificate, for a reason.
-pub(crate) fn no(alloc: Global, reason: Reason) -> Result<Answer, NoMemory>
-    ensures answer { IfOk result (λ answer. answer ≡ not_accepted reason) }
-    ensures status { IfOk result (λ answer. IsTrue (is_checked answer.status)) }
-{
-    Ok(Answer {
-        status: Status::No,
-        text: reason_line(alloc, reason)?,
-    })
+    let (status, text) = match verdict {
+        Verdict::Yes(portfolio) => (Status::Done, yes_text(alloc, case, portfolio)?),
+        Verdict::YesNone => (Status::Done, one_line(alloc, b"yes none", b"")?),
+        Verdict::No(reason) => (Status::No, reason_line(alloc, *reason)?),
+    };
+    Ok(Answer { status, text })
 }

@@ -1,25 +1,23 @@
 //! `check`, from the names of its files to its answer.
 
-ghost use Rattle.std.specs.Prelude.{◌≡◌, ◌≤◌, IfOk, IsErrOf, IsTrue, length};
-ghost use Rattle.escrow_top.specs.Answer.{answer_within, certificate_answer, first_unbuilt as first_unbuilt_of, refused as refused_answer};
+ghost use Rattle.std.specs.Prelude.{◌≡◌, IfOk, IsErrOf, IsTrue};
 ghost use Rattle.row_fields.specs.RowForm.{refusal_of};
-ghost use Rattle.case_file.specs.Case.{case_view};
-ghost use Rattle.escrow_top.specs.CertificateForm.{certificate_of};
-ghost use Rattle.escrow_top.specs.Reading.{AreRead, AreWithin, CertificateAnswers, FilesAnswer, LacksCertificate, LacksNamed, names_view, files_view};
+ghost use Rattle.offer_book.specs.Book.{IsBook};
+ghost use Rattle.case_file.specs.Case.{HasTerms, case_view};
+ghost use Rattle.escrow_top.specs.Answer.{refused as refused_answer};
+ghost use Rattle.escrow_top.specs.Reading.{AreRead, AreWithin, CertificateAnswers, FilesAnswer, LacksCertificate, LacksNamed, files_view, names_view};
 ghost use Rattle.escrow_top.specs.Ending.{HoldsWhereTold, OfNamedFiles, is_checked};
 ghost use Rattle.escrow_top.specs.Accepted.{Accepted, YesExactly};
 ghost use Rattle.escrow_top.specs.NotAccepted.{NotAccepted};
 ghost use Rattle.escrow_top.specs.Stopping.{CountsStep};
 
-use crate::answer::{Answer, refused, unbuilt};
-use crate::certificate::read_certificate;
-use crate::files::{FileNames, FileText, InputFiles, Inputs, read_file, read_inputs};
+use crate::answer::{Answer, refused, verdict_answer};
+use crate::files::{FileNames, InputFiles, Inputs, read_inputs};
+use crate::hearing::{Heard, hear};
 use crate::status::Status;
 use crate::stop::Stop;
-use crate::unbuilt::first_unbuilt;
-use crate::verdict::weigh;
 use case_file::{Case, read_case};
-use escrow_desk::{CERTIFICATE_LIMIT, CaseError, Desk, FileKind, NoMemory, Refusal, RefusalKind};
+use escrow_desk::{CaseError, Desk, FileKind, NoMemory, Refusal, RefusalKind};
 use std::alloc::Global;
 
 // The answer that a file has more bytes than its limit.
@@ -35,20 +33,6 @@ fn too_long(alloc: Global, file: FileKind) -> Result<Answer, NoMemory>
     refused(alloc, &refusal)
 }
 
-// The answer to the bytes of a certificate within its limit. What isn't built yet is tried first.
-fn answer_to_bytes(alloc: Global, case: &Case, bytes: &[u8]) -> Result<Answer, NoMemory>
-    ensures answer { IfOk result (λ answer. answer ≡ answer_within (case_view case.now) bytes.now (first_unbuilt_of case.now.book.lines)) }
-    ensures status { IfOk result (λ answer. IsTrue (is_checked answer.status)) }
-{
-    if let Some(kind) = first_unbuilt(case.book.lines()) {
-        return unbuilt(alloc, kind);
-    }
-    match read_certificate(alloc, bytes, case.book.need_count())? {
-        Some(certificate) => weigh(alloc, case, &certificate),
-        None => unbuilt(alloc, FileKind::Cert),
-    }
-}
-
 // The answer to the certificate of a name. It isn't inlined: its tables would stand on the stack while rows are read.
 #[inline(never)]
 fn answer_to_certificate<D: Desk>(
@@ -57,15 +41,17 @@ fn answer_to_certificate<D: Desk>(
     name: &str,
     case: &Case,
 ) -> Result<Answer, Stop>
+    requires book { IsBook case.now.book }
+    requires terms { HasTerms (case_view case.now) }
     ensures answer { IfOk result (λ answer. CertificateAnswers (D.told desk.old) name.now (case_view case.now) answer) }
     ensures status { IfOk result (λ answer. IsTrue (is_checked answer.status)) }
     ensures absent { IsErrOf result Stop.NoFile → LacksCertificate (D.told desk.old) name.now }
     ensures told { D.told desk.new ≡ D.told desk.old }
     ensures counts { CountsStep result (D.counts desk.old) (D.counts desk.new) }
 {
-    match read_file(alloc, desk, name, CERTIFICATE_LIMIT)? {
-        FileText::Within(bytes) => Ok(answer_to_bytes(alloc, case, bytes.as_slice())?),
-        FileText::TooLong => Ok(too_long(alloc, FileKind::Cert)?),
+    match hear(alloc, desk, name, case)? {
+        Heard::Whole(verdict) => Ok(verdict_answer(alloc, case, &verdict)?),
+        Heard::TooLong => Ok(too_long(alloc, FileKind::Cert)?),
     }
 }
 

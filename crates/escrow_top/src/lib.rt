@@ -2,16 +2,13 @@
 #![tactic(auto)]
 
 mod answer;
-mod certificate;
 mod check;
 mod command;
 mod files;
-mod needs;
+mod hearing;
 mod program;
 mod status;
 mod stop;
-mod unbuilt;
-mod verdict;
 
 pub use program::run;
 pub use status::Status;

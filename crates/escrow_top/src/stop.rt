@@ -5,6 +5,7 @@ ghost use Rattle.escrow_top.specs.declared.stop.Stop.TheVariants.{NoMemory as Ou
 
 use crate::status::Status;
 use escrow_desk::NoMemory;
+use std::alloc::AllocError;
 
 /// Why a run stopped before it had an answer.
 #[derive(Clone, Copy, Debug, PartialEq, Eq)]
@@ -21,6 +22,14 @@ impl From<NoMemory> for Stop {
     ghost from_gives = { λ _ stop. stop ≡ OutOfMemory };
 
     fn from(_memory: NoMemory) -> Stop {
+        Stop::NoMemory
+    }
+}
+
+impl From<AllocError> for Stop {
+    ghost from_gives = { λ _ stop. stop ≡ OutOfMemory };
+
+    fn from(_error: AllocError) -> Stop {
         Stop::NoMemory
     }
 }

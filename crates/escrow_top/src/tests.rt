@@ -179,11 +179,36 @@ fn reasons_of_no(rt: HostRuntime) -> Result<(), Fail> {
             status: Status::No,
             said: b"no ShortOn 2025-07-15\n",
         },
+        Row {
+            files: with_cert(
+                b"escrow-certificate 1\nportfolio 1\nbuy 1 50\ngap 0\nnodes 3\ns 1 100\np\np\nend\n",
+            ),
+            status: Status::No,
+            said: b"no BadSplit 1\n",
+        },
+        Row {
+            files: with_cert(
+                b"escrow-certificate 1\nportfolio 1\nbuy 1 50\ngap 0\nnodes 1\nl 1 0 1000000000000\n",
+            ),
+            status: Status::No,
+            said: b"no Grammar 7 Truncated\n",
+        },
+        Row {
+            files: with_cert(
+                b"escrow-certificate 1\nportfolio 1\nbuy 1 50\ngap 0\nnodes 1\nl 1 0 1000000000000\nend\nx",
+            ),
+            status: Status::No,
+            said: b"no Grammar 8 Trailing\n",
+        },
     ];
     try_rows(&rt, rt.alloc(), &rows)
 }
 
 // The first files with another file of one kind.
+fn with_cert(cert: &'static [u8]) -> Files {
+    Files { cert, ..FIRST }
+}
+
 fn with_issue(issue: &'static [u8]) -> Files {
     Files { issue, ..FIRST }
 }
@@ -418,6 +443,92 @@ const NOTE: Files = Files {
     cert: b"escrow-certificate 1\nportfolio 1\nbuy 1 100\ngap 1\nnodes 1\nl 1 0 980392156862\nend\n",
 };
 
+// A line that bears interest, of which one step less is a cent short, so that the bound of one leaf isn't enough.
+const SPLIT: Files = Files {
+    issue: b"settle,2025-01-15\nneed,2026-01-15,1041.03\nrestricted,5.00\n",
+    rates: b"terms,1000,1\nrate,2025-02-14,2026-01-15,4.00\noffer,2026-01-15,max,,10000\n",
+    prices: b"",
+    cert: b"escrow-certificate 1\nportfolio 1\nbuy 1 1001\ngap 0\nnodes 3\ns 1 1000\nl 0 0 1000000000000\nl 1 0 0\nend\n",
+};
+
+#[test]
+fn yields_and_trees(rt: HostRuntime) -> Result<(), Fail> {
+    let computed =
+        b"settle,2025-01-15\nneed,2025-07-15,102000.00\nprice,100000.00\npay,2025-07-15,102000.00\nallowance,0.01\n";
+    let near = b"settle,2025-01-15\nneed,2025-07-15,102000.00\nrestricted,3.99900001\nallowance,0.01\n";
+    let rows = [
+        Row {
+            files: NOTE,
+            status: Status::Done,
+            said: b"yes\ncost 100000.00\nyield 3.99999999 4.00000001\nlimit 4.00100000\ngap 0.01\n",
+        },
+        Row {
+            files: Files {
+                issue: near,
+                ..NOTE
+            },
+            status: Status::Done,
+            said: b"yes\ncost 100000.00\nyield 3.99999999 4.00000001\nlimit 4.00000001\ngap 0.01\n",
+        },
+        Row {
+            files: Files {
+                issue: b"settle,2025-01-15\nneed,2025-07-15,102000.00\nrestricted,3.99900000\nallowance,0.01\n",
+                ..NOTE
+            },
+            status: Status::No,
+            said: b"no YieldAbove\n",
+        },
+        Row {
+            files: Files {
+                prices: b"terms,1000,1000\nnote,2025-07-15,4.000,103,200000\n",
+                cert: b"escrow-certificate 1\nportfolio 1\nbuy 1 100\ngap 1\nnodes 1\nl 1 0 1009803921568\nend\n",
+                ..NOTE
+            },
+            status: Status::Done,
+            said: b"yes\ncost 103000.00\nyield negative\nlimit 4.00100000\ngap 0.01\n",
+        },
+        Row {
+            files: Files {
+                issue: computed,
+                ..NOTE
+            },
+            status: Status::Done,
+            said: b"yes\ncost 100000.00\nyield 3.99999999 4.00000001\nlimit 4.00099999\ngap 0.01\n",
+        },
+        Row {
+            files: SPLIT,
+            status: Status::Done,
+            said: b"yes\ncost 1001.00\nyield 3.96078054 3.96078055\nlimit 5.00100000\ngap 0.00\n",
+        },
+        Row {
+            files: Files {
+                cert: b"escrow-certificate 1\nportfolio 1\nbuy 1 1001\ngap 0\nnodes 1\nl 1 0 961538461538\nend\n",
+                ..SPLIT
+            },
+            status: Status::No,
+            said: b"no WeakLeaf 1\n",
+        },
+        Row {
+            files: with_cert(
+                b"escrow-certificate 1\nportfolio 1\nbuy 1 50\ngap 0\nnodes 3\ns 1 9\nl 0 0 1000000000000\nl 1 0 1000000000000\nend\n",
+            ),
+            status: Status::Done,
+            said: FIRST_TEXT,
+        },
+        Row {
+            files: Files {
+                issue: b"settle,2025-01-15\nneed,2025-07-15,1000.00\nrestricted,3.00\n",
+                rates: b"terms,1000,1000\nrate,2025-02-14,2026-01-15,4.00\noffer,2025-07-15,4.00,,2000\n",
+                prices: b"",
+                cert: b"escrow-certificate 1\nportfolio none\ngap 0\nnodes 1\nl 0 1000000000000 2000000000\nend\n",
+            },
+            status: Status::Done,
+            said: b"yes none\n",
+        },
+    ];
+    try_rows(&rt, rt.alloc(), &rows)
+}
+
 #[test]
 fn refused_prices(rt: HostRuntime) -> Result<(), Fail> {
     let faults: [(&[u8], &[u8], &[u8]); 5] = [
@@ -461,7 +572,7 @@ fn refused_prices(rt: HostRuntime) -> Result<(), Fail> {
 }
 
 // The order in which files that are at fault together are told: lengths, then the issue's rows, the rates' rows, the
-// prices' rows, the rules of the offers, the computed yield, what isn't built yet, and the certificate's text.
+// prices' rows, the rules of the offers, the computed yield, and the certificate's text.
 #[test]
 fn order_of_refusals(rt: HostRuntime) -> Result<(), Fail> {
     let faulty_prices = b"terms,1000,x\n";
@@ -526,18 +637,8 @@ fn order_of_refusals(rt: HostRuntime) -> Result<(), Fail> {
                 prices: NOTE.prices,
                 cert: b"",
             },
-            status: Status::Unbuilt,
-            said: b"unbuilt rates\n",
-        },
-        Row {
-            files: Files { cert: b"", ..NOTE },
-            status: Status::Unbuilt,
-            said: b"unbuilt prices\n",
-        },
-        Row {
-            files: Files { cert: b"", ..FIRST },
-            status: Status::Unbuilt,
-            said: b"unbuilt cert\n",
+            status: Status::No,
+            said: b"no Grammar 1 Truncated\n",
         },
     ];
     try_rows(&rt, rt.alloc(), &rows)
@@ -591,11 +692,8 @@ fn limits_of_files(rt: HostRuntime) -> Result<(), Fail> {
         Vec::new(alloc),
         b"refused prices row 0 TooManyLines\n",
     )?;
-    // What isn't built yet is tried after the length of the certificate.
-    let rates = Vec::from_slice(
-        alloc,
-        b"terms,1000,100\nrate,2025-01-15,2025-12-31,4.00\noffer,2025-02-14,4.00,,10000\n",
-    )?;
+    // The length of the certificate is told before the fault of its first line.
+    let rates = Vec::from_slice(alloc, FIRST.rates)?;
     let cert = vec![in alloc; b'x'; 67_108_865]?;
     try_bytes(&rt, alloc, rates, cert, b"refused cert row 0 TooLong\n")
 }
