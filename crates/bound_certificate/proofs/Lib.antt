@@ -1,15 +1,16 @@
-mod FaultFacts
-mod ItemFacts
-mod RowFacts
-mod SaidFacts
-mod FoundFacts
-mod DraftFacts
-mod TextFacts
-mod FirstFacts
-mod CertFacts
-mod DigitFacts
-mod LawFacts
-mod LineFacts
-mod ReadingFacts
-mod ScanFacts
-mod WordFacts
+pub mod FaultFacts
+pub mod ItemFacts
+pub mod RowFacts
+pub mod SaidFacts
+pub mod FoundFacts
+pub mod DraftFacts
+pub mod TextFacts
+pub mod FirstFacts
+pub mod CertFacts
+pub mod DigitFacts
+pub mod LawFacts
+pub mod LineFacts
+pub mod ReadingFacts
+pub mod ScanFacts
+pub mod WordFacts
+pub mod StepFacts
