@@ -1,3 +1,4 @@
+pub mod WalkFacts
 pub mod PurchaseFacts
 pub mod TreeFacts
 pub mod VerdictFacts

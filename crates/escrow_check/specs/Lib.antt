@@ -1,2 +1,4 @@
 pub mod Acceptance
 pub mod Meaning
+pub mod Walk
+pub mod Trial

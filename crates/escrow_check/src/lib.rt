@@ -1,8 +1,10 @@
 //! Whether a certificate is accepted for a case.
 #![tactic(auto)]
 
+mod closing;
 mod laws;
 mod verdict;
+mod walk;
 
 pub use laws::verdict_laws;
 pub use verdict::{Portfolio, Reason, Verdict};
