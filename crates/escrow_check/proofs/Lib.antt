@@ -1,3 +1,4 @@
+pub mod CloseFacts
 pub mod WalkFacts
 pub mod PurchaseFacts
 pub mod TreeFacts

@@ -3,6 +3,7 @@
 
 mod closing;
 mod laws;
+mod trial;
 mod verdict;
 mod walk;
 
