@@ -1,3 +1,5 @@
+pub mod NodeFacts
+pub mod PlacedFacts
 pub mod CloseFacts
 pub mod WalkFacts
 pub mod PurchaseFacts

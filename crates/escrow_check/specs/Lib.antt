@@ -2,3 +2,4 @@ pub mod Acceptance
 pub mod Meaning
 pub mod Walk
 pub mod Trial
+pub mod Knows

@@ -106,8 +106,10 @@ pub record Ends (lines : List Line) (closed : Bool) (old new : Trial) : Type 0 w
   pub rest : new ≡ record old { nodes = old.nodes + 1; weak = weak_after closed old; walk = new.walk; point = new.point }
   pub goes : GoesOn lines (after_subtree lines old.walk) old new
 
-abbrev pub TakesEnd : List Line → Bool → Trial → Trial → Type 0
-TakesEnd lines closed old new = if may_go old then Ends lines closed old new else new ≡ old
+-- where nodes still matter
+pub record TakesEnd (lines : List Line) (closed : Bool) (old new : Trial) : Type 0 where
+  pub going : may_go old ≡ true → Ends lines closed old new
+  pub over : may_go old ≡ false → new ≡ old
 
 -- a point, or a leaf, is closed, or comes after one that isn't
 abbrev pub closed_point : CaseContents → Trial → Bool
@@ -121,12 +123,11 @@ pub record SplitsWell (lines : List Line) (line at : ℕ) (old new : Trial) : Ty
   pub rest : new ≡ record old { nodes = old.nodes + 1; walk = new.walk }
   pub goes : GoesOn lines (narrowed lines old.walk.ranges line at false ∷ narrowed lines old.walk.ranges line at true ∷ after_subtree lines old.walk) old new
 
-abbrev pub TakesSplit : List Line → ℕ → ℕ → Trial → Trial → Type 0
-TakesSplit lines line at old new =
-    if may_go old
-    then (if is_proper old.walk.ranges line at then SplitsWell lines line at old new
-    else new ≡ record old { nodes = old.nodes + 1; reason = Some (reason.BadSplit (old.nodes + 1)) })
-    else new ≡ old
+-- a split came, where nodes still matter: the first that isn't proper is a reason
+pub record TakesSplit (lines : List Line) (line at : ℕ) (old new : Trial) : Type 0 where
+  pub going : may_go old ≡ true → is_proper old.walk.ranges line at ≡ true → SplitsWell lines line at old new
+  pub bad : may_go old ≡ true → is_proper old.walk.ranges line at ≡ false → new ≡ record old { nodes = old.nodes + 1; reason = Some (reason.BadSplit (old.nodes + 1)) }
+  pub over : may_go old ≡ false → new ≡ old
 
 -- ---- the verdict, where the certificate is whole
 abbrev pub last_verdict : CaseContents → Trial → Verdict
