@@ -1,3 +1,4 @@
+pub mod BuyFacts
 pub mod NodeFacts
 pub mod PlacedFacts
 pub mod CloseFacts

@@ -1,11 +1,12 @@
 -- What is known behind one more node.
-use Rattle.std.proofs.Common.{◌≡◌, ◌∙◌, ℕ, zero, suc, ◌+◌, ◌<◌, ◌≤◌, Bool, true, false, not, nat_lt, ◌&&◌, ◌||◌, cond, if◌then◌else◌, List, [], ◌∷◌, ◌++◌, length, Option, Some, None, is_some, is_none, option_map, refl, sym, subst, ap, arith, append_assoc, length-append, vec_len}
+use Rattle.std.proofs.Common.{◌≡◌, ◌∙◌, ℕ, zero, suc, ◌+◌, ◌<◌, ◌≤◌, Bool, true, false, not, nat_lt, ◌&&◌, ◌||◌, cond, if◌then◌else◌, List, [], ◌∷◌, ◌++◌, length, Option, Some, None, is_some, is_none, option_map, refl, sym, subst, ap, arith, append_assoc, length-append, vec_len, vec_capacity}
 use Rattle.std.specs.List.{position}
 use Rattle.std.specs.Bool.{then_some}
 use Rattle.std.specs.Option.{option_or}
 use Rattle.std.proofs.lemmas.List.{append-nil}
 use Rattle.bound_certificate.specs.declared.certificate.Buy.{Buy}
 use Rattle.bound_certificate.specs.declared.certificate.Certificate.{Certificate}
+use Rattle.bound_certificate.specs.declared.limits.TheConstants.{MOST_NODES}
 use Rattle.case_file.specs.Case.{CaseContents}
 use Rattle.cash_table.specs.Points.{yield_of}
 use Rattle.dual_bound.specs.Ranges.{is_proper, narrowed, root_of}
@@ -265,7 +266,67 @@ splits case cert old new line at is none on proper split =
     }
 
 -- the first split that isn't proper is a reason, whatever nodes follow
-bad_place : (count : ℕ) (o place : Option ℕ) (b : Bool) → o ≡ None → b ≡ true → place ≡ option_or o (option_map (λ k. count + k) (cond b (Some 0) (option_map suc o))) → numbered place ≡ Some (count + 1)
-bad_place count o place b none bad place_is =
-    ap (λ (p : Option ℕ). numbered p) place_is ∙ (λ i. numbered (option_or (none i) (option_map (λ k. count + k) (cond (bad i) (Some 0) (option_map suc (none i))))))
-    ∙ ap (λ (n : ℕ). Some n) (omega arith)
+first_bad : (ps rest : List Placed) (bad : Placed) → position is_bad_split ps ≡ None → is_bad_split bad ≡ true → numbered (position is_bad_split (ps ++ bad ∷ rest)) ≡ Some (length ps + 1)
+first_bad ps rest bad none is =
+    ap (λ (o : Option ℕ). numbered o) (position-more is_bad_split ps (bad ∷ rest))
+    ∙ (λ i. numbered (option_or (none i) (option_map (λ k. length ps + k) (position is_bad_split (bad ∷ rest)))))
+    ∙ ap (λ (o : Option ℕ). numbered (option_map (λ k. length ps + k) o)) (position-next is_bad_split bad rest ∙ ap (λ (b : Bool). cond b (Some 0) (option_map suc (position is_bad_split rest))) is)
+    ∙ ap (λ (n : ℕ). Some n) (let same : length ps + 0 + 1 ≡ length ps + 1 = omega arith in same)
+
+bad_reason : (case : CaseContents) (cert : Certificate) (n : ℕ) → numbered (position is_bad_split (placed_nodes case.book cert.nodes)) ≡ Some n → tree_reason case cert ≡ Some (reason.BadSplit n)
+bad_reason case cert n found =
+    ap (λ (o : Option ℕ). option_or (option_map reason.BadSplit o)
+    (option_map reason.WeakLeaf (numbered (position (is_weak case (claim_of case.book cert)) (placed_nodes case.book cert.nodes))))) found
+
+bad_split : (case : CaseContents) (cert : Certificate) (old new : Trial) (line at : ℕ) → IsJudging case cert old → old.reason ≡ None → old.walk.over ≡ false →
+    is_proper old.walk.ranges line at ≡ false → new ≡ record old { nodes = old.nodes + 1; reason = Some (reason.BadSplit (old.nodes + 1)) } →
+    IsJudging case (with_node cert (node.Split line at)) new
+bad_split case cert old new line at is none on improper rest =
+    let next : TreeNode = node.Split line at in
+    let lines : List Line = case.book.lines in
+    let root : List (List Interval) = root_of lines ∷ [] in
+    let going : IsGoing case cert old = is.going none in
+    let place : Here case cert old next = here case cert old next going on in
+    let ps : List Placed = placed_nodes case.book cert.nodes in
+    let bad : is_bad_split (next, old.walk.ranges) ≡ true = ap (λ (b : Bool). not b) improper in
+    let says : new.reason ≡ Some (reason.BadSplit (length ps + 1)) =
+    ap (λ (t : Trial). t.reason) rest ∙ ap (λ (n : ℕ). Some (reason.BadSplit (n + 1))) going.count in
+    record {
+      powers = ap (λ (t : Trial). t.powers) rest ∙ is.powers;
+      size = subst IsClaim (sym (ap (λ (t : Trial). t.claim) rest)) is.size;
+      point = ap (λ (t : Trial). length t.point) rest ∙ is.point;
+      walk = subst (λ (t : Trial). IsWalk lines t.walk) (sym rest) is.walk;
+      room = subst (λ (t : Trial). MOST_NODES ≤ vec_capacity t.walk.splits) (sym rest) is.room;
+      named = ap (λ (t : Trial). t.named) rest ∙ is.named;
+      gap = ap (λ (t : Trial). t.gap) rest ∙ is.gap;
+      permitted = subst (IsPermitted case.book) (sym (ap (λ (t : Trial). t.plan) rest)) is.permitted;
+      found = λ w e more.
+          (let after : Certificate = record cert { nodes = (cert.nodes ++ next ∷ []) ++ more } in
+          let nodes_are : (cert.nodes ++ next ∷ []) ++ more ≡ cert.nodes ++ (next ∷ more) = append_assoc cert.nodes (next ∷ []) more in
+          let tail : List Placed = placed lines (narrowed lines old.walk.ranges line at false ∷ narrowed lines old.walk.ranges line at true ∷ after_subtree lines old.walk) more in
+          let placed_are : placed_nodes case.book after.nodes ≡ ps ++ (next, old.walk.ranges) ∷ tail =
+          ap (λ (ns : List TreeNode). placed_nodes case.book ns) nodes_are ∙ placed-more lines root cert.nodes (next ∷ more)
+          ∙ ap (λ (ws : List (List Interval)). ps ++ placed lines ws (next ∷ more)) place.still in
+          let number : numbered (position is_bad_split (placed_nodes case.book after.nodes)) ≡ Some (length ps + 1) =
+          ap (λ (qs : List Placed). numbered (position is_bad_split qs)) placed_are ∙ first_bad ps tail (next, old.walk.ranges) going.proper bad in
+          let same : Some w ≡ Some (reason.BadSplit (length ps + 1)) = sym e ∙ says in
+          tree-found case after (reason.BadSplit (length ps + 1)) going.portfolio (bad_reason case after (length ps + 1) number) ∙ sym same);
+      going = λ e. (let wrong : Some (reason.BadSplit (length ps + 1)) ≡ None = sym says ∙ e in absurd (cc));
+    }
+
+pub split-known : (case : CaseContents) (cert : Certificate) (old new : Trial) (line at : ℕ) → IsJudging case cert old → TakesSplit case.book.lines line at old new →
+    IsJudging case (with_node cert (node.Split line at)) new
+split-known case cert old new line at is takes = by old.reason refl
+  where
+    by_proper : old.reason ≡ None → old.walk.over ≡ false → (b : Bool) → is_proper old.walk.ranges line at ≡ b → IsJudging case (with_node cert (node.Split line at)) new
+    by_proper none on true proper = splits case cert old new line at is none on proper (takes.going (may old none on) proper)
+    by_proper none on false improper = bad_split case cert old new line at is none on improper (takes.bad (may old none on) improper)
+
+    by_over : old.reason ≡ None → (b : Bool) → old.walk.over ≡ b → IsJudging case (with_node cert (node.Split line at)) new
+    by_over none true over =
+        same_known case (with_node cert (node.Split line at)) old new (takes.over (may_over old none over)) (over-stays case cert old (node.Split line at) is none over)
+    by_over none false on = by_proper none on (is_proper old.walk.ranges line at) refl
+
+    by : (o : Option Reason) → old.reason ≡ o → IsJudging case (with_node cert (node.Split line at)) new
+    by (Some why) found = same_known case (with_node cert (node.Split line at)) old new (takes.over (may_not old why found)) (stays case cert old (node.Split line at) why is found)
+    by None none = by_over none old.walk.over refl
