@@ -1,3 +1,5 @@
+pub mod HearFacts
+pub mod TakeFacts
 pub mod BuyFacts
 pub mod NodeFacts
 pub mod PlacedFacts

@@ -146,7 +146,7 @@ weak_now old place nodes count weak closed old_is nodes_is closed_is =
     by (Some k) w = refl
 
 -- a leaf or a point
-abbrev IsEnd : TreeNode → Type 0
+abbrev pub IsEnd : TreeNode → Type 0
 IsEnd (node.Split line at) = ⊥
 IsEnd node.Point = Unit {0}
 IsEnd (node.Closed leaf) = Unit {0}

@@ -3,3 +3,4 @@ pub mod Meaning
 pub mod Walk
 pub mod Trial
 pub mod Knows
+pub mod Heard

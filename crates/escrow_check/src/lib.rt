@@ -2,6 +2,7 @@
 #![tactic(auto)]
 
 mod closing;
+mod hearing;
 mod laws;
 mod trial;
 mod verdict;

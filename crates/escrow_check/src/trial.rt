@@ -8,12 +8,17 @@ ghost use Rattle.offer_book.specs.Portfolio.{IsPermitted};
 ghost use Rattle.yield_enclosure.specs.YieldAnswers.{is_within as is_within_of};
 ghost use Rattle.escrow_check.specs.Acceptance.{is_offered as is_offered_of};
 ghost use Rattle.escrow_check.specs.Trial.{Ends, IsNew, IsReady, TakesEnd, TakesSplit, closed_leaf, closed_point, may_go, plan_reason, verdict_on, with_buy, with_gap};
+ghost use Rattle.escrow_check.specs.Knows.{Comes, Knows};
 ghost use Rattle.escrow_check.specs.Walk.{IsWalk};
+ghost use Rattle.bound_certificate.specs.Draft.{with_item};
+ghost use Rattle.bound_certificate.specs.Step.{due_after};
+ghost use Rattle.bound_certificate.specs.declared.certificate.Certificate.{Certificate as CertificateOf};
+ghost use Rattle.bound_certificate.specs.declared.due.Due.{Due as DueOf};
 
 use crate::closing::{is_closed_leaf, is_closed_point};
 use crate::verdict::{Portfolio, Reason, Verdict};
 use crate::walk::Walk;
-use bound_certificate::{Buy, MOST_NODES};
+use bound_certificate::{Buy, Item, MOST_NODES};
 use case_file::Case;
 use cash_table::{Plan, cost, first_short, flows, security_cost};
 use dual_bound::Leaf;
@@ -230,6 +235,29 @@ impl Trial {
                 leaf,
             );
         self.end_subtree(case, closed);
+    }
+
+    /// What a line says, and the leaf of a leaf's line.
+    ///
+    /// # Errors
+    ///
+    /// Where memory ran out, which only the gap's line takes.
+    pub fn take(&mut self, alloc: Global, case: &Case, item: Item, leaf: &Leaf) -> Result<(), NoMemory>
+        requires comes { (cert : CertificateOf) × (d : DueOf) × Comes (case_view case.now) cert d item leaf.now self.old }
+        requires book { IsBook case.now.book }
+        ensures { OnOk result ((cert : CertificateOf) (d : DueOf) → Comes (case_view case.now) cert d item leaf.now self.old
+            → Knows (case_view case.now) (with_item cert item leaf.now) (due_after d item) self.new) }
+    {
+        match item {
+            Item::Portfolio(Some(_)) => self.take_portfolio(),
+            Item::Buy(buy) => self.take_buy(case, buy),
+            Item::Gap(cents) => self.take_gap(alloc, case, cents)?,
+            Item::Split { line, at } => self.take_split(case, line, at),
+            Item::Point => self.take_point(case),
+            Item::Leaf => self.take_leaf(case, leaf),
+            Item::Nothing | Item::Header | Item::Portfolio(None) | Item::Nodes(_) | Item::End => {}
+        }
+        Ok(())
     }
 
     /// The verdict, where the certificate is whole. It takes no memory.
