@@ -1,9 +1,9 @@
 -- What is heard, piece by piece.
-use Rattle.std.proofs.Common.{◌≡◌, ◌∙◌, ℕ, ◌+◌, ◌<◌, ◌≤◌, Bool, true, false, not, nat_lt, ℤ, List, [], ◌∷◌, ◌++◌, length, take, drop, Option, Some, None, Result, Ok, Err, option_map, refl, sym, subst, ap, arith, append_assoc}
+use Rattle.std.proofs.Common.{◌≡◌, ◌∙◌, ℕ, ◌+◌, ◌<◌, ◌≤◌, Bool, true, false, not, nat_lt, ℤ, List, [], ◌∷◌, ◌++◌, length, take, drop, Option, Some, None, Result, Ok, Err, option_map, refl, sym, subst, ap, arith, append_assoc, length-drop, ◌-◌}
 use Rattle.std.specs.Bool.{then_some}
 use Rattle.std.specs.List.{position}
 use Rattle.std.specs.Option.{option_or}
-use Rattle.std.proofs.lemmas.List.{append-nil}
+use Rattle.std.proofs.lemmas.List.{append-nil, length-take, take-append-drop, take_all}
 use Rattle.bound_certificate.specs.Draft.{no_lines, with_item}
 use Rattle.bound_certificate.specs.Due.{is_over}
 use Rattle.bound_certificate.specs.Faults.{text_fault}
@@ -221,3 +221,18 @@ heard-verdict case hearing bytes told heard done told_is =
 pub heard-bad : (case : CaseContents) (hearing : Hearing) (bytes : List ℕ) (fault : CertFault) → length case.book.needs ≤ MOST_DATES → HasHeard case hearing bytes →
     finished hearing.reader ≡ Err fault → text_fault (length case.book.needs) bytes ≡ Some fault
 heard-bad case hearing bytes fault few heard done = end-is-first (length case.book.needs) bytes hearing.reader fault few heard.came done
+
+-- ---- what is left of a piece
+pub rest-drop : (front rest bytes : List ℕ) (used size : ℕ) → length rest ≤ size → front ++ rest ≡ bytes →
+    (front ++ take used rest) ++ take (size - used) (drop used rest) ≡ bytes
+rest-drop front rest bytes used size within h =
+    let left : take (size - used) (drop used rest) ≡ drop used rest = take_all (size - used) (drop used rest) (omega (arith, length-drop used rest, within)) in
+    append_assoc front (take used rest) (take (size - used) (drop used rest))
+    ∙ ap (λ (bs : List ℕ). front ++ (take used rest ++ bs)) left
+    ∙ ap (λ (bs : List ℕ). front ++ bs) (take-append-drop used rest) ∙ h
+
+pub rest-few : (rest : List ℕ) (used size : ℕ) → length rest ≤ 65_536 → length (take (size - used) (drop used rest)) ≤ 65_536
+rest-few rest used size few = omega (arith, length-take (size - used) (drop used rest), length-drop used rest, few)
+
+pub heard-as : (case : CaseContents) (hearing : Hearing) (some other : List ℕ) → some ≡ other → HasHeard case hearing some → HasHeard case hearing other
+heard-as case hearing some other same heard = subst (HasHeard case hearing) same heard

@@ -4,3 +4,4 @@ pub mod Walk
 pub mod Trial
 pub mod Knows
 pub mod Heard
+pub mod Checking

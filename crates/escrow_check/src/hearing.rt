@@ -58,7 +58,8 @@ impl Hearing {
 
     /// The verdict on all that was heard. It takes no memory.
     pub fn finish(self, case: &Case) -> Verdict
-        requires { (bytes : List ℕ) × HasHeard (case_view case.now) self bytes }
+        requires heard { (bytes : List ℕ) × HasHeard (case_view case.now) self bytes }
+        requires book { IsBook case.now.book }
         ensures { (bytes : List ℕ) → HasHeard (case_view case.now) self bytes → IsVerdict (case_view case.now) bytes result }
     {
         match self.reader.finish() {

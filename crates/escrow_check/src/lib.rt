@@ -1,6 +1,7 @@
 //! Whether a certificate is accepted for a case.
 #![tactic(auto)]
 
+mod checker;
 mod closing;
 mod hearing;
 mod laws;
@@ -8,5 +9,6 @@ mod trial;
 mod verdict;
 mod walk;
 
+pub use checker::Checker;
 pub use laws::verdict_laws;
 pub use verdict::{Portfolio, Reason, Verdict};
