@@ -77,9 +77,9 @@ impl<'a> Checker<'a> {
     ///
     /// Where [`Checker::feed`] answered that memory ran out.
     pub fn finish(self) -> Result<Verdict, NoMemory>
-        ensures verdict { IfOk result (λ told. (bytes : List ℕ) → Heard self bytes → IsVerdict self.case bytes told) }
-        ensures ok { IfOk result (λ _. self.failed ≡ false) }
-        ensures err { IfErr result (λ _. self.failed ≡ true) }
+        ensures verdict { IfOk result (λ told. (bytes : List ℕ) → Heard self.entry bytes → IsVerdict self.entry.case bytes told) }
+        ensures ok { IfOk result (λ _. self.entry.failed ≡ false) }
+        ensures err { IfErr result (λ _. self.entry.failed ≡ true) }
     {
         let Checker {
             case,

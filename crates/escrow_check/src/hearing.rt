@@ -25,7 +25,8 @@ impl Hearing {
     /// Nothing was heard yet. All memory is taken here but that of the gap's line.
     pub fn make(alloc: Global, case: &Case) -> Result<Hearing, NoMemory>
         requires { HasTerms (case_view case.now) }
-        ensures { IfOk result (λ hearing. HasHeard (case_view case.now) hearing []) }
+        ensures heard { IfOk result (λ hearing. HasHeard (case_view case.now) hearing []) }
+        ensures book { IsBook case.now.book }
     {
         let dates = case.book.need_count();
         Ok(Hearing {

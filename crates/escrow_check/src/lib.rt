@@ -8,7 +8,9 @@ mod laws;
 mod trial;
 mod verdict;
 mod walk;
+mod whole;
 
 pub use checker::Checker;
 pub use laws::verdict_laws;
 pub use verdict::{Portfolio, Reason, Verdict};
+pub use whole::check;
