@@ -1,7 +1,7 @@
 -- What is known behind a purchase and behind the gap, and what a trial's verdict is.
-use Rattle.std.proofs.Common.{◌≡◌, ◌∙◌, ℕ, ◌+◌, ◌*◌, ◌^◌, ◌<◌, ◌≤◌, Bool, true, false, not, nat_lt, ◌&&◌, ◌||◌, cond, if◌then◌else◌, List, [], ◌∷◌, ◌++◌, length, replicate, Option, Some, None, is_some, is_none, option_map, slice_set, refl, sym, subst, ap, arith, ℤ, pos, ◌-ℤ◌, unsigned_abs, vec_len, vec_capacity}
+use Rattle.std.proofs.Common.{◌≡◌, ◌∙◌, ℕ, ◌*◌, ◌^◌, ◌≤◌, Bool, true, false, not, nat_lt, ◌||◌, cond, if◌then◌else◌, List, [], ◌∷◌, ◌++◌, length, replicate, Option, Some, None, is_some, option_map, slice_set, refl, sym, subst, ap, arith, pos, ◌-ℤ◌, unsigned_abs, vec_len, vec_capacity}
 use Rattle.std.specs.Bool.{then_some}
-use Rattle.std.specs.List.{find, fold, position}
+use Rattle.std.specs.List.{position}
 use Rattle.std.specs.Option.{option_or}
 use Rattle.std.proofs.lemmas.Int.{ints}
 use Rattle.std.proofs.lemmas.List.{append-nil}
@@ -11,8 +11,7 @@ use Rattle.bound_certificate.specs.declared.certificate.Buy.{Buy}
 use Rattle.bound_certificate.specs.declared.certificate.Certificate.{Certificate}
 use Rattle.bound_certificate.specs.declared.limits.TheConstants.{GREATEST_GAP, MOST_NODES}
 use Rattle.case_file.specs.Case.{CaseContents}
-use Rattle.cash_table.specs.First.{first_short_of}
-use Rattle.cash_table.specs.Points.{is_within_limit, yield_of}
+use Rattle.cash_table.specs.Points.{yield_of}
 use Rattle.cash_table.proofs.CostFacts.{cost_at_most}
 use Rattle.dual_bound.specs.Ranges.{root_of}
 use Rattle.dual_bound.specs.declared.ranges.Interval.{Interval}
@@ -31,7 +30,7 @@ use Rattle.escrow_check.specs.declared.verdict.Reason.TheVariants as reason
 use Rattle.escrow_check.specs.declared.verdict.Verdict.{Verdict}
 use Rattle.escrow_check.specs.declared.verdict.Verdict.TheVariants as verdict
 use Rattle.escrow_check.proofs.NodeFacts.{tree-found}
-use Rattle.escrow_check.proofs.PurchaseFacts.{plan_permitted, put_permitted, zero_permitted}
+use Rattle.escrow_check.proofs.PurchaseFacts.{put_permitted, zero_permitted}
 
 -- ---- before the first line
 pub new-known : (case : CaseContents) (cert : Certificate) (trial : Trial) → cert.buys ≡ None → cert.nodes ≡ [] → IsNew case trial → IsBuying case cert trial
@@ -274,9 +273,9 @@ gap_by case cert old gap limits is less (Some buys) named (Some why) reason_is =
     ap (λ (x : Option (List Buy)). told (first_not_offered case.book.lines (buys_in x))) (sym named) ∙ sym is.found ∙ reason_is in
     judging case cert old new gap is refl (subst IsClaim (sym is.claim) tt)
     (λ w e more.
-      (let same : Some w ≡ Some why = sym e ∙ reason_is in
-      first_reason case (record cert { gap = gap; nodes = cert.nodes ++ more }) buys why named
-      (ap (λ (o : Option Reason). option_or o (plan_reason case (plan_of case.book buys) (yield_of case.book (plan_of case.book buys)))) found) ∙ sym same))
+    (let same : Some w ≡ Some why = sym e ∙ reason_is in
+    first_reason case (record cert { gap = gap; nodes = cert.nodes ++ more }) buys why named
+    (ap (λ (o : Option Reason). option_or o (plan_reason case (plan_of case.book buys) (yield_of case.book (plan_of case.book buys)))) found) ∙ sym same))
     (λ e. (let bad : Some why ≡ None = sym reason_is ∙ e in absurd (cc)))
 gap_by case cert old gap limits is less (Some buys) named None reason_is =
     let new : Trial = judged_trial case old gap in

@@ -1,5 +1,5 @@
 -- Tight ranges, and the portfolio of their low ends.
-use Rattle.std.proofs.Common.{◌≡◌, ◌∙◌, ℕ, zero, suc, ◌+◌, ◌<◌, ◌≤◌, List, [], ◌∷◌, length, map, get_or, set, refl, sym, ap, arith, inl, inr}
+use Rattle.std.proofs.Common.{◌≡◌, ◌∙◌, ℕ, suc, ◌+◌, ◌<◌, List, [], ◌∷◌, length, get_or, set, refl, sym, ap, arith, inl, inr}
 use Rattle.std.specs.List.{All, AllZip, zip}
 use Rattle.std.proofs.lemmas.List.Elements.{All-cons, All-nil}
 use Rattle.dual_bound.proofs.RangeFacts.{tight-length}
@@ -32,9 +32,9 @@ pub lows-more : (line low : ℕ) (ranges : List Interval) (plan : List ℕ) → 
 lows-more line low ranges plan are there low_is = record {
   same = length-set plan line low ∙ are.same;
   lows = λ k d few. elim (cases_lt k line) [
-      | inl less ↦ get_or-set_other plan line k low 0 (λ e. absurd (omega (arith, e, less))) ∙ are.lows k d less
-      | inr more ↦ here k d (omega (arith, few, more))
-    ];
+    | inl less ↦ get_or-set_other plan line k low 0 (λ e. absurd (omega (arith, e, less))) ∙ are.lows k d less
+    | inr more ↦ here k d (omega (arith, few, more))
+  ];
 }
   where
     here : (k : ℕ) (d : Interval) → k ≡ line → get_or (set plan line low) k 0 ≡ (get_or ranges k d).low

@@ -1,9 +1,9 @@
 -- What is heard, piece by piece.
-use Rattle.std.proofs.Common.{◌≡◌, ◌∙◌, ℕ, ◌+◌, ◌<◌, ◌≤◌, Bool, true, false, not, nat_lt, ℤ, List, [], ◌∷◌, ◌++◌, length, take, drop, Option, Some, None, Result, Ok, Err, option_map, refl, sym, subst, ap, arith, append_assoc, length-drop, ◌-◌}
+use Rattle.std.proofs.Common.{◌≡◌, ◌∙◌, ℕ, ◌<◌, ◌≤◌, Bool, true, false, not, nat_lt, ℤ, List, [], ◌++◌, length, take, drop, Option, Some, None, Ok, Err, option_map, refl, sym, subst, ap, arith, append_assoc, length-drop, ◌-◌}
 use Rattle.std.specs.Bool.{then_some}
 use Rattle.std.specs.List.{position}
 use Rattle.std.specs.Option.{option_or}
-use Rattle.std.proofs.lemmas.List.{append-nil, length-take, take-append-drop, take_all}
+use Rattle.std.proofs.lemmas.List.{length-take, take-append-drop, take_all}
 use Rattle.bound_certificate.specs.Draft.{no_lines, with_item}
 use Rattle.bound_certificate.specs.Due.{is_over}
 use Rattle.bound_certificate.specs.Faults.{text_fault}
@@ -16,7 +16,6 @@ use Rattle.bound_certificate.specs.declared.due.Due.{Due}
 use Rattle.bound_certificate.specs.declared.due.Due.TheVariants as due
 use Rattle.bound_certificate.specs.declared.fault.CertFault.{CertFault}
 use Rattle.bound_certificate.specs.declared.item.Fed.{Fed}
-use Rattle.bound_certificate.specs.declared.item.Item.{Item}
 use Rattle.bound_certificate.specs.declared.limits.TheConstants.{MOST_DATES, MOST_NODES}
 use Rattle.bound_certificate.specs.declared.reading.Reading.{Reading}
 use Rattle.bound_certificate.proofs.CertFacts.{AtLine, at-end, at-more, end-is-first, started}
@@ -78,12 +77,15 @@ heard-comes case hearing bytes piece fed new leaf heard feeds lent =
     let lines : KnowsLines case hearing bytes = heard.lines (going-before hearing.reader new (take fed.used piece) feeds.taken feeds.going) in
     let steps : Steps dates hearing.reader.due fed.item new = at-step dates bytes lines.cert hearing.reader piece fed new lines.at feeds in
     let P : Leaf → Type 0 = λ l. IsSuited dates hearing.reader.due fed.item l in
-    let Q : Due → Type 0 = λ d. IsDraft dates d lines.cert in
-    (lines.cert, hearing.reader.due, record {
-      knows = lines.knows;
-      suited = subst P (sym lent) steps.suited;
-      few = few_nodes dates hearing.reader.due lines.cert (subst Q (at-due dates bytes lines.cert hearing.reader lines.at) lines.at.draft);
-    })
+    let Q : Due → Type 0 = λ d. IsDraft dates d lines.cert in (
+      lines.cert,
+      hearing.reader.due,
+      record {
+        knows = lines.knows;
+        suited = subst P (sym lent) steps.suited;
+        few = few_nodes dates hearing.reader.due lines.cert (subst Q (at-due dates bytes lines.cert hearing.reader lines.at) lines.at.draft);
+      },
+    )
 
 -- and what it says is known then
 pub heard-more : (case : CaseContents) (hearing : Hearing) (bytes piece : List ℕ) (fed : Fed) (new : Reading) (leaf : Leaf) (trial : Trial) → HasHeard case hearing bytes →

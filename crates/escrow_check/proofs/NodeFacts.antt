@@ -1,5 +1,5 @@
 -- What is known behind one more node.
-use Rattle.std.proofs.Common.{◌≡◌, ◌∙◌, ℕ, zero, suc, ◌+◌, ◌<◌, ◌≤◌, Bool, true, false, not, nat_lt, ◌&&◌, ◌||◌, cond, if◌then◌else◌, List, [], ◌∷◌, ◌++◌, length, Option, Some, None, is_some, is_none, option_map, refl, sym, subst, ap, arith, append_assoc, length-append, vec_len, vec_capacity}
+use Rattle.std.proofs.Common.{◌≡◌, ◌∙◌, ℕ, suc, ◌+◌, ◌≤◌, Bool, true, false, not, nat_lt, ◌&&◌, ◌||◌, cond, if◌then◌else◌, List, [], ◌∷◌, ◌++◌, length, Option, Some, None, is_some, is_none, option_map, refl, sym, subst, ap, arith, append_assoc, length-append, vec_capacity}
 use Rattle.std.specs.List.{position}
 use Rattle.std.specs.Bool.{then_some}
 use Rattle.std.specs.Option.{option_or}
@@ -17,7 +17,7 @@ use Rattle.offer_book.specs.Portfolio.{IsPermitted}
 use Rattle.offer_book.specs.declared.line.Line.{Line}
 use Rattle.escrow_check.specs.Acceptance.{Claim, claim_of, is_bad_split, is_weak, numbered, placed, placed_nodes, portfolio_reason, reason_by, reason_of, tree_reason}
 use Rattle.escrow_check.specs.Knows.{IsGoing, IsJudging, still_waiting}
-use Rattle.escrow_check.specs.Trial.{Ends, IsClaim, SplitsWell, TakesEnd, TakesSplit, may_go, weak_after}
+use Rattle.escrow_check.specs.Trial.{Ends, IsClaim, SplitsWell, TakesEnd, TakesSplit, may_go}
 use Rattle.escrow_check.specs.Walk.{IsWalk, after_subtree, waiting_of}
 use Rattle.escrow_check.specs.declared.trial.Trial.{Trial}
 use Rattle.escrow_check.specs.declared.verdict.Reason.{Reason}

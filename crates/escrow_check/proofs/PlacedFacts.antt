@@ -1,5 +1,5 @@
 -- One more node of a tree.
-use Rattle.std.proofs.Common.{◌≡◌, ◌∙◌, ℕ, zero, suc, ◌+◌, ◌<◌, ◌≤◌, Bool, true, false, not, cond, nat_lt, List, [], ◌∷◌, ◌++◌, length, Option, Some, None, option_map, refl, sym, ap, arith, inl, inr}
+use Rattle.std.proofs.Common.{◌≡◌, ◌∙◌, ℕ, suc, ◌+◌, Bool, true, false, not, cond, nat_lt, List, [], ◌∷◌, ◌++◌, length, Option, Some, None, option_map, refl, sym, ap, arith, inl, inr}
 use Rattle.std.specs.List.{position, position_or_len}
 use Rattle.std.specs.Option.{option_or}
 use Rattle.std.proofs.lemmas.Bool.{cases_lt}
@@ -15,16 +15,16 @@ use Rattle.escrow_check.specs.Knows.{still_waiting}
 -- ---- first places
 later : (k n : ℕ) → cond (nat_lt (1 + k) (suc n)) (Some (1 + k)) None ≡ option_map suc (cond (nat_lt k n) (Some k) None)
 later k n = elim (cases_lt k n) [
-    | inl less ↦
+  | inl less ↦
       let here : nat_lt k n ≡ true = grind (arith, nat_tests, less) in
       let there : nat_lt (1 + k) (suc n) ≡ true = grind (arith, nat_tests, less) in
       let next : 1 + k ≡ suc k = omega arith in
       ap (λ (b : Bool). cond b (Some (1 + k)) None) there ∙ ap (λ (m : ℕ). Some m) next ∙ sym (ap (λ (b : Bool). option_map suc (cond b (Some k) None)) here)
-    | inr more ↦
+  | inr more ↦
       let here : nat_lt k n ≡ false = grind (arith, nat_tests, more) in
       let there : nat_lt (1 + k) (suc n) ≡ false = grind (arith, nat_tests, more) in
       ap (λ (b : Bool). cond b (Some (1 + k)) None) there ∙ sym (ap (λ (b : Bool). option_map suc (cond b (Some k) None)) here)
-  ]
+]
 
 pub position-next : {X : Type 0} (p : X → Bool) (x : X) (xs : List X) → position p (x ∷ xs) ≡ cond (p x) (Some 0) (option_map suc (position p xs))
 position-next p x xs = by (p x)

@@ -1,13 +1,11 @@
 -- What is known behind each line.
-use Rattle.std.proofs.Common.{◌≡◌, ◌∙◌, ℕ, suc, ◌+◌, ◌-◌, ◌<◌, ◌≤◌, ◌==◌, Bool, true, false, not, ◌&&◌, ◌||◌, if◌then◌else◌, List, [], ◌∷◌, ◌++◌, length, Option, Some, None, is_some, is_none, option_map, refl, sym, subst, ap, arith}
+use Rattle.std.proofs.Common.{◌≡◌, ℕ, ◌+◌, ◌-◌, ◌<◌, ◌≤◌, ◌==◌, Bool, true, false, not, ◌&&◌, ◌||◌, if◌then◌else◌, List, [], ◌∷◌, ◌++◌, length, Option, Some, None, is_some, is_none, option_map, refl, arith}
 use Rattle.bound_certificate.specs.Draft.{with_item}
-use Rattle.bound_certificate.specs.Due.{buys_due, nodes_due}
-use Rattle.bound_certificate.specs.Step.{IsSuited, due_after}
+use Rattle.bound_certificate.specs.Step.{due_after}
 use Rattle.bound_certificate.specs.declared.certificate.Buy.{Buy}
 use Rattle.bound_certificate.specs.declared.certificate.Certificate.{Certificate}
 use Rattle.bound_certificate.specs.declared.due.Due.{Due}
 use Rattle.bound_certificate.specs.declared.due.Due.TheVariants as due
-use Rattle.bound_certificate.specs.declared.item.Item.{Item}
 use Rattle.bound_certificate.specs.declared.item.Item.TheVariants as item
 use Rattle.bound_certificate.specs.declared.limits.TheConstants.{GREATEST_GAP, MOST_NODES}
 use Rattle.case_file.specs.Case.{CaseContents}
@@ -19,9 +17,9 @@ use Rattle.dual_bound.specs.declared.tree.TreeNode.{TreeNode}
 use Rattle.dual_bound.specs.declared.tree.TreeNode.TheVariants as node
 use Rattle.offer_book.specs.Book.{IsBook}
 use Rattle.offer_book.specs.declared.line.Line.{Line}
-use Rattle.escrow_check.specs.Acceptance.{is_closed_leaf, is_closed_point, placed, placed_nodes}
+use Rattle.escrow_check.specs.Acceptance.{is_closed_leaf, is_closed_point, placed}
 use Rattle.escrow_check.specs.Knows.{Comes, IsBuying, IsGoing, IsJudging, Knows}
-use Rattle.escrow_check.specs.Trial.{IsReady, TakesEnd, TakesSplit, closed_leaf, closed_point, may_go, with_buy, with_gap}
+use Rattle.escrow_check.specs.Trial.{IsReady, TakesEnd, TakesSplit, closed_leaf, closed_point, with_buy, with_gap}
 use Rattle.escrow_check.specs.declared.trial.Trial.{Trial}
 use Rattle.escrow_check.specs.declared.verdict.Reason.{Reason}
 use Rattle.escrow_check.proofs.BuyFacts.{bought-known, gap-known, named-known, unnamed-known}

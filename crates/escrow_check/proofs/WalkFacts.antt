@@ -1,11 +1,11 @@
 -- Open splits, and what the innermost one does.
-use Rattle.std.proofs.Common.{◌≡◌, ◌∙◌, ℕ, zero, suc, ◌+◌, ◌<◌, ◌≤◌, Bool, true, false, if◌then◌else◌, List, [], ◌∷◌, ◌++◌, length, get_or, set, refl, sym, subst, ap, arith, append_assoc, Result, Ok, Err, is_ok}
+use Rattle.std.proofs.Common.{◌≡◌, ◌∙◌, ℕ, zero, suc, ◌<◌, ◌≤◌, Bool, true, false, if◌then◌else◌, List, [], ◌∷◌, ◌++◌, length, get_or, set, refl, sym, subst, ap, arith, append_assoc, Result, Ok, Err, is_ok}
 use Rattle.std.specs.Prelude.{IsOk, IsTrue}
 use Rattle.std.proofs.lemmas.List.{append-nil}
 use Rattle.offer_book.specs.declared.line.Line.{Line}
-use Rattle.dual_bound.specs.Ranges.{AreTight, is_proper, narrowed, root_of, side_of}
+use Rattle.dual_bound.specs.Ranges.{AreTight, is_proper, narrowed, root_of}
 use Rattle.dual_bound.specs.declared.ranges.Interval.{Interval}
-use Rattle.dual_bound.proofs.RangeFacts.{sides-tight, splits-at, tight-length, tight-ordered}
+use Rattle.dual_bound.proofs.RangeFacts.{sides-tight, splits-at, tight-ordered}
 use Rattle.escrow_check.specs.declared.walk.OpenSplit.{OpenSplit}
 use Rattle.escrow_check.specs.Walk.{AreSplitsOf, IsSplitOf, right_side, side_under_way, to_come, within_splits}
 
@@ -154,11 +154,12 @@ turned lines ranges splits last fewer back now more within were back_is left now
     let here = subst P (sym back_is) (gone.within, gone.split) in
     let next : OneMore lines back fewer other now more = one-more lines back fewer other now more here.0 here.1.proper here.1.before now_is more_is in
     let side : right_side lines back last ≡ now ∷ [] =
-    ap (λ (b : Bool). if b then [] else narrowed lines back last.line last.at true ∷ []) left ∙ ap (λ (r : List Interval). r ∷ []) (sym now_is) in
-    (next.within,
-    ap (λ (ws : List (List Interval)). now ∷ ws) next.come
-    ∙ ap (λ (ws : List (List Interval)). ws ++ to_come lines (root_of lines) fewer) (sym side)
-    ∙ ap (λ (r : List Interval). right_side lines r last ++ to_come lines (root_of lines) fewer) back_is ∙ sym gone.come)
+    ap (λ (b : Bool). if b then [] else narrowed lines back last.line last.at true ∷ []) left ∙ ap (λ (r : List Interval). r ∷ []) (sym now_is) in (
+      next.within,
+      ap (λ (ws : List (List Interval)). now ∷ ws) next.come
+          ∙ ap (λ (ws : List (List Interval)). ws ++ to_come lines (root_of lines) fewer) (sym side)
+          ∙ ap (λ (r : List Interval). right_side lines r last ++ to_come lines (root_of lines) fewer) back_is ∙ sym gone.come,
+    )
 
 -- the last split is done
 pub dropped : (lines : List Line) (ranges : List Interval) (splits : List OpenSplit) (last : OpenSplit) (fewer : List OpenSplit) (back : List Interval) →

@@ -1,5 +1,5 @@
 -- What is known of a certificate as its lines come, and what each line adds.
-use Rattle.std.specs.Prelude.{◌≡◌, ℕ, ◌+◌, ◌-◌, ◌^◌, ◌*◌, ◌≤◌, ◌<◌, Bool, true, false, not, ◌&&◌, ◌||◌, nat_lt, if◌then◌else◌, List, [], ◌∷◌, length, replicate, slice_set, is_some, is_none, Option, Some, None, option_map, ℤ, pos, ◌-ℤ◌, unsigned_abs, vec_len, vec_capacity}
+use Rattle.std.specs.Prelude.{◌≡◌, ℕ, ◌+◌, ◌-◌, ◌^◌, ◌*◌, ◌≤◌, ◌<◌, Bool, true, false, not, ◌&&◌, ◌||◌, nat_lt, if◌then◌else◌, List, [], ◌∷◌, length, replicate, slice_set, is_some, is_none, Option, Some, None, option_map, pos, ◌-ℤ◌, unsigned_abs, vec_len, vec_capacity}
 use Rattle.std.specs.Bool.{then_some}
 use Rattle.std.specs.Option.{option_or}
 use Rattle.fixed_powers.specs.DiscountPowers.{PowerTable}

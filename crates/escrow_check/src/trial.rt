@@ -106,7 +106,12 @@ impl Trial {
         ensures { IfOk result (λ trial. IsNew (case_view case.now) trial) }
     {
         Ok(Trial {
-            powers: Powers::make(alloc, YieldUnits(case.limit.0 - 1), Side::Low, GREATEST_INDEX)?,
+            powers: Powers::make(
+                alloc,
+                YieldUnits(case.limit.0 - 1),
+                Side::Low,
+                GREATEST_INDEX,
+            )?,
             point: Plan::zero(alloc, &case.book)?,
             named: false,
             plan: Plan::zero(alloc, &case.book)?,
@@ -227,13 +232,7 @@ impl Trial {
             return;
         }
         let closed = self.weak.is_some()
-            || is_closed_leaf(
-                case,
-                &self.powers,
-                self.claim,
-                &self.walk.ranges,
-                leaf,
-            );
+            || is_closed_leaf(case, &self.powers, self.claim, &self.walk.ranges, leaf);
         self.end_subtree(case, closed);
     }
 
@@ -242,7 +241,13 @@ impl Trial {
     /// # Errors
     ///
     /// Where memory ran out, which only the gap's line takes.
-    pub fn take(&mut self, alloc: Global, case: &Case, item: Item, leaf: &Leaf) -> Result<(), NoMemory>
+    pub fn take(
+        &mut self,
+        alloc: Global,
+        case: &Case,
+        item: Item,
+        leaf: &Leaf,
+    ) -> Result<(), NoMemory>
         requires comes { (cert : CertificateOf) × (d : DueOf) × Comes (case_view case.now) cert d item leaf.now self.old }
         requires book { IsBook case.now.book }
         ensures { OnOk result ((cert : CertificateOf) (d : DueOf) → Comes (case_view case.now) cert d item leaf.now self.old

@@ -1,4 +1,4 @@
-use Rattle.std.proofs.Common.{◌≡◌, ◌∙◌, ℕ, List, length, ap, subst, sym}
+use Rattle.std.proofs.Common.{◌∙◌, length, ap, subst, sym}
 use Rattle.dual_bound.proofs.RangeFacts.{tight-length}
 use Rattle.offer_book.specs.Portfolio.{IsPermitted}
 use Rattle.escrow_check.proofs.CloseFacts.{lows-permitted}

@@ -1,5 +1,5 @@
-use Rattle.std.proofs.Common.{◌≡◌, ◌∙◌, ℕ, length, subst, sym, arith}
-use Rattle.escrow_check.proofs.CloseFacts.{AreLowUpTo, lows-all}
+use Rattle.std.proofs.Common.{arith}
+use Rattle.escrow_check.proofs.CloseFacts.{lows-all}
 use Rattle.escrow_check.proofs.closing.put_low_ends.Goals as goal
 
 pub returns : goal.returns

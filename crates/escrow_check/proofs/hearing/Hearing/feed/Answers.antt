@@ -1,7 +1,6 @@
-use Rattle.std.proofs.Common.{◌≡◌, ◌∙◌, ◌≤◌, List, ℕ, ◌++◌, length, take, ap, arith, append_assoc, sym}
+use Rattle.std.proofs.Common.{◌∙◌, List, ℕ, ◌++◌, length, take, ap, arith, append_assoc}
 use Rattle.bound_certificate.proofs.CertFacts.{all-came, empty_rest}
 use Rattle.case_file.specs.Case.{CaseContents, case_view}
-use Rattle.escrow_check.specs.declared.hearing.Hearing.{Hearing}
 use Rattle.escrow_check.proofs.HearFacts.{heard-as, heard-comes, heard-fault, heard-more, rest-drop, rest-few}
 use Rattle.escrow_check.proofs.hearing.Hearing.feed.Goals as goal
 

@@ -1,4 +1,4 @@
-use Rattle.std.proofs.Common.{◌≡◌, ◌∙◌, sym}
+use Rattle.std.proofs.Common.{◌∙◌, sym}
 use Rattle.case_file.specs.Case.{case_view}
 use Rattle.escrow_check.proofs.HearFacts.{heard-bad, heard-verdict}
 use Rattle.escrow_check.proofs.hearing.Hearing.finish.Goals as goal

@@ -1,4 +1,4 @@
-use Rattle.std.proofs.Common.{ap, arith}
+use Rattle.std.proofs.Common.{ap}
 use Rattle.case_file.specs.Case.{case_view}
 use Rattle.bound_certificate.specs.Reading.{new_leaf, new_reading}
 use Rattle.escrow_check.proofs.HearFacts.{heard-nothing}

@@ -1,10 +1,10 @@
-use Rattle.std.proofs.Common.{◌≡◌, ◌∙◌, ◌<◌, ◌≤◌, ◌++◌, ◌∷◌, [], Bool, true, false, List, Option, if◌then◌else◌, length, set, vec_len, vec_capacity, ap, sym, subst, arith}
+use Rattle.std.proofs.Common.{◌∙◌, ◌++◌, true, List, Option, ap, sym, subst, arith}
 use Rattle.std.specs.Prelude.{option_to_list, IsTrue}
-use Rattle.dual_bound.specs.Ranges.{AreTight, is_proper, narrowed, root_of}
+use Rattle.dual_bound.specs.Ranges.{AreTight, is_proper, root_of}
 use Rattle.dual_bound.specs.declared.ranges.Interval.{Interval}
 use Rattle.escrow_check.specs.declared.walk.OpenSplit.{OpenSplit}
-use Rattle.escrow_check.specs.Walk.{right_side, to_come, waiting_of}
-use Rattle.escrow_check.proofs.WalkFacts.{Within, dropped, one-fewer, pushed, turned, waiting-going}
+use Rattle.escrow_check.specs.Walk.{to_come}
+use Rattle.escrow_check.proofs.WalkFacts.{dropped, one-fewer, pushed, turned, waiting-going}
 use Rattle.escrow_check.proofs.walk.Walk.close.Goals as goal
 
 pub restore-requires-clause-line : goal.restore-requires-clause-line

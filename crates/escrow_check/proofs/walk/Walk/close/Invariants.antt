@@ -1,4 +1,4 @@
-use Rattle.std.proofs.Common.{◌≡◌, false, ◌≤◌, length, vec_capacity, vec_len}
+use Rattle.std.proofs.Common.{◌≡◌, false, ◌≤◌, vec_capacity, vec_len}
 use Rattle.dual_bound.specs.Ranges.{root_of}
 use Rattle.escrow_check.specs.Walk.{to_come}
 use Rattle.escrow_check.proofs.WalkFacts.{Within}

@@ -1,10 +1,10 @@
-use Rattle.std.proofs.Common.{◌≡◌, ◌∙◌, ◌<◌, ◌++◌, ◌∷◌, [], true, false, List, get_or, length, ap, sym, subst, arith}
+use Rattle.std.proofs.Common.{◌∙◌, ◌++◌, ◌∷◌, true, List, get_or, ap, sym, subst}
 use Rattle.std.specs.Prelude.{IsTrue}
 use Rattle.dual_bound.specs.Ranges.{is_proper, narrowed, root_of}
 use Rattle.dual_bound.specs.declared.ranges.Interval.{Interval}
 use Rattle.escrow_check.specs.declared.walk.OpenSplit.{OpenSplit}
-use Rattle.escrow_check.specs.Walk.{right_side, to_come, waiting_of}
-use Rattle.escrow_check.proofs.WalkFacts.{Within, one-more, pushed, waiting-going, within-tight}
+use Rattle.escrow_check.specs.Walk.{right_side, to_come}
+use Rattle.escrow_check.proofs.WalkFacts.{one-more, pushed, waiting-going, within-tight}
 use Rattle.escrow_check.proofs.walk.Walk.split.Goals as goal
 
 pub narrow-requires-clause-tight : goal.narrow-requires-clause-tight
