@@ -61,7 +61,7 @@ at-start dates few = record {
 }
 
 -- behind the last line any byte is a fault
-none_over : (reading : Reading) (bytes : List ℕ) → reading.fault ≡ None → is_over reading.due ≡ true → (after_bytes reading bytes).fault ≡ None → bytes ≡ []
+pub none_over : (reading : Reading) (bytes : List ℕ) → reading.fault ≡ None → is_over reading.due ≡ true → (after_bytes reading bytes).fault ≡ None → bytes ≡ []
 none_over reading [] going over good = refl
 none_over reading (byte ∷ bytes) going over good =
     let bad : Some (fault_at reading kind.Trailing) ≡ None = sym (over-bytes reading byte bytes going over) ∙ good in absurd (cc)
@@ -102,14 +102,14 @@ leaf_given cert (text.Node (node.Closed mine)) leaf o has given =
     ap (λ (l : Leaf). with_item cert item.Leaf l) equal
 leaf_given cert text.End leaf o has given = refl
 
-not_over : (reading : Reading) (bytes : List ℕ) → reading.fault ≡ None → (after_bytes reading (bytes ++ 10 ∷ [])).fault ≡ None → (b : Bool) → is_over reading.due ≡ b → b ≡ false
+pub not_over : (reading : Reading) (bytes : List ℕ) → reading.fault ≡ None → (after_bytes reading (bytes ++ 10 ∷ [])).fault ≡ None → (b : Bool) → is_over reading.due ≡ b → b ≡ false
 not_over reading bytes going good false e = refl
 not_over reading bytes going good true e =
     let none : bytes ++ 10 ∷ [] ≡ [] = none_over reading (bytes ++ 10 ∷ []) going e good in
     let some : length (bytes ++ 10 ∷ []) ≡ 0 = ap length none in
     absurd (omega (arith, length-append bytes (10 ∷ []), some))
 
-no_fault : (reading : Reading) (o : Option FaultKind) → option_map (fault_at reading) o ≡ None → o ≡ None
+pub no_fault : (reading : Reading) (o : Option FaultKind) → option_map (fault_at reading) o ≡ None → o ≡ None
 no_fault reading None h = refl
 no_fault reading (Some found) h = absurd (cc)
 

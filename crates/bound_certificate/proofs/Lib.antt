@@ -14,3 +14,4 @@ pub mod ReadingFacts
 pub mod ScanFacts
 pub mod WordFacts
 pub mod SayFacts
+pub mod StepFacts

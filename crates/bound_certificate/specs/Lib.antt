@@ -7,3 +7,4 @@ pub mod Laws
 pub mod Grammar
 pub mod Faults
 pub mod Draft
+pub mod Step

@@ -1,5 +1,5 @@
 //! Ranges of units, one for each line of a book.
-ghost use Rattle.std.specs.Prelude.{All, ◌≡◌, ◌<◌, ◌≤◌, length, slice_index_or, IfOk, IsTrue};
+ghost use Rattle.std.specs.Prelude.{All, ◌≡◌, ◌<◌, ◌≤◌, length, slice_index_or, slice_set, IfOk, IsTrue};
 ghost use Rattle.offer_book.specs.Book.{IsBook};
 ghost use Rattle.dual_bound.specs.Ranges.{AreTight, is_proper, is_single, narrowed, root_of, side_of as side_of_interval, tightened, whole_interval};
 
@@ -139,6 +139,16 @@ impl Ranges {
     {
         let place = usize::from(line);
         self.intervals[place] = side_of(book.line(line), self.intervals[place], at, right);
+    }
+
+    /// Puts back an interval of a line, counted from 0, whose low end is at most its high one. It takes no memory.
+    pub fn restore(&mut self, line: u16, interval: Interval)
+        requires line { line < length self.old }
+        requires ordered { interval.low ≤ interval.high }
+        ensures { self.new ≡ slice_set self.old line interval }
+    {
+        let place = usize::from(line);
+        self.intervals[place] = interval;
     }
 
     /// Goes back to the ranges of the root. It takes no memory.

@@ -1,4 +1,11 @@
 pub mod OneVerdict
+pub mod HearFacts
+pub mod TakeFacts
+pub mod BuyFacts
+pub mod NodeFacts
+pub mod PlacedFacts
+pub mod CloseFacts
+pub mod WalkFacts
 pub mod PurchaseFacts
 pub mod ReasonFacts
 pub mod TreeFacts

@@ -2,3 +2,8 @@ pub mod Acceptance
 pub mod Meaning
 pub mod Reasons
 pub mod Verdicts
+pub mod Walk
+pub mod Trial
+pub mod Knows
+pub mod Heard
+pub mod Checking

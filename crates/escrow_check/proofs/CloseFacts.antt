@@ -1,0 +1,64 @@
+-- Tight ranges, and the portfolio of their low ends.
+use Rattle.std.proofs.Common.{◌≡◌, ◌∙◌, ℕ, suc, ◌+◌, ◌<◌, List, [], ◌∷◌, length, get_or, set, refl, sym, ap, arith, inl, inr}
+use Rattle.std.specs.List.{All, AllZip, zip}
+use Rattle.std.proofs.lemmas.List.Elements.{All-cons, All-nil}
+use Rattle.dual_bound.proofs.RangeFacts.{tight-length}
+use Rattle.offer_book.specs.Book.{BookContents}
+use Rattle.offer_book.specs.Portfolio.{IsPermitted, IsPermittedUnits}
+use Rattle.std.proofs.lemmas.Bool.{cases_lt}
+use Rattle.std.proofs.lemmas.List.{get_or-set_same, get_or-set_other, length-map, length-set}
+use Rattle.cash_table.proofs.CostFacts.{permitted_few}
+use Rattle.dual_bound.specs.Ranges.{AreTight, HasRoomFor}
+use Rattle.dual_bound.specs.declared.ranges.Interval.{Interval}
+use Rattle.offer_book.specs.declared.line.Line.{Line}
+use Rattle.escrow_check.specs.Acceptance.{low_ends}
+
+pub tight-room : (lines : List Line) (ranges : List Interval) → AreTight lines ranges → AllZip HasRoomFor lines ranges
+tight-room [] [] tight = tt
+tight-room [] (interval ∷ ranges) tight = absurd tight
+tight-room (line ∷ lines) [] tight = absurd tight
+tight-room (line ∷ lines) (interval ∷ ranges) tight = (permitted_few line interval.high tight.0.high, tight-room lines ranges tight.1)
+
+abbrev IsPair : Line × ℕ → Type 0
+IsPair p = IsPermittedUnits p.0 p.1
+
+-- so many numbers are the low ends
+pub record AreLowUpTo (count : ℕ) (ranges : List Interval) (plan : List ℕ) : Type 0 where
+  pub same : length plan ≡ length ranges
+  pub lows : (k : ℕ) (d : Interval) → k < count → get_or plan k 0 ≡ (get_or ranges k d).low
+
+pub lows-more : (line low : ℕ) (ranges : List Interval) (plan : List ℕ) → AreLowUpTo line ranges plan → line < length ranges → ((d : Interval) → low ≡ (get_or ranges line d).low) →
+    AreLowUpTo (line + 1) ranges (set plan line low)
+lows-more line low ranges plan are there low_is = record {
+  same = length-set plan line low ∙ are.same;
+  lows = λ k d few. elim (cases_lt k line) [
+    | inl less ↦ get_or-set_other plan line k low 0 (λ e. absurd (omega (arith, e, less))) ∙ are.lows k d less
+    | inr more ↦ here k d (omega (arith, few, more))
+  ];
+}
+  where
+    here : (k : ℕ) (d : Interval) → k ≡ line → get_or (set plan line low) k 0 ≡ (get_or ranges k d).low
+    here k d e =
+        ap (λ (n : ℕ). get_or (set plan line low) n 0) e ∙ get_or-set_same plan line low 0 (omega (arith, are.same, there)) ∙ low_is d
+        ∙ ap (λ (n : ℕ). (get_or ranges n d).low) (sym e)
+
+pub lows-all : (ranges : List Interval) (plan : List ℕ) → AreLowUpTo (length ranges) ranges plan → plan ≡ low_ends ranges
+lows-all [] [] are = refl
+lows-all [] (units ∷ plan) are = absurd (omega (arith, are.same))
+lows-all (interval ∷ ranges) [] are = absurd (omega (arith, are.same))
+lows-all (interval ∷ ranges) (units ∷ plan) are =
+    let first : units ≡ interval.low = are.lows 0 interval (omega arith) in
+    let rest : plan ≡ low_ends ranges = lows-all ranges plan (record { same = omega (arith, are.same); lows = λ k d few. are.lows (suc k) d (omega (arith, few)) }) in
+    (λ i. first i ∷ rest i)
+
+lows_units : (lines : List Line) (ranges : List Interval) → AreTight lines ranges → All IsPair (zip lines (low_ends ranges))
+lows_units [] [] tight = All-nil IsPair
+lows_units [] (interval ∷ ranges) tight = absurd tight
+lows_units (line ∷ lines) [] tight = absurd tight
+lows_units (line ∷ lines) (interval ∷ ranges) tight = All-cons IsPair (line, interval.low) (zip lines (low_ends ranges)) tight.0.low (lows_units lines ranges tight.1)
+
+pub lows-permitted : (book : BookContents) (ranges : List Interval) → AreTight book.lines ranges → IsPermitted book (low_ends ranges)
+lows-permitted book ranges tight = record {
+  same_length = length-map ranges (λ (interval : Interval). interval.low) ∙ sym (tight-length book.lines ranges tight);
+  units = lows_units book.lines ranges tight;
+}

@@ -1,0 +1,87 @@
+-- One more node of a tree.
+use Rattle.std.proofs.Common.{◌≡◌, ◌∙◌, ℕ, suc, ◌+◌, Bool, true, false, not, cond, nat_lt, List, [], ◌∷◌, ◌++◌, length, Option, Some, None, option_map, refl, sym, ap, arith, inl, inr}
+use Rattle.std.specs.List.{position, position_or_len}
+use Rattle.std.specs.Option.{option_or}
+use Rattle.std.proofs.lemmas.Bool.{cases_lt}
+use Rattle.std.proofs.lemmas.Bool.Decides.{nat_tests}
+use Rattle.dual_bound.specs.Ranges.{narrowed}
+use Rattle.dual_bound.specs.declared.ranges.Interval.{Interval}
+use Rattle.dual_bound.specs.declared.tree.TreeNode.{TreeNode}
+use Rattle.dual_bound.specs.declared.tree.TreeNode.TheVariants as node
+use Rattle.offer_book.specs.declared.line.Line.{Line}
+use Rattle.escrow_check.specs.Acceptance.{placed}
+use Rattle.escrow_check.specs.Knows.{still_waiting}
+
+-- ---- first places
+later : (k n : ℕ) → cond (nat_lt (1 + k) (suc n)) (Some (1 + k)) None ≡ option_map suc (cond (nat_lt k n) (Some k) None)
+later k n = elim (cases_lt k n) [
+  | inl less ↦
+      let here : nat_lt k n ≡ true = grind (arith, nat_tests, less) in
+      let there : nat_lt (1 + k) (suc n) ≡ true = grind (arith, nat_tests, less) in
+      let next : 1 + k ≡ suc k = omega arith in
+      ap (λ (b : Bool). cond b (Some (1 + k)) None) there ∙ ap (λ (m : ℕ). Some m) next ∙ sym (ap (λ (b : Bool). option_map suc (cond b (Some k) None)) here)
+  | inr more ↦
+      let here : nat_lt k n ≡ false = grind (arith, nat_tests, more) in
+      let there : nat_lt (1 + k) (suc n) ≡ false = grind (arith, nat_tests, more) in
+      ap (λ (b : Bool). cond b (Some (1 + k)) None) there ∙ sym (ap (λ (b : Bool). option_map suc (cond b (Some k) None)) here)
+]
+
+pub position-next : {X : Type 0} (p : X → Bool) (x : X) (xs : List X) → position p (x ∷ xs) ≡ cond (p x) (Some 0) (option_map suc (position p xs))
+position-next p x xs = by (p x)
+  where
+    by : (b : Bool) → cond (nat_lt (cond (not b) (1 + position_or_len p xs) 0) (suc (length xs))) (Some (cond (not b) (1 + position_or_len p xs) 0)) None
+        ≡ cond b (Some 0) (option_map suc (position p xs))
+    by true = (let e : nat_lt 0 (suc (length xs)) ≡ true = grind (arith, nat_tests) in ap (λ (b : Bool). cond b (Some 0) None) e)
+    by false = later (position_or_len p xs) (length xs)
+
+shifted : (n : ℕ) (o : Option ℕ) → option_map suc (option_map (λ k. n + k) o) ≡ option_map (λ k. suc n + k) o
+shifted n None = refl
+shifted n (Some k) = ap (λ (m : ℕ). Some m) (omega arith)
+
+unshifted : (o : Option ℕ) → o ≡ option_map (λ k. 0 + k) o
+unshifted None = refl
+unshifted (Some k) = ap (λ (m : ℕ). Some m) (omega arith)
+
+pub position-more : {X : Type 0} (p : X → Bool) (xs ys : List X) → position p (xs ++ ys) ≡ option_or (position p xs) (option_map (λ k. length xs + k) (position p ys))
+position-more p [] ys = unshifted (position p ys)
+position-more p (x ∷ xs) ys =
+    position-next p x (xs ++ ys)
+    ∙ ap (λ (o : Option ℕ). cond (p x) (Some 0) (option_map suc o)) (position-more p xs ys)
+    ∙ by (p x) (position p xs)
+    ∙ ap (λ (o : Option ℕ). option_or o (option_map (λ k. suc (length xs) + k) (position p ys))) (sym (position-next p x xs))
+  where
+    by : (b : Bool) (o : Option ℕ) → cond b (Some 0) (option_map suc (option_or o (option_map (λ k. length xs + k) (position p ys))))
+        ≡ option_or (cond b (Some 0) (option_map suc o)) (option_map (λ k. suc (length xs) + k) (position p ys))
+    by true o = refl
+    by false None = shifted (length xs) (position p ys)
+    by false (Some k) = refl
+
+-- ---- places of nodes
+pub placed-more : (lines : List Line) (waiting : List (List Interval)) (nodes more : List TreeNode) →
+    placed lines waiting (nodes ++ more) ≡ placed lines waiting nodes ++ placed lines (still_waiting lines waiting nodes) more
+placed-more lines waiting [] more = refl
+placed-more lines [] (next ∷ nodes) more = sym (placed_none lines more)
+  where
+    placed_none : (lines : List Line) (more : List TreeNode) → placed lines [] more ≡ []
+    placed_none lines [] = refl
+    placed_none lines (next ∷ more) = refl
+placed-more lines (ranges ∷ waiting) (node.Split line at ∷ nodes) more =
+    ap (λ (ps : List (TreeNode × List Interval)). (node.Split line at, ranges) ∷ ps)
+    (placed-more lines (narrowed lines ranges line at false ∷ narrowed lines ranges line at true ∷ waiting) nodes more)
+placed-more lines (ranges ∷ waiting) (node.Point ∷ nodes) more =
+    ap (λ (ps : List (TreeNode × List Interval)). (node.Point, ranges) ∷ ps) (placed-more lines waiting nodes more)
+placed-more lines (ranges ∷ waiting) (node.Closed leaf ∷ nodes) more =
+    ap (λ (ps : List (TreeNode × List Interval)). (node.Closed leaf, ranges) ∷ ps) (placed-more lines waiting nodes more)
+
+pub waiting-more : (lines : List Line) (waiting : List (List Interval)) (nodes more : List TreeNode) →
+    still_waiting lines waiting (nodes ++ more) ≡ still_waiting lines (still_waiting lines waiting nodes) more
+waiting-more lines waiting [] more = refl
+waiting-more lines [] (next ∷ nodes) more = sym (waiting_none lines more)
+  where
+    waiting_none : (lines : List Line) (more : List TreeNode) → still_waiting lines [] more ≡ []
+    waiting_none lines [] = refl
+    waiting_none lines (next ∷ more) = refl
+waiting-more lines (ranges ∷ waiting) (node.Split line at ∷ nodes) more =
+    waiting-more lines (narrowed lines ranges line at false ∷ narrowed lines ranges line at true ∷ waiting) nodes more
+waiting-more lines (ranges ∷ waiting) (node.Point ∷ nodes) more = waiting-more lines waiting nodes more
+waiting-more lines (ranges ∷ waiting) (node.Closed leaf ∷ nodes) more = waiting-more lines waiting nodes more

@@ -1,0 +1,15 @@
+use Rattle.std.proofs.Common.{◌≡◌, ◌≤◌, List, ℕ, ◌++◌, length}
+use Rattle.case_file.specs.Case.{case_view}
+use Rattle.escrow_check.specs.Heard.{HasHeard}
+use Rattle.escrow_check.proofs.hearing.Hearing.feed.Given as goal
+
+abbrev pub invariant-loop-rest : goal.invariant-loop-rest
+invariant-loop-rest l = record {
+  front : List ℕ;
+  bytes : front ++ l.rest ≡ l.fn.piece;
+  few : length l.rest ≤ 65_536;
+  heard : (bytes : List ℕ) → HasHeard (case_view l.case) l.initial.self bytes → HasHeard (case_view l.case) l.self (bytes ++ front);
+}
+
+abbrev pub decreases-loop-rest : goal.decreases-loop-rest
+decreases-loop-rest l = length l.rest

@@ -1,0 +1,145 @@
+-- What is known of a certificate as its lines come, and what each line adds.
+use Rattle.std.specs.Prelude.{◌≡◌, ℕ, ◌+◌, ◌-◌, ◌^◌, ◌*◌, ◌≤◌, ◌<◌, Bool, true, false, not, ◌&&◌, ◌||◌, nat_lt, if◌then◌else◌, List, [], ◌∷◌, length, replicate, slice_set, is_some, is_none, Option, Some, None, option_map, pos, ◌-ℤ◌, unsigned_abs, vec_len, vec_capacity}
+use Rattle.std.specs.Bool.{then_some}
+use Rattle.std.specs.Option.{option_or}
+use Rattle.fixed_powers.specs.DiscountPowers.{PowerTable}
+use Rattle.fixed_powers.specs.declared.side.Side.TheVariants as side
+use Rattle.escrow_units.specs.declared.limits.TheConstants.{GREATEST_INDEX}
+use Rattle.bound_certificate.specs.declared.certificate.Buy.{Buy}
+use Rattle.bound_certificate.specs.declared.limits.TheConstants.{MOST_NODES}
+use Rattle.case_file.specs.Case.{CaseContents}
+use Rattle.cash_table.specs.First.{first_short_of}
+use Rattle.cash_table.specs.Points.{plan_yield}
+use Rattle.dual_bound.specs.Ranges.{is_proper, narrowed, root_of}
+use Rattle.dual_bound.specs.declared.ranges.Interval.{Interval}
+use Rattle.dual_bound.specs.declared.tree.Leaf.{Leaf}
+use Rattle.offer_book.specs.Book.{BookContents}
+use Rattle.offer_book.specs.Portfolio.{cost}
+use Rattle.offer_book.specs.declared.line.Line.{Line}
+use Rattle.yield_enclosure.specs.YieldAnswers.{is_within}
+use Rattle.yield_enclosure.specs.declared.answer.YieldAnswer.{YieldAnswer}
+use Rattle.escrow_check.specs.Acceptance.{Claim, is_closed_leaf, is_closed_point, is_offered}
+use Rattle.escrow_check.specs.Walk.{IsWalk, after_subtree, waiting_of}
+use Rattle.escrow_check.specs.declared.trial.Trial.{Trial}
+use Rattle.escrow_check.specs.declared.verdict.Reason.{Reason}
+use Rattle.escrow_check.specs.declared.verdict.Reason.TheVariants as reason
+use Rattle.escrow_check.specs.declared.verdict.Verdict.{Verdict}
+use Rattle.escrow_check.specs.declared.verdict.Verdict.TheVariants as verdict
+
+-- the lower powers of one unit below the limit
+abbrev pub ArePowersOf : CaseContents → PowerTable → Type 0
+ArePowersOf case powers = powers ≡ record { yield_units = case.limit - 1; side = side.Low; longest = GREATEST_INDEX }
+
+-- a claim is of an amount that the arithmetic of bounds has room for
+abbrev pub IsClaim : Claim → Type 0
+IsClaim None = Unit {0}
+IsClaim (Some least) = unsigned_abs least ≤ 11 * 10 ^ 14
+
+-- ---- before the first line
+pub record IsNew (case : CaseContents) (trial : Trial) : Type 0 where
+  pub powers : ArePowersOf case trial.powers
+  pub point : length trial.point ≡ length case.book.lines
+  pub named : trial.named ≡ false
+  pub plan : trial.plan ≡ replicate (length case.book.lines) 0
+  pub claim : trial.claim ≡ None
+  pub reason : trial.reason ≡ None
+  pub walk : IsWalk case.book.lines trial.walk
+  pub waiting : waiting_of case.book.lines trial.walk ≡ root_of case.book.lines ∷ []
+  pub depth : vec_len trial.walk.splits ≡ 0
+  pub room : MOST_NODES ≤ vec_capacity trial.walk.splits
+  pub nodes : trial.nodes ≡ 0
+  pub weak : trial.weak ≡ None
+
+-- ---- the portfolio
+-- with one more purchase: the first that isn't offered is a reason, and then no other counts
+abbrev pub with_buy : BookContents → Trial → Buy → Trial
+with_buy book trial buy =
+    if is_some trial.reason then trial
+    else if is_offered book.lines buy then record trial { plan = slice_set trial.plan buy.line buy.units }
+    else record trial { reason = Some (reason.NotPermitted buy.line) }
+
+-- why a permitted portfolio with a yield isn't accepted, but for its tree and its gap
+abbrev pub plan_reason : CaseContents → List ℕ → YieldAnswer → Option Reason
+plan_reason case plan answer =
+    option_or (option_map reason.ShortOn (first_short_of case.book plan)) (then_some (not (is_within case.limit answer)) reason.YieldAbove)
+
+-- with the gap, behind which the portfolio is known
+abbrev pub with_gap : CaseContents → Trial → ℕ → Trial
+with_gap case trial gap =
+    if not trial.named || is_some trial.reason then record trial { gap = gap }
+    else record trial {
+      gap = gap;
+      answer = plan_yield case.book trial.plan;
+      claim = Some (pos (cost case.book trial.plan) -ℤ pos gap);
+      reason = plan_reason case trial.plan (plan_yield case.book trial.plan);
+    }
+
+-- ---- the tree
+-- a node still matters
+abbrev pub may_go : Trial → Bool
+may_go trial = is_none trial.reason && not trial.walk.over
+
+-- there is room for one more node
+pub record IsReady (case : CaseContents) (trial : Trial) : Type 0 where
+  pub powers : ArePowersOf case trial.powers
+  pub claim : IsClaim trial.claim
+  pub point : length trial.point ≡ length case.book.lines
+  pub walk : IsWalk case.book.lines trial.walk
+  pub count : may_go trial ≡ true → trial.nodes < MOST_NODES
+  pub depth : may_go trial ≡ true → vec_len trial.walk.splits ≤ trial.nodes
+  pub room : MOST_NODES ≤ vec_capacity trial.walk.splits
+
+-- a tree goes on: other ranges are waiting, within at most one more split
+pub record GoesOn (lines : List Line) (come : List (List Interval)) (old new : Trial) : Type 0 where
+  pub walk : IsWalk lines new.walk
+  pub waiting : waiting_of lines new.walk ≡ come
+  pub depth : vec_len new.walk.splits ≤ vec_len old.walk.splits + 1
+  pub room : vec_capacity old.walk.splits ≤ vec_capacity new.walk.splits
+  pub point : length new.point ≡ length old.point
+
+-- the first leaf or point that isn't closed, after one more
+abbrev pub weak_after : Bool → Trial → Option ℕ
+weak_after closed trial = if is_none trial.weak && not closed then Some (trial.nodes + 1) else trial.weak
+
+-- a leaf or a point came
+pub record Ends (lines : List Line) (closed : Bool) (old new : Trial) : Type 0 where
+  pub rest : new ≡ record old { nodes = old.nodes + 1; weak = weak_after closed old; walk = new.walk; point = new.point }
+  pub goes : GoesOn lines (after_subtree lines old.walk) old new
+
+-- where nodes still matter
+pub record TakesEnd (lines : List Line) (closed : Bool) (old new : Trial) : Type 0 where
+  pub going : may_go old ≡ true → Ends lines closed old new
+  pub over : may_go old ≡ false → new ≡ old
+
+-- a point, or a leaf, is closed, or comes after one that isn't
+abbrev pub closed_point : CaseContents → Trial → Bool
+closed_point case trial = is_some trial.weak || is_closed_point case trial.claim trial.walk.ranges
+
+abbrev pub closed_leaf : CaseContents → Trial → Leaf → Bool
+closed_leaf case trial leaf = is_some trial.weak || is_closed_leaf case trial.claim trial.walk.ranges leaf
+
+-- a proper split came
+pub record SplitsWell (lines : List Line) (line at : ℕ) (old new : Trial) : Type 0 where
+  pub rest : new ≡ record old { nodes = old.nodes + 1; walk = new.walk }
+  pub goes : GoesOn lines (narrowed lines old.walk.ranges line at false ∷ narrowed lines old.walk.ranges line at true ∷ after_subtree lines old.walk) old new
+
+-- a split came, where nodes still matter: the first that isn't proper is a reason
+pub record TakesSplit (lines : List Line) (line at : ℕ) (old new : Trial) : Type 0 where
+  pub going : may_go old ≡ true → is_proper old.walk.ranges line at ≡ true → SplitsWell lines line at old new
+  pub bad : may_go old ≡ true → is_proper old.walk.ranges line at ≡ false → new ≡ record old { nodes = old.nodes + 1; reason = Some (reason.BadSplit (old.nodes + 1)) }
+  pub over : may_go old ≡ false → new ≡ old
+
+-- ---- the verdict, where the certificate is whole
+abbrev pub last_verdict : CaseContents → Trial → Verdict
+last_verdict case trial =
+    if not trial.named then verdict.YesNone
+    else if nat_lt case.allowance trial.gap then verdict.No reason.GapAbove
+    else verdict.Yes (record { plan = trial.plan; cost = record { 0 = cost case.book trial.plan }; answer = trial.answer; gap = record { 0 = trial.gap } })
+
+abbrev pub verdict_by : CaseContents → Trial → Option Reason → Option ℕ → Verdict
+verdict_by case trial (Some why) weak = verdict.No why
+verdict_by case trial None (Some node) = verdict.No (reason.WeakLeaf node)
+verdict_by case trial None None = last_verdict case trial
+
+abbrev pub verdict_on : CaseContents → Trial → Verdict
+verdict_on case trial = verdict_by case trial trial.reason trial.weak

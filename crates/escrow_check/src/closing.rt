@@ -1,0 +1,91 @@
+//! Whether a leaf or a point is closed.
+ghost use Rattle.std.specs.Prelude.{◌≡◌, ◌*◌, ◌^◌, ◌-◌, ◌≤◌, ◌<◌, ◌-ℤ◌, ◌*ℤ◌, int_lt, length, pos, unsigned_abs};
+ghost use Rattle.case_file.specs.Case.{case_view};
+ghost use Rattle.dual_bound.specs.Ranges.{AreTight};
+ghost use Rattle.offer_book.specs.Portfolio.{IsPermitted};
+ghost use Rattle.dual_bound.specs.Tree.{IsLeaf};
+ghost use Rattle.fixed_powers.specs.declared.side.Side.TheVariants as side;
+ghost use Rattle.escrow_check.specs.Acceptance.{bears_out as bears_out_of, costs_enough as costs_enough_of, is_closed_leaf as is_closed_leaf_of, is_closed_point as is_closed_point_of, low_ends};
+ghost use Rattle.escrow_check.specs.Trial.{ArePowersOf, IsClaim};
+
+use case_file::Case;
+use cash_table::{Plan, cost, point_excluded};
+use dual_bound::{Leaf, PRICE_SCALE, Ranges, bound};
+use fixed_powers::Powers;
+use offer_book::{Book, COEFFICIENT_SCALE};
+
+// A leaf that weighs the cost bears out a claim where its bound is more than that of a cent less.
+fn bears_out(bound: i128, claim: Option<i128>) -> bool
+    requires { IsClaim claim }
+    ensures { result ≡ bears_out_of bound claim }
+{
+    let Some(least) = claim else {
+        return false;
+    };
+    COEFFICIENT_SCALE as i128 * PRICE_SCALE as i128 * (least - 1) < bound
+}
+
+/// Whether a leaf is closed over ranges.
+pub(crate) fn is_closed_leaf(
+    case: &Case,
+    powers: &Powers,
+    claim: Option<i128>,
+    ranges: &Ranges,
+    leaf: &Leaf,
+) -> bool
+    requires powers { ArePowersOf (case_view case.now) powers.now }
+    requires claim { IsClaim claim }
+    requires ranges { AreTight case.now.book.lines ranges.now }
+    requires leaf { IsLeaf (length case.now.book.needs) leaf.now }
+    ensures { result ≡ is_closed_leaf_of (case_view case.now) claim ranges.now leaf.now }
+{
+    let bound = bound(&case.book, powers, ranges, leaf);
+    if leaf.whole {
+        bears_out(bound, claim)
+    } else {
+        0 < bound
+    }
+}
+
+// Sets a portfolio to the low ends of ranges.
+fn put_low_ends(book: &Book, ranges: &Ranges, plan: &mut Plan)
+    requires ranges { length ranges.now ≡ length book.now.lines }
+    requires plan { length plan.old ≡ length book.now.lines }
+    ensures { plan.new ≡ low_ends ranges.now }
+{
+    for line in 0..book.line_count() {
+        plan.put(line, ranges.low(line));
+    }
+}
+
+// Whether a single portfolio costs no less than is claimed.
+fn costs_enough(book: &Book, claim: Option<i128>, plan: &Plan) -> bool
+    requires { IsPermitted book.now plan.now }
+    ensures { result ≡ costs_enough_of book.now claim plan.now }
+{
+    let Some(least) = claim else {
+        return false;
+    };
+    least <= i128::from(cost(book, plan).0)
+}
+
+/// Whether a point is closed over ranges. The portfolio that they hold is put into `plan`.
+pub(crate) fn is_closed_point(
+    case: &Case,
+    powers: &Powers,
+    claim: Option<i128>,
+    ranges: &Ranges,
+    plan: &mut Plan,
+) -> bool
+    requires powers { ArePowersOf (case_view case.now) powers.now }
+    requires ranges { AreTight case.now.book.lines ranges.now }
+    requires plan { length plan.old ≡ length case.now.book.lines }
+    ensures value { result ≡ is_closed_point_of (case_view case.now) claim ranges.now }
+    ensures plan { length plan.new ≡ length case.now.book.lines }
+{
+    if !ranges.single() {
+        return false;
+    }
+    put_low_ends(&case.book, ranges, plan);
+    point_excluded(&case.book, powers, plan) || costs_enough(&case.book, claim, plan)
+}
