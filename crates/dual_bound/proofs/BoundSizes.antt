@@ -41,10 +41,7 @@ form-slope n book leaf line h well is =
     let first = side-small own (cost_coefficients line).low (cost_coefficients line).high PRICE_SCALE (4_000_000_000 * line.step) (cost_worth-light leaf line.kind well.limit) costs.low costs.high in
     let rest = pays_slope-small weight line.step (pay_coefficients book.settle line) (paid_worth-light n book leaf line.kind well) (pays-sized book.settle line h is) in
     omega (
-      arith,
-      first,
-      rest,
-      ap (λ (f : Form). unsigned_abs f.slope) (form_of-is n book leaf line),
+      arith, first, rest, ap (λ (f : Form). unsigned_abs f.slope) (form_of-is n book leaf line),
       abs-sum (least_side own (cost_coefficients line).low (cost_coefficients line).high) (pays_slope weight (pay_coefficients book.settle line)),
     )
 
@@ -93,12 +90,9 @@ worth-small : (weight : ℤ → ℤ) (flows : List Flow) → IsLight weight → 
 worth-small weight [] light = omega arith
 worth-small weight (flow ∷ flows) light =
     omega (
-      arith,
-      abs-sum (weight flow.day *ℤ pos flow.cents.0) (signed_sum (λ (f : Flow). weight f.day *ℤ pos f.cents.0) flows),
-      unsigned_abs-mul (weight flow.day) (pos flow.cents.0),
-      mul-le-mul_right flow.cents.0 (light flow.day),
-      sum_by-cons (λ (f : Flow). f.cents.0) flow flows,
-      worth-small weight flows light,
+      arith, abs-sum (weight flow.day *ℤ pos flow.cents.0) (signed_sum (λ (f : Flow). weight f.day *ℤ pos f.cents.0) flows),
+      unsigned_abs-mul (weight flow.day) (pos flow.cents.0), mul-le-mul_right flow.cents.0 (light flow.day),
+      sum_by-cons (λ (f : Flow). f.cents.0) flow flows, worth-small weight flows light,
     )
 
 reduced-within : (n : ℕ) (book : BookContents) (leaf : Leaf) (line : Line) (units cost paid : ℕ) → IsLeaf (length book.needs) leaf
@@ -187,9 +181,7 @@ priced-small [] prices small = omega arith
 priced-small (need ∷ needs) [] small = omega arith
 priced-small (need ∷ needs) (price ∷ prices) small =
     omega (
-      arith,
-      sum_by-cons (λ (p : Flow × ℕ). p.0.cents.0 * p.1) (need, price) (zip needs prices),
-      sum_by-cons (λ (f : Flow). f.cents.0) need needs,
+      arith, sum_by-cons (λ (p : Flow × ℕ). p.0.cents.0 * p.1) (need, price) (zip needs prices), sum_by-cons (λ (f : Flow). f.cents.0) need needs,
       mul-le-mul_left need.cents.0 (All-head (λ (p : ℕ). p ≤ 2 * PRICE_SCALE) price prices small),
       priced-small needs prices (All-tail (λ (p : ℕ). p ≤ 2 * PRICE_SCALE) price prices small),
     )
@@ -223,10 +215,7 @@ bound-small n book ranges leaf limits well room ordered =
     let few = mul-le-mul_left (2 * PRICE_SCALE) limits.needs.small in
     let sum = lines-sum n book leaf book.lines ranges limits.settlement well limits.lines room ordered in
     omega (
-      arith,
-      needs,
-      few,
-      sum,
+      arith, needs, few, sum,
       abs-sum (pos (COEFFICIENT_SCALE * priced_needs book.needs leaf.prices)) (signed_sum (λ (p : Line × Interval). least_within n book leaf p.0 p.1) (zip book.lines ranges)),
     )
 
@@ -292,7 +281,7 @@ pub priced-more : (needs : List Flow) (prices : List ℕ) (place : ℕ) (need : 
 priced-more needs prices place need cents price worth few same cents_is price_is so_far =
     let there : place < length (zip needs prices) = omega (arith, length-zip needs prices) in
     let here : priced_need (get_or (zip needs prices) place (need, 0)) ≡ cents * price =
-    ap priced_need (zip-at needs prices place need 0 few same) ∙ (λ i. sym cents_is i * sym price_is i) in
+        ap priced_need (zip-at needs prices place need 0 few same) ∙ (λ i. sym cents_is i * sym price_is i) in
     omega (arith, so_far, here, sum_by_more priced_need (zip needs prices) place (need, 0) there)
 
 pub priced-part : (needs : List Flow) (prices : List ℕ) (place : ℕ) → All (λ price. price ≤ 2 * PRICE_SCALE) prices → total needs ≤ AMOUNT_LIMIT
@@ -315,7 +304,7 @@ pub bound-more : (first so_far own : ℤ) (f : Line × Interval → ℤ) (lines 
 bound-more first so_far own f lines ranges place line interval few same line_is interval_is so_far_is own_is =
     let there : place < length (zip lines ranges) = omega (arith, length-zip lines ranges) in
     let here : f (get_or (zip lines ranges) place (line, interval)) ≡ own =
-    ap f (zip-at lines ranges place line interval few same) ∙ (λ i. f (sym line_is i, sym interval_is i)) ∙ sym own_is in
+        ap f (zip-at lines ranges place line interval few same) ∙ (λ i. f (sym line_is i, sym interval_is i)) ∙ sym own_is in
     joined _ _ _ _ _ _ so_far_is here (signed_sum_more f (zip lines ranges) place (line, interval) there)
   where
     joined : (first so_far own sum term whole : ℤ) → so_far ≡ first +ℤ sum → term ≡ own → whole ≡ sum +ℤ term → so_far +ℤ own ≡ first +ℤ whole

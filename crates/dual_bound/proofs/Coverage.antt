@@ -107,9 +107,9 @@ covered-from (need ∷ needs) (price ∷ prices) flows carried start rise falls 
     let due : carried + total_by need.day (need ∷ needs) ≤ total_by need.day flows = covers need.day first in
     let counts = need-counts need needs need.day (omega (arith, ints)) in
     let rest : first_price prices * (carried + need.cents.0) + priced_needs needs prices ≤ paid_at needs prices flows =
-    covered-from needs prices flows (carried + need.cents.0) need.day (rise-tail need needs rise) (falls-tail price prices falls) equal
-    (All-weaker (λ (n : Flow). need.day <ℤ n.day) (λ (n : Flow). need.day ≤ℤ n.day) (λ n after. omega (arith, ints, after)) needs (rise-later need needs rise))
-    (λ t after. omega (arith, covers t (omega (arith, ints)), need-counts need needs t after)) in
+        covered-from needs prices flows (carried + need.cents.0) need.day (rise-tail need needs rise) (falls-tail price prices falls) equal
+        (All-weaker (λ (n : Flow). need.day <ℤ n.day) (λ (n : Flow). need.day ≤ℤ n.day) (λ n after. omega (arith, ints, after)) needs (rise-later need needs rise))
+        (λ t after. omega (arith, covers t (omega (arith, ints)), need-counts need needs t after)) in
     let own = sum_by-cons (λ (p : Flow × ℕ). p.0.cents.0 * p.1) (need, price) (zip needs prices) in
     let step : less * (carried + need.cents.0) ≤ less * total_by need.day flows = mul-le-mul_left less (omega (arith, due, counts)) in
     let paid = payments-parts need needs price prices less flows rise equal parts in
@@ -123,6 +123,6 @@ covered-worth [] prices flows rise falls same covers =
     omega (arith, covered-from [] prices flows 0 (pos 0) rise falls same (λ k d few. absurd (omega arith)) (λ t after. omega (arith, covers t)))
 covered-worth (need ∷ needs) prices flows rise falls same covers =
     let from_first : All (λ (n : Flow). need.day ≤ℤ n.day) (need ∷ needs) =
-    All-cons (λ (n : Flow). need.day ≤ℤ n.day) need needs (omega (arith, ints))
-    (All-weaker (λ (n : Flow). need.day <ℤ n.day) (λ (n : Flow). need.day ≤ℤ n.day) (λ n after. omega (arith, ints, after)) needs (rise-later need needs rise)) in
+        All-cons (λ (n : Flow). need.day ≤ℤ n.day) need needs (omega (arith, ints))
+        (All-weaker (λ (n : Flow). need.day <ℤ n.day) (λ (n : Flow). need.day ≤ℤ n.day) (λ n after. omega (arith, ints, after)) needs (rise-later need needs rise)) in
     omega (arith, covered-from (need ∷ needs) prices flows 0 need.day rise falls same from_first (λ t after. omega (arith, covers t)))

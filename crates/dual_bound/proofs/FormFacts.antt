@@ -67,7 +67,7 @@ form_with-more weight own costs pays i pay worth few is is_worth = (λ j. record
     slack : unsigned_abs own * costs.slack + sum_by (pay_slack weight) (take i pays) + unsigned_abs (neg_ℤ worth) * pay.slack ≡ unsigned_abs own * costs.slack + sum_by (pay_slack weight) (take (i + 1) pays)
     slack =
         let here : unsigned_abs (neg_ℤ worth) * pay.slack ≡ pay_slack weight (get_or pays i pay) =
-        ap (λ n. n * pay.slack) (abs-neg worth ∙ ap unsigned_abs is_worth) ∙ ap (pay_slack weight) is in
+            ap (λ n. n * pay.slack) (abs-neg worth ∙ ap unsigned_abs is_worth) ∙ ap (pay_slack weight) is in
         omega (arith, here, sum_by_more (pay_slack weight) pays i pay few)
 
 -- the payments of a line fall within forty years

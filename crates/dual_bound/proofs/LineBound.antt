@@ -43,13 +43,13 @@ side-le : (weight : ℤ) (low high slack units cents : ℕ) → low * units ≤ 
     → (least_side weight low high *ℤ pos units) ≤ℤ (weight *ℤ pos (COEFFICIENT_SCALE * cents) +ℤ pos (unsigned_abs weight * slack))
 side-le (pos m) low high slack units cents least most =
     let side : least_side (pos m) low high *ℤ pos units ≡ pos (m * low * units) =
-    ap (λ z. z *ℤ pos units) (side-above m low high ∙ pos-mul m low) ∙ pos-mul (m * low) units in
+        ap (λ z. z *ℤ pos units) (side-above m low high ∙ pos-mul m low) ∙ pos-mul (m * low) units in
     omega (arith, ints, side, mul-le-mul_left m least)
 side-le (negsuc m) low high slack units cents least most =
     let whole : neg_ℤ (pos (suc m) *ℤ pos high) *ℤ pos units ≡ neg_ℤ (pos (suc m * high * units)) =
-    neg-mul (pos (suc m) *ℤ pos high) (pos units) ∙ ap (λ z. neg_ℤ z) (ap (λ z. z *ℤ pos units) (pos-mul (suc m) high) ∙ pos-mul (suc m * high) units) in
+        neg-mul (pos (suc m) *ℤ pos high) (pos units) ∙ ap (λ z. neg_ℤ z) (ap (λ z. z *ℤ pos units) (pos-mul (suc m) high) ∙ pos-mul (suc m * high) units) in
     let side : least_side (negsuc m) low high *ℤ pos units ≡ neg_ℤ (pos (suc m * high * units)) =
-    ap (λ z. z *ℤ pos units) (side-below m low high ∙ neg-mul (pos (suc m)) (pos high)) ∙ whole in
+        ap (λ z. z *ℤ pos units) (side-below m low high ∙ neg-mul (pos (suc m)) (pos high)) ∙ whole in
     omega (arith, ints, side, mul-le-mul_left (suc m) most)
 
 -- what payments are worth by a weight for each day
@@ -65,8 +65,8 @@ pay-le weight units pay flow encloses =
     let same = ap (λ day. pos COEFFICIENT_SCALE *ℤ (weight day *ℤ pos flow.cents.0)) encloses.day in
     let scaled = scale-in COEFFICIENT_SCALE flow.cents.0 (weight pay.day) in
     let turned : neg_ℤ (weight pay.day) *ℤ pos (COEFFICIENT_SCALE * flow.cents.0) ≡ neg_ℤ (weight pay.day *ℤ pos (COEFFICIENT_SCALE * flow.cents.0)) =
-    mul-comm (neg_ℤ (weight pay.day)) (pos (COEFFICIENT_SCALE * flow.cents.0))
-    ∙ (mul-neg (pos (COEFFICIENT_SCALE * flow.cents.0)) (weight pay.day) ∙ ap (λ z. neg_ℤ z) (mul-comm (pos (COEFFICIENT_SCALE * flow.cents.0)) (weight pay.day))) in
+        mul-comm (neg_ℤ (weight pay.day)) (pos (COEFFICIENT_SCALE * flow.cents.0))
+        ∙ (mul-neg (pos (COEFFICIENT_SCALE * flow.cents.0)) (weight pay.day) ∙ ap (λ z. neg_ℤ z) (mul-comm (pos (COEFFICIENT_SCALE * flow.cents.0)) (weight pay.day))) in
     joined _ _ _ _ _ _ _ side slack same scaled turned
   where
     joined : (left product back scaled there : ℤ) (given slack : ℕ) → left ≤ℤ (product +ℤ pos given) → given ≡ slack → back ≡ there → back ≡ scaled → product ≡ neg_ℤ scaled

@@ -148,10 +148,11 @@ ends-same (interval ∷ ranges) same =
     rw test (ends-same ranges (ap (drop 1) same))
 
 pub single_hold_one : SingleHoldOne
-single_hold_one lines ranges tight = (
-  λ single. only-one lines ranges single,
-  λ only. ends-same ranges (only (map (λ (interval : Interval). interval.low) ranges) (map (λ (interval : Interval). interval.high) ranges) (lows-held lines ranges tight) (highs-held lines ranges tight)),
-)
+single_hold_one lines ranges tight =
+    (
+      λ single. only-one lines ranges single,
+      λ only. ends-same ranges (only (map (λ (interval : Interval). interval.low) ranges) (map (λ (interval : Interval). interval.high) ranges) (lows-held lines ranges tight) (highs-held lines ranges tight)),
+    )
 
 -- ---- the root
 whole-tight : (line : Line) → (line.least ≤ line.most) ⊎ (line.most ≡ 0) → IsTight line (whole_interval line)
@@ -201,7 +202,8 @@ from-root (line ∷ lines) (units ∷ plan) permitted =
     (ap suc rest.0, All-cons PairIsPermitted (line, units) (zip lines plan) permitted.0 rest.1)
 
 pub root_holds_all : RootHoldsAll
-root_holds_all book plan = (
-  λ permitted. in-root book.lines plan permitted.same_length permitted.units,
-  λ hold. (let both = from-root book.lines plan hold.permitted in record { same_length = both.0; units = both.1 }),
-)
+root_holds_all book plan =
+    (
+      λ permitted. in-root book.lines plan permitted.same_length permitted.units,
+      λ hold. (let both = from-root book.lines plan hold.permitted in record { same_length = both.0; units = both.1 }),
+    )

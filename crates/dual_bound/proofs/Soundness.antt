@@ -68,12 +68,8 @@ worth-parts : (price limit : ℤ → ℕ) (flows : List Flow)
 worth-parts price limit [] = omega (arith, ints)
 worth-parts price limit (flow ∷ flows) =
     omega (
-      arith,
-      ints,
-      difference-mul (price flow.day) (limit flow.day) flow.cents.0,
-      worth-parts price limit flows,
-      sum_by-cons (at_rate price) flow flows,
-      sum_by-cons (at_rate limit) flow flows,
+      arith, ints, difference-mul (price flow.day) (limit flow.day) flow.cents.0, worth-parts price limit flows,
+      sum_by-cons (at_rate price) flow flows, sum_by-cons (at_rate limit) flow flows,
     )
 
 -- the reduced cost of units of a line
@@ -127,11 +123,8 @@ charged-sum : (n : ℕ) (book : BookContents) (leaf : Leaf) (pairs : List (Line 
 charged-sum n book leaf [] = omega arith
 charged-sum n book leaf (p ∷ pairs) =
     omega (
-      arith,
-      sum_by-cons (charged n book leaf) p pairs,
-      ap (λ m. cost_weight leaf * m) (sum_by-cons pair_cost p pairs),
-      sum_by-cons (limited n book leaf) p pairs,
-      charged-sum n book leaf pairs,
+      arith, sum_by-cons (charged n book leaf) p pairs, ap (λ m. cost_weight leaf * m) (sum_by-cons pair_cost p pairs),
+      sum_by-cons (limited n book leaf) p pairs, charged-sum n book leaf pairs,
     )
 
 -- the credits of all lines
@@ -144,11 +137,8 @@ unfolding limit_credit
 credited-sum book leaf [] = omega arith
 credited-sum book leaf (p ∷ pairs) =
     omega (
-      arith,
-      sum_by-cons (credited book leaf) p pairs,
-      sum_by-cons (limit_credit leaf) p pairs,
-      sum_by-cons (priced book leaf) p pairs,
-      credited-sum book leaf pairs,
+      arith, sum_by-cons (credited book leaf) p pairs, sum_by-cons (limit_credit leaf) p pairs,
+      sum_by-cons (priced book leaf) p pairs, credited-sum book leaf pairs,
     )
 
 -- a portfolio whose limit is credited at least what it takes costs at least the bound
@@ -161,11 +151,11 @@ bound-le n book ranges leaf plan limits well permitted covered inside granted =
     let pairs = zip book.lines plan in
     let worth = covered-worth book.needs leaf.prices (payments book plan) limits.needs.rising well.falling (sym well.every_date) covered in
     let by_line : paid_at book.needs leaf.prices (payments book plan) ≡ sum_by (priced book leaf) pairs =
-    sum-flat_map (at_rate (price_on book.needs leaf.prices)) (λ (p : Line × ℕ). line_payments book.settle p.0 p.1) pairs in
+        sum-flat_map (at_rate (price_on book.needs leaf.prices)) (λ (p : Line × ℕ). line_payments book.settle p.0 p.1) pairs in
     let charges = charged-sum n book leaf pairs in
     let credits = credited-sum book leaf pairs in
     let least = least-sum n book leaf book.lines ranges plan (λ line units is. coefficients-enclose book.settle line limits.settlement is units) (all-lines book.settle book.lines limits.lines)
-    permitted.units permitted.same_length inside in
+        permitted.units permitted.same_length inside in
     let exact = reduced-sum n book leaf pairs in
     let whole : priced_needs book.needs leaf.prices + sum_by (charged n book leaf) pairs ≤ cost_weight leaf * cost book plan + sum_by (credited book leaf) pairs = omega arith in
     let scaled = mul-le-mul_left COEFFICIENT_SCALE whole in
@@ -213,9 +203,7 @@ limited-le n settle weight (flow ∷ flows) =
     let power = low n (index360_of settle flow.day) in
     let price : one * limit_price n settle weight flow.day ≤ weight * power = omega arith in
     omega (
-      arith,
-      mul-le-mul_right flow.cents.0 price,
-      limited-le n settle weight flows,
+      arith, mul-le-mul_right flow.cents.0 price, limited-le n settle weight flows,
       ap (λ m. one * m) (sum_by-cons (at_rate (limit_price n settle weight)) flow flows),
       ap (λ m. weight * m) (sum_by-cons (at_rate (λ day. low n (index360_of settle day))) flow flows),
     )
@@ -226,10 +214,8 @@ value-by_day n settle [] = refl
 value-by_day n settle (flow ∷ flows) =
     let first : IndexedFlow = record { index = index360_of settle flow.day; cents = flow.cents.0 } in
     omega (
-      arith,
-      sum_by-cons (λ (f : IndexedFlow). f.cents * low n f.index) first (indexed settle flows),
-      sum_by-cons (at_rate (λ day. low n (index360_of settle day))) flow flows,
-      value-by_day n settle flows,
+      arith, sum_by-cons (λ (f : IndexedFlow). f.cents * low n f.index) first (indexed settle flows),
+      sum_by-cons (at_rate (λ day. low n (index360_of settle day))) flow flows, value-by_day n settle flows,
     )
 
 -- securities alone have the limit's weight
@@ -253,10 +239,7 @@ securities-limited n book leaf (line ∷ lines) (units ∷ plan) are =
     let own = ap (λ w. sum_by (at_rate (limit_price n book.settle w)) (line_payments book.settle line units)) weight in
     let rest = securities-limited n book leaf lines plan (All-tail (IsSecurityLine book.settle) line lines are) in
     omega (
-      arith,
-      sum_by-cons (limited n book leaf) (line, units) (zip lines plan),
-      own,
-      rest,
+      arith, sum_by-cons (limited n book leaf) (line, units) (zip lines plan), own, rest,
       sum_by-append (at_rate (limit_price n book.settle leaf.mu)) (line_payments book.settle line units) (security_payments book.settle (zip lines plan)),
     )
 
@@ -270,10 +253,7 @@ securities-credit book leaf (line ∷ lines) (units ∷ plan) are =
     let own = ap (λ w. w * line_cost line units) weight in
     let rest = securities-credit book leaf lines plan (All-tail (IsSecurityLine book.settle) line lines are) in
     omega (
-      arith,
-      sum_by-cons (limit_credit leaf) (line, units) (zip lines plan),
-      own,
-      rest,
+      arith, sum_by-cons (limit_credit leaf) (line, units) (zip lines plan), own, rest,
       ap (λ m. leaf.mu * m) (sum_by-cons pair_cost (line, units) (zip lines plan)),
     )
 
@@ -315,13 +295,8 @@ rival-limited limit book leaf rival limits is =
     split (cash ∷ lines) (units ∷ plan) are taken =
         let free = limited-free n book leaf cash units (cash-weight leaf cash are.0) in
         omega (
-          arith,
-          taken,
-          sum_by-cons (limited n book leaf) (cash, units) (zip lines plan),
-          free,
-          sum_by-cons (limit_credit leaf) (cash, units) (zip lines plan),
-          securities-limited n book leaf lines plan are.1,
-          securities-credit book leaf lines plan are.1,
+          arith, taken, sum_by-cons (limited n book leaf) (cash, units) (zip lines plan), free,
+          sum_by-cons (limit_credit leaf) (cash, units) (zip lines plan), securities-limited n book leaf lines plan are.1, securities-credit book leaf lines plan are.1,
         )
 
 pub bounds-rivals : BoundsRivals

@@ -19,10 +19,7 @@ use Rattle.dual_bound.proofs.leaf_bound.bound.Goals as goal
 pub bounds-intervals-place : goal.bounds-intervals-place
 bounds-intervals-place c =
     omega (
-      arith,
-      room-length c.args.book.now.lines c.args.ranges.now c.requires.ranges,
-      ap length c.lines-lines.ensures.value,
-      ap length c.intervals-intervals.ensures.value,
+      arith, room-length c.args.book.now.lines c.args.ranges.now c.requires.ranges, ap length c.lines-lines.ensures.value, ap length c.intervals-intervals.ensures.value,
       c.loop-place-test.true,
     )
 
@@ -36,9 +33,9 @@ pub least-bound-requires-clause-high : goal.least-bound-requires-clause-high
 least-bound-requires-clause-high c =
     let none : Interval = record { low = 0; high = 0 } in
     let room = room-at c.args.book.now.lines c.args.ranges.now c.loop-place.place c.index-lines-place.result none c.requires.ranges
-    (omega (arith, ap length c.lines-lines.ensures.value, c.loop-place-test.true)) in
+        (omega (arith, ap length c.lines-lines.ensures.value, c.loop-place-test.true)) in
     let line : c.index-lines-place.result ≡ get_or c.args.book.now.lines c.loop-place.place c.index-lines-place.result =
-    c.index-lines-place.is ∙ ap (λ lines. get_or lines c.loop-place.place c.index-lines-place.result) c.lines-lines.ensures.value in
+        c.index-lines-place.is ∙ ap (λ lines. get_or lines c.loop-place.place c.index-lines-place.result) c.lines-lines.ensures.value in
     let interval = ap (λ ranges. get_or ranges c.loop-place.place none) c.intervals-intervals.ensures.value in
     omega (arith, room, ap (λ (l : Line). l.most) line, ap (λ (i : Interval). i.high) interval)
 
@@ -48,16 +45,17 @@ loop-place-preserved c =
     let ranges = c.intervals-intervals.result.now in
     let interval = get_or ranges c.loop-place.place none in
     let same : length c.lines-lines.result.now ≡ length ranges =
-    omega (arith, room-length c.args.book.now.lines c.args.ranges.now c.requires.ranges, ap length c.lines-lines.ensures.value, ap length c.intervals-intervals.ensures.value) in
+        omega (arith, room-length c.args.book.now.lines c.args.ranges.now c.requires.ranges, ap length c.lines-lines.ensures.value, ap length c.intervals-intervals.ensures.value) in
     let there : c.loop-place.place < length ranges = omega (arith, same, c.loop-place-test.true) in
     let f = λ (p : Line × Interval). least_within c.args.powers.now.yield_units c.args.book.now c.args.leaf.now p.0 p.1 in
     let few = lines-few c.args.book.now.settle c.args.book.now.lines c.lines-lines.ensures.limits.lines in
     let least = to_z-of_z w128 c.least-bound.result (record { sfits = c.least-bound.type_inv }) in
     let whole = read-again _ (omega (arith, ints, few, ap length c.lines-lines.ensures.value, c.loop-place-test.true, c.loop-place.invariant.1, c.least-bound.ensures.size)) in
-    let value = whole ∙ ap (λ z. to_z w128 c.loop-place.bound-bits +ℤ z) least in (
+    let value = whole ∙ ap (λ z. to_z w128 c.loop-place.bound-bits +ℤ z) least in
+    (
       value ∙ bound-more (pos (COEFFICIENT_SCALE * priced_needs c.args.book.now.needs c.args.leaf.now.prices)) (to_z w128 c.loop-place.bound-bits) c.least-bound.result f
-          c.lines-lines.result.now ranges c.loop-place.place c.index-lines-place.result interval c.loop-place-test.true same c.index-lines-place.is
-          (get_or_default ranges c.loop-place.place none interval there) c.loop-place.invariant.0 c.least-bound.ensures.value,
+      c.lines-lines.result.now ranges c.loop-place.place c.index-lines-place.result interval c.loop-place-test.true same c.index-lines-place.is
+      (get_or_default ranges c.loop-place.place none interval there) c.loop-place.invariant.0 c.least-bound.ensures.value,
       omega (arith, ints, value, c.loop-place.invariant.1, c.least-bound.ensures.size),
     )
 

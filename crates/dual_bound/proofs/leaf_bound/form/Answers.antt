@@ -27,35 +27,35 @@ pub paid_worth-worth-requires-clause-from : goal.paid_worth-worth-requires-claus
 paid_worth-worth-requires-clause-from c =
     let items = c.as_slice-pay-items.ensures.value ∙ c.coefficients-coefficients.ensures.pays ∙ ap (λ settle. pay_coefficients settle c.args.line.now) c.settle.ensures in
     let within = All-same (λ (pay : PayCoefficients). (c.args.book.now.settle ≤ℤ pay.day) × (pay.day ≤ℤ years_after_of c.args.book.now.settle 40)) c.as_slice-pay-items.result.now (pay_coefficients c.args.book.now.settle c.args.line.now)
-    items (pays-within c.args.book.now.settle c.args.line.now c.requires.limits.settlement c.requires.line) c.loop-pay.pay-index c.pay-item.result c.loop-pay-test.true in
+        items (pays-within c.args.book.now.settle c.args.line.now c.requires.limits.settlement c.requires.line) c.loop-pay.pay-index c.pay-item.result c.loop-pay-test.true in
     omega (arith, ints, ap (λ (pay : PayCoefficients). pay.day) c.pay-item.is, within.0)
 
 pub paid_worth-worth-requires-clause-to : goal.paid_worth-worth-requires-clause-to
 paid_worth-worth-requires-clause-to c =
     let items = c.as_slice-pay-items.ensures.value ∙ c.coefficients-coefficients.ensures.pays ∙ ap (λ settle. pay_coefficients settle c.args.line.now) c.settle.ensures in
     let within = All-same (λ (pay : PayCoefficients). (c.args.book.now.settle ≤ℤ pay.day) × (pay.day ≤ℤ years_after_of c.args.book.now.settle 40)) c.as_slice-pay-items.result.now (pay_coefficients c.args.book.now.settle c.args.line.now)
-    items (pays-within c.args.book.now.settle c.args.line.now c.requires.limits.settlement c.requires.line) c.loop-pay.pay-index c.pay-item.result c.loop-pay-test.true in
+        items (pays-within c.args.book.now.settle c.args.line.now c.requires.limits.settlement c.requires.line) c.loop-pay.pay-index c.pay-item.result c.loop-pay-test.true in
     omega (arith, ints, ap (λ (pay : PayCoefficients). pay.day) c.pay-item.is, within.1)
 
 pub of_payment-requires-clause-low : goal.of_payment-requires-clause-low
 of_payment-requires-clause-low c =
     let items = c.as_slice-pay-items.ensures.value ∙ c.coefficients-coefficients.ensures.pays ∙ ap (λ settle. pay_coefficients settle c.args.line.now) c.settle.ensures in
     let sized = All-same (IsSized c.args.line.now.step) c.as_slice-pay-items.result.now (pay_coefficients c.args.book.now.settle c.args.line.now) items
-    (pays-sized c.args.book.now.settle c.args.line.now c.requires.limits.settlement c.requires.line) c.loop-pay.pay-index c.pay-item.result c.loop-pay-test.true in
+        (pays-sized c.args.book.now.settle c.args.line.now c.requires.limits.settlement c.requires.line) c.loop-pay.pay-index c.pay-item.result c.loop-pay-test.true in
     omega (arith, ap (λ (pay : PayCoefficients). pay.low) c.pay-item.is, sized.low, step-small c.args.book.now.settle c.args.line.now c.requires.line)
 
 pub of_payment-requires-clause-high : goal.of_payment-requires-clause-high
 of_payment-requires-clause-high c =
     let items = c.as_slice-pay-items.ensures.value ∙ c.coefficients-coefficients.ensures.pays ∙ ap (λ settle. pay_coefficients settle c.args.line.now) c.settle.ensures in
     let sized = All-same (IsSized c.args.line.now.step) c.as_slice-pay-items.result.now (pay_coefficients c.args.book.now.settle c.args.line.now) items
-    (pays-sized c.args.book.now.settle c.args.line.now c.requires.limits.settlement c.requires.line) c.loop-pay.pay-index c.pay-item.result c.loop-pay-test.true in
+        (pays-sized c.args.book.now.settle c.args.line.now c.requires.limits.settlement c.requires.line) c.loop-pay.pay-index c.pay-item.result c.loop-pay-test.true in
     omega (arith, ap (λ (pay : PayCoefficients). pay.high) c.pay-item.is, sized.high, step-small c.args.book.now.settle c.args.line.now c.requires.line)
 
 pub of_payment-requires-clause-slack : goal.of_payment-requires-clause-slack
 of_payment-requires-clause-slack c =
     let items = c.as_slice-pay-items.ensures.value ∙ c.coefficients-coefficients.ensures.pays ∙ ap (λ settle. pay_coefficients settle c.args.line.now) c.settle.ensures in
     let sized = All-same (IsSized c.args.line.now.step) c.as_slice-pay-items.result.now (pay_coefficients c.args.book.now.settle c.args.line.now) items
-    (pays-sized c.args.book.now.settle c.args.line.now c.requires.limits.settlement c.requires.line) c.loop-pay.pay-index c.pay-item.result c.loop-pay-test.true in
+        (pays-sized c.args.book.now.settle c.args.line.now c.requires.limits.settlement c.requires.line) c.loop-pay.pay-index c.pay-item.result c.loop-pay-test.true in
     omega (arith, ap (λ (pay : PayCoefficients). pay.slack) c.pay-item.is, sized.slack)
 
 pub loop-pay-preserved : goal.loop-pay-preserved
@@ -64,8 +64,9 @@ loop-pay-preserved c =
     let weight = paid_worth c.args.powers.now.yield_units c.args.book.now c.args.leaf.now c.args.line.now.kind in
     let own = cost_worth c.args.leaf.now c.args.line.now.kind in
     let value = c.plus-form.ensures ∙ (λ i. form_plus (c.loop-pay.invariant.0 i) (c.of_payment.ensures.value i))
-    ∙ form_with-more weight own costs c.as_slice-pay-items.result.now c.loop-pay.pay-index c.pay-item.result _ c.loop-pay-test.true c.pay-item.is
-    (read-again c.paid_worth-worth.result (omega (arith, c.paid_worth-worth.ensures.light)) ∙ c.paid_worth-worth.ensures.value) in (
+        ∙ form_with-more weight own costs c.as_slice-pay-items.result.now c.loop-pay.pay-index c.pay-item.result _ c.loop-pay-test.true c.pay-item.is
+        (read-again c.paid_worth-worth.result (omega (arith, c.paid_worth-worth.ensures.light)) ∙ c.paid_worth-worth.ensures.value) in
+    (
       value,
       omega (arith, ap (λ (f : Form). unsigned_abs f.slope) c.plus-form.ensures, abs-sum c.loop-pay.form.slope c.of_payment.result.slope, c.loop-pay.invariant.1, c.of_payment.ensures.slope),
       omega (arith, ap (λ (f : Form). f.slack) c.plus-form.ensures, c.loop-pay.invariant.2, c.of_payment.ensures.slack),

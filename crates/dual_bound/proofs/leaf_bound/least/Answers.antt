@@ -10,8 +10,7 @@ use Rattle.dual_bound.proofs.leaf_bound.least.Goals as goal
 pub at-at_high-requires-clause-slope : goal.at-at_high-requires-clause-slope
 at-at_high-requires-clause-slope c =
     omega (
-      arith,
-      ap (λ (f : Form). unsigned_abs f.slope * c.args.interval.high) c.form-form.ensures,
+      arith, ap (λ (f : Form). unsigned_abs f.slope * c.args.interval.high) c.form-form.ensures,
       form-times c.args.powers.now.yield_units c.args.book.now c.args.leaf.now c.args.line.now c.args.interval.high c.requires.limits.settlement c.requires.leaf c.requires.line c.requires.high,
     )
 
@@ -22,10 +21,9 @@ at-at_high-requires-clause-slack c =
 pub at-requires-clause-slope : goal.at-requires-clause-slope
 at-requires-clause-slope c =
     omega (
-      arith,
-      ap (λ (f : Form). unsigned_abs f.slope * c.args.line.now.least) c.form-form.ensures,
+      arith, ap (λ (f : Form). unsigned_abs f.slope * c.args.line.now.least) c.form-form.ensures,
       form-times c.args.powers.now.yield_units c.args.book.now c.args.leaf.now c.args.line.now c.args.line.now.least c.requires.limits.settlement c.requires.leaf c.requires.line
-          (least-room c.args.book.now.settle c.args.line.now c.args.interval c.requires.line c.requires.ordered c.requires.high c.if-interval.false),
+      (least-room c.args.book.now.settle c.args.line.now c.args.interval c.requires.line c.requires.ordered c.requires.high c.if-interval.false),
     )
 
 pub at-requires-clause-slack : goal.at-requires-clause-slack
@@ -35,8 +33,7 @@ at-requires-clause-slack c =
 pub at-requires-else-interval-eq0-clause-slope : goal.at-requires-else-interval-eq0-clause-slope
 at-requires-else-interval-eq0-clause-slope c =
     omega (
-      arith,
-      ap (λ (f : Form). unsigned_abs f.slope * c.args.interval.low) c.form-form.ensures,
+      arith, ap (λ (f : Form). unsigned_abs f.slope * c.args.interval.low) c.form-form.ensures,
       form-times c.args.powers.now.yield_units c.args.book.now c.args.leaf.now c.args.line.now c.args.interval.low c.requires.limits.settlement c.requires.leaf c.requires.line (omega (arith, c.requires.ordered, c.requires.high)),
     )
 

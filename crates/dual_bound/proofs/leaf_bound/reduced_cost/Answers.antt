@@ -15,7 +15,8 @@ loop-flow-preserved c =
     let weight = paid_worth c.args.powers.now.yield_units c.args.book.now c.args.leaf.now c.args.line.now.kind in
     let more = signed_sum_more (λ (flow : Flow). weight flow.day *ℤ pos flow.cents.0) c.as_slice-flow-items.result.now c.loop-flow.flow-index c.flow-item.result c.loop-flow-test.true in
     let worth = read-again c.paid_worth-worth.result (omega (arith, c.paid_worth-worth.ensures.light)) ∙ c.paid_worth-worth.ensures.value in
-    let here = c.weighed-paid.ensures.value ∙ ap (λ z. z *ℤ pos c.flow-item.result.cents.0) worth ∙ ap (λ (flow : Flow). weight flow.day *ℤ pos flow.cents.0) c.flow-item.is in (
+    let here = c.weighed-paid.ensures.value ∙ ap (λ z. z *ℤ pos c.flow-item.result.cents.0) worth ∙ ap (λ (flow : Flow). weight flow.day *ℤ pos flow.cents.0) c.flow-item.is in
+    (
       omega (arith, ints, c.loop-flow.paid-is, c.loop-flow.invariant.0, more, here),
       omega (arith, ints, c.loop-flow.paid-is, c.loop-flow.invariant.1, c.weighed-paid.ensures.small),
     )

@@ -15,7 +15,7 @@ index-requires c = omega (arith, ap length c.self.view_is, c.from-place.ensures,
 pub side_of-requires : goal.side_of-requires
 side_of-requires c =
     let own : c.index.result.now ≡ get_or c.args.self.now c.args.line c.index.result.now =
-    c.index.ensures ∙ (λ i. get_or (c.self.view_is i) (c.from-place.ensures i) c.index.result.now) in
+        c.index.ensures ∙ (λ i. get_or (c.self.view_is i) (c.from-place.ensures i) c.index.result.now) in
     omega (arith, ap (λ (x : Interval). x.high) own, (splits-at c.args.self.now c.args.line c.args.at c.requires.proper).right c.index.result.now)
 
 pub index_mut-requires : goal.index_mut-requires
@@ -24,7 +24,7 @@ index_mut-requires c = omega (arith, ap length c.self.view_is, c.from-place.ensu
 pub returns-clause-value : goal.returns-clause-value
 returns-clause-value c =
     let own : c.index.result.now ≡ get_or c.args.self.now c.args.line c.index.result.now =
-    c.index.ensures ∙ (λ i. get_or (c.self.view_is i) (c.from-place.ensures i) c.index.result.now) in
+        c.index.ensures ∙ (λ i. get_or (c.self.view_is i) (c.from-place.ensures i) c.index.result.now) in
     (λ i. set (c.self.view_is i) (c.from-place.ensures i) (c.side_of.ensures i))
     ∙ narrowed-set c.args.book.now.lines c.args.self.now c.args.line c.args.at c.args.right c.line.result.now c.index.result.now
     (splits-at c.args.self.now c.args.line c.args.at c.requires.proper).there (tight-length c.args.book.now.lines c.args.self.now c.requires.tight) c.line.ensures own
@@ -36,10 +36,10 @@ returns-clause-tight c =
 pub invariant_of-self : goal.invariant_of-self
 invariant_of-self c =
     let own : c.index.result.now ≡ get_or c.args.self.now c.args.line c.index.result.now =
-    c.index.ensures ∙ (λ i. get_or (c.self.view_is i) (c.from-place.ensures i) c.index.result.now) in
+        c.index.ensures ∙ (λ i. get_or (c.self.view_is i) (c.from-place.ensures i) c.index.result.now) in
     let value = (λ i. set (c.self.view_is i) (c.from-place.ensures i) (c.side_of.ensures i))
-    ∙ narrowed-set c.args.book.now.lines c.args.self.now c.args.line c.args.at c.args.right c.line.result.now c.index.result.now
-    (splits-at c.args.self.now c.args.line c.args.at c.requires.proper).there (tight-length c.args.book.now.lines c.args.self.now c.requires.tight) c.line.ensures own in
+        ∙ narrowed-set c.args.book.now.lines c.args.self.now c.args.line c.args.at c.args.right c.line.result.now c.index.result.now
+        (splits-at c.args.self.now c.args.line c.args.at c.requires.proper).there (tight-length c.args.book.now.lines c.args.self.now c.requires.tight) c.line.ensures own in
     All-same (λ (i : Interval). i.low ≤ i.high) _ (narrowed c.args.book.now.lines c.args.self.now c.args.line c.args.at c.args.right) value
     (tight-ordered c.args.book.now.lines (narrowed c.args.book.now.lines c.args.self.now c.args.line c.args.at c.args.right)
     (sides-tight c.args.book.now.lines c.args.self.now c.args.line c.args.at c.args.right c.requires.tight c.requires.proper))
