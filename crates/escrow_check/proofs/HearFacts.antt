@@ -1,11 +1,11 @@
 -- What is heard, piece by piece.
-use Rattle.std.proofs.Common.{◌≡◌, ◌∙◌, ℕ, ◌<◌, ◌≤◌, Bool, true, false, not, nat_lt, ℤ, List, [], ◌++◌, length, take, drop, Option, Some, None, Ok, Err, option_map, refl, sym, subst, ap, arith, append_assoc, length-drop, ◌-◌}
+use Rattle.std.proofs.Common.{◌≡◌, ◌∙◌, ℕ, ◌+◌, ◌<◌, ◌≤◌, ◌==◌, if◌then◌else◌, Bool, true, false, not, nat_lt, ℤ, List, [], ◌++◌, length, take, drop, Option, Some, None, Ok, Err, option_map, refl, sym, subst, ap, arith, append_assoc, length-drop, ◌-◌}
 use Rattle.std.specs.Bool.{then_some}
 use Rattle.std.specs.List.{position}
 use Rattle.std.specs.Option.{option_or}
 use Rattle.std.proofs.lemmas.List.{length-take, take-append-drop, take_all}
 use Rattle.bound_certificate.specs.Draft.{no_lines, with_item}
-use Rattle.bound_certificate.specs.Due.{is_over}
+use Rattle.bound_certificate.specs.Due.{is_over, nodes_due}
 use Rattle.bound_certificate.specs.Faults.{text_fault}
 use Rattle.bound_certificate.specs.Reading.{Feeds, after_bytes, finished, new_leaf, new_reading}
 use Rattle.bound_certificate.specs.Step.{IsSuited, due_after}
@@ -16,6 +16,8 @@ use Rattle.bound_certificate.specs.declared.due.Due.{Due}
 use Rattle.bound_certificate.specs.declared.due.Due.TheVariants as due
 use Rattle.bound_certificate.specs.declared.fault.CertFault.{CertFault}
 use Rattle.bound_certificate.specs.declared.item.Fed.{Fed}
+use Rattle.bound_certificate.specs.declared.item.Item.{Item}
+use Rattle.bound_certificate.specs.declared.item.Item.TheVariants as item
 use Rattle.bound_certificate.specs.declared.limits.TheConstants.{MOST_DATES, MOST_NODES}
 use Rattle.bound_certificate.specs.declared.reading.Reading.{Reading}
 use Rattle.bound_certificate.proofs.CertFacts.{AtLine, at-end, at-more, end-is-first, started}
@@ -28,7 +30,7 @@ use Rattle.cash_table.specs.Points.{is_within_limit}
 use Rattle.dual_bound.specs.declared.tree.Leaf.{Leaf}
 use Rattle.escrow_check.specs.Acceptance.{IsVerdict, claim_of, first_not_offered, is_bad_split, is_weak, judged, numbered, placed_nodes, plan_of, portfolio_reason, reason_by, reason_of, tree_reason}
 use Rattle.escrow_check.specs.Acceptance as accept
-use Rattle.escrow_check.specs.Heard.{HasHeard, KnowsLines}
+use Rattle.escrow_check.specs.Heard.{HasHeard, KnowsLines, is_before_gap}
 use Rattle.escrow_check.specs.Knows.{Comes, IsJudging, Knows}
 use Rattle.escrow_check.specs.Trial.{IsNew, verdict_on}
 use Rattle.escrow_check.specs.declared.hearing.Hearing.{Hearing}
@@ -238,3 +240,47 @@ rest-few rest used size few = omega (arith, length-take (size - used) (drop used
 
 pub heard-as : (case : CaseContents) (hearing : Hearing) (some other : List ℕ) → some ≡ other → HasHeard case hearing some → HasHeard case hearing other
 heard-as case hearing some other same heard = subst (HasHeard case hearing) same heard
+
+-- ---- the line of the gap
+nodes_behind : (left trees : ℕ) (b : Bool) → is_before_gap (if b then due.End trees else due.Node left trees) ≡ false
+nodes_behind left trees true = refl
+nodes_behind left trees false = refl
+
+not_both : (b : Bool) → b ≡ false → b ≡ true → ⊥
+not_both b e h = absurd (cc)
+
+-- once it ended, no line before it is due again
+before_back : (d : Due) (told : Item) → is_before_gap (due_after d told) ≡ true → is_before_gap d ≡ true
+before_back d item.Nothing e = e
+before_back due.Title told e = refl
+before_back due.Portfolio told e = refl
+before_back (due.Buy left least) told e = refl
+before_back (due.Gap most) told e = refl
+before_back due.Count (item.Nodes count) e = absurd (not_both (is_before_gap (nodes_due count 1)) (nodes_behind count 1 (count == 0)) e)
+before_back due.Count told e = absurd (cc)
+before_back (due.Node left trees) (item.Split line at) e = absurd (not_both (is_before_gap (nodes_due (left - 1) (trees + 1))) (nodes_behind (left - 1) (trees + 1) (left - 1 == 0)) e)
+before_back (due.Node left trees) told e = absurd (not_both (is_before_gap (nodes_due (left - 1) (trees - 1))) (nodes_behind (left - 1) (trees - 1) (left - 1 == 0)) e)
+before_back (due.End trees) told e = absurd (cc)
+before_back due.Nothing told e = absurd (cc)
+
+pub still-before : (case : CaseContents) (hearing : Hearing) (bytes piece : List ℕ) (fed : Fed) (new : Reading) → HasHeard case hearing bytes → Feeds hearing.reader piece fed new →
+    is_before_gap new.due ≡ true → is_before_gap hearing.reader.due ≡ true
+still-before case hearing bytes piece fed new heard feeds e =
+    let dates : ℕ = length case.book.needs in
+    let lines : KnowsLines case hearing bytes = heard.lines (going-before hearing.reader new (take fed.used piece) feeds.taken feeds.going) in
+    let steps : Steps dates hearing.reader.due fed.item new = at-step dates bytes lines.cert hearing.reader piece fed new lines.at feeds in
+    before_back hearing.reader.due fed.item (ap (λ (d : Due). is_before_gap d) (sym steps.due) ∙ e)
+
+gap_due : (dates : ℕ) (d : Due) (cents : ℕ) (leaf : Leaf) → IsSuited dates d (item.Gap cents) leaf → (is_before_gap d ≡ true) × (due_after d (item.Gap cents) ≡ due.Count)
+gap_due dates (due.Gap most) cents leaf suited = (refl, refl)
+gap_due dates d cents leaf suited = absurd suited
+
+pub gap-ends : (case : CaseContents) (hearing : Hearing) (bytes piece : List ℕ) (fed : Fed) (new : Reading) (cents : ℕ) → HasHeard case hearing bytes → Feeds hearing.reader piece fed new →
+    fed.item ≡ item.Gap cents → (is_before_gap hearing.reader.due ≡ true) × (new.due ≡ due.Count)
+gap-ends case hearing bytes piece fed new cents heard feeds gap =
+    let dates : ℕ = length case.book.needs in
+    let lines : KnowsLines case hearing bytes = heard.lines (going-before hearing.reader new (take fed.used piece) feeds.taken feeds.going) in
+    let steps : Steps dates hearing.reader.due fed.item new = at-step dates bytes lines.cert hearing.reader piece fed new lines.at feeds in
+    let P : Item → Type 0 = λ i. IsSuited dates hearing.reader.due i new.scan.leaf in
+    let here = gap_due dates hearing.reader.due cents new.scan.leaf (subst P gap steps.suited) in
+    (here.0, steps.due ∙ ap (λ (i : Item). due_after hearing.reader.due i) gap ∙ here.1)

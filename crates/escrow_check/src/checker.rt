@@ -1,8 +1,9 @@
 //! A checker of certificates that come in pieces.
-ghost use Rattle.std.specs.Prelude.{◌≡◌, ◌++◌, ◌≤◌, IfErr, IfOk, List, [], false, length, true, ℕ};
+ghost use Rattle.std.specs.Prelude.{◌≡◌, ◌++◌, ◌≤◌, ◌⊎◌, IfErr, IfOk, List, [], false, length, true, ℕ};
 ghost use Rattle.case_file.specs.Case.{HasTerms, case_view};
 ghost use Rattle.escrow_check.specs.Acceptance.{IsVerdict};
 ghost use Rattle.escrow_check.specs.Checking.{Heard};
+ghost use Rattle.escrow_check.specs.Heard.{EndsGap};
 
 use crate::hearing::Hearing;
 use crate::verdict::Verdict;
@@ -62,6 +63,7 @@ impl<'a> Checker<'a> {
         ensures heard { (bytes : List ℕ) → Heard self.old bytes → Heard self.new (bytes ++ piece.now) }
         ensures ok { IfOk result (λ _. self.new.failed ≡ false) }
         ensures err { IfErr result (λ _. self.new.failed ≡ true) }
+        ensures cause { IfErr result (λ _. (self.old.failed ≡ true) ⊎ EndsGap self.old.hearing self.new.hearing) }
     {
         if self.failed {
             return Err(NoMemory);

@@ -1,9 +1,9 @@
 //! A certificate that is heard piece by piece.
-ghost use Rattle.std.specs.Prelude.{◌≡◌, ◌++◌, ◌≤◌, IfOk, List, OnOk, [], length, ℕ};
+ghost use Rattle.std.specs.Prelude.{◌≡◌, ◌++◌, ◌≤◌, IfErr, IfOk, List, OnOk, [], length, ℕ};
 ghost use Rattle.case_file.specs.Case.{HasTerms, case_view};
 ghost use Rattle.offer_book.specs.Book.{IsBook};
 ghost use Rattle.escrow_check.specs.Acceptance.{IsVerdict};
-ghost use Rattle.escrow_check.specs.Heard.{HasHeard};
+ghost use Rattle.escrow_check.specs.Heard.{EndsGap, HasHeard};
 
 use crate::trial::Trial;
 use crate::verdict::{Reason, Verdict};
@@ -44,7 +44,8 @@ impl Hearing {
         requires heard { (bytes : List ℕ) × HasHeard (case_view case.now) self.old bytes }
         requires piece { length piece.now ≤ 65_536 }
         requires book { IsBook case.now.book }
-        ensures { OnOk result ((bytes : List ℕ) → HasHeard (case_view case.now) self.old bytes → HasHeard (case_view case.now) self.new (bytes ++ piece.now)) }
+        ensures err { IfErr result (λ _. EndsGap self.old self.new) }
+        ensures heard { OnOk result ((bytes : List ℕ) → HasHeard (case_view case.now) self.old bytes → HasHeard (case_view case.now) self.new (bytes ++ piece.now)) }
     {
         let mut rest = piece;
         while !rest.is_empty() {

@@ -47,16 +47,24 @@ struct Row {
 }
 
 const ISSUE_A: &[u8] = b"settle,2025-01-15\nneed,2025-04-15,5000.00\nrestricted,4.00\n";
+
 const RATES_A: &[u8] = b"terms,1000,100\noffer,2025-04-15,0.00,,10000\n";
+
 const ISSUE_B: &[u8] =
     b"settle,2025-01-15\nneed,2025-07-15,102000.00\nrestricted,4.00\nallowance,0.01\n";
+
 const PRICES_B: &[u8] = b"terms,1000,1000\nnote,2025-07-15,4.000,100,200000\n";
+
 const CERT_B: &[u8] =
     b"escrow-certificate 1\nportfolio 1\nbuy 1 100\ngap 1\nnodes 1\nl 1 0 980392156862\nend\n";
+
 const ISSUE_C: &[u8] = b"settle,2025-01-15\nneed,2026-01-15,1041.03\nrestricted,5.00\n";
+
 const RATES_C: &[u8] =
     b"terms,1000,1\nrate,2025-02-14,2026-01-15,4.00\noffer,2026-01-15,max,,10000\n";
+
 const ISSUE_D: &[u8] = b"settle,2025-01-15\nneed,2025-07-15,1000.00\nrestricted,3.00\n";
+
 const RATES_D: &[u8] =
     b"terms,1000,1000\nrate,2025-02-14,2026-01-15,4.00\noffer,2025-07-15,4.00,,2000\n";
 

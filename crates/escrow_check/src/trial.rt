@@ -1,5 +1,5 @@
 //! A certificate on trial, line by line.
-ghost use Rattle.std.specs.Prelude.{◌≡◌, ◌+◌, ◌<◌, IfOk, OnOk, false, length, true};
+ghost use Rattle.std.specs.Prelude.{◌≡◌, ◌+◌, ◌<◌, IfErr, IfOk, OnOk, false, length, true, ℕ};
 ghost use Rattle.case_file.specs.Case.{HasTerms, case_view};
 ghost use Rattle.dual_bound.specs.Tree.{IsLeaf};
 ghost use Rattle.offer_book.specs.Book.{IsBook};
@@ -13,6 +13,7 @@ ghost use Rattle.bound_certificate.specs.Draft.{with_item};
 ghost use Rattle.bound_certificate.specs.Step.{due_after};
 ghost use Rattle.bound_certificate.specs.declared.certificate.Certificate.{Certificate as CertificateOf};
 ghost use Rattle.bound_certificate.specs.declared.due.Due.{Due as DueOf};
+ghost use Rattle.bound_certificate.specs.declared.item.Item.TheVariants as item_of;
 
 use crate::closing::{is_closed_leaf, is_closed_point};
 use crate::verdict::{Portfolio, Reason, Verdict};
@@ -240,7 +241,8 @@ impl Trial {
     ) -> Result<(), NoMemory>
         requires comes { (cert : CertificateOf) × (d : DueOf) × Comes (case_view case.now) cert d item leaf.now self.old }
         requires book { IsBook case.now.book }
-        ensures { OnOk result ((cert : CertificateOf) (d : DueOf) → Comes (case_view case.now) cert d item leaf.now self.old
+        ensures err { IfErr result (λ _. (cents : ℕ) × (item ≡ item_of.Gap cents)) }
+        ensures knows { OnOk result ((cert : CertificateOf) (d : DueOf) → Comes (case_view case.now) cert d item leaf.now self.old
             → Knows (case_view case.now) (with_item cert item leaf.now) (due_after d item) self.new) }
     {
         match item {

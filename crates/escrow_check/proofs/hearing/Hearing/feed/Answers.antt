@@ -1,11 +1,12 @@
 use Rattle.std.proofs.Common.{◌∙◌, List, ℕ, ◌++◌, length, take, ap, arith, append_assoc}
+use Rattle.std.proofs.lemmas.Result.{err_from_is_err_and}
 use Rattle.bound_certificate.proofs.CertFacts.{all-came, empty_rest}
 use Rattle.case_file.specs.Case.{CaseContents, case_view}
-use Rattle.escrow_check.proofs.HearFacts.{heard-as, heard-comes, heard-fault, heard-more, rest-drop, rest-few}
+use Rattle.escrow_check.proofs.HearFacts.{gap-ends, heard-as, heard-comes, heard-fault, heard-more, rest-drop, rest-few, still-before}
 use Rattle.escrow_check.proofs.hearing.Hearing.feed.Goals as goal
 
-pub returns-in_default : goal.returns-in_default
-returns-in_default c = λ bytes heard.
+pub returns-in_default-clause-heard : goal.returns-in_default-clause-heard
+returns-in_default-clause-heard c = λ bytes heard.
     (let case : CaseContents = case_view c.args.case.now in
     let i = c.loop-rest.invariant in
     heard-as case (record { reader = c.feed.new.self; trial = c.loop-rest.self.trial }) ((bytes ++ i.front) ++ c.loop-rest.rest.now) (bytes ++ c.args.piece.now)
@@ -29,17 +30,26 @@ loop-rest-preserved c =
       front = i.front ++ take used c.loop-rest.rest.now;
       bytes = rest-drop i.front c.loop-rest.rest.now c.args.piece.now used (length c.loop-rest.rest.now) (omega arith) i.bytes;
       few = rest-few c.loop-rest.rest.now used (length c.loop-rest.rest.now) i.few;
+      before = λ e. i.before (still-before case c.loop-rest.self (c.requires.heard.0 ++ i.front) c.loop-rest.rest.now c.in-Ok.fed c.feed.new.self (i.heard c.requires.heard.0 c.requires.heard.1) c.in-Ok.ensures.ok e);
       heard = λ bytes heard.
           heard-as case (record { reader = c.feed.new.self; trial = c.take.new.self }) ((bytes ++ i.front) ++ take used c.loop-rest.rest.now) (bytes ++ (i.front ++ take used c.loop-rest.rest.now))
           (append_assoc bytes i.front (take used c.loop-rest.rest.now))
           (heard-more case c.loop-rest.self (bytes ++ i.front) c.loop-rest.rest.now c.in-Ok.fed c.feed.new.self c.leaf.result.now c.take.new.self (i.heard bytes heard)
-          c.in-Ok.ensures.ok c.leaf.ensures c.in_ok-take.ensures);
+          c.in-Ok.ensures.ok c.leaf.ensures c.in_ok-take.ensures.knows);
     }
 
-pub returns : goal.returns
-returns c = λ bytes heard.
+pub returns-clause-heard : goal.returns-clause-heard
+returns-clause-heard c = λ bytes heard.
     (let case : CaseContents = case_view c.args.case.now in
     let i = c.loop-rest.invariant in
     heard-as case c.loop-rest.self (bytes ++ i.front) (bytes ++ c.args.piece.now)
     (ap (λ (bs : List ℕ). bytes ++ bs) (all-came i.front c.loop-rest.rest.now c.args.piece.now
     (empty_rest c.loop-rest.rest.now c.is_empty.result c.is_empty.ensures c.loop-rest-test.false) i.bytes)) (i.heard bytes heard))
+
+pub returns-in_err-take-clause-err : goal.returns-in_err-take-clause-err
+returns-in_err-take-clause-err c =
+    let i = c.loop-rest.invariant in
+    let gap = gap-ends (case_view c.args.case.now) c.loop-rest.self (c.requires.heard.0 ++ i.front) c.loop-rest.rest.now c.in-Ok.fed c.feed.new.self c.in_err-take.ensures.err.0
+    (i.heard c.requires.heard.0 c.requires.heard.1) c.in-Ok.ensures.ok c.in_err-take.ensures.err.1 in
+    let p = err_from_is_err_and c.from_residual.result c.from_residual.ensures.1 in
+    rw p.1 (record { before = i.before gap.0; behind = gap.1 })

@@ -1,6 +1,6 @@
-use Rattle.std.proofs.Common.{◌≡◌, ◌≤◌, List, ℕ, ◌++◌, length}
+use Rattle.std.proofs.Common.{◌≡◌, true, ◌≤◌, List, ℕ, ◌++◌, length}
 use Rattle.case_file.specs.Case.{case_view}
-use Rattle.escrow_check.specs.Heard.{HasHeard}
+use Rattle.escrow_check.specs.Heard.{HasHeard, is_before_gap}
 use Rattle.escrow_check.proofs.hearing.Hearing.feed.Given as goal
 
 abbrev pub invariant-loop-rest : goal.invariant-loop-rest
@@ -8,6 +8,7 @@ invariant-loop-rest l = record {
   front : List ℕ;
   bytes : front ++ l.rest ≡ l.fn.piece;
   few : length l.rest ≤ 65_536;
+  before : is_before_gap l.self.reader.due ≡ true → is_before_gap l.initial.self.reader.due ≡ true;
   heard : (bytes : List ℕ) → HasHeard (case_view l.case) l.initial.self bytes → HasHeard (case_view l.case) l.self (bytes ++ front);
 }
 
