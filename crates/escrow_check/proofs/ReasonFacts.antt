@@ -1,5 +1,5 @@
 -- What each reason means, proved; and that none stands exactly where a certificate is accepted.
-use Rattle.std.proofs.Common.{◌≡◌, ◌∙◌, ◌↔◌, ℕ, zero, suc, ◌+◌, ◌<◌, ◌≤◌, refl, sym, ap, subst, arith, List, [], ◌∷◌, ◌++◌, get_or, length, Option, Some, None, MatchOption, Bool, true, false, not, cond, nat_lt, ℤ, All}
+use Rattle.std.proofs.Common.{◌≡◌, ◌∙◌, ℕ, zero, suc, ◌+◌, ◌<◌, refl, sym, ap, subst, arith, List, [], ◌∷◌, get_or, length, Option, Some, None, MatchOption, Bool, true, false, not, cond, nat_lt, ℤ}
 use Rattle.std.specs.Prelude.{option_map}
 use Rattle.std.specs.Bool.{then_some}
 use Rattle.std.specs.List.{position}
@@ -20,14 +20,13 @@ use Rattle.dual_bound.specs.declared.tree.TreeNode.TheVariants as node
 use Rattle.offer_book.specs.Book.{BookContents, IsBook}
 use Rattle.offer_book.specs.Portfolio.{IsFirstShort, Meets}
 use Rattle.escrow_check.specs.Acceptance.{claim_of, first_not_offered, is_bad_split, is_offered, is_weak, judged, numbered, placed_nodes, plan_of, portfolio_reason, reason_by, reason_of, tree_reason, verdict_by, yes_of}
-use Rattle.escrow_check.specs.Meaning.{Bought, IsHeard, IsOffered}
-use Rattle.escrow_check.specs.Reasons.{HasSound, IsAllowed, IsClosed, IsFirstNode, IsFirstNotOffered, IsProper, IsShortOn, IsSound, IsSoundTree, IsUnopposed, Makes, MakesCovered, NoNamesReason, OfBuys, Stands, YesWhereUnopposed, YieldsAbove, nodes_of}
+use Rattle.escrow_check.specs.Meaning.{IsHeard, IsOffered}
+use Rattle.escrow_check.specs.Reasons.{HasSound, IsAllowed, IsFirstNode, IsFirstNotOffered, IsSound, IsSoundTree, IsUnopposed, Makes, NoNamesReason, OfBuys, Stands, YesWhereUnopposed}
 use Rattle.escrow_check.specs.declared.verdict.Reason.{Reason}
 use Rattle.escrow_check.specs.declared.verdict.Reason.TheVariants as reason
-use Rattle.escrow_check.specs.declared.verdict.Verdict.{Verdict}
 use Rattle.escrow_check.specs.declared.verdict.Verdict.TheVariants as verdict
 use Rattle.escrow_check.proofs.PurchaseFacts.{none-found, not-offered, offered-from_test, one-plan, plan-buys, plan_permitted, rise-pairs}
-use Rattle.escrow_check.proofs.VerdictFacts.{AreSoundBuys, option_map-none, option_or-none, sound_buys, then_some-none, well_bought}
+use Rattle.escrow_check.proofs.VerdictFacts.{option_map-none, option_or-none, sound_buys, then_some-none, well_bought}
 
 same_reason : (a b : Reason) → Some a ≡ Some b → a ≡ b
 same_reason a b is = cc

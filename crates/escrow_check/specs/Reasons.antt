@@ -1,13 +1,12 @@
 -- What each reason against a certificate means, and when none stands.
 use Rattle.std.specs.Prelude.{◌≡◌, ◌↔◌, ℕ, ◌+◌, ◌<◌, ◌≤◌, true, false, List, ◌∷◌, ◌++◌, All, length, Option, Some, None, ℤ}
-use Rattle.bound_certificate.specs.Certificate.{IsWellFormed}
 use Rattle.bound_certificate.specs.declared.certificate.Buy.{Buy}
 use Rattle.bound_certificate.specs.declared.certificate.Certificate.{Certificate}
 use Rattle.case_file.specs.Case.{CaseContents}
 use Rattle.cash_table.specs.Points.{is_within_limit}
 use Rattle.dual_bound.specs.declared.ranges.Interval.{Interval}
 use Rattle.dual_bound.specs.declared.tree.TreeNode.{TreeNode}
-use Rattle.offer_book.specs.Book.{BookContents, IsBook}
+use Rattle.offer_book.specs.Book.{BookContents}
 use Rattle.offer_book.specs.Portfolio.{IsFirstShort, IsPermitted, Meets}
 use Rattle.escrow_check.specs.Acceptance.{claim_of, is_bad_split, is_weak, judged, placed_nodes, reason_of}
 use Rattle.escrow_check.specs.Meaning.{Bought, IsHeard, IsOffered}

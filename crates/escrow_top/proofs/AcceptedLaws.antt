@@ -1,5 +1,5 @@
 -- What `yes` means, proved.
-use Rattle.std.proofs.Common.{◌≡◌, ◌↔◌, ◌⊎◌, ℕ, ◌≤◌, Bool, true, false, nat_lt, ◌∙◌, Option, Some, None, Ok, List, length, refl, sym, ap, subst, inl, inr, arith}
+use Rattle.std.proofs.Common.{◌≡◌, ◌⊎◌, ℕ, ◌≤◌, Bool, true, false, nat_lt, ◌∙◌, Option, Some, None, Ok, List, length, refl, sym, ap, subst, inl, inr, arith}
 use Rattle.std.proofs.lemmas.Bool.Decides.{nat_tests}
 use Rattle.escrow_desk.specs.declared.limits.TheConstants.{CERTIFICATE_LIMIT}
 use Rattle.escrow_desk.specs.declared.refusal.FileKind.TheVariants as file
@@ -15,18 +15,14 @@ use Rattle.case_file.specs.Case.{CaseContents, HasTerms, IsKept}
 use Rattle.escrow_check.specs.Acceptance.{IsVerdict, judged, reason_of, verdict_by, yes_of}
 use Rattle.escrow_check.specs.Meaning.{IsHeard}
 use Rattle.escrow_check.specs.Verdicts.{verdict_of}
-use Rattle.escrow_check.specs.declared.verdict.Portfolio.{Portfolio}
-use Rattle.escrow_check.specs.declared.verdict.Reason.{Reason}
-use Rattle.escrow_check.specs.declared.verdict.Reason.TheVariants as reason
 use Rattle.escrow_check.specs.declared.verdict.Verdict.{Verdict}
 use Rattle.escrow_check.specs.declared.verdict.Verdict.TheVariants as verdict
 use Rattle.escrow_check.proofs.OneVerdict.{bytes_have, judged-by, one_verdict}
 use Rattle.escrow_check.proofs.ReasonFacts.{yes_where_unopposed}
 use Rattle.escrow_check.proofs.VerdictFacts.{none-told, yes-told, yes_is_right, yes_none_is_right}
 use Rattle.escrow_top.specs.InputFiles.{InputFiles}
-use Rattle.escrow_top.specs.Answer.{Answer, case_of, certificate_answer, check_answer, none_text, refused, verdict_answer, yes_text}
+use Rattle.escrow_top.specs.Answer.{Answer, case_of, certificate_answer, check_answer, refused, verdict_answer}
 use Rattle.escrow_top.specs.Accepted.{Accepted, HasNoReason, HasNoRival, HasPortfolio, YesExactly}
-use Rattle.escrow_top.specs.declared.status.Status.{Status}
 use Rattle.escrow_top.specs.declared.status.Status.TheVariants as status
 
 -- a case that keeps its limits

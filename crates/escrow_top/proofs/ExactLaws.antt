@@ -199,3 +199,11 @@ structure_names_none Holds told (word ∷ issue ∷ rates ∷ prices ∷ cert �
     by_test true same names named = absurd (both-words word is same)
     by_test false same names named = absurd (cc)
 structure_names_none Holds told words is = absurd (cc)
+
+pub structure-checks_none : (words : List (List ℕ)) → is_structure words ≡ true → check_names words ≡ None
+structure-checks_none (word ∷ issue ∷ rates ∷ prices ∷ cert ∷ []) is = by_test (pointwise nat_eq word (codes "check")) refl
+  where
+    by_test : (test : Bool) → pointwise nat_eq word (codes "check") ≡ test → then_some {T = FileNames} test (record { issue = issue; rates = rates; prices = prices; cert = cert }) ≡ None
+    by_test true same = absurd (both-words word is same)
+    by_test false same = refl
+structure-checks_none words is = absurd (cc)

@@ -8,7 +8,7 @@ use Rattle.rate_table.specs.RateForm.{rate_file_of}
 use Rattle.rate_table.specs.declared.table.RateFile.{RateFile}
 use Rattle.market_notes.specs.PriceForm.{note_file_of}
 use Rattle.market_notes.specs.declared.note.NoteFile.{NoteFile}
-use Rattle.offer_book.specs.Book.{BookContents, IsBook}
+use Rattle.offer_book.specs.Book.{IsBook}
 use Rattle.offer_book.specs.CaseBook.{IsBookOf}
 use Rattle.offer_book.specs.Rival.{IsRival}
 use Rattle.bound_certificate.specs.Text.{IsTextOf}

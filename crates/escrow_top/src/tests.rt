@@ -455,7 +455,8 @@ const SPLIT: Files = Files {
 fn yields_and_trees(rt: HostRuntime) -> Result<(), Fail> {
     let computed =
         b"settle,2025-01-15\nneed,2025-07-15,102000.00\nprice,100000.00\npay,2025-07-15,102000.00\nallowance,0.01\n";
-    let near = b"settle,2025-01-15\nneed,2025-07-15,102000.00\nrestricted,3.99900001\nallowance,0.01\n";
+    let near =
+        b"settle,2025-01-15\nneed,2025-07-15,102000.00\nrestricted,3.99900001\nallowance,0.01\n";
     let rows = [
         Row {
             files: NOTE,

@@ -1,6 +1,6 @@
 use Rattle.std.proofs.Common.{map, string_bytes}
 use Rattle.escrow_top.proofs.AnswerLaws.{structure_said, structure_said_part}
-use Rattle.escrow_top.proofs.ExactLaws.{check_exactly, structure_names_none}
+use Rattle.escrow_top.proofs.ExactLaws.{check_exactly, structure-checks_none, structure_names_none}
 use Rattle.escrow_top.proofs.program.run.Goals as goal
 
 pub returns-in-Some-Structure-clause-answers : goal.returns-in-Some-Structure-clause-answers
@@ -24,3 +24,8 @@ pub returns-in-Some-Check-clause-exactly : goal.returns-in-Some-Check-clause-exa
 returns-in-Some-Check-clause-exactly g c = λ reached.
     let is = rw c.in-Some-Check.field-0-is at c.in-Some-Check.ensures in
     check_exactly _ (g.D.Desk.told c.args.desk.now) (map string_bytes c.args.words.now) _ is.1 (c.run_check.ensures.exactly reached)
+
+pub returns-in-Some-Structure-clause-checked : goal.returns-in-Some-Structure-clause-checked
+returns-in-Some-Structure-clause-checked g c = λ reached.
+    let is = rw c.in-Some-Structure.field-0-is at c.in-Some-Structure.ensures in
+    rw (structure-checks_none (map string_bytes c.args.words.now) is) tt
