@@ -8,3 +8,4 @@ pub mod PoolFacts
 pub mod TreeFacts
 pub mod AgreeFacts
 pub mod WayFacts
+mod DownFacts

@@ -329,20 +329,20 @@ abbrev pub numbered : ℕ → NodeId
 numbered number = record { 0 = number }
 
 -- the states behind a split
-abbrev split_of : List State → ℕ → ℕ → State
+abbrev pub split_of : List State → ℕ → ℕ → State
 split_of old line at = state.Split line at (record { 0 = length old }) (record { 0 = length old + 1 })
 
-abbrev after_split : List State → ℕ → ℕ → ℕ → ℤ → ℤ → List State
+abbrev pub after_split : List State → ℕ → ℕ → ℕ → ℤ → ℤ → List State
 after_split old number line at l r = with_state old number (split_of old line at) ++ state.Waiting l ∷ state.Waiting r ∷ []
 
 front_state : (old : List State) (number line at : ℕ) (l r : ℤ) (own : ℕ) → own < length old → state_at (after_split old number line at l r) own ≡ state_at (with_state old number (split_of old line at)) own
 front_state old number line at l r own inside =
     get_or-append (with_state old number (split_of old line at)) (state.Waiting l ∷ state.Waiting r ∷ []) state.InHand own (omega (arith, length-set old number (split_of old line at), inside))
 
-own_state : (old : List State) (number line at : ℕ) (l r : ℤ) → number < length old → state_at (after_split old number line at l r) number ≡ split_of old line at
+pub own_state : (old : List State) (number line at : ℕ) (l r : ℤ) → number < length old → state_at (after_split old number line at l r) number ≡ split_of old line at
 own_state old number line at l r there = front_state old number line at l r number there ∙ get_or-set_same old number (split_of old line at) state.InHand there
 
-other_state : (old : List State) (number line at : ℕ) (l r : ℤ) (own : ℕ) → own < length old → own ≢ number → state_at (after_split old number line at l r) own ≡ state_at old own
+pub other_state : (old : List State) (number line at : ℕ) (l r : ℤ) (own : ℕ) → own < length old → own ≢ number → state_at (after_split old number line at l r) own ≡ state_at old own
 other_state old number line at l r own inside other =
     front_state old number line at l r own inside ∙ get_or-set_other old number own (split_of old line at) state.InHand other
 
@@ -388,7 +388,7 @@ child_inside old child own whole is =
     let next = are.next in let there = are.there in
     elim is.side [ inl left ↦ omega (arith, left, next, there) | inr right ↦ omega (arith, right, there) ]
 
-split_inside : (old : List State) (child own : ℕ) → IsChildOf old child own → (own < length old) ⊎ (length old ≤ own) → own < length old
+pub split_inside : (old : List State) (child own : ℕ) → IsChildOf old child own → (own < length old) ⊎ (length old ≤ own) → own < length old
 split_inside old child own is (inl inside) = inside
 split_inside old child own is (inr past) =
     let bad : state.InHand ≡ state.Split is.line is.at is.left is.right = sym (get_or_past old own state.InHand past) ∙ is.split in absurd (cc)

@@ -7,6 +7,8 @@ mod node;
 mod pool;
 mod queue;
 #[cfg(test)]
+mod range_tests;
+#[cfg(test)]
 mod tests;
 mod tree;
 mod way;
