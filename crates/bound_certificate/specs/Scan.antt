@@ -1,11 +1,13 @@
 -- A line of a certificate as it is read, byte by byte.
-use Rattle.std.specs.Prelude.{◌≡◌, ℕ, ◌+◌, ◌-◌, ◌*◌, ◌≤◌, Bool, true, false, ◌==◌, ◌&&◌, ◌||◌, not, nat_lt, nat_le, if◌then◌else◌, List, length, slice_index, slice_set, Option, Some, None}
+use Rattle.std.specs.Prelude.{◌≡◌, ℕ, ◌+◌, ◌-◌, ◌*◌, ◌≤◌, Bool, true, false, ◌==◌, ◌&&◌, ◌||◌, not, nat_lt, nat_le, if◌then◌else◌, List, All, length, take, slice_index, slice_set, Option, Some, None}
 use Rattle.std.specs.Char.{is_ascii_digit}
+use Rattle.std.specs.List.{fold}
 use Rattle.dual_bound.specs.declared.tree.Leaf.{Leaf}
 use Rattle.bound_certificate.specs.declared.due.Due.{Due}
 use Rattle.bound_certificate.specs.declared.due.Due.TheVariants as due
 use Rattle.bound_certificate.specs.declared.due.Name.{Name}
 use Rattle.bound_certificate.specs.declared.due.Name.TheVariants as name
+use Rattle.bound_certificate.specs.declared.scan.Digits.{Digits}
 use Rattle.bound_certificate.specs.declared.scan.Scan.{Scan}
 use Rattle.bound_certificate.specs.declared.scan.Word.{Word}
 use Rattle.bound_certificate.specs.declared.scan.Word.TheVariants as word
@@ -195,3 +197,19 @@ pub record IsScan (scan : Scan) : Type 0 where
 abbrev pub kept_leaf : Item → Scan → Leaf
 kept_leaf item.Leaf scan = record scan.leaf { whole = scan.first == 1; mu = scan.second }
 kept_leaf other scan = scan.leaf
+
+-- ---- digits together
+-- the first byte of a piece is a digit above 0
+pub record IsFirstDigit (piece : List ℕ) (digits : Digits) : Type 0 where
+  pub there : 1 ≤ length piece
+  pub digit : is_ascii_digit (slice_index piece 0) ≡ true
+  pub number : digits.number ≡ slice_index piece 0 - 48
+  pub some : 1 ≤ digits.number
+  pub count : digits.count ≡ 1
+
+-- digits at the front of a piece make a word a number above 0
+pub record MakeNumber (scan : Scan) (piece : List ℕ) (digits : Digits) : Type 0 where
+  pub within : digits.count ≤ length piece
+  pub some : 1 ≤ digits.number
+  pub all : All (λ byte. is_ascii_digit byte ≡ true) (take digits.count piece)
+  pub word : (d : Due) → fold (longer d scan.words) scan.word (take digits.count piece) ≡ word.Number digits.number

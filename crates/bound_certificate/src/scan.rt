@@ -1,10 +1,10 @@
 //! A line, byte by byte.
-ghost use Rattle.std.specs.Prelude.{◌≡◌, ◌≤◌, All, Some, length, take, true};
+ghost use Rattle.std.specs.Prelude.{◌≡◌, ◌≤◌, All, IfSome, Some, length, take, true};
 ghost use Rattle.std.specs.Char.{is_ascii_digit};
 ghost use Rattle.std.specs.List.{fold};
 ghost use Rattle.bound_certificate.specs.declared.due.Due.{Due as DueOf};
 ghost use Rattle.bound_certificate.specs.Due.{is_in, range_at as range_at_of};
-ghost use Rattle.bound_certificate.specs.Scan.{IsScan, after_byte, after_word, begun as begun_of, fault_of, is_disordered as is_disordered_of, item_of, kept_leaf, leaf_with, longer as longer_of, longer_name as longer_name_of, longer_number as longer_number_of, name_of, new_scan, number_of, with_number, with_value};
+ghost use Rattle.bound_certificate.specs.Scan.{IsFirstDigit, IsScan, MakeNumber, after_byte, after_word, begun as begun_of, fault_of, is_disordered as is_disordered_of, item_of, kept_leaf, leaf_with, longer as longer_of, longer_name as longer_name_of, longer_number as longer_number_of, name_of, new_scan, number_of, with_number, with_value};
 
 use crate::certificate::Buy;
 use crate::due::{Due, Name, name_starting, range_at};
@@ -102,6 +102,26 @@ fn longer_number(number: u64, byte: u8) -> Word
     Word::Number(more)
 }
 
+// Digits at the front of a piece, with the number that they make of a word.
+#[derive(Clone, Copy, Debug, PartialEq, Eq)]
+pub(crate) struct Digits {
+    pub number: u64,
+    pub count: usize,
+}
+
+// The first byte of a piece, where it is a digit above 0.
+fn first_digit(piece: &[u8]) -> Option<Digits>
+    ensures { IfSome result (IsFirstDigit piece.now) }
+{
+    if piece.is_empty() || !piece[0].is_ascii_digit() || piece[0] == b'0' {
+        return None;
+    }
+    Some(Digits {
+        number: u64::from(piece[0] - b'0'),
+        count: 1,
+    })
+}
+
 /// What has come of a line.
 #[derive(Debug, Drop)]
 pub(crate) struct Scan {
@@ -178,7 +198,18 @@ impl Scan {
         }
     }
 
-    /// Takes the digits at the front of a piece by which a number gets longer, and says how many. It takes none that might
+    // The number above 0 that digits at the front of a piece make longer: it is the word, or begins with the first of them.
+    fn begun_number(&self, piece: &[u8]) -> Option<Digits>
+        ensures { IfSome result (MakeNumber self.now piece.now) }
+    {
+        match self.word {
+            Word::Number(number) if number != 0 => Some(Digits { number, count: 0 }),
+            Word::Empty if self.words > 0 => first_digit(piece),
+            _ => None,
+        }
+    }
+
+    /// Takes the digits at the front of a piece by which a number begins or gets longer, and says how many. It takes none that might
     /// bring the number above `GREATEST_GAP`: those come one by one.
     pub(crate) fn take_digits(&mut self, piece: &[u8]) -> usize
         requires { IsScan self.old }
@@ -187,13 +218,13 @@ impl Scan {
         ensures value { (d : DueOf) → self.new ≡ fold (after_byte d) self.old (take result piece.now) }
         ensures kept { IsScan self.new }
     {
-        let Word::Number(mut number) = self.word else {
+        let Some(begun) = self.begun_number(piece) else {
             return 0;
         };
-        if number == 0 {
-            return 0;
-        }
-        let mut place = 0;
+        let Digits {
+            mut number,
+            count: mut place,
+        } = begun;
         while place < piece.len() && piece[place].is_ascii_digit() && number < GREATEST_GAP / 10 {
             number = 10 * number + u64::from(piece[place] - b'0');
             place += 1;

@@ -26,12 +26,12 @@ use Rattle.cash_table.proofs.CostFacts.{PairIsPermitted, permitted_few}
 use Rattle.cash_table.proofs.PaymentFacts.{pair_payments}
 
 -- a greater amount is rounded to no less
-near_more : (a b c : ℕ) → a ≤ c → near a b ≤ near c b
+pub near_more : (a b c : ℕ) → a ≤ c → near a b ≤ near c b
 unfolding near
 near_more a zero c le = omega (arith, div-zero (2 * a + 0), div-zero (2 * c + 0))
 near_more a (suc b) c le = near-mono a (suc b) c (omega arith) le
 
-choice_more : (t : Bool) (a b c d : ℕ) → a ≤ c → b ≤ d → (if t then a else b) ≤ (if t then c else d)
+pub choice_more : (t : Bool) (a b c d : ℕ) → a ≤ c → b ≤ d → (if t then a else b) ≤ (if t then c else d)
 choice_more true a b c d le more = le
 choice_more false a b c d le more = more
 
@@ -45,13 +45,13 @@ half_coupon_more face more rate le = near_more _ 200_000 _ (mul-le-mul_right rat
 first_interest_more : (slgs : Slgs) (face more : ℕ) → face ≤ more → first_interest slgs face ≤ first_interest slgs more
 first_interest_more slgs face more le = earned_more face more slgs.rate.0 (first_accrual_of slgs).parts (100_000 * (first_accrual_of slgs).year) le
 
-slgs_payment_more : (slgs : Slgs) (face more : ℕ) (day : ℤ) → face ≤ more → (payment_on slgs face day).cents.0 ≤ (payment_on slgs more day).cents.0
+pub slgs_payment_more : (slgs : Slgs) (face more : ℕ) (day : ℤ) → face ≤ more → (payment_on slgs face day).cents.0 ≤ (payment_on slgs more day).cents.0
 slgs_payment_more slgs face more day le =
     let interest = choice_more (int_eq day slgs.first) _ _ _ _ (first_interest_more slgs face more le) (half_coupon_more face more slgs.rate.0 le) in
     let principal = choice_more (int_eq day slgs.maturity) face 0 more 0 le (omega arith) in
     omega (arith, interest, principal)
 
-note_payment_more : (note : Note) (face more : ℕ) (day : ℤ) → face ≤ more → (market.payment_on note face day).cents.0 ≤ (market.payment_on note more day).cents.0
+pub note_payment_more : (note : Note) (face more : ℕ) (day : ℤ) → face ≤ more → (market.payment_on note face day).cents.0 ≤ (market.payment_on note more day).cents.0
 note_payment_more note face more day le =
     let principal = choice_more (int_eq day note.maturity) face 0 more 0 le (omega arith) in
     omega (arith, half_coupon_more face more note.coupon.0 le, principal)

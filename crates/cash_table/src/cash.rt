@@ -1,13 +1,14 @@
 //! The first day on which a portfolio is short.
 
-ghost use Rattle.std.specs.Prelude.{◌≡◌, ℕ, ◌+◌, ◌^◌, ◌<◌, ◌≤◌, length, take, slice_index_or, ◌≤ℤ◌, ◌<ℤ◌, MatchOption, IfNone, IfSome};
+ghost use Rattle.std.specs.Prelude.{◌≡◌, ℕ, ◌+◌, ◌*◌, ◌^◌, ◌<◌, ◌≤◌, length, take, slice_index_or, ◌≤ℤ◌, ◌<ℤ◌, MatchOption, IfNone, IfSome};
 ghost use Rattle.std.specs.List.{All, AllWithin, flat_map, sum, zip};
 ghost use Rattle.escrow_units.specs.Flows.{Rise, total};
 ghost use Rattle.escrow_units.specs.SlgsTerms.{IsSettlement};
 ghost use Rattle.escrow_units.specs.declared.security.Flow.{Flow};
 ghost use Rattle.day_sums.specs.Summed.{total_by};
 ghost use Rattle.offer_book.specs.Book.{IsLine};
-ghost use Rattle.offer_book.specs.Portfolio.{IsPermitted, IsPermittedUnits, IsFirstShort, Meets, line_payments};
+ghost use Rattle.offer_book.specs.Portfolio.{IsPermitted, IsPermittedUnits, IsFirstShort, Meets, line_payments, payments};
+ghost use Rattle.offer_book.specs.declared.line.Line.{Line};
 ghost use Rattle.cash_table.specs.First.{first_short_of};
 ghost use Rattle.cash_table.specs.Receipts.{AreReceipts, IsCovered, IsFirstUncovered, cents_by};
 
@@ -47,6 +48,45 @@ pub(crate) fn first_short_of_units(book: &Book, units: &[u64]) -> Option<Day>
     first_uncovered(book.needs(), &receipts)
 }
 
+/// What a permitted portfolio pays, by need date: at the place of a date, what is paid after the date before it and up to it,
+/// in cents. What is paid after the last need date is left out.
+///
+/// It takes no memory.
+pub fn receipts(book: &Book, plan: &Plan) -> [u64; MOST_NEED_DATES]
+    requires { IsPermitted book.now plan.now }
+    ensures receipts { AreReceipts book.now.needs (payments book.now plan.now) result }
+    ensures bound { sum result < 2 ^ 64 }
+{
+    let mut receipts = [0; MOST_NEED_DATES];
+    add_bought(
+        &mut receipts,
+        book.needs(),
+        book.settle(),
+        book.lines(),
+        plan.units(),
+    );
+    receipts
+}
+
+/// What units of a line pay, by need date as [`receipts`] has it, in cents. The line is counted from 0, and the units are at
+/// most its `most`.
+///
+/// It takes no memory.
+pub fn line_receipts(book: &Book, line: u16, units: u64) -> [u64; MOST_NEED_DATES]
+    requires line { line < length book.now.lines }
+    requires units { (d : Line) → units ≤ (slice_index_or book.now.lines line d).most }
+    ensures receipts { (d : Line) → AreReceipts book.now.needs (line_payments book.now.settle (slice_index_or book.now.lines line d) units) result }
+    ensures bound { sum result ≤ 2 * 10 ^ 13 }
+{
+    let mut receipts = [0; MOST_NEED_DATES];
+    add_receipts(
+        &mut receipts,
+        book.needs(),
+        book.line_payments(line, units).as_slice(),
+    );
+    receipts
+}
+
 // Adds what the bought lines pay, each payment at the first need date on or after its day. A line without units pays
 // nothing, so its dates aren't looked for.
 fn add_bought(receipts: &mut [u64], needs: &[Flow], settle: Day, lines: &[Line], plan: &[u64])
@@ -67,8 +107,11 @@ fn add_bought(receipts: &mut [u64], needs: &[Flow], settle: Day, lines: &[Line],
     }
 }
 
-// Adds payments, each at the first need date on or after its day, if there is one.
-fn add_receipts(receipts: &mut [u64], needs: &[Flow], payments: &[Flow])
+/// Adds payments to receipts by need date, each at the place of the first need date on or after its day, if there is one.
+///
+/// The need dates strictly rise, there is a place for each of them, and receipts and payments come to less than 2^64 cents
+/// together. It takes no memory.
+pub fn add_receipts(receipts: &mut [u64], needs: &[Flow], payments: &[Flow])
     requires places { length needs.now ≤ length receipts.old }
     requires rising { Rise needs.now }
     requires room { sum receipts.old + total payments.now < 2 ^ 64 }
@@ -98,8 +141,10 @@ fn add_receipt(receipts: &mut [u64], needs: &[Flow], payment: &Flow)
     }
 }
 
-// The place of the first need date on or after a day, or their number where there is none, by binary search.
-fn place_of(needs: &[Flow], day: Day) -> usize
+/// The place of the first need date on or after a day, or their number where there is none, by binary search.
+///
+/// The need dates strictly rise. It takes no memory.
+pub fn place_of(needs: &[Flow], day: Day) -> usize
     requires { Rise needs.now }
     ensures bound { result ≤ length needs.now }
     ensures before { AllWithin (λ need. need.day <ℤ day) needs.now 0 result }

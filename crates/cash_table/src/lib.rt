@@ -12,7 +12,7 @@ mod reach;
 mod security_flows;
 mod yields;
 
-pub use cash::first_short;
+pub use cash::{add_receipts, first_short, line_receipts, place_of, receipts};
 pub use costs::{cost, security_cost};
 pub use day_balances::{Balance, balances};
 pub use laws::{

@@ -34,6 +34,16 @@ impl Plan {
         }
     }
 
+    /// The same portfolio once more.
+    pub fn copy(&self, alloc: Global) -> Result<Plan, NoMemory>
+        ensures { IfOk result (λ plan. plan ≡ self.now) }
+    {
+        match self.units.to_vec(alloc) {
+            Ok(units) => Ok(Plan { units }),
+            Err(_) => Err(NoMemory),
+        }
+    }
+
     /// The number of units of a line.
     pub fn get(&self, line: u16) -> u64
         requires { line < length self.now }

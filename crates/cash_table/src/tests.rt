@@ -7,8 +7,8 @@ ghost use Rattle.offer_book.specs.Book.{IsCashLine, IsSecurityLine};
 
 use crate::{
     Balance, Plan, balances, bounds, cost, cost_parts, empty_flows, excluded_laws, first_short,
-    first_unpermitted, flow_days, flows, meets_cost, out_of_reach, plan_yield, point_excluded,
-    security_cost, within_limit, zero_interest_total, zero_yield,
+    first_unpermitted, flow_days, flows, line_receipts, meets_cost, out_of_reach, plan_yield,
+    point_excluded, receipts, security_cost, within_limit, zero_interest_total, zero_yield,
 };
 use escrow_desk::{FILE_LIMIT, read_rows};
 use escrow_units::{AskedRate, Cents, Day, Flow, GREATEST_INDEX, GREATEST_YIELD, Rate, YieldUnits};
@@ -309,6 +309,23 @@ fn rows(rt: HostRuntime) -> Result<(), Fail> {
     for row in &rows {
         try_row(&rt, rt.alloc(), &book, row)?;
     }
+    Ok(())
+}
+
+// Opening cash and the early security pay by the first need date, and the late one by the third.
+#[test]
+fn receipts_by_need_date(rt: HostRuntime) -> Result<(), Fail> {
+    let book = sample(&rt, rt.alloc())?;
+    let plan = plan_of(&rt, rt.alloc(), &book, &[5, 10, 20, 0, 0, 0])?.copy(rt.alloc())?;
+    assert!(&rt; first_unpermitted(&book, &plan).is_none());
+    let all = receipts(&book, &plan);
+    assert_eq!(&rt; all[0], 100_005);
+    assert_eq!(&rt; all[1], 0);
+    assert_eq!(&rt; all[2], 200_000);
+    assert!(&rt; book.line_count() == 6 && book.line(2).most >= 20);
+    let late = line_receipts(&book, 2, 20);
+    assert_eq!(&rt; late[1], 0);
+    assert_eq!(&rt; late[2], 200_000);
     Ok(())
 }
 

@@ -1,5 +1,10 @@
 pub mod BoundSizes
+pub mod ColumnForms
+pub mod ColumnLinks
+pub mod ColumnMade
+pub mod ColumnSizes
 pub mod Coverage
+pub mod DayFacts
 pub mod FormFacts
 pub mod LineBound
 pub mod PriceFacts
@@ -8,3 +13,5 @@ pub mod RangeLaws
 pub mod Signed
 pub mod Sizes
 pub mod Soundness
+pub mod TableFacts
+pub mod TableauFacts

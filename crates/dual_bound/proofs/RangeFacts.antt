@@ -1,9 +1,10 @@
 -- Ranges at a place.
 use Rattle.std.proofs.Common.{◌≡◌, ◌∙◌, inl, inr, ℕ, zero, suc, ◌+◌, ◌<◌, ◌≤◌, ◌==◌, List, [], ◌∷◌, length, get_or, set, refl, sym, ap, arith, Bool, true, false, ◌&&◌, nat_lt, nat_le, IsTrue, if◌then◌else◌, All}
 use Rattle.std.proofs.lemmas.List.Elements.{All-cons, All-nil}
+use Rattle.std.specs.List.{AllZip}
 use Rattle.offer_book.specs.Portfolio.{IsPermittedUnits}
 use Rattle.offer_book.specs.declared.line.Line.{Line}
-use Rattle.dual_bound.specs.Ranges.{AreTight, IsTight, is_proper, is_single, narrowed, root_of, side_of, whole_interval}
+use Rattle.dual_bound.specs.Ranges.{AreTight, HasRoomFor, IsTight, is_proper, is_single, narrowed, root_of, side_of, whole_interval}
 use Rattle.dual_bound.specs.declared.ranges.Interval.{Interval}
 
 -- tight ranges have an interval for each line
@@ -148,3 +149,14 @@ tight-ordered (line ∷ lines) (interval ∷ ranges) tight =
 pub root-ordered : (lines : List Line) → All (λ interval. interval.low ≤ interval.high) (root_of lines)
 root-ordered [] = All-nil (λ (i : Interval). i.low ≤ i.high)
 root-ordered (line ∷ lines) = All-cons (λ (i : Interval). i.low ≤ i.high) (whole_interval line) (root_of lines) (omega arith) (root-ordered lines)
+
+-- tight ranges have room in their lines
+pub tight-room : (lines : List Line) (ranges : List Interval) → AreTight lines ranges → AllZip HasRoomFor lines ranges
+tight-room [] [] tight = tt
+tight-room [] (interval ∷ ranges) tight = absurd tight
+tight-room (line ∷ lines) [] tight = absurd tight
+tight-room (line ∷ lines) (interval ∷ ranges) tight = (room tight.0.high, tight-room lines ranges tight.1)
+  where
+    room : IsPermittedUnits line interval.high → interval.high ≤ line.most
+    room (inl none) = omega (arith, none)
+    room (inr some) = some.1

@@ -134,7 +134,7 @@ interest_slack-small rate = at (rate == 0)
     at true = omega arith
     at false = omega arith
 
-paid-sized : (day : ℤ) (step rate : ℕ) (accrual : Accrual) (principal : ℕ) → rate ≤ 30_000 → 0 < accrual.year → 3 * accrual.parts ≤ 4 * accrual.year → principal ≤ step
+pub paid-sized : (day : ℤ) (step rate : ℕ) (accrual : Accrual) (principal : ℕ) → rate ≤ 30_000 → 0 < accrual.year → 3 * accrual.parts ≤ 4 * accrual.year → principal ≤ step
     → IsSized step (paid_on day step rate accrual principal)
 paid-sized day step rate accrual principal low some few once = record {
   low = omega (arith, interest_low-small step rate accrual low some few);

@@ -1,3 +1,4 @@
+pub mod Columns
 pub mod Duality
 pub mod LeafBound
 pub mod Ranges

@@ -1,8 +1,9 @@
 //! Affine forms of a number of units.
-ghost use Rattle.std.specs.Prelude.{◌≡◌, ◌*◌, ◌^◌, ◌≤◌, unsigned_abs};
+ghost use Rattle.std.specs.Prelude.{◌≡◌, ◌*◌, ◌*ℤ◌, ◌^◌, ◌≤◌, pos, unsigned_abs};
 ghost use Rattle.dual_bound.specs.LeafBound.{form_at, least_side as least_side_of};
 
-use offer_book::PayCoefficients;
+use crate::ranges::Interval;
+use offer_book::{Line, PayCoefficients};
 
 /// An affine form of a number of units: `slope * units - slack`.
 #[derive(Clone, Copy, Debug, PartialEq, Eq)]
@@ -11,6 +12,16 @@ pub struct Form {
     pub slope: i128,
     /// What is taken away, however many units there are.
     pub slack: u128,
+}
+
+// A weight times a coefficient: both fit 64 bits, so that it is one product of the machine.
+fn weighted(weight: i128, coefficient: u128) -> i128
+    requires weight { unsigned_abs weight ≤ 2 * 10 ^ 12 }
+    requires coefficient { coefficient ≤ 10 ^ 18 }
+    ensures value { result ≡ weight *ℤ pos coefficient }
+    ensures small { unsigned_abs result ≤ 2 * 10 ^ 30 }
+{
+    i128::from(weight as i64) * i128::from(coefficient as i64)
 }
 
 // Of the two coefficients of an amount, the weight times the one with which it is least.
@@ -22,14 +33,17 @@ fn least_side(weight: i128, low: u128, high: u128) -> i128
     ensures small { unsigned_abs result ≤ 2 * 10 ^ 30 }
 {
     if weight >= 0 {
-        weight * low as i128
+        weighted(weight, low)
     } else {
-        weight * high as i128
+        weighted(weight, high)
     }
 }
 
 impl Form {
-    ghost use Rattle.std.specs.Prelude.{◌+◌, ◌+ℤ◌, neg_ℤ};
+    ghost use Rattle.std.specs.Prelude.{◌+◌, ◌+ℤ◌, ◌≢◌, ℕ, neg_ℤ};
+    ghost use Rattle.offer_book.specs.Book.{BookContents};
+    ghost use Rattle.dual_bound.specs.LeafBound.{form_of, least_within as least_within_of};
+    ghost use Rattle.dual_bound.specs.declared.tree.Leaf.{Leaf};
 
     /// The least that a weight times an amount can be, where the amount lies from `low * units - slack` to
     /// `high * units + slack`. The weight is at most 2 * 10^12, and the coefficients are at most 10^18 and the slack at most
@@ -45,7 +59,7 @@ impl Form {
     {
         Form {
             slope: least_side(weight, low, high),
-            slack: weight.unsigned_abs() * slack,
+            slack: u128::from(weight.unsigned_abs() as u64) * u128::from(slack as u64),
         }
     }
 
@@ -84,5 +98,22 @@ impl Form {
         ensures { result ≡ form_at self.now units }
     {
         self.slope * i128::from(units) - self.slack as i128
+    }
+    /// The least that a line can add within an interval of more than one number, from the line's form: at its ends, and where
+    /// it holds 0 at 0 and at the least purchase. It is two products.
+    pub fn least_within(&self, line: &Line, interval: Interval) -> i128
+        requires apart { interval.low ≢ interval.high }
+        requires low { unsigned_abs self.now.slope * interval.low ≤ 7 * 10 ^ 34 }
+        requires high { unsigned_abs self.now.slope * interval.high ≤ 7 * 10 ^ 34 }
+        requires least { unsigned_abs self.now.slope * line.now.least ≤ 7 * 10 ^ 34 }
+        requires slack { self.now.slack ≤ 10 ^ 24 }
+        ensures { (n : ℕ) (book : BookContents) (leaf : Leaf) → self.now ≡ form_of n book leaf line.now → result ≡ least_within_of n book leaf line.now interval }
+    {
+        let at_high = self.at(interval.high);
+        if interval.low == 0 {
+            0i128.min(self.at(line.least).min(at_high))
+        } else {
+            self.at(interval.low).min(at_high)
+        }
     }
 }

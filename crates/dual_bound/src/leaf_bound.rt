@@ -109,8 +109,8 @@ fn form(book: &Book, powers: &Powers, leaf: &Leaf, line: &Line) -> Form
     form
 }
 
-// So many cents at what each is worth.
-fn weighed(worth: i128, cents: Cents) -> i128
+/// So many cents at what each is worth.
+pub(crate) fn weighed(worth: i128, cents: Cents) -> i128
     requires worth { unsigned_abs worth ≤ 2 * 10 ^ 12 }
     requires cents { cents.0 ≤ 2 * 10 ^ 13 }
     ensures value { result ≡ worth *ℤ pos cents.0 }
@@ -119,10 +119,10 @@ fn weighed(worth: i128, cents: Cents) -> i128
     worth * i128::from(cents.0)
 }
 
-// What a line costs less what it pays, weighed, times the scale of coefficients.
-fn scaled_difference(cost: i128, paid: i128) -> i128
+/// What a line costs less what it pays, weighed, times the scale of coefficients.
+pub(crate) fn scaled_difference(cost: i128, paid: i128) -> i128
     requires cost { unsigned_abs cost ≤ 4 * 10 ^ 25 }
-    requires paid { unsigned_abs paid ≤ 4 * 10 ^ 27 }
+    requires paid { unsigned_abs paid ≤ 10 ^ 28 }
     ensures { result ≡ pos COEFFICIENT_SCALE *ℤ (cost -ℤ paid) }
 {
     i128::from(COEFFICIENT_SCALE) * (cost - paid)
@@ -172,8 +172,8 @@ fn least(book: &Book, powers: &Powers, leaf: &Leaf, line: &Line, interval: Inter
     }
 }
 
-// What the needs are worth at a leaf's prices.
-fn priced_needs(needs: &[Flow], prices: &[u64]) -> u128
+/// What the needs are worth at a leaf's prices.
+pub(crate) fn priced_needs(needs: &[Flow], prices: &[u64]) -> u128
     requires same { length needs.now ≡ length prices.now }
     requires prices { All (λ price. price ≤ 2 * PRICE_SCALE) prices.now }
     requires needs { total needs.now ≤ AMOUNT_LIMIT }

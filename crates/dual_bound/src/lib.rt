@@ -1,15 +1,23 @@
 //! Trees of lower bounds on the cost of a portfolio: their nodes, and the prices of a leaf.
 #![tactic(auto)]
 
+mod column;
+mod columns;
+#[cfg(test)]
+mod columns_tests;
+mod day_table;
 mod form;
 mod laws;
 mod leaf_bound;
 mod prices;
 mod ranges;
+mod tableau;
 #[cfg(test)]
 mod tests;
 mod tree;
+mod worth;
 
+pub use columns::Columns;
 pub use form::Form;
 pub use laws::{bound_laws, range_laws};
 pub use leaf_bound::bound;

@@ -42,6 +42,14 @@ impl Prices {
         self.prices
     }
 
+    // Takes over the prices of another list of the same length.
+    pub(crate) fn copy(&mut self, other: &Prices)
+        requires { length self.old ≡ length other.now }
+        ensures { self.new ≡ other.now }
+    {
+        self.prices.as_mut_slice().copy_from_slice(other.as_slice());
+    }
+
     /// Sets the price at a place, from 0, and changes no other.
     pub fn put(&mut self, place: u16, price: u64)
         requires { place < length self.old }

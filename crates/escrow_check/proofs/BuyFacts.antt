@@ -22,7 +22,7 @@ use Rattle.offer_book.specs.declared.line.Line.{Line}
 use Rattle.escrow_check.specs.Acceptance.{claim_of, first_not_offered, is_bad_split, is_offered, is_weak, judged, numbered, placed_nodes, plan_of, portfolio_reason, reason_by, reason_of, tree_reason, yes_of}
 use Rattle.escrow_check.specs.Acceptance as accept
 use Rattle.escrow_check.specs.Knows.{IsBuying, IsGoing, IsJudging, buys_in, still_waiting}
-use Rattle.escrow_check.specs.Trial.{IsClaim, IsNew, last_verdict, plan_reason, verdict_by, verdict_on, with_buy, with_gap}
+use Rattle.escrow_check.specs.Trial.{AreColumnsOf, IsClaim, IsNew, last_verdict, plan_reason, verdict_by, verdict_on, with_buy, with_gap}
 use Rattle.escrow_check.specs.Walk.{IsWalk, waiting_of}
 use Rattle.escrow_check.specs.declared.trial.Trial.{Trial}
 use Rattle.escrow_check.specs.declared.verdict.Reason.{Reason}
@@ -36,6 +36,7 @@ use Rattle.escrow_check.proofs.PurchaseFacts.{put_permitted, zero_permitted}
 pub new-known : (case : CaseContents) (cert : Certificate) (trial : Trial) → cert.buys ≡ None → cert.nodes ≡ [] → IsNew case trial → IsBuying case cert trial
 new-known case cert trial unnamed none new = record {
   powers = new.powers;
+  columns = new.columns;
   point = new.point;
   walk = new.walk;
   waiting = new.waiting;
@@ -58,6 +59,7 @@ named-known case cert old new unnamed is rest =
     let P : Trial → Type 0 = λ t. IsBuying case (record cert { buys = Some [] }) t in
     subst P (sym rest) (record {
       powers = is.powers;
+      columns = is.columns;
       point = is.point;
       walk = is.walk;
       waiting = is.waiting;
@@ -76,6 +78,7 @@ named-known case cert old new unnamed is rest =
 pub unnamed-known : (case : CaseContents) (cert : Certificate) (old : Trial) → cert.buys ≡ None → IsBuying case cert old → IsBuying case (record cert { buys = None }) old
 unnamed-known case cert old unnamed is = record {
   powers = is.powers;
+  columns = is.columns;
   point = is.point;
   walk = is.walk;
   waiting = is.waiting;
@@ -171,6 +174,7 @@ bought_by case cert old new buy (Some buys) e some is rest =
     let P : Trial → Type 0 = λ t. IsBuying case (record cert { buys = Some (buys ++ buy ∷ []) }) t in
     subst P (sym rest) (record {
       powers = ap (λ (t : Trial). t.powers) more.rest ∙ is.powers;
+      columns = subst (λ (t : Trial). AreColumnsOf case t.columns) (sym more.rest) is.columns;
       point = ap (λ (t : Trial). length t.point) more.rest ∙ is.point;
       walk = subst (λ (t : Trial). IsWalk case.book.lines t.walk) (sym more.rest) is.walk;
       waiting = ap (λ (t : Trial). waiting_of case.book.lines t.walk) more.rest ∙ is.waiting;
@@ -210,6 +214,7 @@ judging case cert old new gap is rest size found stands =
     let root : List (List Interval) = root_of lines ∷ [] in
     record {
       powers = ap (λ (t : Trial). t.powers) rest ∙ is.powers;
+      columns = subst (λ (t : Trial). AreColumnsOf case t.columns) (sym rest) is.columns;
       size = size;
       point = ap (λ (t : Trial). length t.point) rest ∙ is.point;
       walk = subst (λ (t : Trial). IsWalk case.book.lines t.walk) (sym rest) is.walk;

@@ -1,23 +1,16 @@
 -- Tight ranges, and the portfolio of their low ends.
 use Rattle.std.proofs.Common.{◌≡◌, ◌∙◌, ℕ, suc, ◌+◌, ◌<◌, List, [], ◌∷◌, length, get_or, set, refl, sym, ap, arith, inl, inr}
-use Rattle.std.specs.List.{All, AllZip, zip}
+use Rattle.std.specs.List.{All, zip}
 use Rattle.std.proofs.lemmas.List.Elements.{All-cons, All-nil}
 use Rattle.dual_bound.proofs.RangeFacts.{tight-length}
 use Rattle.offer_book.specs.Book.{BookContents}
 use Rattle.offer_book.specs.Portfolio.{IsPermitted, IsPermittedUnits}
 use Rattle.std.proofs.lemmas.Bool.{cases_lt}
 use Rattle.std.proofs.lemmas.List.{get_or-set_same, get_or-set_other, length-map, length-set}
-use Rattle.cash_table.proofs.CostFacts.{permitted_few}
-use Rattle.dual_bound.specs.Ranges.{AreTight, HasRoomFor}
+use Rattle.dual_bound.specs.Ranges.{AreTight}
 use Rattle.dual_bound.specs.declared.ranges.Interval.{Interval}
 use Rattle.offer_book.specs.declared.line.Line.{Line}
 use Rattle.escrow_check.specs.Acceptance.{low_ends}
-
-pub tight-room : (lines : List Line) (ranges : List Interval) → AreTight lines ranges → AllZip HasRoomFor lines ranges
-tight-room [] [] tight = tt
-tight-room [] (interval ∷ ranges) tight = absurd tight
-tight-room (line ∷ lines) [] tight = absurd tight
-tight-room (line ∷ lines) (interval ∷ ranges) tight = (permitted_few line interval.high tight.0.high, tight-room lines ranges tight.1)
 
 abbrev IsPair : Line × ℕ → Type 0
 IsPair p = IsPermittedUnits p.0 p.1

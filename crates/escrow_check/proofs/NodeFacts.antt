@@ -9,6 +9,7 @@ use Rattle.bound_certificate.specs.declared.certificate.Certificate.{Certificate
 use Rattle.bound_certificate.specs.declared.limits.TheConstants.{MOST_NODES}
 use Rattle.case_file.specs.Case.{CaseContents}
 use Rattle.cash_table.specs.Points.{plan_yield}
+use Rattle.dual_bound.specs.Columns.{ColumnsContents}
 use Rattle.dual_bound.specs.Ranges.{is_proper, narrowed, root_of}
 use Rattle.dual_bound.specs.declared.ranges.Interval.{Interval}
 use Rattle.dual_bound.specs.declared.tree.TreeNode.{TreeNode}
@@ -17,7 +18,7 @@ use Rattle.offer_book.specs.Portfolio.{IsPermitted}
 use Rattle.offer_book.specs.declared.line.Line.{Line}
 use Rattle.escrow_check.specs.Acceptance.{Claim, claim_of, is_bad_split, is_weak, numbered, placed, placed_nodes, portfolio_reason, reason_by, reason_of, tree_reason}
 use Rattle.escrow_check.specs.Knows.{IsGoing, IsJudging, still_waiting}
-use Rattle.escrow_check.specs.Trial.{Ends, IsClaim, SplitsWell, TakesEnd, TakesSplit, may_go}
+use Rattle.escrow_check.specs.Trial.{AreColumnsOf, Ends, IsClaim, SplitsWell, TakesEnd, TakesSplit, may_go}
 use Rattle.escrow_check.specs.Walk.{IsWalk, after_subtree, waiting_of}
 use Rattle.escrow_check.specs.declared.trial.Trial.{Trial}
 use Rattle.escrow_check.specs.declared.verdict.Reason.{Reason}
@@ -27,6 +28,13 @@ use Rattle.escrow_check.proofs.WalkFacts.{waiting-going}
 
 abbrev Placed : Type 0
 Placed = TreeNode × List Interval
+
+-- columns whose leaf alone changes are still those of the case
+columns-stay : (case : CaseContents) (old new : ColumnsContents) → new ≡ record old { leaf = new.leaf } → AreColumnsOf case old → AreColumnsOf case new
+columns-stay case old new same are = record {
+  book = ap (λ (c : ColumnsContents). c.book) same ∙ are.book;
+  yield_units = ap (λ (c : ColumnsContents). c.yield_units) same ∙ are.yield_units;
+}
 
 abbrev with_node : Certificate → TreeNode → Certificate
 with_node cert next = record cert { nodes = cert.nodes ++ next ∷ [] }
@@ -48,6 +56,7 @@ stays : (case : CaseContents) (cert : Certificate) (trial : Trial) (next : TreeN
     IsJudging case (with_node cert next) trial
 stays case cert trial next why is found = record {
   powers = is.powers;
+  columns = is.columns;
   size = is.size;
   point = is.point;
   walk = is.walk;
@@ -74,6 +83,7 @@ over-stays case cert trial next is none over =
     ∙ append-nil (placed_nodes case.book cert.nodes) in
     record {
       powers = is.powers;
+      columns = is.columns;
       size = is.size;
       point = is.point;
       walk = is.walk;
@@ -174,6 +184,7 @@ ends case cert old new next closed end is none on closed_is ended =
     closed_is ∙ ap (λ (c : Claim). is_some old.weak || not (is_weak case c (next, old.walk.ranges))) going.claim in
     record {
       powers = ap (λ (t : Trial). t.powers) ended.rest ∙ is.powers;
+      columns = columns-stay case old.columns new.columns ended.goes.columns is.columns;
       size = subst IsClaim (sym (ap (λ (t : Trial). t.claim) ended.rest)) is.size;
       point = ended.goes.point ∙ is.point;
       walk = ended.goes.walk;
@@ -240,6 +251,7 @@ splits case cert old new line at is none on proper split =
     let good : is_bad_split (next, old.walk.ranges) ≡ false = ap (λ (b : Bool). not b) proper in
     record {
       powers = ap (λ (t : Trial). t.powers) split.rest ∙ is.powers;
+      columns = columns-stay case old.columns new.columns split.goes.columns is.columns;
       size = subst IsClaim (sym (ap (λ (t : Trial). t.claim) split.rest)) is.size;
       point = split.goes.point ∙ is.point;
       walk = split.goes.walk;
@@ -293,6 +305,7 @@ bad_split case cert old new line at is none on improper rest =
     ap (λ (t : Trial). t.reason) rest ∙ ap (λ (n : ℕ). Some (reason.BadSplit (n + 1))) going.count in
     record {
       powers = ap (λ (t : Trial). t.powers) rest ∙ is.powers;
+      columns = subst (λ (t : Trial). AreColumnsOf case t.columns) (sym rest) is.columns;
       size = subst IsClaim (sym (ap (λ (t : Trial). t.claim) rest)) is.size;
       point = ap (λ (t : Trial). length t.point) rest ∙ is.point;
       walk = subst (λ (t : Trial). IsWalk lines t.walk) (sym rest) is.walk;

@@ -70,6 +70,7 @@ ready-of case cert trial judges =
     let is : IsJudging case cert trial = judges.0 in
     record {
       powers = is.powers;
+      columns = is.columns;
       claim = is.size;
       point = is.point;
       walk = is.walk;

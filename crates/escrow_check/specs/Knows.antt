@@ -18,7 +18,7 @@ use Rattle.dual_bound.specs.declared.tree.TreeNode.TheVariants as node
 use Rattle.offer_book.specs.Portfolio.{IsPermitted}
 use Rattle.offer_book.specs.declared.line.Line.{Line}
 use Rattle.escrow_check.specs.Acceptance.{claim_of, first_not_offered, is_bad_split, is_weak, numbered, placed_nodes, plan_of, portfolio_reason, reason_of}
-use Rattle.escrow_check.specs.Trial.{ArePowersOf, IsClaim}
+use Rattle.escrow_check.specs.Trial.{AreColumnsOf, ArePowersOf, IsClaim}
 use Rattle.escrow_check.specs.Walk.{IsWalk, waiting_of}
 use Rattle.escrow_check.specs.declared.trial.Trial.{Trial}
 use Rattle.escrow_check.specs.declared.verdict.Reason.{Reason}
@@ -41,6 +41,7 @@ still_waiting lines (ranges ∷ waiting) (node.Closed leaf ∷ nodes) = still_wa
 -- before the gap: the purchases are known, and the tree stands at its root
 pub record IsBuying (case : CaseContents) (cert : Certificate) (trial : Trial) : Type 0 where
   pub powers : ArePowersOf case trial.powers
+  pub columns : AreColumnsOf case trial.columns
   pub point : length trial.point ≡ length case.book.lines
   pub walk : IsWalk case.book.lines trial.walk
   pub waiting : waiting_of case.book.lines trial.walk ≡ root_of case.book.lines ∷ []
@@ -70,6 +71,7 @@ pub record IsGoing (case : CaseContents) (cert : Certificate) (trial : Trial) : 
 -- behind the gap: a reason that was found stays, whatever nodes follow
 pub record IsJudging (case : CaseContents) (cert : Certificate) (trial : Trial) : Type 0 where
   pub powers : ArePowersOf case trial.powers
+  pub columns : AreColumnsOf case trial.columns
   pub size : IsClaim trial.claim
   pub point : length trial.point ≡ length case.book.lines
   pub walk : IsWalk case.book.lines trial.walk

@@ -10,6 +10,7 @@ use Rattle.bound_certificate.specs.declared.limits.TheConstants.{MOST_NODES}
 use Rattle.case_file.specs.Case.{CaseContents}
 use Rattle.cash_table.specs.First.{first_short_of}
 use Rattle.cash_table.specs.Points.{plan_yield}
+use Rattle.dual_bound.specs.Columns.{ColumnsContents}
 use Rattle.dual_bound.specs.Ranges.{is_proper, narrowed, root_of}
 use Rattle.dual_bound.specs.declared.ranges.Interval.{Interval}
 use Rattle.dual_bound.specs.declared.tree.Leaf.{Leaf}
@@ -30,6 +31,11 @@ use Rattle.escrow_check.specs.declared.verdict.Verdict.TheVariants as verdict
 abbrev pub ArePowersOf : CaseContents → PowerTable → Type 0
 ArePowersOf case powers = powers ≡ record { yield_units = case.limit - 1; side = side.Low; longest = GREATEST_INDEX }
 
+-- columns of the case's book, at one unit below the limit
+pub record AreColumnsOf (case : CaseContents) (columns : ColumnsContents) : Type 0 where
+  pub book : columns.book ≡ case.book
+  pub yield_units : columns.yield_units ≡ case.limit - 1
+
 -- a claim is of an amount that the arithmetic of bounds has room for
 abbrev pub IsClaim : Claim → Type 0
 IsClaim None = Unit {0}
@@ -38,6 +44,7 @@ IsClaim (Some least) = unsigned_abs least ≤ 11 * 10 ^ 14
 -- ---- before the first line
 pub record IsNew (case : CaseContents) (trial : Trial) : Type 0 where
   pub powers : ArePowersOf case trial.powers
+  pub columns : AreColumnsOf case trial.columns
   pub point : length trial.point ≡ length case.book.lines
   pub named : trial.named ≡ false
   pub plan : trial.plan ≡ replicate (length case.book.lines) 0
@@ -82,6 +89,7 @@ may_go trial = is_none trial.reason && not trial.walk.over
 -- there is room for one more node
 pub record IsReady (case : CaseContents) (trial : Trial) : Type 0 where
   pub powers : ArePowersOf case trial.powers
+  pub columns : AreColumnsOf case trial.columns
   pub claim : IsClaim trial.claim
   pub point : length trial.point ≡ length case.book.lines
   pub walk : IsWalk case.book.lines trial.walk
@@ -89,13 +97,14 @@ pub record IsReady (case : CaseContents) (trial : Trial) : Type 0 where
   pub depth : may_go trial ≡ true → vec_len trial.walk.splits ≤ trial.nodes
   pub room : MOST_NODES ≤ vec_capacity trial.walk.splits
 
--- a tree goes on: other ranges are waiting, within at most one more split
+-- a tree goes on: other ranges are waiting, within at most one more split, and the columns are the same, but for their leaf
 pub record GoesOn (lines : List Line) (come : List (List Interval)) (old new : Trial) : Type 0 where
   pub walk : IsWalk lines new.walk
   pub waiting : waiting_of lines new.walk ≡ come
   pub depth : vec_len new.walk.splits ≤ vec_len old.walk.splits + 1
   pub room : vec_capacity old.walk.splits ≤ vec_capacity new.walk.splits
   pub point : length new.point ≡ length old.point
+  pub columns : new.columns ≡ record old.columns { leaf = new.columns.leaf }
 
 -- the first leaf or point that isn't closed, after one more
 abbrev pub weak_after : Bool → Trial → Option ℕ
@@ -103,7 +112,7 @@ weak_after closed trial = if is_none trial.weak && not closed then Some (trial.n
 
 -- a leaf or a point came
 pub record Ends (lines : List Line) (closed : Bool) (old new : Trial) : Type 0 where
-  pub rest : new ≡ record old { nodes = old.nodes + 1; weak = weak_after closed old; walk = new.walk; point = new.point }
+  pub rest : new ≡ record old { nodes = old.nodes + 1; weak = weak_after closed old; walk = new.walk; point = new.point; columns = new.columns }
   pub goes : GoesOn lines (after_subtree lines old.walk) old new
 
 -- where nodes still matter

@@ -17,7 +17,7 @@ use std::marker::Model;
 #[derive(Drop)]
 pub struct Checker<'a> {
     case: &'a Case,
-    hearing: Hearing,
+    hearing: Hearing<'a>,
     failed: bool,
 }
 

@@ -6,11 +6,11 @@ ghost use Rattle.offer_book.specs.Portfolio.{IsPermitted};
 ghost use Rattle.dual_bound.specs.Tree.{IsLeaf};
 ghost use Rattle.fixed_powers.specs.declared.side.Side.TheVariants as side;
 ghost use Rattle.escrow_check.specs.Acceptance.{bears_out as bears_out_of, costs_enough as costs_enough_of, is_closed_leaf as is_closed_leaf_of, is_closed_point as is_closed_point_of, low_ends};
-ghost use Rattle.escrow_check.specs.Trial.{ArePowersOf, IsClaim};
+ghost use Rattle.escrow_check.specs.Trial.{AreColumnsOf, ArePowersOf, IsClaim};
 
 use case_file::Case;
 use cash_table::{Plan, cost, point_excluded};
-use dual_bound::{Leaf, PRICE_SCALE, Ranges, bound};
+use dual_bound::{Columns, Leaf, PRICE_SCALE, Ranges};
 use fixed_powers::Powers;
 use offer_book::{Book, COEFFICIENT_SCALE};
 
@@ -25,21 +25,22 @@ fn bears_out(bound: i128, claim: Option<i128>) -> bool
     COEFFICIENT_SCALE as i128 * PRICE_SCALE as i128 * (least - 1) < bound
 }
 
-/// Whether a leaf is closed over ranges.
+/// Whether a leaf is closed over ranges. The columns are priced at it.
 pub(crate) fn is_closed_leaf(
     case: &Case,
-    powers: &Powers,
+    columns: &mut Columns,
     claim: Option<i128>,
     ranges: &Ranges,
     leaf: &Leaf,
 ) -> bool
-    requires powers { ArePowersOf (case_view case.now) powers.now }
+    requires columns { AreColumnsOf (case_view case.now) columns.old }
     requires claim { IsClaim claim }
     requires ranges { AreTight case.now.book.lines ranges.now }
     requires leaf { IsLeaf (length case.now.book.needs) leaf.now }
-    ensures { result ≡ is_closed_leaf_of (case_view case.now) claim ranges.now leaf.now }
+    ensures closed { result ≡ is_closed_leaf_of (case_view case.now) claim ranges.now leaf.now }
+    ensures columns { columns.new ≡ record columns.old { leaf = leaf.now } }
 {
-    let bound = bound(&case.book, powers, ranges, leaf);
+    let bound = columns.bound(ranges, leaf);
     if leaf.whole {
         bears_out(bound, claim)
     } else {

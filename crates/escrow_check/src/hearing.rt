@@ -14,16 +14,16 @@ use std::alloc::Global;
 
 /// A certificate that is heard: its text is read, and what its lines say is tried.
 #[derive(Drop)]
-pub(crate) struct Hearing {
+pub(crate) struct Hearing<'a> {
     /// What reads the text.
     pub reader: CertReader,
     /// What is known of the certificate so far.
-    pub trial: Trial,
+    pub trial: Trial<'a>,
 }
 
-impl Hearing {
+impl<'a> Hearing<'a> {
     /// Nothing was heard yet. All memory is taken here but that of the gap's line.
-    pub fn make(alloc: Global, case: &Case) -> Result<Hearing, NoMemory>
+    pub fn make(alloc: Global, case: &'a Case) -> Result<Hearing<'a>, NoMemory>
         requires { HasTerms (case_view case.now) }
         ensures heard { IfOk result (λ hearing. HasHeard (case_view case.now) hearing []) }
         ensures book { IsBook case.now.book }
@@ -62,7 +62,7 @@ impl Hearing {
     pub fn finish(self, case: &Case) -> Verdict
         requires heard { (bytes : List ℕ) × HasHeard (case_view case.now) self bytes }
         requires book { IsBook case.now.book }
-        ensures { (bytes : List ℕ) → HasHeard (case_view case.now) self bytes → IsVerdict (case_view case.now) bytes result }
+        ensures { (bytes : List ℕ) → HasHeard (case_view case.now) self.entry bytes → IsVerdict (case_view case.now) bytes result }
     {
         match self.reader.finish() {
             Ok(()) => self.trial.verdict(case),

@@ -21,7 +21,7 @@ use crate::walk::Walk;
 use bound_certificate::{Buy, Item, MOST_NODES};
 use case_file::Case;
 use cash_table::{Plan, cost, first_short, plan_yield};
-use dual_bound::Leaf;
+use dual_bound::{Columns, Leaf};
 use escrow_desk::NoMemory;
 use escrow_units::{Cents, GREATEST_INDEX, YieldUnits};
 use fixed_powers::{Powers, Side};
@@ -31,9 +31,11 @@ use yield_enclosure::YieldAnswer;
 
 /// A certificate on trial: what is known of it, up to a line.
 #[derive(Drop)]
-pub(crate) struct Trial {
+pub(crate) struct Trial<'a> {
     /// The discount factors at one unit below the limit.
     pub powers: Powers,
+    /// The columns of the book at this yield, priced at the last leaf that was tried.
+    pub columns: Columns<'a>,
     /// Room for the portfolio of a point.
     pub point: Plan,
     /// Whether there is a portfolio.
@@ -89,20 +91,23 @@ fn portfolio_reason(case: &Case, plan: &Plan, answer: YieldAnswer) -> Option<Rea
     }
 }
 
-impl Trial {
+impl<'a> Trial<'a> {
     /// Nothing is known yet. All memory is taken here but that of `take_gap`.
-    pub fn make(alloc: Global, case: &Case) -> Result<Trial, NoMemory>
+    pub fn make(alloc: Global, case: &'a Case) -> Result<Trial<'a>, NoMemory>
         requires terms { HasTerms (case_view case.now) }
         requires book { IsBook case.now.book }
         ensures { IfOk result (λ trial. IsNew (case_view case.now) trial) }
     {
+        let powers = Powers::make(
+            alloc,
+            YieldUnits(case.limit.0 - 1),
+            Side::Low,
+            GREATEST_INDEX,
+        )?;
+        let columns = Columns::make(alloc, &case.book, &powers)?;
         Ok(Trial {
-            powers: Powers::make(
-                alloc,
-                YieldUnits(case.limit.0 - 1),
-                Side::Low,
-                GREATEST_INDEX,
-            )?,
+            powers,
+            columns,
             point: Plan::zero(alloc, &case.book)?,
             named: false,
             plan: Plan::zero(alloc, &case.book)?,
@@ -223,7 +228,7 @@ impl Trial {
             return;
         }
         let closed = self.weak.is_some()
-            || is_closed_leaf(case, &self.powers, self.claim, &self.walk.ranges, leaf);
+            || is_closed_leaf(case, &mut self.columns, self.claim, &self.walk.ranges, leaf);
         self.end_subtree(case, closed);
     }
 
@@ -260,7 +265,7 @@ impl Trial {
     /// The verdict, where the certificate is whole. It takes no memory.
     pub fn verdict(self, case: &Case) -> Verdict
         requires { IsPermitted case.now.book self.plan }
-        ensures { result ≡ verdict_on (case_view case.now) self }
+        ensures { result ≡ verdict_on (case_view case.now) self.entry }
     {
         let Trial {
             named,

@@ -22,6 +22,7 @@ use Rattle.escrow_check.proofs.ReasonFacts.{yes_where_unopposed}
 use Rattle.escrow_check.proofs.VerdictFacts.{none-told, yes-told, yes_is_right, yes_none_is_right}
 use Rattle.escrow_top.specs.InputFiles.{InputFiles}
 use Rattle.escrow_top.specs.Answer.{Answer, case_of, certificate_answer, check_answer, refused, verdict_answer}
+use Rattle.escrow_top.proofs.YieldFacts.{printed_yield}
 use Rattle.escrow_top.specs.Accepted.{Accepted, HasNoReason, HasNoRival, HasPortfolio, YesExactly}
 use Rattle.escrow_top.specs.declared.status.Status.TheVariants as status
 
@@ -65,12 +66,19 @@ record IsTaken (case : CaseContents) (cert : List ℕ) (text : List ℕ) : Type 
   right : HasPortfolio case certificate text ⊎ HasNoRival case certificate text
 
 taken-by : (case : CaseContents) (cert : List ℕ) (told : Verdict) → KeepsLimits case → IsVerdict case cert told → (verdict_answer case told).status ≡ status.Done → IsTaken case cert (verdict_answer case told).text
-taken-by case cert (verdict.Yes portfolio) keeps (certificate, text, is) done = record {
-  certificate = certificate;
-  is_certificate = text;
-  none = (yes-told case certificate portfolio (sym is)).none;
-  right = inl (record { portfolio = portfolio; right = yes_is_right case certificate portfolio (heard case cert certificate keeps text) (sym is); said = refl });
-}
+taken-by case cert (verdict.Yes portfolio) keeps (certificate, text, is) done =
+    let right = yes_is_right case certificate portfolio (heard case cert certificate keeps text) (sym is) in
+    record {
+      certificate = certificate;
+      is_certificate = text;
+      none = (yes-told case certificate portfolio (sym is)).none;
+      right = inl (record {
+        portfolio = portfolio;
+        right = right;
+        without_interest = λ interest. right.answer ∙ printed_yield case.book portfolio.plan keeps.0 interest right.right.permitted;
+        said = refl;
+      });
+    }
 taken-by case cert verdict.YesNone keeps (certificate, text, is) done =
     let told = none-told case certificate (sym is) in
     record {

@@ -8,10 +8,11 @@ use Rattle.escrow_desk.specs.declared.refusal.RefusalKind.TheVariants as too_lon
 use Rattle.row_fields.specs.RowForm.{refusal_of}
 use Rattle.escrow_top.specs.InputFiles.{InputFiles, FileNames, first_too_long, inputs_of}
 use Rattle.case_file.specs.Case.{CaseContents, IsKept, rows_case}
-use Rattle.escrow_top.specs.Answer.{Answer, answer_to, case_answer, case_of, certificate_answer, check_names, is_structure, named_answer, refused, unbuilt_structure, usage, usage_text}
+use Rattle.escrow_top.specs.Answer.{Answer, answer_to, case_answer, case_of, certificate_answer, check_names, named_answer, refused, structure_names, usage, usage_text}
 use Rattle.escrow_top.specs.Accepted.{Accepted}
 use Rattle.escrow_top.specs.NotAccepted.{NotAccepted}
 use Rattle.escrow_top.specs.Ending.{Answers, AnswersPart, HoldsWhereTold, IsAccepted, IsNotAccepted, IsNoCommand, LacksFile, NamedAnswers, NamedAnswersPart}
+use Rattle.escrow_top.specs.Structure.{Structures, StructuresPart}
 use Rattle.escrow_top.specs.Reading.{AreRead, AreWithin, CertificateAnswers, FilesAnswer, IsTooLong, LacksCertificate, LacksInput, LacksNamed}
 use Rattle.escrow_desk.specs.declared.refusal.Refusal.{Refusal}
 use Rattle.escrow_top.specs.declared.status.Status.{Status}
@@ -90,40 +91,39 @@ answer_not_accepted told names texts case result read within is kept said =
 
 no_command : (words : List (List ℕ)) (content : Content) → IsNoCommand words → answer_to words content ≡ Some usage
 no_command words content none =
-    let structure = none.no_structure in
-    let check = none.no_check in
-    rw (structure, check) refl
+    rw none.no_check refl
 
 -- the usage was said to words that are no command
 pub usage_said : (told new : Told) (words : List (List ℕ)) → IsNoCommand words → SaidAll told usage_text new → Answers told words status.Usage new
-usage_said None new words none said = said
-usage_said (Some content) new words none said = rw (no_command words content none) (refl, said)
+usage_said None new words none said = rw none.no_structure said
+usage_said (Some content) new words none said = rw (none.no_structure, no_command words content none) (refl, said)
 
 pub usage_said_part : (told new : Told) (words : List (List ℕ)) → IsNoCommand words → SaidPart told usage_text new → AnswersPart told words new
-usage_said_part None new words none part = part.said
-usage_said_part (Some content) new words none part = rw (no_command words content none) part
-
--- it was said that `structure` isn't built yet
-pub structure_said : (told new : Told) (words : List (List ℕ)) → is_structure words ≡ true → SaidAll told unbuilt_structure.text new → Answers told words status.Unbuilt new
-structure_said None new words is said = said
-structure_said (Some content) new words is said = rw is (refl, said)
-
-pub structure_said_part : (told new : Told) (words : List (List ℕ)) → is_structure words ≡ true → SaidPart told unbuilt_structure.text new → AnswersPart told words new
-structure_said_part None new words is part = part.said
-structure_said_part (Some content) new words is part = rw is part
+usage_said_part None new words none part = rw none.no_structure part.said
+usage_said_part (Some content) new words none part = rw (none.no_structure, no_command words content none) part
 
 -- what was said of named files was said to the words of `check`
-pub check_said : (told new : Told) (words : List (List ℕ)) (names : FileNames) (status : Status) → is_structure words ≡ false → check_names words ≡ Some names → NamedAnswers told names status new → Answers told words status new
-check_said None new words names status other is said = said
+pub check_said : (told new : Told) (words : List (List ℕ)) (names : FileNames) (status : Status) → structure_names words ≡ None → check_names words ≡ Some names → NamedAnswers told names status new → Answers told words status new
+check_said None new words names status other is said = rw other said
 check_said (Some content) new words names status other is said = rw (other, is) said
 
-pub check_said_part : (told new : Told) (words : List (List ℕ)) (names : FileNames) → is_structure words ≡ false → check_names words ≡ Some names → NamedAnswersPart told names new → AnswersPart told words new
-check_said_part None new words names other is part = part
+pub check_said_part : (told new : Told) (words : List (List ℕ)) (names : FileNames) → structure_names words ≡ None → check_names words ≡ Some names → NamedAnswersPart told names new → AnswersPart told words new
+check_said_part None new words names other is part = rw other part
 check_said_part (Some content) new words names other is part = rw (other, is) part
 
-pub check_lacks : (told : Told) (words : List (List ℕ)) (names : FileNames) → is_structure words ≡ false → check_names words ≡ Some names → LacksNamed told names → LacksFile told words
-check_lacks None words names other is lacks = tt
+pub check_lacks : (told : Told) (words : List (List ℕ)) (names : FileNames) → structure_names words ≡ None → check_names words ≡ Some names → LacksNamed told names → LacksFile told words
+check_lacks None words names other is lacks = rw other tt
 check_lacks (Some content) words names other is lacks = rw (other, is) lacks
+
+-- what was put out for named files was put out to the words of `structure`
+pub structure_put_out : (told new : Told) (words : List (List ℕ)) (names : FileNames) (status : Status) → structure_names words ≡ Some names → Structures told names status new → Answers told words status new
+structure_put_out told new words names status is put = rw is put
+
+pub structure_put_out_part : (told new : Told) (words : List (List ℕ)) (names : FileNames) → structure_names words ≡ Some names → StructuresPart told names new → AnswersPart told words new
+structure_put_out_part told new words names is part = rw is part
+
+pub structure_lacks : (told : Told) (words : List (List ℕ)) (names : FileNames) → structure_names words ≡ Some names → LacksInput told names → LacksFile told words
+structure_lacks told words names is lacks = rw is lacks
 
 pub check_accepted : (told : Told) (words : List (List ℕ)) (names : FileNames) → check_names words ≡ Some names → HoldsWhereTold Accepted told names → IsAccepted told words
 check_accepted told words names is holds = rw is holds

@@ -14,9 +14,10 @@ use Rattle.row_fields.specs.RowForm.{refusal_of}
 use Rattle.case_file.specs.Case.{CaseContents, IsKept, rows_case}
 use Rattle.escrow_desk.specs.declared.refusal.Refusal.{Refusal}
 use Rattle.escrow_top.specs.InputFiles.{InputFiles, FileNames, first_too_long, inputs_of}
-use Rattle.escrow_top.specs.Answer.{Answer, case_of, check_answer, check_names, is_structure, named_answer, refused}
+use Rattle.escrow_top.specs.Answer.{Answer, case_of, check_answer, check_names, named_answer, refused, structure_names}
 use Rattle.escrow_top.specs.Accepted.{YesExactly}
-use Rattle.escrow_top.specs.Ending.{IsAnswerTo, IsNoCommand, NamedAnswers, OfFiles, OfNamedFiles, is_reached}
+use Rattle.escrow_top.specs.Ending.{IsAnswerTo, IsNoCommand, NamedAnswers, OfFiles, OfNamedFiles}
+use Rattle.escrow_top.specs.Stopping.{is_reached}
 use Rattle.escrow_top.specs.Reading.{AreRead, AreThere, AreWithin, FilesAnswer, IsTooLong}
 use Rattle.escrow_top.specs.Stopping.{EndedAs}
 use Rattle.escrow_top.specs.declared.stop.Stop.{Stop}
@@ -191,19 +192,17 @@ both-words (byte ∷ word) first second =
     let other = b.0 in
     absurd (grind arith)
 
-pub structure_names_none : (Holds : InputFiles → List ℕ → Type 0) (told : Told) (words : List (List ℕ)) → is_structure words ≡ true → OfFiles Holds told words
-structure_names_none Holds told (word ∷ issue ∷ rates ∷ prices ∷ cert ∷ []) is = λ names named.
-    by_test (pointwise nat_eq word (codes "check")) refl names named
+pub structure-checks_none : (words : List (List ℕ)) (names : FileNames) → structure_names words ≡ Some names → check_names words ≡ None
+structure-checks_none (word ∷ issue ∷ rates ∷ prices ∷ cert ∷ []) names is =
+    by_tests (pointwise nat_eq word (codes "structure")) (pointwise nat_eq word (codes "check")) refl refl is
   where
-    by_test : (test : Bool) → pointwise nat_eq word (codes "check") ≡ test → (names : FileNames) → then_some test (record { issue = issue; rates = rates; prices = prices; cert = cert }) ≡ Some names → OfNamedFiles Holds told names
-    by_test true same names named = absurd (both-words word is same)
-    by_test false same names named = absurd (cc)
-structure_names_none Holds told words is = absurd (cc)
+    by_tests : (first second : Bool) → pointwise nat_eq word (codes "structure") ≡ first → pointwise nat_eq word (codes "check") ≡ second
+        → then_some {T = FileNames} first (record { issue = issue; rates = rates; prices = prices; cert = cert }) ≡ Some names
+        → then_some {T = FileNames} second (record { issue = issue; rates = rates; prices = prices; cert = cert }) ≡ None
+    by_tests true true one other named = absurd (both-words word one other)
+    by_tests false true one other named = absurd (cc)
+    by_tests first false one other named = refl
+structure-checks_none words names is = absurd (cc)
 
-pub structure-checks_none : (words : List (List ℕ)) → is_structure words ≡ true → check_names words ≡ None
-structure-checks_none (word ∷ issue ∷ rates ∷ prices ∷ cert ∷ []) is = by_test (pointwise nat_eq word (codes "check")) refl
-  where
-    by_test : (test : Bool) → pointwise nat_eq word (codes "check") ≡ test → then_some {T = FileNames} test (record { issue = issue; rates = rates; prices = prices; cert = cert }) ≡ None
-    by_test true same = absurd (both-words word is same)
-    by_test false same = refl
-structure-checks_none words is = absurd (cc)
+pub structure_names_none : (Holds : InputFiles → List ℕ → Type 0) (told : Told) (words : List (List ℕ)) (names : FileNames) → structure_names words ≡ Some names → OfFiles Holds told words
+structure_names_none Holds told words names is = λ others named. let none = structure-checks_none words names is in absurd (cc)

@@ -4,3 +4,6 @@ pub mod NotAcceptedLaws
 pub mod AnswerLaws
 pub mod ExactLaws
 pub mod HearingFacts
+pub mod StructureLaws
+pub mod CertificateSize
+pub mod YieldFacts

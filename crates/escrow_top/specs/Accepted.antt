@@ -1,5 +1,5 @@
 -- What `yes` means.
-use Rattle.std.specs.Prelude.{◌≡◌, ◌↔◌, ◌⊎◌, ℕ, ◌≤◌, List, length, None, Ok}
+use Rattle.std.specs.Prelude.{◌≡◌, ◌↔◌, ◌⊎◌, ℕ, ◌≤◌, ◌==◌, if◌then◌else◌, List, length, None, Ok}
 use Rattle.escrow_desk.specs.declared.limits.TheConstants.{CERTIFICATE_LIMIT}
 use Rattle.escrow_desk.specs.Rows.{rows_of}
 use Rattle.issue_schedule.specs.IssueForm.{issue_of}
@@ -8,8 +8,11 @@ use Rattle.rate_table.specs.RateForm.{rate_file_of}
 use Rattle.rate_table.specs.declared.table.RateFile.{RateFile}
 use Rattle.market_notes.specs.PriceForm.{note_file_of}
 use Rattle.market_notes.specs.declared.note.NoteFile.{NoteFile}
-use Rattle.offer_book.specs.Book.{IsBook}
+use Rattle.yield_enclosure.specs.declared.answer.YieldAnswer.{YieldAnswer}
+use Rattle.yield_enclosure.specs.declared.answer.YieldAnswer.TheVariants.{Between, Empty}
+use Rattle.offer_book.specs.Book.{AreWithoutInterest, IsBook}
 use Rattle.offer_book.specs.CaseBook.{IsBookOf}
+use Rattle.offer_book.specs.Portfolio.{security_cost}
 use Rattle.offer_book.specs.Rival.{IsRival}
 use Rattle.bound_certificate.specs.Text.{IsTextOf}
 use Rattle.bound_certificate.specs.declared.certificate.Certificate.{Certificate}
@@ -43,11 +46,17 @@ pub record IsCaseOf (read : InputsRead) (case : CaseContents) : Type 0 where
   pub rows : IsBookOf read.issue read.rates read.notes case.book
   pub limit : RestsOn read.issue case.limit
 
+-- securities without interest have no yield where none is bought, and else the yield 0
+abbrev pub yield_without_interest : ℕ → YieldAnswer
+yield_without_interest cost = if cost == 0 then Empty else Between (record { 0 = 0 }) (record { 0 = 0 })
+
 -- the certificate has a portfolio: it is permitted, its cash balance is negative on no date, its exact yield lies in the interval
--- and within the limit, no rival costs less by more than the gap, and the issue allows the gap; and this is said of it
+-- and within the limit, no rival costs less by more than the gap, and the issue allows the gap; where no line bears interest the yield
+-- is 0, or none; and this is said of it
 pub record HasPortfolio (case : CaseContents) (certificate : Certificate) (text : List ℕ) : Type 0 where
   pub portfolio : Portfolio
   pub right : IsRightPortfolio case certificate portfolio
+  pub without_interest : AreWithoutInterest case.book.lines → portfolio.answer ≡ yield_without_interest (security_cost case.book portfolio.plan)
   pub said : text ≡ yes_text case portfolio
 
 -- the certificate has none: there is no rival, and this is said

@@ -11,10 +11,7 @@ use Rattle.escrow_desk.specs.declared.refusal.Refusal.{Refusal}
 use Rattle.escrow_desk.specs.declared.refusal.RefusalKind.{RefusalKind}
 use Rattle.escrow_desk.specs.declared.refusal.RefusalKind.TheVariants as kind
 use Rattle.escrow_units.specs.DateText.{day_text}
-use Rattle.escrow_units.specs.Digits.{fixed}
 use Rattle.row_fields.specs.RowForm.{refusal_of}
-use Rattle.yield_enclosure.specs.declared.answer.YieldAnswer.{YieldAnswer}
-use Rattle.yield_enclosure.specs.declared.answer.YieldAnswer.TheVariants as yields
 use Rattle.bound_certificate.specs.declared.fault.FaultKind.{FaultKind}
 use Rattle.bound_certificate.specs.declared.fault.FaultKind.TheVariants as fault
 use Rattle.case_file.specs.Case.{CaseContents, rows_case}
@@ -24,6 +21,7 @@ use Rattle.escrow_check.specs.declared.verdict.Reason.{Reason}
 use Rattle.escrow_check.specs.declared.verdict.Reason.TheVariants as reason
 use Rattle.escrow_check.specs.declared.verdict.Verdict.{Verdict}
 use Rattle.escrow_check.specs.declared.verdict.Verdict.TheVariants as verdict
+use Rattle.verification_report.specs.Summary.{summary_text, text_line}
 use Rattle.escrow_top.specs.InputFiles.{InputFiles, FileNames, ◌>>=◌, first_too_long, inputs_of}
 use Rattle.escrow_top.specs.declared.status.Status.{Status}
 use Rattle.escrow_top.specs.declared.status.Status.TheVariants as status
@@ -32,10 +30,6 @@ use Rattle.escrow_top.specs.declared.status.Status.TheVariants as status
 pub record Answer : Type 0 where
   pub status : Status
   pub text : List ℕ
-
--- a line of words and a value
-abbrev pub text_line : List ℕ → List ℕ → List ℕ
-text_line words value = words ++ value ++ 10 ∷ []
 
 abbrev pub fault_word : FaultKind → List ℕ
 fault_word fault.Header = codes "Header"
@@ -55,19 +49,11 @@ reason_text (reason.BadSplit node) = text_line (codes "no BadSplit ") (decimal n
 reason_text (reason.WeakLeaf node) = text_line (codes "no WeakLeaf ") (decimal node)
 reason_text reason.GapAbove = text_line (codes "no GapAbove") []
 
--- both ends of a yield's interval, in percent, or a word for a yield without ends; no accepted portfolio yields above
-abbrev pub yield_words : YieldAnswer → List ℕ
-yield_words yields.Empty = codes "empty"
-yield_words yields.Negative = codes "negative"
-yield_words (yields.Between lo hi) = fixed 8 lo.0 ++ 32 ∷ fixed 8 hi.0
-yield_words yields.Above = codes "above"
-
 -- `yes` and the summary of a portfolio
 abbrev pub yes_text : CaseContents → Portfolio → List ℕ
 yes_text case portfolio =
-    text_line (codes "yes") [] ++ text_line (codes "cost ") (fixed 2 portfolio.cost.0)
-    ++ text_line (codes "yield ") (yield_words portfolio.answer)
-    ++ text_line (codes "limit ") (fixed 8 case.limit) ++ text_line (codes "gap ") (fixed 2 portfolio.gap.0)
+    text_line (codes "yes") []
+    ++ summary_text (record { cost = portfolio.cost; answer = portfolio.answer; limit = record { 0 = case.limit }; gap = portfolio.gap })
 
 -- there is no rival
 abbrev pub none_text : List ℕ
@@ -150,25 +136,24 @@ usage_text = text_line (codes "usage: structure ISSUE RATES PRICES CERT | check 
 abbrev pub usage : Answer
 usage = record { status = status.Usage; text = usage_text }
 
-abbrev pub unbuilt_structure : Answer
-unbuilt_structure = record { status = status.Unbuilt; text = text_line (codes "unbuilt ") (codes "structure") }
-
--- the words are `structure ISSUE RATES PRICES CERT`
-abbrev pub is_structure : List (List ℕ) → Bool
-is_structure (word ∷ issue ∷ rates ∷ prices ∷ cert ∷ []) = pointwise nat_eq word (codes "structure")
-is_structure words = false
+-- the names that words give, by their places, where the first is this command
+abbrev pub names_behind : List ℕ → List (List ℕ) → Option FileNames
+names_behind command (word ∷ issue ∷ rates ∷ prices ∷ cert ∷ []) =
+    then_some (pointwise nat_eq word command) (record { issue = issue; rates = rates; prices = prices; cert = cert })
+names_behind command words = None
 
 -- the names that the words `check ISSUE RATES PRICES CERT` give
 abbrev pub check_names : List (List ℕ) → Option FileNames
-check_names (word ∷ issue ∷ rates ∷ prices ∷ cert ∷ []) =
-    then_some (pointwise nat_eq word (codes "check")) (record { issue = issue; rates = rates; prices = prices; cert = cert })
-check_names words = None
+check_names words = names_behind (codes "check") words
+
+-- the names that the words `structure ISSUE RATES PRICES CERT` give
+abbrev pub structure_names : List (List ℕ) → Option FileNames
+structure_names words = names_behind (codes "structure") words
 
 abbrev pub answer_to_check : Content → Option FileNames → Option Answer
 answer_to_check content None = Some usage
 answer_to_check content (Some names) = named_answer content names
 
--- the answer to the words of a command line, by their places; None where a file that is read isn't there
+-- the answer to words that aren't those of `structure`; None where a file that is read isn't there
 abbrev pub answer_to : List (List ℕ) → Content → Option Answer
-answer_to words content =
-    if is_structure words then Some unbuilt_structure else answer_to_check content (check_names words)
+answer_to words content = answer_to_check content (check_names words)

@@ -1,11 +1,12 @@
 -- How a run ends.
-use Rattle.std.specs.Prelude.{◌≡◌, ℕ, Bool, true, false, List, Option, Some, None, IsSomeAnd, MatchOption}
+use Rattle.std.specs.Prelude.{◌≡◌, ℕ, Bool, true, false, List, Option, Some, None, IfSome, IsSomeAnd, MatchOption}
 use Rattle.escrow_desk.specs.Content.{Content, Told, file_of, with_said, SaidAll, SaidPart}
 use Rattle.escrow_top.specs.Accepted.{Accepted}
 use Rattle.escrow_top.specs.NotAccepted.{NotAccepted}
 use Rattle.escrow_top.specs.InputFiles.{InputFiles, FileNames}
-use Rattle.escrow_top.specs.Answer.{Answer, answer_to, check_answer, check_names, is_structure, named_answer}
-use Rattle.escrow_top.specs.Reading.{AreThere}
+use Rattle.escrow_top.specs.Answer.{Answer, answer_to, check_answer, check_names, named_answer, structure_names}
+use Rattle.escrow_top.specs.Reading.{AreThere, LacksInput}
+use Rattle.escrow_top.specs.Structure.{Structures, StructuresPart, WroteAccepted}
 use Rattle.escrow_top.specs.declared.status.Status.{Status}
 use Rattle.escrow_top.specs.declared.status.Status.TheVariants as status
 
@@ -23,14 +24,6 @@ code_of status.WriteFault = 9
 code_of status.NoFile = 10
 code_of status.NoMemory = 11
 code_of status.Unbuilt = 12
-
--- the run came to its answer: no fault, absent file or want of memory cut it off
-abbrev pub is_reached : Status → Bool
-is_reached status.ReadFault = false
-is_reached status.WriteFault = false
-is_reached status.NoFile = false
-is_reached status.NoMemory = false
-is_reached status = true
 
 -- the statuses that `check` comes to
 abbrev pub is_checked : Status → Bool
@@ -57,24 +50,36 @@ abbrev pub NamedAnswersPart : Told → FileNames → Told → Type 0
 NamedAnswersPart None names new = new ≡ None
 NamedAnswersPart (Some content) names new = IsSaidPart content (named_answer content names) new
 
--- the status, and what was said, are the answer to the words over the content that the desk tells; no file changed
-abbrev pub Answers : Told → List (List ℕ) → Status → Told → Type 0
-Answers None words status new = new ≡ None
-Answers (Some content) words status new = IsSaid content (answer_to words content) status new
+-- the status, and what stands then, are the answer to the words over the content that the desk tells. Only `structure` writes a file
+abbrev pub AnswersBy : Option FileNames → Told → List (List ℕ) → Status → Told → Type 0
+AnswersBy (Some names) told words status new = Structures told names status new
+AnswersBy None None words status new = new ≡ None
+AnswersBy None (Some content) words status new = IsSaid content (answer_to words content) status new
 
--- what was said grew by a prefix of the text of the answer; no file changed
+abbrev pub Answers : Told → List (List ℕ) → Status → Told → Type 0
+Answers told words status new = AnswersBy (structure_names words) told words status new
+
+-- what stands where a write failed: a part of what the answer puts out
+abbrev pub AnswersPartBy : Option FileNames → Told → List (List ℕ) → Told → Type 0
+AnswersPartBy (Some names) told words new = StructuresPart told names new
+AnswersPartBy None None words new = new ≡ None
+AnswersPartBy None (Some content) words new = IsSaidPart content (answer_to words content) new
+
 abbrev pub AnswersPart : Told → List (List ℕ) → Told → Type 0
-AnswersPart None words new = new ≡ None
-AnswersPart (Some content) words new = IsSaidPart content (answer_to words content) new
+AnswersPart told words new = AnswersPartBy (structure_names words) told words new
 
 -- a file that the words have read isn't there
+abbrev pub LacksFileBy : Option FileNames → Told → List (List ℕ) → Type 0
+LacksFileBy (Some names) told words = LacksInput told names
+LacksFileBy None None words = Unit {0}
+LacksFileBy None (Some content) words = answer_to words content ≡ None
+
 abbrev pub LacksFile : Told → List (List ℕ) → Type 0
-LacksFile None words = Unit {0}
-LacksFile (Some content) words = answer_to words content ≡ None
+LacksFile told words = LacksFileBy (structure_names words) told words
 
 -- the words are no command
 pub record IsNoCommand (words : List (List ℕ)) : Type 0 where
-  pub no_structure : is_structure words ≡ false
+  pub no_structure : structure_names words ≡ None
   pub no_check : check_names words ≡ None
 
 -- the four files of these names are there, and this holds of their bytes
@@ -103,10 +108,14 @@ abbrev pub IsAnswerTo : Told → Status → Told → InputFiles → List ℕ →
 IsAnswerTo told reached told_new files cert =
     (reached ≡ (check_answer files cert).status) × SaidAll told (check_answer files cert).text told_new
 
--- the words are those of `check`, and where the desk tells, the four files that they name are there and accepted
+-- where the words are those of `check`, and the desk tells, the four files that they name are there and accepted
 abbrev pub IsAccepted : Told → List (List ℕ) → Type 0
-IsAccepted told words = IsSomeAnd (check_names words) (HoldsWhereTold Accepted told)
+IsAccepted told words = IfSome (check_names words) (HoldsWhereTold Accepted told)
 
--- the same of files that aren't accepted
+-- where they are those of `structure`, `check` accepts the certificate that was written
+abbrev pub WroteCertificate : Told → Told → List (List ℕ) → Type 0
+WroteCertificate told new words = IfSome (structure_names words) (WroteAccepted told new)
+
+-- the words are those of `check`, and where the desk tells, the four files that they name are there and aren't accepted
 abbrev pub IsNotAccepted : Told → List (List ℕ) → Type 0
 IsNotAccepted told words = IsSomeAnd (check_names words) (HoldsWhereTold NotAccepted told)

@@ -5,4 +5,5 @@ pub mod Accepted
 pub mod NotAccepted
 pub mod Reading
 pub mod Stopping
+pub mod Structure
 pub mod Command

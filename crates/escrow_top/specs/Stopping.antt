@@ -1,5 +1,5 @@
 -- Runs that were cut off before they had an answer: their status, and their cause in the counts of the desk.
-use Rattle.std.specs.Prelude.{◌≡◌, Result, MatchResult}
+use Rattle.std.specs.Prelude.{◌≡◌, Bool, false, true, Result, MatchResult}
 use Rattle.escrow_desk.specs.Content.{Told}
 use Rattle.escrow_desk.specs.Counts.{Counts, FileMissed, ReadFailed, WriteFailed}
 use Rattle.escrow_top.specs.declared.stop.Stop.{Stop}
@@ -31,3 +31,23 @@ EndedAs status.WriteFault old new told_old told_new = WriteFailed old new
 EndedAs status.NoFile old new told_old told_new = FileMissed old new × (told_new ≡ told_old)
 EndedAs status.NoMemory old new told_old told_new = (new ≡ old) × (told_new ≡ told_old)
 EndedAs status old new told_old told_new = new ≡ old
+
+-- the run came to its answer: no fault, absent file or want of memory cut it off
+abbrev pub is_reached : Status → Bool
+is_reached status.ReadFault = false
+is_reached status.WriteFault = false
+is_reached status.NoFile = false
+is_reached status.NoMemory = false
+is_reached status = true
+
+-- the statuses of `structure` with which nothing was found
+abbrev pub is_unfound : Status → Bool
+is_unfound status.Refused = true
+is_unfound status.Infeasible = true
+is_unfound status.Unbuilt = true
+is_unfound status = false
+
+-- the statuses that `structure` comes to
+abbrev pub is_structured : Status → Bool
+is_structured status.Done = true
+is_structured status = is_unfound status

@@ -1,8 +1,11 @@
 //! Answers: their status and their text.
 
-ghost use Rattle.std.specs.Prelude.{◌≡◌, ◌++◌, IfOk, IsTrue, OnOk, decimal};
+ghost use Rattle.std.specs.Prelude.{◌≡◌, IfOk, IsTrue, decimal};
 ghost use Rattle.escrow_check.specs.declared.verdict.Reason.TheVariants.{Grammar};
-ghost use Rattle.escrow_top.specs.Answer.{fault_word as fault_word_of, file_word as file_word_of, kind_word as kind_word_of, none_text, reason_text, refused as refused_answer, refused_text, text_line, verdict_answer as verdict_answer_of, yes_text as yes_text_of, yield_words as yield_words_of};
+ghost use Rattle.escrow_top.specs.Answer.{fault_word as fault_word_of, file_word as file_word_of, kind_word as kind_word_of, none_text, reason_text, refused as refused_answer, refused_text, verdict_answer as verdict_answer_of, yes_text as yes_text_of};
+ghost use Rattle.escrow_top.specs.Structure.{infeasible as infeasible_on, unbuilt_structure as unbuilt_structure_answer};
+ghost use Rattle.verification_report.specs.Summary.{text_line};
+ghost use Rattle.row_fields.specs.RowForm.{refusal_of};
 ghost use Rattle.case_file.specs.Case.{case_view};
 ghost use Rattle.escrow_top.specs.Ending.{is_checked};
 
@@ -11,10 +14,10 @@ use bound_certificate::{CertFault, FaultKind};
 use case_file::Case;
 use escrow_check::{Portfolio, Reason, Verdict};
 use escrow_desk::{FileKind, NoMemory, Refusal, RefusalKind};
-use escrow_units::{print_cents, print_day, print_yield};
+use escrow_units::{Day, print_day};
 use std::alloc::Global;
 use std::marker::Model;
-use yield_enclosure::YieldAnswer;
+use verification_report::{Figures, push_line, push_summary};
 
 /// A status, and the text that is said with it.
 #[derive(Debug, Drop)]
@@ -29,16 +32,6 @@ impl Model for Answer {
     ghost Value = { AnswerContents };
 
     ghost view = { λ a. record { status = a.status; text = a.text.items } };
-}
-
-// Adds a line of words and a value.
-fn push_line(text: &mut Vec<u8>, words: &[u8], value: &[u8]) -> Result<(), NoMemory>
-    ensures { OnOk result (text.new.items ≡ text.old.items ++ text_line words.now value.now) }
-{
-    text.extend_from_slice(words)?;
-    text.extend_from_slice(value)?;
-    text.push(b'\n')?;
-    Ok(())
 }
 
 // A text of one line.
@@ -137,6 +130,28 @@ fn kind_word(kind: RefusalKind) -> &'static [u8]
     }
 }
 
+/// The answer that no permitted portfolio meets the needs, which shows first on a day.
+pub(crate) fn infeasible(alloc: Global, day: Day) -> Result<Answer, NoMemory>
+    ensures answer { IfOk result (λ answer. answer ≡ infeasible_on day) }
+    ensures status { IfOk result (λ answer. answer.status ≡ Status.Infeasible) }
+{
+    Ok(Answer {
+        status: Status::Infeasible,
+        text: one_line(alloc, b"infeasible ", print_day(day).as_bytes())?,
+    })
+}
+
+/// The answer that what would settle a case isn't built yet.
+pub(crate) fn unbuilt_structure(alloc: Global) -> Result<Answer, NoMemory>
+    ensures answer { IfOk result (λ answer. answer ≡ unbuilt_structure_answer) }
+    ensures status { IfOk result (λ answer. answer.status ≡ Status.Unbuilt) }
+{
+    Ok(Answer {
+        status: Status::Unbuilt,
+        text: one_line(alloc, b"unbuilt ", b"structure")?,
+    })
+}
+
 // The text of a refusal.
 fn refusal_line(alloc: Global, refusal: &Refusal) -> Result<Vec<u8>, NoMemory>
     ensures { IfOk result (λ text. text.items ≡ refused_text refusal.now) }
@@ -161,22 +176,17 @@ pub(crate) fn refused(alloc: Global, refusal: &Refusal) -> Result<Answer, NoMemo
     })
 }
 
-// A yield in words: both ends of its interval, in percent, or a word where it has none.
-fn yield_words(alloc: Global, answer: YieldAnswer) -> Result<Vec<u8>, NoMemory>
-    ensures { IfOk result (λ words. words.items ≡ yield_words_of answer) }
+/// The answer that a file has more bytes than its limit.
+pub(crate) fn too_long(alloc: Global, file: FileKind) -> Result<Answer, NoMemory>
+    ensures answer { IfOk result (λ answer. answer ≡ refused_answer (refusal_of file 0 RefusalKind.TooLong)) }
+    ensures status { IfOk result (λ answer. answer.status ≡ Status.Refused) }
 {
-    let mut words = Vec::new(alloc);
-    match answer {
-        YieldAnswer::Empty => words.extend_from_slice(b"empty")?,
-        YieldAnswer::Negative => words.extend_from_slice(b"negative")?,
-        YieldAnswer::Above => words.extend_from_slice(b"above")?,
-        YieldAnswer::Between { lo, hi } => {
-            words.extend_from_slice(print_yield(lo).as_bytes())?;
-            words.push(b' ')?;
-            words.extend_from_slice(print_yield(hi).as_bytes())?;
-        }
-    }
-    Ok(words)
+    let refusal = Refusal {
+        file,
+        row: 0,
+        kind: RefusalKind::TooLong,
+    };
+    refused(alloc, &refusal)
 }
 
 // `yes` and the summary of a portfolio.
@@ -184,11 +194,13 @@ fn yes_text(alloc: Global, case: &Case, portfolio: &Portfolio) -> Result<Vec<u8>
     ensures { IfOk result (λ text. text.items ≡ yes_text_of (case_view case.now) portfolio.now) }
 {
     let mut text = one_line(alloc, b"yes", b"")?;
-    push_line(&mut text, b"cost ", print_cents(portfolio.cost).as_bytes())?;
-    let words = yield_words(alloc, portfolio.answer)?;
-    push_line(&mut text, b"yield ", words.as_slice())?;
-    push_line(&mut text, b"limit ", print_yield(case.limit).as_bytes())?;
-    push_line(&mut text, b"gap ", print_cents(portfolio.gap).as_bytes())?;
+    let figures = Figures {
+        cost: portfolio.cost,
+        answer: portfolio.answer,
+        limit: case.limit,
+        gap: portfolio.gap,
+    };
+    push_summary(&mut text, &figures)?;
     Ok(text)
 }
 

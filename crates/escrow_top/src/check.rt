@@ -1,37 +1,22 @@
 //! `check`, from the names of its files to its answer.
 
 ghost use Rattle.std.specs.Prelude.{◌≡◌, IfOk, IsErrOf, IsTrue};
-ghost use Rattle.row_fields.specs.RowForm.{refusal_of};
 ghost use Rattle.offer_book.specs.Book.{IsBook};
 ghost use Rattle.case_file.specs.Case.{HasTerms, case_view};
-ghost use Rattle.escrow_top.specs.Answer.{refused as refused_answer};
 ghost use Rattle.escrow_top.specs.Reading.{AreRead, AreWithin, CertificateAnswers, FilesAnswer, LacksCertificate, LacksNamed, files_view, names_view};
 ghost use Rattle.escrow_top.specs.Ending.{HoldsWhereTold, OfNamedFiles, is_checked};
 ghost use Rattle.escrow_top.specs.Accepted.{Accepted, YesExactly};
 ghost use Rattle.escrow_top.specs.NotAccepted.{NotAccepted};
 ghost use Rattle.escrow_top.specs.Stopping.{CountsStep};
 
-use crate::answer::{Answer, refused, verdict_answer};
+use crate::answer::{Answer, refused, too_long, verdict_answer};
 use crate::files::{FileNames, InputFiles, Inputs, read_inputs};
 use crate::hearing::{Heard, hear};
 use crate::status::Status;
 use crate::stop::Stop;
 use case_file::{Case, read_case};
-use escrow_desk::{CaseError, Desk, FileKind, NoMemory, Refusal, RefusalKind};
+use escrow_desk::{CaseError, Desk, FileKind};
 use std::alloc::Global;
-
-// The answer that a file has more bytes than its limit.
-fn too_long(alloc: Global, file: FileKind) -> Result<Answer, NoMemory>
-    ensures answer { IfOk result (λ answer. answer ≡ refused_answer (refusal_of file 0 RefusalKind.TooLong)) }
-    ensures status { IfOk result (λ answer. answer.status ≡ Status.Refused) }
-{
-    let refusal = Refusal {
-        file,
-        row: 0,
-        kind: RefusalKind::TooLong,
-    };
-    refused(alloc, &refusal)
-}
 
 // The answer to the certificate of a name. It isn't inlined: its tables would stand on the stack while rows are read.
 #[inline(never)]

@@ -9,8 +9,8 @@ use crate::files::FileNames;
 /// What the words of a command line ask for.
 #[derive(Clone, Copy)]
 pub(crate) enum Command<'a> {
-    /// `structure`, of the files of some names.
-    Structure,
+    /// `structure`, of the files of these names.
+    Structure(FileNames<'a>),
     /// `check`, of the files of these names.
     Check(FileNames<'a>),
 }
@@ -23,16 +23,17 @@ pub(crate) fn command_of(words: &[String]) -> Option<Command<'_>>
     let [word, issue, rates, prices, cert] = words else {
         return None;
     };
+    let names = FileNames {
+        issue: issue.as_str(),
+        rates: rates.as_str(),
+        prices: prices.as_str(),
+        cert: cert.as_str(),
+    };
     if word.as_str() == "structure" {
-        return Some(Command::Structure);
+        return Some(Command::Structure(names));
     }
     if word.as_str() == "check" {
-        return Some(Command::Check(FileNames {
-            issue: issue.as_str(),
-            rates: rates.as_str(),
-            prices: prices.as_str(),
-            cert: cert.as_str(),
-        }));
+        return Some(Command::Check(names));
     }
     None
 }

@@ -4,14 +4,18 @@
 mod answer;
 mod check;
 mod command;
+mod draft;
 mod files;
 mod hearing;
 mod program;
 mod status;
 mod stop;
+mod structure;
 
 pub use program::run;
 pub use status::Status;
 
+#[cfg(test)]
+mod bound_tests;
 #[cfg(test)]
 mod tests;

@@ -1,20 +1,23 @@
 //! The one call, from words to a status.
 
-ghost use Rattle.std.specs.Prelude.{◌≡◌, ◌≢◌, ◌↔◌, true, map, string_bytes, IfSome, IsTrue};
+ghost use Rattle.std.specs.Prelude.{◌≡◌, ◌≢◌, ◌↔◌, map, string_bytes, IfSome, IsTrue};
 ghost use Rattle.escrow_desk.specs.Content.{SaidAll, SaidPart};
 ghost use Rattle.escrow_desk.specs.Counts.{AllSteady};
-ghost use Rattle.escrow_top.specs.Ending.{Answers, AnswersPart, HoldsWhereTold, IsAccepted, IsAnswerTo, IsNoCommand, IsNotAccepted, LacksFile, NamedAnswers, NamedAnswersPart, OfFiles, OfNamedFiles, is_checked, is_reached};
+ghost use Rattle.escrow_top.specs.Ending.{Answers, AnswersPart, HoldsWhereTold, IsAccepted, IsAnswerTo, IsNoCommand, IsNotAccepted, LacksFile, NamedAnswers, NamedAnswersPart, OfFiles, OfNamedFiles, WroteCertificate, is_checked};
 ghost use Rattle.escrow_top.specs.Accepted.{Accepted, YesExactly};
 ghost use Rattle.escrow_top.specs.NotAccepted.{NotAccepted};
-ghost use Rattle.escrow_top.specs.Answer.{check_names, is_structure};
-ghost use Rattle.escrow_top.specs.Reading.{LacksNamed, names_view};
-ghost use Rattle.escrow_top.specs.Stopping.{EndedAs};
+ghost use Rattle.escrow_top.specs.Answer.{check_names, structure_names};
+ghost use Rattle.escrow_top.specs.Structure.{IsStructuredDraft, PutsOut, PutsOutPart, SettlesPlain, Structures, StructuresPart, WroteAccepted, WroteAndSaid, WroteOrSaidPart};
+ghost use Rattle.escrow_top.specs.Reading.{LacksInput, LacksNamed, names_view};
+ghost use Rattle.escrow_top.specs.Stopping.{EndedAs, is_reached, is_structured};
 
 use crate::check::check;
 use crate::command::{Command, command_of};
+use crate::draft::{Draft, Texts};
 use crate::files::FileNames;
 use crate::status::Status;
-use escrow_desk::{Desk, say_all};
+use crate::structure::structure;
+use escrow_desk::{Desk, say_all, write_all};
 use std::alloc::Global;
 
 const USAGE: &[u8] = b"usage: structure ISSUE RATES PRICES CERT | check ISSUE RATES PRICES CERT\n";
@@ -53,17 +56,69 @@ fn run_check<D: Desk>(alloc: Global, names: &FileNames<'_>, desk: &mut D) -> Sta
     }
 }
 
+// Puts out what was found: writes the certificate whole, and then says the report.
+fn put_out_texts<D: Desk>(desk: &mut D, name: &str, texts: &Texts) -> Status
+    ensures whole { IsTrue (is_reached result) → (result ≡ Status.Done) × WroteAndSaid (D.told desk.old) name.now texts.now.cert.items texts.now.report.items (D.told desk.new) }
+    ensures part { result ≡ Status.WriteFault → WroteOrSaidPart (D.told desk.old) name.now texts.now.cert.items texts.now.report.items (D.told desk.new) }
+    ensures no_other { (result ≡ Status.ReadFault → ⊥) × (result ≡ Status.NoFile → ⊥) × (result ≡ Status.NoMemory → ⊥) }
+    ensures counts { EndedAs result (D.counts desk.old) (D.counts desk.new) (D.told desk.old) (D.told desk.new) }
+{
+    match write_all(desk, name, texts.cert.as_slice()) {
+        Ok(()) => say_answer(desk, Status::Done, texts.report.as_slice()),
+        Err(_) => Status::WriteFault,
+    }
+}
+
+// Puts out a draft: the texts of what was found, or what is said alone.
+#[tactic(auto, using(crate::proofs::StructureLaws::unfound_reached, crate::proofs::StructureLaws::unfound_structured))]
+fn put_out<D: Desk>(desk: &mut D, name: &str, draft: &Draft) -> Status
+    requires { IsStructuredDraft draft.now }
+    ensures structured { IsTrue (is_reached result) → IsTrue (is_structured result) }
+    ensures whole { IsTrue (is_reached result) → PutsOut (D.told desk.old) name.now draft.now result (D.told desk.new) }
+    ensures part { result ≡ Status.WriteFault → PutsOutPart (D.told desk.old) name.now draft.now (D.told desk.new) }
+    ensures no_other { (result ≡ Status.ReadFault → ⊥) × (result ≡ Status.NoFile → ⊥) × (result ≡ Status.NoMemory → ⊥) }
+    ensures counts { EndedAs result (D.counts desk.old) (D.counts desk.new) (D.told desk.old) (D.told desk.new) }
+{
+    match draft {
+        Draft::Found(texts) => put_out_texts(desk, name, texts),
+        Draft::Said(answer) => say_answer(desk, answer.status, answer.text.as_slice()),
+    }
+}
+
+// Carries `structure` out on the files of these names.
+fn run_structure<D: Desk>(alloc: Global, names: &FileNames<'_>, desk: &mut D) -> Status
+    ensures answers { IsTrue (is_reached result) → Structures (D.told desk.old) (names_view names.now) result (D.told desk.new) }
+    ensures part { result ≡ Status.WriteFault → StructuresPart (D.told desk.old) (names_view names.now) (D.told desk.new) }
+    ensures lacks { result ≡ Status.NoFile → LacksInput (D.told desk.old) (names_view names.now) }
+    ensures structured { IsTrue (is_reached result) → IsTrue (is_structured result) }
+    ensures wrote { result ≡ Status.Done → WroteAccepted (D.told desk.old) (D.told desk.new) (names_view names.now) }
+    ensures plain { IsTrue (is_reached result) → SettlesPlain (D.told desk.old) result (names_view names.now) }
+    ensures counts { EndedAs result (D.counts desk.old) (D.counts desk.new) (D.told desk.old) (D.told desk.new) }
+{
+    match structure(alloc, desk, names) {
+        Ok(draft) => put_out(desk, names.cert, &draft),
+        Err(stop) => stop.status(),
+    }
+}
+
 /// Carries out the words of a command line, which are those after the program's name, over a desk.
 ///
 /// `check ISSUE RATES PRICES CERT` answers whether the certificate is accepted for the three input files, and says why
-/// or why not. `structure ISSUE RATES PRICES CERT` isn't built yet. All other words are `Usage`.
+/// or why not. `structure ISSUE RATES PRICES CERT` searches the cheapest permitted purchases, writes their certificate and says
+/// their report; so far it looks at the root of the tree alone, and says so of what that doesn't settle. All other words are
+/// `Usage`.
 ///
-/// It returns for all words and every desk. It writes no file. The texts are this project's own.
+/// It returns for all words and every desk. It writes no file but the certificate of `structure`, whose texts are all built
+/// before. The texts are this project's own.
 pub fn run<D: Desk>(alloc: Global, words: &[String], desk: &mut D) -> Status
     // Where the run wasn't cut off, the status and what was said are the answer to the words over the desk's content.
     ensures answers { IsTrue (is_reached result) → Answers (D.told desk.old) (map string_bytes words.now) result (D.told desk.new) }
     // What `yes` means, of the bytes of the four files.
     ensures yes { result ≡ Status.Done → IsAccepted (D.told desk.old) (map string_bytes words.now) }
+    // `structure` writes only certificates that `check` accepts.
+    ensures wrote { result ≡ Status.Done → WroteCertificate (D.told desk.old) (D.told desk.new) (map string_bytes words.now) }
+    // On a plain case, whose issue allows at least its gap, it writes one.
+    ensures plain { IsTrue (is_reached result) → IfSome (structure_names (map string_bytes words.now)) (SettlesPlain (D.told desk.old) result) }
     // What `no` means: which reason stands, and that no earlier one does.
     ensures no { result ≡ Status.No → IsNotAccepted (D.told desk.old) (map string_bytes words.now) }
     // `yes` comes exactly where no reason stands.
@@ -74,7 +129,7 @@ pub fn run<D: Desk>(alloc: Global, words: &[String], desk: &mut D) -> Status
     ensures lacks { result ≡ Status.NoFile → LacksFile (D.told desk.old) (map string_bytes words.now) }
     ensures usage { IsTrue (is_reached result) → ((result ≡ Status.Usage) ↔ IsNoCommand (map string_bytes words.now)) }
     // Whatever the desk tells: which statuses a command comes to.
-    ensures structure { IsTrue (is_reached result) → is_structure (map string_bytes words.now) ≡ true → result ≡ Status.Unbuilt }
+    ensures structured { IsTrue (is_reached result) → IfSome (structure_names (map string_bytes words.now)) (λ _. IsTrue (is_structured result)) }
     ensures checked { IsTrue (is_reached result) → IfSome (check_names (map string_bytes words.now)) (λ _. IsTrue (is_checked result)) }
 
     // Each way of being cut off has its cause: a count of the desk that rose in this call, or stands at its last value.
@@ -82,7 +137,7 @@ pub fn run<D: Desk>(alloc: Global, words: &[String], desk: &mut D) -> Status
 {
     match command_of(words) {
         None => say_answer(desk, Status::Usage, USAGE),
-        Some(Command::Structure) => say_answer(desk, Status::Unbuilt, b"unbuilt structure\n"),
+        Some(Command::Structure(names)) => run_structure(alloc, &names, desk),
         Some(Command::Check(names)) => run_check(alloc, &names, desk),
     }
 }

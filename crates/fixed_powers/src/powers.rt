@@ -91,6 +91,13 @@ impl Powers {
         }
     }
 
+    /// The yield, in units of 10^-10.
+    pub fn yield_units(&self) -> YieldUnits
+        ensures { result.0 ≡ self.now.yield_units }
+    {
+        self.n
+    }
+
     /// The discount factor of `d` index days, at most the table's `longest`, rounded to the table's side: a number from
     /// 0 to 2^62, which stands for one. It is a look-up, and takes no memory.
     pub fn power(&self, d: u32) -> u64

@@ -4,3 +4,4 @@ pub mod CoefficientFacts
 pub mod LineFacts
 pub mod MarketFacts
 pub mod OfferFacts
+pub mod ScheduleFacts

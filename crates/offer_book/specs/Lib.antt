@@ -7,3 +7,4 @@ pub mod Offers
 pub mod Portfolio
 pub mod Rival
 pub mod ScaledInterest
+pub mod Schedule

@@ -48,15 +48,15 @@ pub struct Coefficients {
     pub pays: ArrayVec<PayCoefficients, 84>,
 }
 
-// A quotient times the scale, rounded down and up.
+/// A quotient times the scale, rounded down and up.
 #[derive(Clone, Copy)]
-struct Scaled {
+pub(crate) struct Scaled {
     low: u128,
     high: u128,
 }
 
-// The part of a year that a later payment's interest is for.
-const HALF_YEAR: Accrual = Accrual { parts: 1, year: 2 };
+/// The part of a year that a later payment's interest is for.
+pub(crate) const HALF_YEAR: Accrual = Accrual { parts: 1, year: 2 };
 
 // The scale times a quotient.
 fn scaled_quotient(dividend: u128, divisor: u128) -> Scaled
@@ -74,8 +74,8 @@ fn scaled_quotient(dividend: u128, divisor: u128) -> Scaled
     }
 }
 
-// The scale times the interest of an accrual on a step.
-fn scaled_interest(step: Cents, rate: Rate, accrual: Accrual) -> Scaled
+/// The scale times the interest of an accrual on a step.
+pub(crate) fn scaled_interest(step: Cents, rate: Rate, accrual: Accrual) -> Scaled
     requires step { step.0 ≤ 10 ^ 8 }
     requires rate { rate.0 ≤ GREATEST_RATE }
     requires parts { accrual.parts ≤ 732 }
@@ -88,8 +88,8 @@ fn scaled_interest(step: Cents, rate: Rate, accrual: Accrual) -> Scaled
     )
 }
 
-// Interest is rounded to the cent once, by at most half a cent; where there is no rate there is none.
-fn interest_slack(rate: Rate) -> u128
+/// The slack of interest: it is rounded to the cent once, by at most half a cent; where there is no rate there is none.
+pub(crate) fn interest_slack(rate: Rate) -> u128
     ensures { result ≡ interest_slack_of rate.0 }
 {
     if rate.0 == 0 {
@@ -99,8 +99,8 @@ fn interest_slack(rate: Rate) -> u128
     }
 }
 
-// What a date pays by one step: interest, and the principal exactly.
-fn paid_on(day: Day, interest: Scaled, slack: u128, principal: u64) -> PayCoefficients
+/// What a date pays by one step: interest, and the principal exactly.
+pub(crate) fn paid_on(day: Day, interest: Scaled, slack: u128, principal: u64) -> PayCoefficients
     requires low { interest.low < 2 ^ 93 }
     requires high { interest.high < 2 ^ 93 }
     requires principal { principal ≤ 10 ^ 8 }

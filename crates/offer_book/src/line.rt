@@ -1,11 +1,14 @@
 //! Lines: what units of them cost and pay.
 
 ghost use Rattle.std.specs.Prelude.{◌≡◌, ◌*◌, ◌^◌, ◌<◌, ◌≤◌};
+ghost use Rattle.market_notes.specs.NoteFlows.{accrual_of, cost_of as note_cost_of};
+ghost use Rattle.market_notes.specs.NoteTerms.{IsNote};
 
 use crate::coefficients::{Coefficients, cash_coefficients, note_coefficients, slgs_coefficients};
+use crate::schedule::{ScheduledPayment, cash_schedule, note_schedule, slgs_schedule};
 use arrayvec::ArrayVec;
-use escrow_units::{Cents, Day, Flow, Slgs, Terms};
-use market_notes::{Note, note_cost, note_payments};
+use escrow_units::{Accrual, Cents, Day, Flow, Rate, Slgs, Terms, earned, face_price};
+use market_notes::{Note, accrual, note_cost, note_payments};
 
 /// What a line offers.
 #[derive(Clone, Copy, Debug, PartialEq, Eq)]
@@ -33,6 +36,19 @@ pub struct Line {
     pub most: u64,
 }
 
+// What a face of a note costs, by the part of a year for which interest has accrued.
+#[tactic(auto, unfolding(market_notes::specs::NoteFlows::accrued_interest))]
+fn note_cost_by(note: &Note, accrued: Accrual, face: Cents) -> Cents
+    requires note { IsNote note.now }
+    requires accrued { accrued ≡ accrual_of note.now }
+    requires days { accrued.parts ≤ 184 }
+    requires face { face.0 ≤ 10 ^ 11 }
+    ensures { result.0 ≡ note_cost_of note.now face.0 }
+{
+    let interest = earned(face, note.coupon, accrued.parts, accrued.year);
+    Cents(face_price(face, note.price).0 + interest.0)
+}
+
 impl Line {
     ghost use Rattle.escrow_units.specs.Denomination.{AreTerms};
     ghost use Rattle.escrow_units.specs.Flows.{total, FallWithinFortyYears};
@@ -41,6 +57,7 @@ impl Line {
     ghost use Rattle.offer_book.specs.Book.{IsLine};
     ghost use Rattle.offer_book.specs.Coefficients.{EnclosesUnits, cost_coefficients, pay_coefficients};
     ghost use Rattle.offer_book.specs.Denominations.{line_of};
+    ghost use Rattle.offer_book.specs.Schedule.{IsScheduleOf, kind_accrued, kind_rate};
     ghost use Rattle.offer_book.specs.Portfolio.{line_cost, line_payments, par as par_of, permits as permits_of};
 
     // The line of what is bought, of which at most `cap` dollars are sold, by the denominations of its file.
@@ -63,8 +80,8 @@ impl Line {
         units == 0 || (self.least <= units && units <= self.most)
     }
 
-    // What units of the line come to at par, in cents.
-    fn par(&self, units: u64) -> Cents
+    /// What units of the line come to at par, in cents: less than 2^64.
+    pub fn par(&self, units: u64) -> Cents
         requires { par_of self.now units < 2 ^ 64 }
         ensures { result.0 ≡ par_of self.now units }
     {
@@ -113,6 +130,62 @@ impl Line {
             }
             LineKind::Security(slgs) => slgs_interest::payments(&slgs, par),
             LineKind::Market(note) => note_payments(&note, par),
+        }
+    }
+
+    /// The rate of the line's interest: none for opening cash.
+    pub fn rate(&self) -> Rate
+        ensures { result.0 ≡ kind_rate self.now.kind }
+    {
+        match self.kind {
+            LineKind::Cash => Rate(0),
+            LineKind::Security(slgs) => slgs.rate,
+            LineKind::Market(note) => note.coupon,
+        }
+    }
+
+    /// The payments of the line by their terms, in order of date: by them any number of units pays what the line pays, and
+    /// no calendar has to be read again.
+    ///
+    /// Settlement is from 2000-01-01 to 2150-01-01, and the line is one of a book with that settlement. It takes no memory.
+    pub fn schedule(&self, settle: Day) -> ArrayVec<ScheduledPayment, 84>
+        requires settlement { IsSettlement settle }
+        requires line { IsLine settle self.now }
+        ensures { IsScheduleOf settle self.now result.items }
+    {
+        match self.kind {
+            LineKind::Cash => cash_schedule(settle),
+            LineKind::Security(slgs) => slgs_schedule(&slgs),
+            LineKind::Market(note) => note_schedule(&note),
+        }
+    }
+
+    /// The part of a year for which a buyer pays the interest that has accrued, which a note alone has: at most 184 days. The line
+    /// is one of a book.
+    pub fn accrued(&self) -> Accrual
+        requires { (settle : ℤ) × IsLine settle self.now }
+        ensures value { result ≡ kind_accrued self.now.kind }
+        ensures days { result.parts ≤ 184 }
+    {
+        match self.kind {
+            LineKind::Cash | LineKind::Security(_) => Accrual { parts: 0, year: 1 },
+            LineKind::Market(note) => accrual(&note),
+        }
+    }
+
+    /// What units of the line cost, in cents, as [`Line::cost`] says, by the line's [`accrued`](Line::accrued): it reads no
+    /// calendar.
+    pub fn cost_by(&self, accrued: Accrual, units: u64) -> Cents
+        requires line { (settle : ℤ) × IsLine settle self.now }
+        requires accrued { accrued ≡ kind_accrued self.now.kind }
+        requires days { accrued.parts ≤ 184 }
+        requires units { units ≤ self.now.most }
+        ensures { result.0 ≡ line_cost self.now units }
+    {
+        let par = self.par(units);
+        match self.kind {
+            LineKind::Cash | LineKind::Security(_) => par,
+            LineKind::Market(note) => note_cost_by(&note, accrued, par),
         }
     }
 

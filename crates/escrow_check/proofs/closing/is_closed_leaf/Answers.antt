@@ -1,5 +1,10 @@
-use Rattle.escrow_check.proofs.CloseFacts.{tight-room}
+use Rattle.std.proofs.Common.{sym, subst}
+use Rattle.std.specs.List.{AllZip}
+use Rattle.offer_book.specs.Book.{BookContents}
+use Rattle.dual_bound.proofs.RangeFacts.{tight-room}
+use Rattle.dual_bound.specs.Ranges.{HasRoomFor}
 use Rattle.escrow_check.proofs.closing.is_closed_leaf.Goals as goal
 
 pub bound-bound-requires-clause-ranges : goal.bound-bound-requires-clause-ranges
-bound-bound-requires-clause-ranges c = tight-room c.args.case.now.book.lines c.args.ranges.now c.requires.ranges
+bound-bound-requires-clause-ranges c =
+    subst (λ (book : BookContents). AllZip HasRoomFor book.lines c.args.ranges.now) (sym c.requires.columns.book) (tight-room c.args.case.now.book.lines c.args.ranges.now c.requires.ranges)

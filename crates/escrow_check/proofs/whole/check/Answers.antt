@@ -1,6 +1,14 @@
-use Rattle.std.proofs.Common.{◌∙◌, ◌++◌, length, take, arith}
+use Rattle.std.proofs.Common.{◌∙◌, [], ◌++◌, length, take, refl, arith}
 use Rattle.escrow_check.proofs.HearFacts.{rest-drop}
 use Rattle.escrow_check.proofs.whole.check.Goals as goal
+
+pub loop-rest-init : goal.loop-rest-init
+loop-rest-init c = record {
+  front = [];
+  bytes = refl;
+  case = c.in_ok-checker.ensures.case;
+  heard = c.in_ok-checker.ensures.heard;
+}
 
 pub loop-rest-preserved : goal.loop-rest-preserved
 loop-rest-preserved c =

@@ -1,4 +1,4 @@
-use Rattle.std.proofs.Common.{rules, ◌≡◌, ◌≤◌, ◌<◌, ◌∙◌, length, take, refl, subst, arith}
+use Rattle.std.proofs.Common.{rules, ◌≡◌, ◌≤◌, ◌<◌, ◌∙◌, Err, length, take, refl, subst, ap, arith}
 use Rattle.bound_certificate.specs.declared.limits.TheConstants.{MOST_DATES}
 use Rattle.escrow_desk.specs.declared.limits.TheConstants.{CERTIFICATE_LIMIT}
 use Rattle.case_file.specs.Case.{case_view}
@@ -52,3 +52,6 @@ pub returns-clause-heard : goal.returns-clause-heard
 returns-clause-heard g c =
     let long : CERTIFICATE_LIMIT < c.pieces.read = search rules in
     heard-long (g.D.Desk.told c.args.desk.now) c.args.name.now (case_view c.args.case.now) c.pieces.checker c.pieces.read c.pieces.invariant.so_far long
+
+pub returns-in-Err-NoFile-clause-absent : goal.returns-in-Err-NoFile-clause-absent
+returns-in-Err-NoFile-clause-absent g c = λ stopped. rw c.pieces.invariant.told at (c.in-Err-NoFile.ensures.absent (ap (λ fault. Err fault) c.in-Err-NoFile.field-0-is))

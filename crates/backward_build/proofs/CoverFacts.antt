@@ -1,0 +1,112 @@
+-- What units of a line pay in a span never falls as they rise; so the fewest that cover a residual are found by halves.
+use Rattle.std.proofs.Common.{◌≡◌, ◌∙◌, ℕ, ◌+◌, ◌-◌, ◌<◌, ◌≤◌, false, true, cond, nat_le, if◌then◌else◌, List, [], ◌∷◌, map, Some, None, get_or, refl, ap, arith, ℤ}
+use Rattle.std.specs.List.{find, range_with_len}
+use Rattle.std.proofs.Math.Nat.{mul-le-mul_left}
+use Rattle.std.proofs.lemmas.Bool.Decides.{nat_tests}
+use Rattle.std.proofs.lemmas.List.FromFn.{get_or-range_with_len, length-range_with_len}
+use Rattle.std.proofs.lemmas.List.Sums.{sum_by-cons}
+use Rattle.escrow_units.specs.declared.security.Flow.{Flow}
+use Rattle.day_sums.proofs.SumFacts.{counted-zero}
+use Rattle.slgs_interest.specs.Payments.{payment_dates, payment_on, payments_of}
+use Rattle.market_notes.specs.NoteFlows as market
+use Rattle.offer_book.specs.Portfolio.{kind_payments, line_payments, par}
+use Rattle.offer_book.specs.declared.line.Line.{Line}
+use Rattle.offer_book.specs.declared.line.LineKind.{LineKind}
+use Rattle.offer_book.specs.declared.line.LineKind.TheVariants.{Cash, Market, Security}
+use Rattle.offer_book.proofs.LineFacts.{line_payments-none}
+use Rattle.cash_table.proofs.DayFacts.{find_at, find_none}
+use Rattle.cash_table.proofs.ReachFacts.{choice_more, note_payment_more, slgs_payment_more}
+use Rattle.cash_table.proofs.ZipFacts.{sum_by-zero}
+use Rattle.backward_build.specs.Residual.{covers, fewest_of}
+use Rattle.backward_build.specs.Span.{falls_in, paid_in}
+use Rattle.backward_build.specs.declared.residual.Residual.{Residual}
+use Rattle.backward_build.specs.declared.span.Span.{Span}
+
+-- the cents of a flow that fall in a span
+abbrev pub span_cents : Span → Flow → ℕ
+span_cents span flow = if falls_in span flow.day then flow.cents.0 else 0
+
+-- payments on the same days, none of them less
+paid_more : (span : Span) (f g : ℤ → Flow) (days : List ℤ) → ((day : ℤ) → (f day).day ≡ (g day).day) → ((day : ℤ) → (f day).cents.0 ≤ (g day).cents.0)
+    → paid_in span (map f days) ≤ paid_in span (map g days)
+paid_more span f g [] same more = omega arith
+paid_more span f g (day ∷ days) same more =
+    let test = ap (λ (d : ℤ). falls_in span d) (same day) in
+    let here : span_cents span (f day) ≤ span_cents span (g day) = rw test (choice_more (falls_in span (g day).day) (f day).cents.0 0 (g day).cents.0 0 (more day) (omega arith)) in
+    omega (arith, sum_by-cons (span_cents span) (f day) (map f days), sum_by-cons (span_cents span) (g day) (map g days), here, paid_more span f g days same more)
+
+kind_more : (span : Span) (settle : ℤ) (kind : LineKind) (amount more : ℕ) → amount ≤ more → paid_in span (kind_payments settle kind amount) ≤ paid_in span (kind_payments settle kind more)
+unfolding payments_of market.payments_of
+kind_more span settle Cash amount more le =
+    paid_more span (λ day. record { day = day; cents = record { 0 = amount } }) (λ day. record { day = day; cents = record { 0 = more } }) (settle ∷ []) (λ day. refl) (λ day. le)
+kind_more span settle (Security slgs) amount more le =
+    paid_more span (payment_on slgs amount) (payment_on slgs more) (payment_dates slgs) (λ day. refl) (λ day. slgs_payment_more slgs amount more day le)
+kind_more span settle (Market note) amount more le =
+    paid_more span (market.payment_on note amount) (market.payment_on note more) (market.payment_dates note) (λ day. refl) (λ day. note_payment_more note amount more day le)
+
+-- more units of a line pay no less in a span
+pub line_more : (span : Span) (settle : ℤ) (line : Line) (units more : ℕ) → units ≤ more → paid_in span (line_payments settle line units) ≤ paid_in span (line_payments settle line more)
+line_more span settle line units more le = kind_more span settle line.kind (par line units) (par line more) (mul-le-mul_left line.step le)
+
+pub covers_from : (settle : ℤ) (residual : Residual) (line : Line) (units : ℕ) → covers settle residual line units ≡ true → residual.cents.0 ≤ paid_in residual.span (line_payments settle line units)
+covers_from settle residual line units test = test_le residual.cents.0 (paid_in residual.span (line_payments settle line units)) test
+  where
+    test_le : (a b : ℕ) → nat_le a b ≡ true → a ≤ b
+    test_le a b h = grind (arith, nat_tests)
+
+-- fewer units than too few are too few
+pub covers_less : (settle : ℤ) (residual : Residual) (line : Line) (units more : ℕ) → units ≤ more → covers settle residual line more ≡ false → covers settle residual line units ≡ false
+covers_less settle residual line units more le test =
+    less residual.cents.0 (paid_in residual.span (line_payments settle line units)) (paid_in residual.span (line_payments settle line more)) (line_more residual.span settle line units more le) test
+  where
+    less : (a b e : ℕ) → b ≤ e → nat_le a e ≡ false → nat_le a b ≡ false
+    less a b e h k = grind (arith, nat_tests)
+
+-- no units pay nothing
+none_paid : (span : Span) (settle : ℤ) (line : Line) → paid_in span (line_payments settle line 0) ≡ 0
+none_paid span settle line =
+    let none = line_payments-none settle line 0 refl in
+    sum_by-zero (span_cents span) (line_payments settle line 0) (λ k d lt. counted-zero (falls_in span (get_or (line_payments settle line 0) k d).day) (get_or (line_payments settle line 0) k d).cents.0 (none k d lt))
+
+none_covers : (settle : ℤ) (residual : Residual) (line : Line) → covers settle residual line 0 ≡ nat_le residual.cents.0 0
+none_covers settle residual line = ap (nat_le residual.cents.0) (none_paid residual.span settle line)
+
+pub fewest-nothing : (settle : ℤ) (residual : Residual) (line : Line) → residual.cents.0 ≡ 0 → covers settle residual line 0 ≡ true
+fewest-nothing settle residual line none = none_covers settle residual line ∙ nothing residual.cents.0 none
+  where
+    nothing : (n : ℕ) → n ≡ 0 → nat_le n 0 ≡ true
+    nothing n h = grind (arith, nat_tests)
+
+pub fewest-zero : (settle : ℤ) (residual : Residual) (line : Line) → residual.cents.0 ≡ 0 → fewest_of settle residual line ≡ Some 0
+unfolding fewest_of
+fewest-zero settle residual line none =
+    ap (λ b. cond b (Some 0) (find (covers settle residual line) (range_with_len line.least (line.most + 1 - line.least)))) (fewest-nothing settle residual line none)
+
+-- where something is left, the fewest are from the least on
+fewest-some : (settle : ℤ) (residual : Residual) (line : Line) → 0 < residual.cents.0 → fewest_of settle residual line ≡ find (covers settle residual line) (range_with_len line.least (line.most + 1 - line.least))
+unfolding fewest_of
+fewest-some settle residual line some =
+    ap (λ b. cond b (Some 0) (find (covers settle residual line) (range_with_len line.least (line.most + 1 - line.least)))) (none_covers settle residual line ∙ above residual.cents.0 some)
+  where
+    above : (n : ℕ) → 0 < n → nat_le n 0 ≡ false
+    above n h = grind (arith, nat_tests)
+
+pub fewest-found : (settle : ℤ) (residual : Residual) (line : Line) (units : ℕ) → 0 < residual.cents.0 → line.least ≤ units → units ≤ line.most → covers settle residual line units ≡ true
+    → ((fewer : ℕ) → line.least ≤ fewer → fewer < units → covers settle residual line fewer ≡ false) → fewest_of settle residual line ≡ Some units
+fewest-found settle residual line units some least most enough fewer =
+    let n = line.most + 1 - line.least in
+    let at : get_or (range_with_len line.least n) (units - line.least) 0 ≡ units = omega (arith, get_or-range_with_len line.least n (units - line.least) 0 (omega arith)) in
+    fewest-some settle residual line some
+    ∙ find_at (covers settle residual line) (range_with_len line.least n) (units - line.least) 0 (omega (arith, length-range_with_len line.least n))
+    (λ k h. ap (covers settle residual line) (get_or-range_with_len line.least n k 0 (omega arith)) ∙ fewer (line.least + k) (omega arith) (omega arith))
+    (ap (covers settle residual line) at ∙ enough)
+    ∙ ap Some at
+
+pub fewest-none : (settle : ℤ) (residual : Residual) (line : Line) → 0 < residual.cents.0 → covers settle residual line line.most ≡ false → fewest_of settle residual line ≡ None
+fewest-none settle residual line some fails =
+    let n = line.most + 1 - line.least in
+    fewest-some settle residual line some
+    ∙ find_none (covers settle residual line) (range_with_len line.least n)
+    (λ k d h.
+    let within : k < n = omega (arith, length-range_with_len line.least n) in
+    ap (covers settle residual line) (get_or-range_with_len line.least n k d within) ∙ covers_less settle residual line (line.least + k) line.most (omega arith) fails)

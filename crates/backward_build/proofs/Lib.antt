@@ -1,0 +1,11 @@
+pub mod BackwardFacts
+pub mod CoverFacts
+pub mod CurveFacts
+pub mod FairFacts
+pub mod OfferFacts
+pub mod OrderFacts
+pub mod PlanFacts
+pub mod SpanFacts
+pub mod TrimFacts
+pub mod UnitFacts
+pub mod SavingFacts

@@ -1,0 +1,8 @@
+use Rattle.std.proofs.Common.{◌≡◌, ℕ, ◌-◌, ◌<◌, ◌≤◌, get_or}
+use Rattle.backward_build.proofs.spare.take_spare.Given as goal
+
+abbrev pub invariant-loop-place : goal.invariant-loop-place
+invariant-loop-place l = record {
+  done : (k : ℕ) → k < l.place → get_or l.paid k 0 ≡ get_or l.fn.paid k 0 - get_or l.spare k 0;
+  rest : (k : ℕ) → l.place ≤ k → get_or l.paid k 0 ≡ get_or l.fn.paid k 0;
+}

@@ -1,0 +1,11 @@
+pub mod BackwardPlan
+pub mod CurveLaws
+pub mod OwnOffer
+pub mod PlainCase
+pub mod PlanLaws
+pub mod PriceCurve
+pub mod Residual
+pub mod Span
+pub mod Spare
+pub mod Trim
+pub mod Order

@@ -1,0 +1,5 @@
+pub mod FoundFacts
+pub mod PlanBuys
+pub mod RootFacts
+pub mod SearchFacts
+pub mod PlainFacts

@@ -1,0 +1,5 @@
+use Rattle.branch_search.proofs.PlainFacts.{plain_settled}
+use Rattle.branch_search.proofs.laws.settled_laws.Goals as goal
+
+pub returns : goal.returns
+returns c = record { settled = plain_settled }

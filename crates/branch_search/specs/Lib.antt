@@ -1,0 +1,5 @@
+pub mod Accepted
+pub mod Plain
+pub mod Purchases
+pub mod Root
+pub mod Search

@@ -1,0 +1,75 @@
+//! What a search comes to.
+
+use crate::purchases::purchases_of;
+use bound_certificate::{Certificate, Nodes};
+use cash_table::Plan;
+use escrow_desk::NoMemory;
+use escrow_units::Day;
+use offer_book::Book;
+use std::alloc::{AllocError, Global};
+
+/// A portfolio, and a tree that shows that no rival costs less by more than a gap.
+#[derive(Drop)]
+pub struct Found {
+    /// The units of each line.
+    pub plan: Plan,
+    /// The tree, in preorder.
+    pub tree: Nodes,
+    /// By how much a rival may cost less, in cents: the least that the tree supports.
+    pub gap: u64,
+}
+
+impl Found {
+    ghost use Rattle.std.specs.Prelude.{◌≡◌, length, IfOk};
+    ghost use Rattle.branch_search.specs.Purchases.{certificate_of};
+
+    /// The certificate of what was found for a book.
+    ///
+    /// # Errors
+    ///
+    /// Where memory ran out.
+    pub fn into_certificate(self, alloc: Global, book: &Book) -> Result<Certificate, NoMemory>
+        requires { length self.plan ≡ length book.now.lines }
+        ensures { IfOk result (λ certificate. certificate ≡ certificate_of self.plan self.tree self.gap) }
+    {
+        let buys = purchases_of(alloc, book, &self.plan)?;
+        Ok(Certificate {
+            buys: Some(buys),
+            gap: self.gap,
+            nodes: self.tree,
+        })
+    }
+}
+
+/// Why a search found no portfolio.
+#[derive(Clone, Copy, Debug, PartialEq, Eq)]
+pub enum SearchEnd {
+    /// No permitted portfolio meets the needs: the first day on which all lines at their most are short.
+    Short(Day),
+    /// The root of the tree alone doesn't settle the case.
+    RootOnly,
+    /// Memory ran out.
+    NoMemory,
+}
+
+impl From<NoMemory> for SearchEnd {
+    ghost use Rattle.std.specs.Prelude.{◌≡◌};
+    ghost use Rattle.branch_search.specs.declared.found.SearchEnd.TheVariants.{NoMemory as OutOfMemory};
+
+    ghost from_gives = { λ _ ended. ended ≡ OutOfMemory };
+
+    fn from(_memory: NoMemory) -> SearchEnd {
+        SearchEnd::NoMemory
+    }
+}
+
+impl From<AllocError> for SearchEnd {
+    ghost use Rattle.std.specs.Prelude.{◌≡◌};
+    ghost use Rattle.branch_search.specs.declared.found.SearchEnd.TheVariants.{NoMemory as OutOfMemory};
+
+    ghost from_gives = { λ _ ended. ended ≡ OutOfMemory };
+
+    fn from(_error: AllocError) -> SearchEnd {
+        SearchEnd::NoMemory
+    }
+}

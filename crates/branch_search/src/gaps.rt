@@ -1,0 +1,26 @@
+//! The least gap that a bound supports.
+
+ghost use Rattle.std.specs.Prelude.{◌≡◌, ℕ, ◌*◌, ◌^◌, ◌<◌, ◌≤◌, true, Some, pos, ◌-ℤ◌, unsigned_abs};
+ghost use Rattle.escrow_check.specs.Acceptance.{bears_out};
+
+use dual_bound::PRICE_SCALE;
+use escrow_units::Cents;
+use offer_book::COEFFICIENT_SCALE;
+
+// A cent of cost, as a bound weighs it.
+const COST_SCALE: i128 = COEFFICIENT_SCALE as i128 * PRICE_SCALE as i128;
+
+/// The least gap, in cents, with which a bound bears out a cost: what the cost is above the bound, in whole cents.
+pub(crate) fn least_gap(bound: i128, cost: Cents) -> u64
+    requires bound { unsigned_abs bound < 10 ^ 37 }
+    requires cost { cost.0 ≤ 91 * 10 ^ 12 }
+    ensures supported { bears_out bound (Some (pos cost.0 -ℤ pos result)) ≡ true }
+    ensures least { (gap : ℕ) → bears_out bound (Some (pos cost.0 -ℤ pos gap)) ≡ true → result ≤ gap }
+{
+    let over = COST_SCALE * i128::from(cost.0) - bound;
+    if over <= 0 {
+        0
+    } else {
+        (over as u128 / COST_SCALE as u128) as u64
+    }
+}

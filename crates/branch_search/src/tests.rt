@@ -1,0 +1,176 @@
+//! Worked figures.
+ghost use Rattle.std.specs.Prelude.{◌≡◌, IfOk};
+ghost use Rattle.case_file.specs.Case.{HasTerms, case_view};
+ghost use Rattle.branch_search.specs.Search.{IsFound};
+
+use crate::{Found, SearchEnd, found_laws, search};
+use bound_certificate::{Buy, write_cert};
+use case_file::{Case, read_case};
+use escrow_check::{Verdict, check};
+use escrow_desk::FILE_LIMIT;
+use escrow_units::Day;
+use std::alloc::Global;
+use std::process::Abort;
+use std::test::Fail;
+
+// What a search comes to.
+#[derive(Clone, Copy)]
+enum Told {
+    Found {
+        buys: &'static [Buy],
+        cost: u64,
+        gap: u64,
+    },
+    Ended(SearchEnd),
+}
+
+// Files, and what their case comes to.
+#[derive(Clone, Copy)]
+struct Row {
+    issue: &'static [u8],
+    rates: &'static [u8],
+    told: Told,
+}
+
+const RATES_A: &[u8] = b"terms,1000,100\noffer,2025-04-15,0.00,,10000\n";
+
+const RATES_D: &[u8] =
+    b"terms,1000,1\nrate,2025-02-14,2026-01-15,4.00\noffer,2025-07-15,max,,10000000\noffer,2026-01-15,max,,10000000\n";
+
+fn case_of(rt: &impl Abort, alloc: Global, row: &Row) -> Result<Case, Fail>
+    ensures { IfOk result (λ case. HasTerms (case_view case)) }
+{
+    assert!(rt; row.issue.len() as u64 <= FILE_LIMIT && row.rates.len() as u64 <= FILE_LIMIT);
+    match read_case(alloc, row.issue, row.rates, b"") {
+        Ok(case) => Ok(case),
+        Err(_) => Err(Fail::new("no case")),
+    }
+}
+
+// What is found is as expected, and `check` accepts its certificate.
+fn is_found(
+    rt: &impl Abort,
+    alloc: Global,
+    case: &Case,
+    found: Found,
+    told: &Told,
+) -> Result<(), Fail>
+    requires terms { HasTerms (case_view case.now) }
+    requires found { IsFound (case_view case.now) found.plan found.tree found.gap }
+{
+    let Told::Found { buys, cost, gap } = told else {
+        return Err(Fail::new("found"));
+    };
+    assert!(rt; case.book.need_count() <= 480);
+    let certificate = found.into_certificate(alloc, &case.book)?;
+    let text = write_cert(alloc, &certificate)?;
+    match &certificate.buys {
+        Some(bought) => assert_eq!(rt; bought.as_slice(), *buys),
+        None => return Err(Fail::new("no purchases")),
+    }
+    let Verdict::Yes(portfolio) = check(alloc, case, text.as_slice())? else {
+        return Err(Fail::new("it isn't accepted"));
+    };
+    assert_eq!(rt; portfolio.cost.0, *cost);
+    assert_eq!(rt; portfolio.gap.0, *gap);
+    Ok(())
+}
+
+fn is_ended(rt: &impl Abort, end: SearchEnd, told: &Told) -> Result<(), Fail> {
+    let Told::Ended(expected) = told else {
+        return Err(Fail::new("not found"));
+    };
+    assert_eq!(rt; end, *expected);
+    Ok(())
+}
+
+fn try_row(rt: &impl Abort, alloc: Global, row: &Row) -> Result<(), Fail> {
+    let case = case_of(rt, alloc, row)?;
+    match search(alloc, &case.book, case.limit, case.allowance, case.budget) {
+        Ok(found) => is_found(rt, alloc, &case, found, &row.told),
+        Err(end) => is_ended(rt, end, &row.told),
+    }
+}
+
+// Of an offer without interest, of two offers at the greatest rate, and of cash alone.
+#[test]
+fn cases_close_at_the_root_or_end(rt: HostRuntime) -> Result<(), Fail> {
+    found_laws();
+    let rows = [
+        Row {
+            issue: b"settle,2025-01-15\nneed,2025-04-15,5000.00\nrestricted,4.00\n",
+            rates: RATES_A,
+            told: Told::Found {
+                buys: &[Buy { line: 1, units: 50 }],
+                cost: 500_000,
+                gap: 0,
+            },
+        },
+        Row {
+            issue: b"settle,2025-01-15\nrestricted,4.00\n",
+            rates: RATES_A,
+            told: Told::Found {
+                buys: &[],
+                cost: 0,
+                gap: 0,
+            },
+        },
+        Row {
+            issue: b"settle,2025-01-15\nneed,2025-07-15,1000000.00\nneed,2026-01-15,2000000.00\nrestricted,5.00\nallowance,2002.33\n",
+            rates: RATES_D,
+            told: Told::Found {
+                buys: &[
+                    Buy {
+                        line: 1,
+                        units: 980_551,
+                    },
+                    Buy {
+                        line: 2,
+                        units: 1_923_077,
+                    },
+                ],
+                cost: 290_362_800,
+                gap: 90,
+            },
+        },
+        // just the gap that the leaf supports is allowed, and then a cent less
+        Row {
+            issue: b"settle,2025-01-15\nneed,2026-01-15,1041.03\nrestricted,5.00\nallowance,0.01\n",
+            rates: RATES_D,
+            told: Told::Found {
+                buys: &[Buy {
+                    line: 2,
+                    units: 1_001,
+                }],
+                cost: 100_100,
+                gap: 1,
+            },
+        },
+        Row {
+            issue: b"settle,2025-01-15\nneed,2026-01-15,1041.03\nrestricted,5.00\n",
+            rates: RATES_D,
+            told: Told::Ended(SearchEnd::RootOnly),
+        },
+        // a yield above the limit
+        Row {
+            issue: b"settle,2025-01-15\nneed,2026-01-15,1041.03\nrestricted,3.00\nallowance,0.01\n",
+            rates: RATES_D,
+            told: Told::Ended(SearchEnd::RootOnly),
+        },
+        // nothing matures on the need date
+        Row {
+            issue: b"settle,2025-01-15\nneed,2025-04-16,5000.00\nrestricted,4.00\n",
+            rates: RATES_A,
+            told: Told::Ended(SearchEnd::RootOnly),
+        },
+        Row {
+            issue: b"settle,2025-01-15\ncash,50.00\nneed,2025-01-20,100.00\nrestricted,4.00\n",
+            rates: b"",
+            told: Told::Ended(SearchEnd::Short(Day::new(20_108))),
+        },
+    ];
+    for row in &rows {
+        try_row(&rt, rt.alloc(), row)?;
+    }
+    Ok(())
+}

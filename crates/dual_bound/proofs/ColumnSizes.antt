@@ -1,0 +1,72 @@
+-- How large the parts of a column are.
+use Rattle.std.proofs.Common.{◌≡◌, ℕ, ◌*◌, ◌≤◌, sym, ap, subst, arith, inl, inr, ℤ, Bool, true, false, if◌then◌else◌}
+use Rattle.std.proofs.Math.Nat.{mul-le-mul_left, mul-le-mul_right}
+use Rattle.escrow_units.proofs.RoundingFacts.{near-at-most}
+use Rattle.escrow_units.specs.Interest.{earned_of}
+use Rattle.escrow_units.specs.declared.interest.Accrual.{Accrual}
+use Rattle.slgs_interest.specs.PaymentLaws.{IsShort}
+use Rattle.offer_book.specs.Book.{IsLine, IsSecurity}
+use Rattle.offer_book.specs.Coefficients.{Enclosure, cost_coefficients}
+use Rattle.offer_book.specs.Schedule.{flow_by, kind_rate, pay_by, principal_by}
+use Rattle.offer_book.specs.declared.line.Line.{Line}
+use Rattle.offer_book.specs.declared.line.LineKind.{LineKind}
+use Rattle.offer_book.specs.declared.line.LineKind.TheVariants.{Cash, Market, Security}
+use Rattle.offer_book.specs.declared.schedule.ScheduledPayment.{ScheduledPayment}
+use Rattle.dual_bound.specs.Columns.{IsSmallHead, IsSmallPay}
+use Rattle.dual_bound.specs.declared.column.Column.{Column}
+use Rattle.dual_bound.proofs.Sizes.{cost-sized, paid-sized, step-small}
+
+kind-low : (settle : ℤ) (kind : LineKind) → IsSecurity settle kind → kind_rate kind ≤ 30_000
+kind-low settle Cash h = absurd h
+kind-low settle (Security slgs) h = h.2
+kind-low settle (Market note) h = h.1.coupon
+
+-- a line's rate is at most 30 percent
+pub rate-low : (settle : ℤ) (line : Line) → IsLine settle line → kind_rate line.kind ≤ 30_000
+rate-low settle line (inl cash) = subst (λ kind. kind_rate kind ≤ 30_000) (sym cash.kind) (omega arith)
+rate-low settle line (inr security) = kind-low settle line.kind security.security
+
+principal-little : (payment : ScheduledPayment) (amount : ℕ) → principal_by payment amount ≤ amount
+principal-little payment amount = at payment.principal
+  where
+    at : (t : Bool) → (if t then amount else 0) ≤ amount
+    at true = omega arith
+    at false = omega arith
+
+-- the coefficients of a payment
+pub pay-small : (settle : ℤ) (line : Line) (payment : ScheduledPayment) → IsLine settle line → IsShort payment.accrual
+    → IsSmallPay (pay_by (kind_rate line.kind) line.step payment)
+pay-small settle line payment is short =
+    let sized = paid-sized payment.day line.step (kind_rate line.kind) payment.accrual (principal_by payment line.step) (rate-low settle line is) short.year short.parts (principal-little payment line.step) in
+    let step = step-small settle line is in
+    record { low = omega (arith, sized.low, step); high = omega (arith, sized.high, step); slack = omega (arith, sized.slack) }
+
+-- interest of at most sixteen months is at most what bears it
+pub earned-little : (amount rate : ℕ) (accrual : Accrual) → rate ≤ 30_000 → IsShort accrual → earned_of amount rate accrual.parts accrual.year ≤ amount
+earned-little amount rate accrual low short =
+    near-at-most (amount * rate * accrual.parts) (100_000 * accrual.year) amount (omega (arith, short.year))
+    (omega (arith, within amount (rate * accrual.parts) accrual.year (bears-few rate accrual.parts accrual.year low short.parts)))
+  where
+    bears-few : (rate days year : ℕ) → rate ≤ 30_000 → 3 * days ≤ 4 * year → rate * days ≤ 100_000 * year
+    bears-few rate days year low few = omega (arith, mul-le-mul_right days low)
+
+    within : (amount bears year : ℕ) → bears ≤ 100_000 * year → amount * bears ≤ amount * (100_000 * year)
+    within amount bears year le = mul-le-mul_left amount le
+
+pub cents-little : (amount rate : ℕ) (payment : ScheduledPayment) → rate ≤ 30_000 → IsShort payment.accrual → (flow_by rate amount payment).cents.0 ≤ 2 * amount
+cents-little amount rate payment low short = omega (arith, earned-little amount rate payment.accrual low short, principal-little payment amount)
+
+-- what a column has before its payments
+pub head-small : (settle : ℤ) (line : Line) (column : Column) → IsLine settle line
+    → cost_coefficients line ≡ record { low = column.cost_low; high = column.cost_high; slack = column.cost_slack }
+    → column.accrued.parts ≤ 184 → IsSmallPay column.regular → IsSmallHead column
+head-small settle line column is costs days regular =
+    let sized = cost-sized settle line is in
+    let step = step-small settle line is in
+    record {
+      cost_low = omega (arith, ap (λ (e : Enclosure). e.low) costs, sized.low, step);
+      cost_high = omega (arith, ap (λ (e : Enclosure). e.high) costs, sized.high, step);
+      cost_slack = omega (arith, ap (λ (e : Enclosure). e.slack) costs, sized.slack);
+      accrued = days;
+      regular = regular;
+    }

@@ -1,0 +1,130 @@
+-- A tableau, a line at a time.
+use Rattle.std.proofs.Common.{◌≡◌, ◌∙◌, ℕ, zero, suc, ◌+◌, ◌*◌, ◌/◌, ◌<◌, ◌≤◌, List, [], ◌∷◌, ◌++◌, All, get_or, length, map, take, sym, ap, subst, arith, inl, inr, ◌⊎◌, ℤ, ◌+ℤ◌, ◌-ℤ◌, pos, set}
+use Rattle.std.specs.List.{AllZip, filter, zip}
+use Rattle.std.proofs.lemmas.Int.{ints}
+use Rattle.std.proofs.Math.Nat.{mul-le-mul_left}
+use Rattle.std.proofs.lemmas.Bool.{cases_lt}
+use Rattle.std.proofs.lemmas.List.{get_or_past, length-map, take_more}
+use Rattle.std.proofs.lemmas.List.Elements.{All-cons, All-map, All-nil, All-same}
+use Rattle.std.proofs.lemmas.Slice.Zip.{AllZip-long}
+use Rattle.fixed_powers.specs.DiscountPowers.{one}
+use Rattle.offer_book.specs.Book.{BookContents, IsBook, IsLine}
+use Rattle.offer_book.specs.declared.coefficients.TheConstants.{COEFFICIENT_SCALE}
+use Rattle.offer_book.specs.declared.line.Line.{Line}
+use Rattle.offer_book.specs.declared.line.LineKind.TheVariants.{Cash}
+use Rattle.dual_bound.specs.Columns.{Extends, IsColumn, IsLightWorth, IsOther, IsPlace, IsSmallColumn, IsTableau, is_other, is_regular, worth_between, worth_on}
+use Rattle.dual_bound.specs.LeafBound.{bound_of, least_within, priced_needs, signed_sum}
+use Rattle.dual_bound.specs.Tree.{IsLeaf}
+use Rattle.dual_bound.specs.declared.column.Column.{Column}
+use Rattle.dual_bound.specs.declared.column.OtherPayment.{OtherPayment}
+use Rattle.dual_bound.specs.declared.prices.TheConstants.{PRICE_SCALE}
+use Rattle.dual_bound.specs.declared.ranges.Interval.{Interval}
+use Rattle.dual_bound.specs.declared.tableau.Tableau.{Tableau}
+use Rattle.dual_bound.specs.declared.tree.Leaf.{Leaf}
+use Rattle.dual_bound.specs.declared.worth.PricedDay.{PricedDay}
+use Rattle.dual_bound.proofs.ColumnMade.{column-stays, zip-push, zip-weaker}
+use Rattle.dual_bound.proofs.Soundness.{all-lines}
+
+zip-get : {A B : Type 0} (R : A → B → Type 0) (xs : List A) (ys : List B) (i : ℕ) (d : A) (e : B) → AllZip R xs ys → i < length xs → R (get_or xs i d) (get_or ys i e)
+zip-get R [] ys i d e h few = absurd (omega arith)
+zip-get R (x ∷ xs) [] i d e h few = absurd h
+zip-get R (x ∷ xs) (y ∷ ys) zero d e h few = h.0
+zip-get R (x ∷ xs) (y ∷ ys) (suc i) d e h few = zip-get R xs ys i d e h.1 (omega arith)
+
+zip-right : {A B : Type 0} (R : A → B → Type 0) (P : B → Type 0) (xs : List A) (ys : List B) → ((x : A) (y : B) → R x y → P y) → AllZip R xs ys → All P ys
+zip-right R P [] [] f h = All-nil P
+zip-right R P [] (y ∷ ys) f h = absurd h
+zip-right R P (x ∷ xs) [] f h = absurd h
+zip-right R P (x ∷ xs) (y ∷ ys) f h = All-cons P y ys (f x y h.0) (zip-right R P xs ys f h.1)
+
+-- a worth is at most 2
+light-worth : (dates : ℕ) (leaf : Leaf) (day : PricedDay) → IsLeaf dates leaf → day.power ≤ one → IsLightWorth (worth_on leaf day)
+light-worth dates leaf day well power =
+    light (get_or leaf.prices day.need 0) (leaf.mu * day.power / one) (price (cases_lt day.need (length leaf.prices))) (omega (arith, well.limit, mul-le-mul_left leaf.mu power))
+  where
+    light : (price limit : ℕ) → price ≤ 2 * PRICE_SCALE → limit ≤ PRICE_SCALE → IsLightWorth (worth_between price limit)
+    light price limit a b = omega arith
+
+    price : (day.need < length leaf.prices) ⊎ (length leaf.prices ≤ day.need) → get_or leaf.prices day.need 0 ≤ 2 * PRICE_SCALE
+    price (inl there) = well.range day.need 0 there
+    price (inr past) = omega (arith, get_or_past leaf.prices day.need 0 past)
+
+-- what is known of a line and its column
+pub record IsReady (book : BookContents) (tableau : Tableau) (line : Line) (column : Column) : Type 0 where
+  pub is_line : IsLine book.settle line
+  pub is_column : IsColumn tableau.yield_units.0 book tableau.days.items line column
+  pub small : IsSmallColumn column
+  pub there : All (λ place. place < length tableau.worths.items) column.places.items
+  pub others_there : All (λ (other : OtherPayment). other.place < length tableau.worths.items) column.others.items
+  pub light : All IsLightWorth tableau.worths.items
+
+pub ready : (book : BookContents) (t : Tableau) (place : ℕ) (line : Line) (column : Column) → IsBook book → IsTableau book t → place < length book.lines
+    → line ≡ get_or book.lines place line → column ≡ get_or t.columns.items place column → IsReady book t line column
+ready book t place line column limits h few is column_is = record {
+  is_line = subst (IsLine book.settle) (sym is) (all-lines book.settle book.lines limits.lines place line few);
+  is_column = own;
+  small = subst IsSmallColumn (sym column_is) (h.small place column (omega (arith, few, columns-long)));
+  there = zip-right (IsPlace t.yield_units.0 book line.kind t.days.items) (λ place. place < length t.worths.items) (filter is_regular own.schedule) column.places.items
+      (λ p k at. omega (arith, at.there, days)) own.places;
+  others_there = zip-right (IsOther t.yield_units.0 book line t.days.items) (λ (o : OtherPayment). o.place < length t.worths.items) (filter is_other own.schedule) column.others.items
+      (λ p o at. omega (arith, at.place.there, days)) own.others;
+  light = All-same IsLightWorth t.worths.items (map (worth_on t.leaf) t.days.items) h.worths
+      (All-map IsLightWorth (worth_on t.leaf) t.days.items (λ k d lt. light-worth (length book.needs) t.leaf (get_or t.days.items k d) h.leaf (h.powers k d lt)));
+}
+  where
+    own : IsColumn t.yield_units.0 book t.days.items line column
+    own =
+        subst (λ l. IsColumn t.yield_units.0 book t.days.items l column) (sym is)
+        (subst (IsColumn t.yield_units.0 book t.days.items (get_or book.lines place line)) (sym column_is)
+        (zip-get (IsColumn t.yield_units.0 book t.days.items) book.lines t.columns.items place line column h.columns few))
+
+    columns-long : length t.columns.items ≡ length book.lines
+    columns-long = AllZip-long (IsColumn t.yield_units.0 book t.days.items) book.lines t.columns.items h.columns
+
+    days : length t.worths.items ≡ length t.days.items
+    days = ap length h.worths ∙ length-map t.days.items (worth_on t.leaf)
+
+pub columns-long : (book : BookContents) (t : Tableau) → IsTableau book t → length t.columns.items ≡ length book.lines
+columns-long book t h = AllZip-long (IsColumn t.yield_units.0 book t.days.items) book.lines t.columns.items h.columns
+
+-- a line, where none is named
+pub some-line : Line
+some-line = record { kind = Cash; step = 1; least = 1; most = 0 }
+
+-- columns, one more
+pub columns-more : (n : ℕ) (book : BookContents) (days more : List PricedDay) (lines : List Line) (i : ℕ) (line : Line) (columns : List Column) (column : Column) → i < length lines
+    → line ≡ get_or lines i line → Extends days more → AllZip (IsColumn n book days) (take i lines) columns → IsColumn n book more line column
+    → AllZip (IsColumn n book more) (take (i + 1) lines) (columns ++ column ∷ [])
+columns-more n book days more lines i line columns column few is e h own =
+    subst (λ ls. AllZip (IsColumn n book more) ls (columns ++ column ∷ [])) (sym (take_more lines i line few ∙ ap (λ l. take i lines ++ l ∷ []) (sym is)))
+    (zip-push (IsColumn n book more) (take i lines) columns line column
+    (zip-weaker (IsColumn n book days) (IsColumn n book more) (take i lines) columns (column-stays n book days more e) h) own)
+
+-- a sum over the lines, where one interval is put
+sum-set : (f : Line × Interval → ℤ) (lines : List Line) (ranges : List Interval) (place : ℕ) (interval : Interval) (d : Line) (e : Interval) → place < length lines → length lines ≡ length ranges
+    → (signed_sum f (zip lines ranges) -ℤ f (get_or lines place d, get_or ranges place e)) +ℤ f (get_or lines place d, interval) ≡ signed_sum f (zip lines (set ranges place interval))
+sum-set f [] ranges place interval d e few same = absurd (omega arith)
+sum-set f (line ∷ lines) [] place interval d e few same = absurd (omega arith)
+sum-set f (line ∷ lines) (own ∷ ranges) zero interval d e few same = omega (arith, ints)
+sum-set f (line ∷ lines) (own ∷ ranges) (suc place) interval d e few same =
+    joined (f (line, own)) _ _ _ _ (sum-set f lines ranges place interval d e (omega arith) (omega arith))
+  where
+    joined : (first sum old new rest : ℤ) → (sum -ℤ old) +ℤ new ≡ rest → ((first +ℤ sum) -ℤ old) +ℤ new ≡ first +ℤ rest
+    joined first sum old new rest h = omega (arith, ints)
+
+-- the bound, where one interval is put
+pub bound-set : (n : ℕ) (book : BookContents) (leaf : Leaf) (ranges : List Interval) (place : ℕ) (interval : Interval) (d : Line) (e : Interval) → place < length book.lines
+    → length book.lines ≡ length ranges
+    → (bound_of n book ranges leaf -ℤ least_within n book leaf (get_or book.lines place d) (get_or ranges place e)) +ℤ least_within n book leaf (get_or book.lines place d) interval
+    ≡ bound_of n book (set ranges place interval) leaf
+unfolding bound_of
+bound-set n book leaf ranges place interval d e few same =
+    joined (pos (COEFFICIENT_SCALE * priced_needs book.needs leaf.prices))
+    (signed_sum (λ (p : Line × Interval). least_within n book leaf p.0 p.1) (zip book.lines ranges))
+    (least_within n book leaf (get_or book.lines place d) (get_or ranges place e))
+    (least_within n book leaf (get_or book.lines place d) interval)
+    (signed_sum (λ (p : Line × Interval). least_within n book leaf p.0 p.1) (zip book.lines (set ranges place interval)))
+    (sum-set (λ (p : Line × Interval). least_within n book leaf p.0 p.1) book.lines ranges place interval d e few same)
+  where
+    joined : (first sum old new rest : ℤ) → (sum -ℤ old) +ℤ new ≡ rest → ((first +ℤ sum) -ℤ old) +ℤ new ≡ first +ℤ rest
+    joined first sum old new rest h = omega (arith, ints)

@@ -1,0 +1,51 @@
+use Rattle.std.proofs.Common.{◌≤ℤ◌, ap, sym, subst, arith}
+use Rattle.std.proofs.lemmas.Int.{ints}
+use Rattle.std.proofs.lemmas.List.Elements.{All-same}
+use Rattle.escrow_units.specs.Calendar.{years_after_of}
+use Rattle.offer_book.specs.Schedule.{IsScheduleOf}
+use Rattle.offer_book.specs.declared.schedule.ScheduledPayment.{ScheduledPayment}
+use Rattle.dual_bound.specs.Columns.{HasHead}
+use Rattle.dual_bound.proofs.ColumnMade.{extends-on, keeps-on, made, made-small, one-more, schedule-within}
+use Rattle.dual_bound.proofs.column.Column.make.Goals as goal
+
+pub place-requires-clause-from : goal.place-requires-clause-from
+place-requires-clause-from c =
+    let scheduled = subst (λ z. IsScheduleOf z c.args.line.now c.schedule-schedule.result.items) c.settle-2.ensures c.schedule-schedule.ensures in
+    let within = All-same (λ (p : ScheduledPayment). (c.args.book.now.settle ≤ℤ p.day) × (p.day ≤ℤ years_after_of c.args.book.now.settle 40)) c.as_slice-payment-items.result.now c.schedule-schedule.result.items
+    c.as_slice-payment-items.ensures.value (schedule-within c.args.book.now.settle c.args.line.now c.schedule-schedule.result.items c.requires.limits.settlement c.requires.line scheduled)
+    c.loop-payment.payment-index c.payment-item.result c.loop-payment-test.true in
+    omega (arith, ints, ap (λ (p : ScheduledPayment). p.day) c.payment-item.is, within.0)
+
+pub place-requires-clause-to : goal.place-requires-clause-to
+place-requires-clause-to c =
+    let scheduled = subst (λ z. IsScheduleOf z c.args.line.now c.schedule-schedule.result.items) c.settle-2.ensures c.schedule-schedule.ensures in
+    let within = All-same (λ (p : ScheduledPayment). (c.args.book.now.settle ≤ℤ p.day) × (p.day ≤ℤ years_after_of c.args.book.now.settle 40)) c.as_slice-payment-items.result.now c.schedule-schedule.result.items
+    c.as_slice-payment-items.ensures.value (schedule-within c.args.book.now.settle c.args.line.now c.schedule-schedule.result.items c.requires.limits.settlement c.requires.line scheduled)
+    c.loop-payment.payment-index c.payment-item.result c.loop-payment-test.true in
+    omega (arith, ints, ap (λ (p : ScheduledPayment). p.day) c.payment-item.is, within.1)
+
+pub loop-payment-preserved : goal.loop-payment-preserved
+loop-payment-preserved c = record {
+  table = c.in_ok-place.ensures.table;
+  extends = extends-on c.args.table.now.days.items c.loop-payment.table.days.items c.place.new.self.days.items c.loop-payment.invariant.extends c.in_ok-place.ensures.extends;
+  more = omega (arith, c.loop-payment.invariant.more, c.in_ok-place.ensures.more);
+  head = keeps-on c.without_payments-column.result c.loop-payment.column c.put.new.self c.loop-payment.invariant.head c.in_ok-put.ensures.head;
+  so_far = one-more c.args.powers.now.yield_units c.args.book.now c.loop-payment.table.days.items c.place.new.self.days.items c.args.line.now c.as_slice-payment-items.result.now
+      c.loop-payment.payment-index c.payment-item.result c.in_ok-place.place c.loop-payment.column c.put.new.self c.loop-payment-test.true c.payment-item.is c.in_ok-place.ensures.extends
+      c.loop-payment.invariant.so_far c.in_ok-place.ensures.place c.in_ok-put.ensures.places c.in_ok-put.ensures.others c.in_ok-put.ensures.small;
+}
+
+pub returns : goal.returns
+returns c =
+    let scheduled = subst (λ z. IsScheduleOf z c.args.line.now c.schedule-schedule.result.items) c.settle-2.ensures c.schedule-schedule.ensures in
+    let sliced = subst (λ xs. IsScheduleOf c.args.book.now.settle c.args.line.now xs) (sym c.as_slice-payment-items.ensures.value) scheduled in
+    let head = subst (λ z. HasHead z c.args.line.now c.without_payments-column.result) c.settle.ensures c.without_payments-column.ensures.head in
+    record {
+      table = c.loop-payment.invariant.table;
+      extends = c.loop-payment.invariant.extends;
+      more = omega (arith, c.loop-payment.invariant.more, c.as_slice-payment-items.ensures.fits, c.loop-payment.auto.payment-index-end);
+      column = made c.args.powers.now.yield_units c.args.book.now c.loop-payment.table.days.items c.args.line.now c.as_slice-payment-items.result.now c.loop-payment.payment-index
+          c.without_payments-column.result c.loop-payment.column sliced c.loop-payment-test.false head c.loop-payment.invariant.head c.loop-payment.invariant.so_far;
+      small = made-small c.args.powers.now.yield_units c.args.book.now c.loop-payment.table.days.items c.args.line.now c.as_slice-payment-items.result.now c.loop-payment.payment-index
+          c.without_payments-column.result c.loop-payment.column (omega (arith, c.as_slice-payment-items.ensures.fits, c.loop-payment.auto.payment-index-end)) head c.loop-payment.invariant.head c.loop-payment.invariant.so_far;
+    }

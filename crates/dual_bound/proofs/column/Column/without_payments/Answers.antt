@@ -1,0 +1,12 @@
+use Rattle.std.proofs.Common.{◌∙◌, ap}
+use Rattle.offer_book.specs.Schedule.{kind_rate, pay_by}
+use Rattle.dual_bound.proofs.ColumnSizes.{head-small}
+use Rattle.dual_bound.proofs.column.Column.without_payments.Goals as goal
+
+pub returns-clause-head : goal.returns-clause-head
+returns-clause-head c = record {
+  costs = c.coefficients-coefficients.ensures.costs;
+  accrued = c.accrued.ensures.value;
+  regular = c.coefficients_of.ensures.value ∙ ap (pay_by (kind_rate c.args.line.now.kind) c.args.line.now.step) c.regular_payment.ensures.value;
+  small = head-small c.args.settle c.args.line.now _ c.requires.line c.coefficients-coefficients.ensures.costs c.accrued.ensures.days c.coefficients_of.ensures.small;
+}

@@ -1,0 +1,70 @@
+use mir.Syntax.{w128}
+use mir.Val.{to_z}
+use Rattle.std.proofs.Common.{◌≡◌, ◌∙◌, ◌<◌, ◌*◌, ◌^◌, pos, ◌+ℤ◌, length, get_or, take, sym, ap, subst, arith, unsigned_abs}
+use Rattle.std.proofs.lemmas.Int.{ints, to_z-of_z}
+use Rattle.std.proofs.lemmas.List.{get_or_default}
+use Rattle.std.specs.List.{zip}
+use Rattle.offer_book.specs.declared.coefficients.TheConstants.{COEFFICIENT_SCALE}
+use Rattle.offer_book.specs.declared.line.Line.{Line}
+use Rattle.dual_bound.specs.LeafBound.{least_within, priced_needs, signed_sum}
+use Rattle.dual_bound.specs.declared.ranges.Interval.{Interval}
+use Rattle.dual_bound.proofs.BoundSizes.{bound-all, bound-more, bound-small, lines-few, room-at, room-length}
+use Rattle.dual_bound.proofs.Signed.{read-again}
+use Rattle.dual_bound.proofs.TableauFacts.{some-line}
+use Rattle.dual_bound.proofs.tableau.Tableau.bound.Goals as goal
+
+pub bounds-intervals-from : goal.bounds-intervals-from
+bounds-intervals-from c =
+    omega (
+      arith,
+      room-length c.args.book.now.lines c.args.ranges.now c.requires.ranges,
+      ap length c.intervals-intervals.ensures.value,
+      c.line_count-line-end.ensures.value,
+      c.from.ensures,
+      c.loop-line-test.true,
+    )
+
+pub least-bound-requires-clause-high : goal.least-bound-requires-clause-high
+least-bound-requires-clause-high c =
+    λ d.
+    let none : Interval = record { low = 0; high = 0 } in
+    let room = room-at c.args.book.now.lines c.args.ranges.now c.loop-line.line d none c.requires.ranges (omega (arith, c.line_count-line-end.ensures.value, c.loop-line-test.true)) in
+    let interval : get_or c.intervals-intervals.result.now c.from.result none ≡ get_or c.args.ranges.now c.loop-line.line none =
+    (λ i. get_or (c.intervals-intervals.ensures.value i) (c.from.ensures i) none) in
+    omega (arith, room, ap (λ (i : Interval). i.high) interval)
+
+pub loop-line-preserved : goal.loop-line-preserved
+loop-line-preserved c =
+    let none : Interval = record { low = 0; high = 0 } in
+    let ranges = c.intervals-intervals.result.now in
+    let lines = c.args.book.now.lines in
+    let place = c.loop-line.line in
+    let interval = get_or ranges place none in
+    let line = get_or lines place some-line in
+    let same : length lines ≡ length ranges = omega (arith, room-length lines c.args.ranges.now c.requires.ranges, ap length c.intervals-intervals.ensures.value) in
+    let few : place < length lines = omega (arith, c.line_count-line-end.ensures.value, c.loop-line-test.true) in
+    let there : place < length ranges = omega (arith, same, few) in
+    let f = λ (p : Line × Interval). least_within c.args.self.now.yield_units.0 c.args.book.now c.args.self.now.leaf p.0 p.1 in
+    let most = lines-few c.args.book.now.settle lines c.requires.tableau.limits.lines in
+    let least = to_z-of_z w128 c.least-bound.result (record { sfits = c.least-bound.type_inv }) in
+    let whole = read-again _ (omega (arith, ints, most, few, c.loop-line.invariant.1, c.least-bound.ensures.size)) in
+    let value = whole ∙ ap (λ z. to_z w128 c.loop-line.bound-bits +ℤ z) least in
+    let own = c.least-bound.ensures.value some-line ∙ ap (λ k. f (line, get_or ranges k none)) c.from.ensures in (
+      value ∙ bound-more (pos (COEFFICIENT_SCALE * priced_needs c.args.book.now.needs c.args.self.now.leaf.prices)) (to_z w128 c.loop-line.bound-bits) c.least-bound.result f
+          lines ranges place line interval few same (get_or_default lines place some-line line few) (get_or_default ranges place none interval there) c.loop-line.invariant.0 own,
+      omega (arith, ints, value, c.loop-line.invariant.1, c.least-bound.ensures.size),
+    )
+
+pub returns-clause-value : goal.returns-clause-value
+returns-clause-value c =
+    let f = λ (p : Line × Interval). least_within c.args.self.now.yield_units.0 c.args.book.now c.args.self.now.leaf p.0 p.1 in
+    bound-all c.args.self.now.yield_units.0 c.args.book.now c.args.ranges.now c.args.self.now.leaf c.loop-line.line (to_z w128 c.loop-line.bound-bits)
+    (omega (arith, c.line_count-line-end.ensures.value, c.loop-line-test.false))
+    (c.loop-line.invariant.0
+    ∙ (λ i. pos (COEFFICIENT_SCALE * priced_needs c.args.book.now.needs c.args.self.now.leaf.prices)
+    +ℤ signed_sum f (take c.loop-line.line (zip c.args.book.now.lines (c.intervals-intervals.ensures.value i)))))
+
+pub returns-clause-size : goal.returns-clause-size
+returns-clause-size c =
+    subst (λ z. unsigned_abs z < 10 ^ 37) (sym (returns-clause-value c))
+    (bound-small c.args.self.now.yield_units.0 c.args.book.now c.args.ranges.now c.args.self.now.leaf c.requires.tableau.limits c.requires.tableau.leaf c.requires.ranges c.intervals-intervals.ensures.ordered)

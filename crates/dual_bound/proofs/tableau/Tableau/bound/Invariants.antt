@@ -1,0 +1,13 @@
+use Rattle.std.proofs.Common.{◌≡◌, ◌+◌, ◌*◌, ◌^◌, ◌≤◌, ◌+ℤ◌, pos, take, unsigned_abs}
+use Rattle.std.specs.List.{zip}
+use Rattle.offer_book.specs.declared.coefficients.TheConstants.{COEFFICIENT_SCALE}
+use Rattle.offer_book.specs.declared.line.Line.{Line}
+use Rattle.dual_bound.specs.LeafBound.{least_within, priced_needs, signed_sum}
+use Rattle.dual_bound.specs.declared.ranges.Interval.{Interval}
+use Rattle.dual_bound.proofs.tableau.Tableau.bound.Given as goal
+
+abbrev pub invariant-loop-line : goal.invariant-loop-line
+invariant-loop-line l =
+    (l.bound ≡ pos (COEFFICIENT_SCALE * priced_needs l.book.needs l.self.leaf.prices)
+    +ℤ signed_sum (λ (p : Line × Interval). least_within l.self.yield_units.0 l.book l.self.leaf p.0 p.1) (take l.line (zip l.book.lines l.intervals)))
+    × (unsigned_abs l.bound ≤ 2 * 10 ^ 34 + l.line * (71 * 10 ^ 33))

@@ -1,0 +1,65 @@
+use mir.Syntax.{w128}
+use Rattle.std.proofs.lemmas.Int.{to_z-of_z}
+use Rattle.offer_book.specs.Portfolio.{line_cost, par}
+use Rattle.offer_book.specs.Schedule.{kind_rate}
+use Rattle.std.proofs.Common.{◌∙◌, ◌<◌, All, get_or, length, sym, ap, subst, arith}
+use Rattle.std.proofs.lemmas.List.{get_or_default}
+use Rattle.dual_bound.specs.Columns.{IsLightWorth, column_reduced}
+use Rattle.dual_bound.specs.LeafBound.{reduced_cost}
+use Rattle.dual_bound.specs.declared.column.OtherPayment.{OtherPayment}
+use Rattle.dual_bound.specs.declared.worth.Worth.{Worth}
+use Rattle.std.proofs.Common.{ℕ, List}
+use Rattle.dual_bound.proofs.ColumnLinks.{column-reduced}
+use Rattle.dual_bound.proofs.Signed.{read-again}
+use Rattle.dual_bound.proofs.TableauFacts.{columns-long, ready}
+use Rattle.dual_bound.proofs.tableau.Tableau.reduced_cost.Goals as goal
+
+pub index-column-requires : goal.index-column-requires
+index-column-requires c = omega (arith, c.from.ensures, c.requires.line, columns-long c.args.book.now c.args.self.now c.requires.tableau)
+
+pub reduced_cost-requires-clause-small : goal.reduced_cost-requires-clause-small
+reduced_cost-requires-clause-small c =
+    (ready c.args.book.now c.args.self.now c.args.line c.line-own.result.now c.index-column.result.now c.requires.tableau.limits c.requires.tableau c.requires.line c.line-own.ensures
+    (c.index-column.ensures ∙ ap (λ k. get_or c.args.self.now.columns.items k c.index-column.result.now) c.from.ensures)).small
+
+pub reduced_cost-requires-clause-there : goal.reduced_cost-requires-clause-there
+reduced_cost-requires-clause-there c =
+    subst (λ (ws : List Worth). All (λ (place : ℕ). place < length ws) c.index-column.result.now.places.items) (sym c.as_slice.ensures.value)
+    (ready c.args.book.now c.args.self.now c.args.line c.line-own.result.now c.index-column.result.now c.requires.tableau.limits c.requires.tableau c.requires.line c.line-own.ensures
+    (c.index-column.ensures ∙ ap (λ k. get_or c.args.self.now.columns.items k c.index-column.result.now) c.from.ensures)).there
+
+pub reduced_cost-requires-clause-others_there : goal.reduced_cost-requires-clause-others_there
+reduced_cost-requires-clause-others_there c =
+    subst (λ (ws : List Worth). All (λ (other : OtherPayment). other.place < length ws) c.index-column.result.now.others.items) (sym c.as_slice.ensures.value)
+    (ready c.args.book.now c.args.self.now c.args.line c.line-own.result.now c.index-column.result.now c.requires.tableau.limits c.requires.tableau c.requires.line c.line-own.ensures
+    (c.index-column.ensures ∙ ap (λ k. get_or c.args.self.now.columns.items k c.index-column.result.now) c.from.ensures)).others_there
+
+pub reduced_cost-requires-clause-light : goal.reduced_cost-requires-clause-light
+reduced_cost-requires-clause-light c =
+    subst (All IsLightWorth) (sym c.as_slice.ensures.value)
+    (ready c.args.book.now c.args.self.now c.args.line c.line-own.result.now c.index-column.result.now c.requires.tableau.limits c.requires.tableau c.requires.line c.line-own.ensures
+    (c.index-column.ensures ∙ ap (λ k. get_or c.args.self.now.columns.items k c.index-column.result.now) c.from.ensures)).light
+
+pub reduced_cost-requires-clause-line : goal.reduced_cost-requires-clause-line
+reduced_cost-requires-clause-line c =
+    let known = ready c.args.book.now c.args.self.now c.args.line c.line-own.result.now c.index-column.result.now c.requires.tableau.limits c.requires.tableau c.requires.line c.line-own.ensures
+    (c.index-column.ensures ∙ ap (λ k. get_or c.args.self.now.columns.items k c.index-column.result.now) c.from.ensures) in
+    (c.args.book.now.settle, known.is_line)
+
+pub reduced_cost-requires-clause-accrued : goal.reduced_cost-requires-clause-accrued
+reduced_cost-requires-clause-accrued c =
+    (ready c.args.book.now c.args.self.now c.args.line c.line-own.result.now c.index-column.result.now c.requires.tableau.limits c.requires.tableau c.requires.line c.line-own.ensures
+    (c.index-column.ensures ∙ ap (λ k. get_or c.args.self.now.columns.items k c.index-column.result.now) c.from.ensures)).is_column.accrued
+
+pub returns : goal.returns
+returns c =
+    let known = ready c.args.book.now c.args.self.now c.args.line c.line-own.result.now c.index-column.result.now c.requires.tableau.limits c.requires.tableau c.requires.line c.line-own.ensures
+    (c.index-column.ensures ∙ ap (λ k. get_or c.args.self.now.columns.items k c.index-column.result.now) c.from.ensures) in
+    let own = read-again c.cost_worth.result (omega (arith, c.cost_worth.ensures.light)) ∙ c.cost_worth.ensures.value in
+    let line = c.line-own.result.now in
+    λ d. to_z-of_z w128 c.reduced_cost.result (record { sfits = c.reduced_cost.type_inv }) ∙ c.reduced_cost.ensures
+    ∙ (λ i. column_reduced (own i) (kind_rate line.kind) (line_cost line c.args.units) (par line c.args.units) (c.as_slice.ensures.value i) c.index-column.result.now)
+    ∙ column-reduced c.args.self.now.yield_units.0 c.args.book.now c.args.self.now.leaf line c.args.self.now.days.items c.args.self.now.worths.items c.index-column.result.now c.args.units
+    c.requires.tableau.leaf.every_date c.requires.tableau.worths known.is_column
+    ∙ ap (λ l. reduced_cost c.args.self.now.yield_units.0 c.args.book.now c.args.self.now.leaf l c.args.units)
+    (c.line-own.ensures ∙ get_or_default c.args.book.now.lines c.args.line line d c.requires.line)

@@ -1,0 +1,202 @@
+-- Columns: what each line is in the linear program whose dual the bound is. Made once for a book and the powers of a yield,
+-- they hold each line's coefficients and what each payment day is priced by, so that a leaf is priced without a calendar.
+use Rattle.std.specs.Prelude.{◌≡◌, ℕ, ◌+◌, ◌-◌, ◌*◌, ◌/◌, ◌^◌, ◌<◌, ◌≤◌, ◌==◌, Bool, false, ◌&&◌, not, List, All, length, map, filter, slice_index, slice_index_or, sum_by, ℤ, pos, ◌+ℤ◌, ◌-ℤ◌, ◌*ℤ◌, neg_ℤ, unsigned_abs, Some, None}
+use Rattle.std.specs.List.{AllZip}
+use Rattle.escrow_units.specs.Flows.{index360_of}
+use Rattle.escrow_units.specs.Interest.{earned_of}
+use Rattle.fixed_powers.specs.DiscountPowers.{low, one}
+use Rattle.offer_book.specs.Book.{BookContents, IsBook}
+use Rattle.offer_book.specs.Coefficients.{cost_coefficients, half_year_accrual}
+use Rattle.offer_book.specs.Schedule.{IsScheduleOf, flow_by, kind_accrued, kind_rate, pay_by}
+use Rattle.offer_book.specs.declared.coefficients.PayCoefficients.{PayCoefficients}
+use Rattle.offer_book.specs.declared.line.Line.{Line}
+use Rattle.offer_book.specs.declared.line.LineKind.{LineKind}
+use Rattle.offer_book.specs.declared.line.LineKind.TheVariants.{Cash, Market, Security}
+use Rattle.offer_book.specs.declared.schedule.ScheduledPayment.{ScheduledPayment}
+use Rattle.offer_book.specs.declared.coefficients.TheConstants.{COEFFICIENT_SCALE}
+use Rattle.slgs_interest.specs.PaymentLaws.{IsShort}
+use Rattle.dual_bound.specs.LeafBound.{least_side, price_on, signed_sum}
+use Rattle.dual_bound.specs.Tree.{IsLeaf}
+use Rattle.dual_bound.specs.declared.column.Column.{Column}
+use Rattle.dual_bound.specs.declared.column.OtherPayment.{OtherPayment}
+use Rattle.dual_bound.specs.declared.day_table.DayTable.{DayTable}
+use Rattle.dual_bound.specs.declared.worth.PricedDay.{PricedDay}
+use Rattle.dual_bound.specs.declared.form.Form.{Form}
+use Rattle.dual_bound.specs.declared.prices.TheConstants.{PRICE_SCALE}
+use Rattle.dual_bound.specs.declared.tableau.Tableau.{Tableau}
+use Rattle.dual_bound.specs.declared.tree.Leaf.{Leaf}
+use Rattle.dual_bound.specs.declared.worth.Worth.{Worth}
+
+-- what columns are for: a book, the yield of the powers, and the leaf by which their days are priced
+pub record ColumnsContents : Type 0 where
+  pub book : BookContents
+  pub yield_units : ℕ
+  pub leaf : Leaf
+
+-- ---- days
+-- the power that the limit discounts a payment of a kind by: it doesn't bind opening cash
+abbrev pub kind_power : ℕ → ℤ → LineKind → ℤ → ℕ
+kind_power n settle Cash day = 0
+kind_power n settle (Security slgs) day = low n (index360_of settle day)
+kind_power n settle (Market note) day = low n (index360_of settle day)
+
+-- a day is priced by the need that it serves, and by a power
+pub record IsPricedDay (book : BookContents) (day : ℤ) (factor : ℕ) (priced : PricedDay) : Type 0 where
+  pub need : (prices : List ℕ) → length prices ≡ length book.needs → slice_index prices priced.need ≡ price_on book.needs prices day
+  pub power : priced.power ≡ factor
+
+-- a price less what the limit takes: above nothing, or below it
+abbrev pub worth_between : ℕ → ℕ → Worth
+worth_between price limit = record { above = price - limit; below = limit - price }
+
+-- what a cent that is paid on a day is worth at a leaf
+abbrev pub worth_on : Leaf → PricedDay → Worth
+worth_on leaf day = worth_between (slice_index leaf.prices day.need) (leaf.mu * day.power / one)
+
+abbrev pub signed_worth : Worth → ℤ
+signed_worth worth = pos worth.above -ℤ pos worth.below
+
+-- a worth is at most 2
+abbrev pub IsLightWorth : Worth → Type 0
+IsLightWorth worth = worth.above + worth.below ≤ 2 * PRICE_SCALE
+
+abbrev pub worth_at : List Worth → ℕ → Worth
+worth_at worths place = slice_index_or worths place (record { above = 0; below = 0 })
+
+-- what a cent on each of some days is worth, together
+abbrev pub worth_together : List Worth → List ℕ → Worth
+worth_together worths places = record {
+  above = sum_by (λ place. (worth_at worths place).above) places;
+  below = sum_by (λ place. (worth_at worths place).below) places;
+}
+
+-- a table of days: each day that it knows from its number after settlement is priced by the powers of a yield
+pub record IsDayTable (n : ℕ) (book : BookContents) (table : DayTable) : Type 0 where
+  pub powers : All (λ priced. priced.power ≤ one) table.days.items
+  pub known : (after place : ℕ) (d : PricedDay) → slice_index_or table.places.items after None ≡ Some place
+      → (place < length table.days.items) × IsPricedDay book (book.settle +ℤ pos after) (low n (index360_of book.settle (book.settle +ℤ pos after))) (slice_index_or table.days.items place d)
+
+-- days stay where they are
+abbrev pub Extends : List PricedDay → List PricedDay → Type 0
+Extends days more = (length days ≤ length more) × ((place : ℕ) (d : PricedDay) → place < length days → slice_index_or more place d ≡ slice_index_or days place d)
+
+-- ---- columns
+-- half a year's interest and nothing else, as most dates pay
+abbrev pub is_regular : ScheduledPayment → Bool
+is_regular payment = (payment.accrual.parts == 1) && ((payment.accrual.year == 2) && not payment.principal)
+
+abbrev pub is_other : ScheduledPayment → Bool
+is_other payment = not (is_regular payment)
+
+abbrev pub regular_on : ℤ → ScheduledPayment
+regular_on day = record { day = day; accrual = half_year_accrual; principal = false }
+
+-- a payment of a kind falls on the day at a place
+pub record IsPlace (n : ℕ) (book : BookContents) (kind : LineKind) (days : List PricedDay) (payment : ScheduledPayment) (place : ℕ) : Type 0 where
+  pub there : place < length days
+  pub priced : (d : PricedDay) → IsPricedDay book payment.day (kind_power n book.settle kind payment.day) (slice_index_or days place d)
+
+-- another payment of a line, with its coefficients
+pub record IsOther (n : ℕ) (book : BookContents) (line : Line) (days : List PricedDay) (payment : ScheduledPayment) (other : OtherPayment) : Type 0 where
+  pub same : other.payment ≡ payment
+  pub coefficients : other.coefficients ≡ pay_by (kind_rate line.kind) line.step payment
+  pub place : IsPlace n book line.kind days payment other.place
+
+-- a column is that of a line: the costs and the coefficients are the line's, and each payment of its schedule falls on the day
+-- at its place
+pub record IsColumn (n : ℕ) (book : BookContents) (days : List PricedDay) (line : Line) (column : Column) : Type 0 where
+  pub costs : cost_coefficients line ≡ record { low = column.cost_low; high = column.cost_high; slack = column.cost_slack }
+  pub accrued : column.accrued ≡ kind_accrued line.kind
+  pub regular : column.regular ≡ pay_by (kind_rate line.kind) line.step (regular_on book.settle)
+  pub schedule : List ScheduledPayment
+  pub scheduled : IsScheduleOf book.settle line schedule
+  pub places : AllZip (IsPlace n book line.kind days) (filter is_regular schedule) column.places.items
+  pub others : AllZip (IsOther n book line days) (filter is_other schedule) column.others.items
+
+-- coefficients with room for their products
+pub record IsSmallPay (pay : PayCoefficients) : Type 0 where
+  pub low : pay.low ≤ 10 ^ 18
+  pub high : pay.high ≤ 10 ^ 18
+  pub slack : pay.slack ≤ 10 ^ 9
+
+pub record IsSmallOther (other : OtherPayment) : Type 0 where
+  pub coefficients : IsSmallPay other.coefficients
+  pub short : IsShort other.payment.accrual
+
+pub record IsSmallHead (column : Column) : Type 0 where
+  pub cost_low : column.cost_low ≤ 10 ^ 18
+  pub cost_high : column.cost_high ≤ 10 ^ 18
+  pub cost_slack : column.cost_slack ≤ 10 ^ 9
+  pub accrued : column.accrued.parts ≤ 184
+  pub regular : IsSmallPay column.regular
+
+pub record IsSmallColumn (column : Column) : Type 0 where
+  pub head : IsSmallHead column
+  pub others : All IsSmallOther column.others.items
+  pub few : length column.places.items ≤ 84
+  pub few_others : length column.others.items ≤ 84
+
+-- what a line's column has before its payments
+pub record HasHead (settle : ℤ) (line : Line) (column : Column) : Type 0 where
+  pub costs : cost_coefficients line ≡ record { low = column.cost_low; high = column.cost_high; slack = column.cost_slack }
+  pub accrued : column.accrued ≡ kind_accrued line.kind
+  pub regular : column.regular ≡ pay_by (kind_rate line.kind) line.step (regular_on settle)
+  pub small : IsSmallHead column
+
+-- a payment that is put changes nothing of it
+pub record KeepsHead (old new : Column) : Type 0 where
+  pub cost_low : new.cost_low ≡ old.cost_low
+  pub cost_high : new.cost_high ≡ old.cost_high
+  pub cost_slack : new.cost_slack ≡ old.cost_slack
+  pub accrued : new.accrued ≡ old.accrued
+  pub regular : new.regular ≡ old.regular
+
+-- another payment of a line at a place
+abbrev pub other_by : Line → ScheduledPayment → ℕ → OtherPayment
+other_by line payment place = record { place = place; payment = payment; coefficients = pay_by (kind_rate line.kind) line.step payment }
+
+-- the form of the regular payments: what they are worth above nothing counts by the high coefficient, and below by the low one
+abbrev pub regular_form : List Worth → Column → Form
+regular_form worths column =
+    let together = worth_together worths column.places.items in
+    record {
+      slope = pos (column.regular.low * together.below) -ℤ pos (column.regular.high * together.above);
+      slack = column.regular.slack * (together.above + together.below);
+    }
+
+abbrev pub other_forms : List Worth → List OtherPayment → Form
+other_forms worths others = record {
+  slope = signed_sum (λ other. least_side (neg_ℤ (signed_worth (worth_at worths other.place))) other.coefficients.low other.coefficients.high) others;
+  slack = sum_by (λ other. unsigned_abs (signed_worth (worth_at worths other.place)) * other.coefficients.slack) others;
+}
+
+abbrev pub form_plus : Form → Form → Form
+form_plus first second = record { slope = first.slope +ℤ second.slope; slack = first.slack + second.slack }
+
+-- the form of a column at worths, where a cent that it costs counts so much
+abbrev pub column_form : ℤ → List Worth → Column → Form
+column_form own worths column =
+    form_plus (form_plus (record { slope = least_side own column.cost_low column.cost_high; slack = unsigned_abs own * column.cost_slack }) (regular_form worths column))
+    (other_forms worths column.others.items)
+
+-- what an amount pays at worths
+abbrev pub others_paid : ℕ → ℕ → List Worth → List OtherPayment → ℤ
+others_paid rate amount worths others = signed_sum (λ other. signed_worth (worth_at worths other.place) *ℤ pos (flow_by rate amount other.payment).cents.0) others
+
+abbrev pub column_paid : ℕ → ℕ → List Worth → Column → ℤ
+column_paid rate amount worths column =
+    signed_worth (worth_together worths column.places.items) *ℤ pos (earned_of amount rate 1 2) +ℤ others_paid rate amount worths column.others.items
+
+-- the reduced cost of an amount at worths, scaled
+abbrev pub column_reduced : ℤ → ℕ → ℕ → ℕ → List Worth → Column → ℤ
+column_reduced own rate cost amount worths column = pos COEFFICIENT_SCALE *ℤ (own *ℤ pos cost -ℤ column_paid rate amount worths column)
+
+-- ---- the whole
+-- a tableau is that of a book: it has a column for each line, and its days are priced at its leaf
+pub record IsTableau (book : BookContents) (tableau : Tableau) : Type 0 where
+  pub limits : IsBook book
+  pub leaf : IsLeaf (length book.needs) tableau.leaf
+  pub powers : All (λ priced. priced.power ≤ one) tableau.days.items
+  pub columns : AllZip (IsColumn tableau.yield_units.0 book tableau.days.items) book.lines tableau.columns.items
+  pub small : All IsSmallColumn tableau.columns.items
+  pub worths : tableau.worths.items ≡ map (worth_on tableau.leaf) tableau.days.items

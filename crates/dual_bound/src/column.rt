@@ -1,0 +1,329 @@
+//! A line as a column of the linear program.
+ghost use Rattle.std.specs.Prelude.{All, ◌≡◌, ◌+◌, ◌*◌, ◌^◌, ◌<◌, ◌≤◌, ◌+ℤ◌, ◌-ℤ◌, ◌*ℤ◌, ℕ, ℤ, [], ◌∷◌, ◌++◌, cond, IfOk, OnOk, length, pos, unsigned_abs};
+ghost use Rattle.escrow_units.specs.Interest.{earned_of};
+ghost use Rattle.escrow_units.specs.SlgsTerms.{IsSettlement};
+ghost use Rattle.fixed_powers.specs.DiscountPowers.{PowerTable};
+ghost use Rattle.offer_book.specs.Book.{BookContents, IsBook, IsLine};
+ghost use Rattle.offer_book.specs.Coefficients.{cost_coefficients};
+ghost use Rattle.offer_book.specs.Portfolio.{line_cost, par};
+ghost use Rattle.offer_book.specs.Schedule.{flow_by, kind_accrued, kind_rate, pay_by};
+ghost use Rattle.slgs_interest.specs.PaymentLaws.{IsShort};
+ghost use Rattle.dual_bound.specs.Columns.{Extends, HasHead, IsColumn, IsDayTable, IsLightWorth, IsSmallColumn, IsSmallOther, IsSmallPay, KeepsHead, column_form, column_paid, column_reduced, form_plus, is_other, is_regular as is_regular_of, other_by, other_forms, others_paid as others_paid_of, regular_form as regular_form_of, regular_on, signed_worth, worth_at};
+
+use crate::day_table::DayTable;
+use crate::form::Form;
+use crate::leaf_bound::{scaled_difference, weighed};
+use crate::prices::PRICE_SCALE;
+use crate::worth::{Worth, worth_together};
+use escrow_desk::NoMemory;
+use escrow_units::{Accrual, Cents, Day, GREATEST_INDEX, GREATEST_RATE, Rate, earned};
+use fixed_powers::{Powers, Side};
+use offer_book::{Book, Line, PayCoefficients, ScheduledPayment};
+use std::alloc::Global;
+
+/// A payment of a line that isn't regular: its first interest, or with the principal.
+#[derive(Clone, Copy)]
+pub(crate) struct OtherPayment {
+    /// The place of its day.
+    pub place: u16,
+    /// The payment.
+    pub payment: ScheduledPayment,
+    /// What a unit pays, scaled.
+    pub coefficients: PayCoefficients,
+}
+
+/// A line as a column: what a unit costs and pays, scaled, and the places of its days.
+#[derive(Drop)]
+pub(crate) struct Column {
+    /// The exact cost of a unit, scaled and rounded down.
+    pub cost_low: u128,
+    /// The exact cost of a unit, scaled and rounded up.
+    pub cost_high: u128,
+    /// What rounding the cost to the cent can add or take away.
+    pub cost_slack: u128,
+    /// The part of a year for which interest has accrued.
+    pub accrued: Accrual,
+    /// What a unit pays on each regular date: half a year's interest.
+    pub regular: PayCoefficients,
+    /// The places of the days of the regular payments.
+    pub places: Vec<u16>,
+    /// The other payments.
+    pub others: Vec<OtherPayment>,
+}
+
+// Whether a payment is half a year's interest and nothing else.
+fn is_regular(payment: &ScheduledPayment) -> bool
+    ensures { result ≡ is_regular_of payment.now }
+{
+    payment.accrual.parts == 1 && (payment.accrual.year == 2 && !payment.principal)
+}
+
+// What a unit of a line pays by a payment, scaled.
+fn coefficients_of(line: &Line, payment: &ScheduledPayment) -> PayCoefficients
+    requires line { (settle : ℤ) × IsLine settle line.now }
+    requires short { IsShort payment.now.accrual }
+    ensures value { result ≡ pay_by (kind_rate line.now.kind) line.now.step payment.now }
+    ensures small { IsSmallPay result }
+{
+    payment.coefficients(line.rate(), Cents(line.step))
+}
+
+// Another payment of a line, by the place of its day.
+fn other_payment(line: &Line, payment: &ScheduledPayment, place: u16) -> OtherPayment
+    requires line { (settle : ℤ) × IsLine settle line.now }
+    requires short { IsShort payment.now.accrual }
+    ensures value { result ≡ record { place = place; payment = payment.now; coefficients = pay_by (kind_rate line.now.kind) line.now.step payment.now } }
+    ensures small { IsSmallOther result }
+{
+    OtherPayment {
+        place,
+        payment: *payment,
+        coefficients: coefficients_of(line, payment),
+    }
+}
+
+// Half a year's interest, as a payment.
+fn regular_payment(day: Day) -> ScheduledPayment
+    ensures value { result ≡ regular_on day }
+    ensures short { IsShort result.accrual }
+{
+    ScheduledPayment {
+        day,
+        accrual: Accrual { parts: 1, year: 2 },
+        principal: false,
+    }
+}
+
+// Half a year's interest on an amount, in cents.
+fn regular_cents(rate: Rate, amount: Cents) -> Cents
+    requires rate { rate.0 ≤ GREATEST_RATE }
+    requires amount { amount.0 ≤ 10 ^ 13 }
+    ensures value { result.0 ≡ earned_of amount.0 rate.0 1 2 }
+    ensures small { result.0 ≤ 2 * 10 ^ 13 }
+{
+    earned(amount, rate, 1, 2)
+}
+
+// What an amount pays by another payment, in cents.
+fn other_cents(rate: Rate, amount: Cents, payment: &ScheduledPayment) -> Cents
+    requires rate { rate.0 ≤ GREATEST_RATE }
+    requires amount { amount.0 ≤ 10 ^ 13 }
+    requires short { IsShort payment.now.accrual }
+    ensures value { result.0 ≡ (flow_by rate.0 amount.0 payment.now).cents.0 }
+    ensures small { result.0 ≤ 2 * 10 ^ 13 }
+{
+    payment.cents(rate, amount)
+}
+
+// The least that payments with the same coefficients can add to a slope, by what their days are worth together.
+fn least_together(low: u128, high: u128, worth: Worth) -> i128
+    requires low { low ≤ 10 ^ 18 }
+    requires high { high ≤ 10 ^ 18 }
+    requires light { worth.above + worth.below ≤ 84 * (2 * PRICE_SCALE) }
+    ensures value { result ≡ pos (low * worth.below) -ℤ pos (high * worth.above) }
+    ensures small { unsigned_abs result ≤ 2 * 10 ^ 32 }
+{
+    let below = u128::from(low as u64) * u128::from(worth.below);
+    let above = u128::from(high as u64) * u128::from(worth.above);
+    below as i128 - above as i128
+}
+
+// What rounding can take away from payments with the same coefficients, by what their days are worth together.
+fn slack_together(slack: u128, worth: Worth) -> u128
+    requires slack { slack ≤ 10 ^ 9 }
+    requires light { worth.above + worth.below ≤ 84 * (2 * PRICE_SCALE) }
+    ensures value { result ≡ slack * (worth.above + worth.below) }
+    ensures small { result ≤ 2 * 10 ^ 23 }
+{
+    u128::from(slack as u64) * u128::from(worth.above + worth.below)
+}
+
+// So many cents at what up to 84 days are worth together.
+fn weighed_together(worth: i128, cents: Cents) -> i128
+    requires worth { unsigned_abs worth ≤ 84 * (2 * PRICE_SCALE) }
+    requires cents { cents.0 ≤ 2 * 10 ^ 13 }
+    ensures value { result ≡ worth *ℤ pos cents.0 }
+    ensures small { unsigned_abs result ≤ 4 * 10 ^ 27 }
+{
+    worth * i128::from(cents.0)
+}
+
+// What all payments of a line come to, weighed.
+fn paid_in_all(regular: i128, others: i128) -> i128
+    requires regular { unsigned_abs regular ≤ 4 * 10 ^ 27 }
+    requires others { unsigned_abs others ≤ 4 * 10 ^ 27 }
+    ensures value { result ≡ regular +ℤ others }
+    ensures small { unsigned_abs result ≤ 10 ^ 28 }
+{
+    regular + others
+}
+
+impl Column {
+    // The column of a line before its payments.
+    fn without_payments(alloc: Global, settle: Day, line: &Line) -> Column
+        requires settlement { IsSettlement settle }
+        requires line { IsLine settle line.now }
+        ensures head { HasHead settle line.now result }
+        ensures places { result.places.items ≡ [] }
+        ensures others { result.others.items ≡ [] }
+    {
+        let coefficients = line.coefficients(settle);
+        Column {
+            cost_low: coefficients.cost_low,
+            cost_high: coefficients.cost_high,
+            cost_slack: coefficients.cost_slack,
+            accrued: line.accrued(),
+            regular: coefficients_of(line, &regular_payment(settle)),
+            places: Vec::new(alloc),
+            others: Vec::new(alloc),
+        }
+    }
+
+    // Puts a payment at the place of its day.
+    fn put(&mut self, line: &Line, payment: &ScheduledPayment, place: u16) -> Result<(), NoMemory>
+        requires line { (settle : ℤ) × IsLine settle line.now }
+        requires short { IsShort payment.now.accrual }
+        ensures head { OnOk result (KeepsHead self.old self.new) }
+        ensures places { OnOk result (self.new.places.items ≡ self.old.places.items ++ cond (is_regular_of payment.now) (place ∷ []) []) }
+        ensures others { OnOk result (self.new.others.items ≡ self.old.others.items ++ cond (is_other payment.now) (other_by line.now payment.now place ∷ []) []) }
+        ensures small { OnOk result (IsSmallOther (other_by line.now payment.now place)) }
+    {
+        let other = other_payment(line, payment, place);
+        if is_regular(payment) {
+            self.places.push(place)?;
+            Ok(())
+        } else {
+            self.others.push(other)?;
+            Ok(())
+        }
+    }
+
+    /// The column of a line of a book, whose days are put into a table.
+    ///
+    /// # Errors
+    ///
+    /// Where memory ran out.
+    pub(crate) fn make(
+        alloc: Global,
+        book: &Book,
+        powers: &Powers,
+        table: &mut DayTable,
+        line: &Line,
+    ) -> Result<Column, NoMemory>
+        requires limits { IsBook book.now }
+        requires side { powers.now.side ≡ Side.Low }
+        requires longest { powers.now.longest ≡ GREATEST_INDEX }
+        requires line { IsLine book.now.settle line.now }
+        requires few { length table.old.days.items + 84 ≤ 65_535 }
+        requires table { IsDayTable powers.now.yield_units book.now table.old }
+        ensures table { OnOk result (IsDayTable powers.now.yield_units book.now table.new) }
+        ensures extends { OnOk result (Extends table.old.days.items table.new.days.items) }
+        ensures more { OnOk result (length table.new.days.items ≤ length table.old.days.items + 84) }
+        ensures column { IfOk result (IsColumn powers.now.yield_units book.now table.new.days.items line.now) }
+        ensures small { IfOk result IsSmallColumn }
+    {
+        let mut column = Column::without_payments(alloc, book.settle(), line);
+        let schedule = line.schedule(book.settle());
+        for payment in schedule.as_slice() {
+            let place = table.place(book, powers, line.kind, payment)?;
+            column.put(line, payment, place)?;
+        }
+        Ok(column)
+    }
+
+    // The form of the regular payments.
+    fn regular_form(&self, worths: &[Worth]) -> Form
+        requires small { IsSmallColumn self.now }
+        requires there { All (λ place. place < length worths.now) self.now.places.items }
+        requires light { All IsLightWorth worths.now }
+        ensures value { result ≡ regular_form_of worths.now self.now }
+        ensures slope { unsigned_abs result.slope ≤ 2 * 10 ^ 32 }
+        ensures slack { result.slack ≤ 2 * 10 ^ 23 }
+    {
+        let worth = worth_together(worths, self.places.as_slice());
+        Form {
+            slope: least_together(self.regular.low, self.regular.high, worth),
+            slack: slack_together(self.regular.slack, worth),
+        }
+    }
+
+    // A form with those of the other payments.
+    fn with_others(&self, start: Form, worths: &[Worth]) -> Form
+        requires small { IsSmallColumn self.now }
+        requires there { All (λ other. other.place < length worths.now) self.now.others.items }
+        requires light { All IsLightWorth worths.now }
+        requires slope { unsigned_abs start.slope ≤ 3 * 10 ^ 32 }
+        requires slack { start.slack ≤ 3 * 10 ^ 23 }
+        ensures { result ≡ form_plus start (other_forms worths.now self.now.others.items) }
+    {
+        let mut form = start;
+        for other in self.others.as_slice() {
+            let worth = worths[usize::from(other.place)].signed();
+            form = form.plus(Form::of_payment(worth, &other.coefficients));
+        }
+        form
+    }
+
+    /// The form of the line, where a cent that it costs counts so much.
+    pub(crate) fn form(&self, own: i128, worths: &[Worth]) -> Form
+        requires small { IsSmallColumn self.now }
+        requires own { unsigned_abs own ≤ PRICE_SCALE }
+        requires there { All (λ place. place < length worths.now) self.now.places.items }
+        requires others_there { All (λ other. other.place < length worths.now) self.now.others.items }
+        requires light { All IsLightWorth worths.now }
+        ensures { result ≡ column_form own worths.now self.now }
+    {
+        let costs = Form::of_amount(own, self.cost_low, self.cost_high, self.cost_slack);
+        self.with_others(costs.plus(self.regular_form(worths)), worths)
+    }
+
+    // What an amount at a rate pays by the other payments, weighed.
+    fn others_paid(&self, rate: Rate, amount: Cents, worths: &[Worth]) -> i128
+        requires small { IsSmallColumn self.now }
+        requires rate { rate.0 ≤ GREATEST_RATE }
+        requires amount { amount.0 ≤ 10 ^ 13 }
+        requires there { All (λ other. other.place < length worths.now) self.now.others.items }
+        requires light { All IsLightWorth worths.now }
+        ensures value { result ≡ others_paid_of rate.0 amount.0 worths.now self.now.others.items }
+        ensures size { unsigned_abs result ≤ 4 * 10 ^ 27 }
+    {
+        let mut paid = 0i128;
+        for other in self.others.as_slice() {
+            let worth = worths[usize::from(other.place)].signed();
+            paid += weighed(worth, other_cents(rate, amount, &other.payment));
+        }
+        paid
+    }
+
+    // What an amount at a rate pays, weighed.
+    fn paid(&self, rate: Rate, amount: Cents, worths: &[Worth]) -> i128
+        requires small { IsSmallColumn self.now }
+        requires rate { rate.0 ≤ GREATEST_RATE }
+        requires amount { amount.0 ≤ 10 ^ 13 }
+        requires there { All (λ place. place < length worths.now) self.now.places.items }
+        requires others_there { All (λ other. other.place < length worths.now) self.now.others.items }
+        requires light { All IsLightWorth worths.now }
+        ensures value { result ≡ column_paid rate.0 amount.0 worths.now self.now }
+        ensures size { unsigned_abs result ≤ 10 ^ 28 }
+    {
+        let worth = worth_together(worths, self.places.as_slice());
+        let regular = weighed_together(worth.signed(), regular_cents(rate, amount));
+        paid_in_all(regular, self.others_paid(rate, amount, worths))
+    }
+
+    /// The reduced cost of units of the line, scaled, where a cent that it costs counts so much: exactly.
+    pub(crate) fn reduced_cost(&self, line: &Line, own: i128, worths: &[Worth], units: u64) -> i128
+        requires small { IsSmallColumn self.now }
+        requires line { (settle : ℤ) × IsLine settle line.now }
+        requires units { units ≤ line.now.most }
+        requires accrued { self.now.accrued ≡ kind_accrued line.now.kind }
+        requires own { unsigned_abs own ≤ PRICE_SCALE }
+        requires there { All (λ place. place < length worths.now) self.now.places.items }
+        requires others_there { All (λ other. other.place < length worths.now) self.now.others.items }
+        requires light { All IsLightWorth worths.now }
+        ensures { result ≡ column_reduced own (kind_rate line.now.kind) (line_cost line.now units) (par line.now units) worths.now self.now }
+    {
+        let cost = weighed(own, line.cost_by(self.accrued, units));
+        scaled_difference(cost, self.paid(line.rate(), line.par(units), worths))
+    }
+}

@@ -1,0 +1,130 @@
+//! The linear program of a book, by its columns.
+ghost use Rattle.std.specs.Prelude.{◌≡◌, ◌*◌, ◌^◌, ◌<◌, ◌≤◌, ℕ, IfOk, length, slice_index_or, slice_set, unsigned_abs};
+ghost use Rattle.std.specs.List.{AllZip};
+ghost use Rattle.fixed_powers.specs.DiscountPowers.{PowerTable};
+ghost use Rattle.offer_book.specs.declared.line.Line.{Line};
+ghost use Rattle.dual_bound.specs.LeafBound.{bound_of, form_of, least_within};
+ghost use Rattle.dual_bound.specs.Ranges.{HasRoomFor};
+ghost use Rattle.dual_bound.specs.Tree.{IsLeaf};
+
+use crate::form::Form;
+use crate::ranges::{Interval, Ranges};
+use crate::tableau::Tableau;
+use crate::tree::Leaf;
+use escrow_desk::NoMemory;
+use escrow_units::GREATEST_INDEX;
+use fixed_powers::{Powers, Side};
+use offer_book::Book;
+use std::alloc::Global;
+use std::marker::Model;
+
+/// The columns of the lines of a book, made once for it and the powers of a yield, and priced at a leaf. A column is what a
+/// line is in the linear program: what a unit costs, and what it pays on which days.
+///
+/// Nothing after [`make`](Columns::make) takes memory, reads a calendar or discounts a payment. Contracts see the book, the
+/// yield, and the leaf at which the columns are priced.
+#[derive(Drop)]
+pub struct Columns<'a> {
+    book: &'a Book,
+    tableau: Tableau,
+}
+
+impl<'a> Model for Columns<'a> {
+    ghost use Rattle.dual_bound.specs.Columns.{ColumnsContents, IsTableau};
+
+    ghost Value = { ColumnsContents };
+
+    ghost view = { λ c. record { book = c.book.now; yield_units = c.tableau.yield_units.0; leaf = c.tableau.leaf } };
+
+    ghost invariant = { λ c. IsTableau c.book.now c.tableau };
+}
+
+impl<'a> Columns<'a> {
+    /// The columns of a book, by powers of the low side, of 0 to 14,400 index days. They are priced at a leaf at which nothing
+    /// has a weight.
+    ///
+    /// # Errors
+    ///
+    /// Where memory ran out.
+    pub fn make(alloc: Global, book: &'a Book, powers: &Powers) -> Result<Columns<'a>, NoMemory>
+        requires side { powers.now.side ≡ Side.Low }
+        requires longest { powers.now.longest ≡ GREATEST_INDEX }
+        ensures book { IfOk result (λ columns. columns.book ≡ book.now) }
+        ensures yield_units { IfOk result (λ columns. columns.yield_units ≡ powers.now.yield_units) }
+    {
+        let tableau = Tableau::make(alloc, book, powers)?;
+        Ok(Columns { book, tableau })
+    }
+
+    /// Prices the columns at a leaf that keeps its limits, with one price for each need date: each payment day once, and
+    /// nothing where its prices and the weight of the limit are those of the leaf before.
+    pub fn price(&mut self, leaf: &Leaf)
+        requires { IsLeaf (length self.old.book.needs) leaf.now }
+        ensures { self.new ≡ record { book = self.old.book; yield_units = self.old.yield_units; leaf = leaf.now } }
+    {
+        self.tableau.price(self.book, leaf);
+    }
+
+    /// The form of a line, counted from 0, at the leaf that was priced: its slope and slack. What units of the line add by the
+    /// slope is at most 7 * 10^34, and the slack at most 10^23.
+    pub fn form(&self, line: u16) -> Form
+        requires { line < length self.now.book.lines }
+        ensures value { (d : Line) → result ≡ form_of self.now.yield_units self.now.book self.now.leaf (slice_index_or self.now.book.lines line d) }
+        ensures slope { (d : Line) (units : ℕ) → units ≤ (slice_index_or self.now.book.lines line d).most → unsigned_abs result.slope * units ≤ 7 * 10 ^ 34 }
+        ensures slack { result.slack ≤ 10 ^ 23 }
+    {
+        self.tableau.form(self.book, line)
+    }
+
+    /// The form of a line, counted from 0, at the prices of a leaf that keeps its limits, with one price for each need date.
+    pub fn priced(&mut self, line: u16, leaf: &Leaf) -> Form
+        requires line { line < length self.old.book.lines }
+        requires leaf { IsLeaf (length self.old.book.needs) leaf.now }
+        ensures columns { self.new ≡ record { book = self.old.book; yield_units = self.old.yield_units; leaf = leaf.now } }
+        ensures form { (d : Line) → result ≡ form_of self.old.yield_units self.old.book leaf.now (slice_index_or self.old.book.lines line d) }
+    {
+        self.price(leaf);
+        self.form(line)
+    }
+
+    /// The least that a line, counted from 0, can add within an interval, whose high end is at most its most, at the leaf that
+    /// was priced: exactly where the interval has one number, else by the line's form.
+    pub fn least(&self, line: u16, interval: Interval) -> i128
+        requires line { line < length self.now.book.lines }
+        requires ordered { interval.low ≤ interval.high }
+        requires high { (d : Line) → interval.high ≤ (slice_index_or self.now.book.lines line d).most }
+        ensures value { (d : Line) → result ≡ least_within self.now.yield_units self.now.book self.now.leaf (slice_index_or self.now.book.lines line d) interval }
+        ensures size { unsigned_abs result ≤ 71 * 10 ^ 33 }
+    {
+        self.tableau.least(self.book, line, interval)
+    }
+
+    /// The lower bound of a leaf over ranges, scaled, as [`bound`](crate::bound) gives it by the powers of the same yield: the
+    /// leaf keeps its limits, with one price for each need date, and the ranges have an interval for each line of the book,
+    /// whose high end is at most the line's most. It lies between -10^37 and 10^37.
+    pub fn bound(&mut self, ranges: &Ranges, leaf: &Leaf) -> i128
+        requires leaf { IsLeaf (length self.old.book.needs) leaf.now }
+        requires ranges { AllZip HasRoomFor self.old.book.lines ranges.now }
+        ensures columns { self.new ≡ record { book = self.old.book; yield_units = self.old.yield_units; leaf = leaf.now } }
+        ensures value { result ≡ bound_of self.old.yield_units self.old.book ranges.now leaf.now }
+        ensures size { unsigned_abs result < 10 ^ 37 }
+    {
+        self.price(leaf);
+        self.tableau.bound(self.book, ranges)
+    }
+
+    /// The lower bound of the leaf that was priced, where one line's interval changes: from the bound over the ranges as they
+    /// are, it changes by what that line adds alone. The line is counted from 0, and the interval's high end is at most its
+    /// most.
+    pub fn bound_with(&self, bound: i128, ranges: &Ranges, line: u16, interval: Interval) -> i128
+        requires ranges { AllZip HasRoomFor self.now.book.lines ranges.now }
+        requires bound { bound ≡ bound_of self.now.yield_units self.now.book ranges.now self.now.leaf }
+        requires line { line < length self.now.book.lines }
+        requires ordered { interval.low ≤ interval.high }
+        requires high { (d : Line) → interval.high ≤ (slice_index_or self.now.book.lines line d).most }
+        ensures value { result ≡ bound_of self.now.yield_units self.now.book (slice_set ranges.now line interval) self.now.leaf }
+    {
+        self.tableau
+            .bound_with(self.book, bound, ranges, line, interval)
+    }
+}

@@ -1,0 +1,248 @@
+//! The columns of all lines of a book, with their days priced at a leaf.
+ghost use Rattle.std.specs.Prelude.{All, ◌≡◌, ◌≢◌, ◌+◌, ◌*◌, ◌^◌, ◌<◌, ◌≤◌, ◌+ℤ◌, ◌-ℤ◌, ℕ, IfOk, OnOk, length, map, slice_index_or, slice_set, unsigned_abs};
+ghost use Rattle.std.specs.List.{AllZip};
+ghost use Rattle.fixed_powers.specs.DiscountPowers.{PowerTable, one};
+ghost use Rattle.offer_book.specs.Book.{IsBook};
+ghost use Rattle.offer_book.specs.declared.line.Line.{Line};
+ghost use Rattle.dual_bound.specs.Columns.{IsColumn, IsDayTable, IsSmallColumn, IsTableau, worth_on};
+ghost use Rattle.dual_bound.specs.LeafBound.{bound_of, form_of, least_within, reduced_cost as reduced_cost_of};
+ghost use Rattle.dual_bound.specs.Ranges.{HasRoomFor};
+ghost use Rattle.dual_bound.specs.Tree.{IsLeaf};
+
+use crate::column::Column;
+use crate::day_table::DayTable;
+use crate::form::Form;
+use crate::leaf_bound::{cost_worth, priced_needs};
+use crate::prices::{PRICE_SCALE, Prices};
+use crate::ranges::{Interval, Ranges};
+use crate::tree::Leaf;
+use crate::worth::{PricedDay, Worth, price_day, price_days};
+use escrow_desk::NoMemory;
+use escrow_units::{GREATEST_INDEX, YieldUnits};
+use fixed_powers::{Powers, Side};
+use offer_book::{Book, COEFFICIENT_SCALE};
+use std::alloc::Global;
+
+/// The columns of a book's lines, and what their days are worth at a leaf.
+#[derive(Drop)]
+pub(crate) struct Tableau {
+    /// The yield by whose powers the limit discounts.
+    pub yield_units: YieldUnits,
+    /// The days on which the lines pay.
+    pub days: Vec<PricedDay>,
+    /// The columns, in the order of the lines.
+    pub columns: Vec<Column>,
+    /// The leaf by which the days are priced.
+    pub leaf: Leaf,
+    /// What a cent on each day is worth.
+    pub worths: Vec<Worth>,
+}
+
+// The columns of a book's lines, whose days are put into a table.
+fn columns_of(
+    alloc: Global,
+    book: &Book,
+    powers: &Powers,
+    table: &mut DayTable,
+) -> Result<Vec<Column>, NoMemory>
+    requires limits { IsBook book.now }
+    requires side { powers.now.side ≡ Side.Low }
+    requires longest { powers.now.longest ≡ GREATEST_INDEX }
+    requires empty { length table.old.days.items ≡ 0 }
+    requires table { IsDayTable powers.now.yield_units book.now table.old }
+    ensures table { OnOk result (IsDayTable powers.now.yield_units book.now table.new) }
+    ensures columns { IfOk result (λ columns. AllZip (IsColumn powers.now.yield_units book.now table.new.days.items) book.now.lines columns.items) }
+    ensures small { IfOk result (λ columns. All IsSmallColumn columns.items) }
+{
+    let mut columns = Vec::new(alloc);
+    for line in book.lines() {
+        columns.push(Column::make(alloc, book, powers, table, line)?)?;
+    }
+    Ok(columns)
+}
+
+// Prices of nothing, one for each need date.
+fn no_prices(alloc: Global, count: u16) -> Result<Vec<u64>, NoMemory>
+    ensures count { IfOk result (λ prices. length prices.items ≡ count) }
+    ensures none { IfOk result (λ prices. All (λ price. price ≡ 0) prices.items) }
+{
+    let mut prices = Vec::new(alloc);
+    for _ in 0..count {
+        prices.push(0)?;
+    }
+    Ok(prices)
+}
+
+// The leaf at which nothing has a weight.
+fn leaf_of_nothing(alloc: Global, count: u16) -> Result<Leaf, NoMemory>
+    ensures { IfOk result (IsLeaf count) }
+{
+    let prices = no_prices(alloc, count)?;
+    Ok(Leaf {
+        whole: false,
+        mu: 0,
+        prices: Prices::new(prices),
+    })
+}
+
+// What a cent on each of some days is worth at a leaf.
+fn worths_of(alloc: Global, leaf: &Leaf, days: &[PricedDay]) -> Result<Vec<Worth>, NoMemory>
+    requires leaf { leaf.now.mu ≤ PRICE_SCALE }
+    requires powers { All (λ priced. priced.power ≤ one) days.now }
+    ensures { IfOk result (λ worths. worths.items ≡ map (worth_on leaf.now) days.now) }
+{
+    let mut worths = Vec::new(alloc);
+    for day in days {
+        worths.push(price_day(leaf, *day))?;
+    }
+    Ok(worths)
+}
+
+// A sum, where one of its parts is exchanged for another.
+fn exchanged(sum: i128, old: i128, new: i128) -> i128
+    requires sum { unsigned_abs sum < 10 ^ 37 }
+    requires old { unsigned_abs old ≤ 71 * 10 ^ 33 }
+    requires new { unsigned_abs new ≤ 71 * 10 ^ 33 }
+    ensures { result ≡ (sum -ℤ old) +ℤ new }
+{
+    sum - old + new
+}
+
+impl Tableau {
+    /// The tableau of a book, by the powers of a yield, priced at a leaf at which nothing has a weight.
+    ///
+    /// # Errors
+    ///
+    /// Where memory ran out.
+    pub(crate) fn make(alloc: Global, book: &Book, powers: &Powers) -> Result<Tableau, NoMemory>
+        requires side { powers.now.side ≡ Side.Low }
+        requires longest { powers.now.longest ≡ GREATEST_INDEX }
+        ensures tableau { IfOk result (IsTableau book.now) }
+        ensures yield_units { IfOk result (λ tableau. tableau.yield_units.0 ≡ powers.now.yield_units) }
+    {
+        let leaf = leaf_of_nothing(alloc, book.need_count())?;
+        let mut table = DayTable::new(alloc);
+        let columns = columns_of(alloc, book, powers, &mut table)?;
+        let worths = worths_of(alloc, &leaf, table.days.as_slice())?;
+        Ok(Tableau {
+            yield_units: powers.yield_units(),
+            days: table.days,
+            columns,
+            leaf,
+            worths,
+        })
+    }
+
+    // Prices the days at another leaf.
+    fn price_anew(&mut self, book: &Book, leaf: &Leaf)
+        requires leaf { IsLeaf (length book.now.needs) leaf.now }
+        requires tableau { IsTableau book.now self.old }
+        ensures tableau { IsTableau book.now self.new }
+        ensures leaf { self.new.leaf ≡ leaf.now }
+        ensures yield_units { self.new.yield_units.0 ≡ self.old.yield_units.0 }
+    {
+        price_days(leaf, self.days.as_slice(), self.worths.as_mut_slice());
+        self.leaf.whole = leaf.whole;
+        self.leaf.mu = leaf.mu;
+        self.leaf.prices.copy(&leaf.prices);
+    }
+
+    /// Prices the days at a leaf: nothing where its prices and the weight of the limit are those of the leaf before.
+    pub(crate) fn price(&mut self, book: &Book, leaf: &Leaf)
+        requires leaf { IsLeaf (length book.now.needs) leaf.now }
+        requires tableau { IsTableau book.now self.old }
+        ensures tableau { IsTableau book.now self.new }
+        ensures leaf { self.new.leaf ≡ leaf.now }
+        ensures yield_units { self.new.yield_units.0 ≡ self.old.yield_units.0 }
+    {
+        if self.leaf.mu == leaf.mu && self.leaf.prices.as_slice() == leaf.prices.as_slice() {
+            self.leaf.whole = leaf.whole;
+        } else {
+            self.price_anew(book, leaf);
+        }
+    }
+
+    /// The form of a line, counted from 0.
+    pub(crate) fn form(&self, book: &Book, line: u16) -> Form
+        requires tableau { IsTableau book.now self.now }
+        requires line { line < length book.now.lines }
+        ensures { (d : Line) → result ≡ form_of self.now.yield_units.0 book.now self.now.leaf (slice_index_or book.now.lines line d) }
+    {
+        let column = &self.columns[usize::from(line)];
+        column.form(
+            cost_worth(&self.leaf, book.line(line).kind),
+            self.worths.as_slice(),
+        )
+    }
+
+    // The reduced cost of units of a line, scaled: exactly.
+    fn reduced_cost(&self, book: &Book, line: u16, units: u64) -> i128
+        requires tableau { IsTableau book.now self.now }
+        requires line { line < length book.now.lines }
+        requires units { (d : Line) → units ≤ (slice_index_or book.now.lines line d).most }
+        ensures { (d : Line) → result ≡ reduced_cost_of self.now.yield_units.0 book.now self.now.leaf (slice_index_or book.now.lines line d) units }
+    {
+        let column = &self.columns[usize::from(line)];
+        let own = book.line(line);
+        column.reduced_cost(
+            own,
+            cost_worth(&self.leaf, own.kind),
+            self.worths.as_slice(),
+            units,
+        )
+    }
+
+    /// The least that a line can add within an interval.
+    pub(crate) fn least(&self, book: &Book, line: u16, interval: Interval) -> i128
+        requires tableau { IsTableau book.now self.now }
+        requires line { line < length book.now.lines }
+        requires ordered { interval.low ≤ interval.high }
+        requires high { (d : Line) → interval.high ≤ (slice_index_or book.now.lines line d).most }
+        ensures value { (d : Line) → result ≡ least_within self.now.yield_units.0 book.now self.now.leaf (slice_index_or book.now.lines line d) interval }
+        ensures size { unsigned_abs result ≤ 71 * 10 ^ 33 }
+    {
+        if interval.low == interval.high {
+            return self.reduced_cost(book, line, interval.low);
+        }
+        self.form(book, line)
+            .least_within(book.line(line), interval)
+    }
+
+    /// The lower bound of the leaf by which the days are priced.
+    pub(crate) fn bound(&self, book: &Book, ranges: &Ranges) -> i128
+        requires tableau { IsTableau book.now self.now }
+        requires ranges { AllZip HasRoomFor book.now.lines ranges.now }
+        ensures value { result ≡ bound_of self.now.yield_units.0 book.now ranges.now self.now.leaf }
+        ensures size { unsigned_abs result < 10 ^ 37 }
+    {
+        let intervals = ranges.intervals();
+        let mut bound = COEFFICIENT_SCALE as i128
+            * priced_needs(book.needs(), self.leaf.prices.as_slice()) as i128;
+        for line in 0..book.line_count() {
+            bound += self.least(book, line, intervals[usize::from(line)]);
+        }
+        bound
+    }
+
+    /// The lower bound of the leaf by which the days are priced, where one line's interval changes, from the bound before.
+    pub(crate) fn bound_with(
+        &self,
+        book: &Book,
+        bound: i128,
+        ranges: &Ranges,
+        line: u16,
+        interval: Interval,
+    ) -> i128
+        requires tableau { IsTableau book.now self.now }
+        requires ranges { AllZip HasRoomFor book.now.lines ranges.now }
+        requires bound { bound ≡ bound_of self.now.yield_units.0 book.now ranges.now self.now.leaf }
+        requires line { line < length book.now.lines }
+        requires ordered { interval.low ≤ interval.high }
+        requires high { (d : Line) → interval.high ≤ (slice_index_or book.now.lines line d).most }
+        ensures { result ≡ bound_of self.now.yield_units.0 book.now (slice_set ranges.now line interval) self.now.leaf }
+    {
+        let old = self.least(book, line, ranges.intervals()[usize::from(line)]);
+        let new = self.least(book, line, interval);
+        exchanged(bound, old, new)
+    }
+}

@@ -1,0 +1,118 @@
+//! What a cent is worth at a leaf, on each day on which lines pay.
+ghost use Rattle.std.specs.Prelude.{All, ◌≡◌, ◌+◌, ◌*◌, ◌/◌, ◌^◌, ◌<◌, ◌≤◌, ℕ, length, map, slice_index, unsigned_abs};
+ghost use Rattle.std.specs.List.{AllZip};
+ghost use Rattle.fixed_powers.specs.DiscountPowers.{one};
+ghost use Rattle.dual_bound.specs.Columns.{IsLightWorth, signed_worth, worth_at, worth_between as worth_between_of, worth_on, worth_together as worth_together_of};
+ghost use Rattle.dual_bound.specs.Tree.{IsLeaf};
+
+use crate::prices::PRICE_SCALE;
+use crate::tree::Leaf;
+use fixed_powers::ONE;
+
+/// A day on which lines pay, by what prices it.
+#[derive(Clone, Copy, Debug, PartialEq, Eq)]
+pub(crate) struct PricedDay {
+    /// The place of the first need date on or after it, or how many need dates there are.
+    pub need: usize,
+    /// The power that discounts it for the limit.
+    pub power: u64,
+}
+
+/// What a cent that is paid on a day is worth, in units of 1 / [`PRICE_SCALE`]: so much above nothing, or below it.
+#[derive(Clone, Copy, Debug, PartialEq, Eq)]
+pub(crate) struct Worth {
+    /// How much above nothing, or 0.
+    pub above: u64,
+    /// How much below nothing, or 0.
+    pub below: u64,
+}
+
+impl Worth {
+    /// The worth as a signed number.
+    pub(crate) fn signed(self) -> i128
+        ensures { result ≡ signed_worth self }
+    {
+        i128::from(self.above) - i128::from(self.below)
+    }
+
+    // Two worths together.
+    fn plus(self, other: Worth) -> Worth
+        requires above { self.above + other.above < 2 ^ 64 }
+        requires below { self.below + other.below < 2 ^ 64 }
+        ensures { result ≡ record { above = self.above + other.above; below = self.below + other.below } }
+    {
+        Worth {
+            above: self.above + other.above,
+            below: self.below + other.below,
+        }
+    }
+}
+
+// A price less what the limit takes.
+fn worth_between(price: u64, limit: u64) -> Worth
+    ensures { result ≡ worth_between_of price limit }
+{
+    Worth {
+        above: price.saturating_sub(limit),
+        below: limit.saturating_sub(price),
+    }
+}
+
+// What the limit takes from a cent, by its weight and a power: nothing without a product where it has no weight.
+fn limit_part(weight: u64, power: u64) -> u64
+    requires weight { weight ≤ PRICE_SCALE }
+    requires power { power ≤ one }
+    ensures { result ≡ weight * power / one }
+{
+    if weight == 0 {
+        return 0;
+    }
+    (u128::from(weight) * u128::from(power) / u128::from(ONE)) as u64
+}
+
+// The price at a place, and 0 past the last one.
+fn price_at(prices: &[u64], place: usize) -> u64
+    ensures { result ≡ slice_index prices.now place }
+{
+    match prices.get(place) {
+        Some(price) => *price,
+        None => 0,
+    }
+}
+
+/// What a cent on a day is worth at a leaf that keeps its limits.
+pub(crate) fn price_day(leaf: &Leaf, day: PricedDay) -> Worth
+    requires leaf { leaf.now.mu ≤ PRICE_SCALE }
+    requires power { day.power ≤ one }
+    ensures { result ≡ worth_on leaf.now day }
+{
+    let price = price_at(leaf.prices.as_slice(), day.need);
+    worth_between(price, limit_part(leaf.mu, day.power))
+}
+
+/// Prices each of some days at a leaf that keeps its limits: once for each day, however many lines pay on it.
+pub(crate) fn price_days(leaf: &Leaf, days: &[PricedDay], worths: &mut [Worth])
+    requires leaf { leaf.now.mu ≤ PRICE_SCALE }
+    requires powers { All (λ priced. priced.power ≤ one) days.now }
+    requires same { length worths.old ≡ length days.now }
+    ensures { worths.new ≡ map (worth_on leaf.now) days.now }
+{
+    for place in 0..days.len() {
+        worths[place] = price_day(leaf, days[place]);
+    }
+}
+
+/// What a cent on each of some days is worth, together: at most 84 days.
+pub(crate) fn worth_together(worths: &[Worth], places: &[u16]) -> Worth
+    requires few { length places.now ≤ 84 }
+    requires there { All (λ place. place < length worths.now) places.now }
+    requires light { All IsLightWorth worths.now }
+    ensures value { result ≡ worth_together_of worths.now places.now }
+    ensures light { result.above + result.below ≤ 84 * (2 * PRICE_SCALE) }
+{
+    let mut together = Worth { above: 0, below: 0 };
+    for place in places {
+        together = together.plus(worths[usize::from(*place)]);
+    }
+    together
+}

@@ -1,0 +1,9 @@
+pub mod LeastFacts
+pub mod CloseFacts
+pub mod RateFacts
+pub mod PurchaseFacts
+pub mod WorthFacts
+pub mod OwnFacts
+pub mod OwnSums
+pub mod PlanFacts
+pub mod GapFacts

@@ -1,0 +1,4 @@
+pub mod OwnOfferWorth
+pub mod PlainGap
+pub mod PlanWorth
+pub mod RootLeast

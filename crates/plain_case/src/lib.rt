@@ -1,0 +1,8 @@
+//! Plain cases, as laws over their definitions: their backward plan and their bootstrapped prices close the root.
+#![tactic(auto)]
+
+mod laws;
+#[cfg(test)]
+mod tests;
+
+pub use laws::{least_laws, plain_laws, plan_laws, purchase_laws};

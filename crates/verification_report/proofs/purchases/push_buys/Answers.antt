@@ -1,0 +1,19 @@
+use Rattle.std.proofs.Common.{arith}
+use Rattle.verification_report.proofs.BoughtFacts.{has_room, is_line}
+use Rattle.verification_report.proofs.purchases.push_buys.Goals as goal
+
+pub push_buy-requires-clause-line : goal.push_buy-requires-clause-line
+push_buy-requires-clause-line c = (
+  c.args.book.now.settle,
+  is_line c.args.book.now c.args.plan.now c.loop-number.number c.line.result.now c.line_count-number-end.ensures.limits c.requires
+      (omega (arith, c.loop-number-test.true, c.line_count-number-end.ensures.value)) c.line.ensures,
+)
+
+pub push_buy-requires-clause-units : goal.push_buy-requires-clause-units
+push_buy-requires-clause-units c =
+    omega (
+      arith,
+      c.get.ensures,
+      has_room c.args.book.now c.args.plan.now c.loop-number.number c.line.result.now c.requires
+          (omega (arith, c.loop-number-test.true, c.line_count-number-end.ensures.value)) c.line.ensures,
+    )
