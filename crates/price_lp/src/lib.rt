@@ -6,7 +6,12 @@
 #![tactic(auto)]
 
 mod basis;
+mod factor;
+mod number;
+mod program;
+mod segments;
 mod simplex;
+mod sparse;
 
 pub use basis::Basis;
 pub use simplex::{Purpose, Simplex, SolveEnd};

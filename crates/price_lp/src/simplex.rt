@@ -94,8 +94,7 @@ impl Simplex {
     /// Starts from the highest prices that never rise under which no line that matures so far has a negative reduced cost.
     pub fn start_greedily(&mut self)
         ensures { self.new ≡ self.old }
-    {
-    }
+    {}
 
     /// Starts from a leaf's prices alone: dates of equal prices are joined, and lines with a reduced cost near 0 are basic. Where
     /// no basis comes of it, it starts greedily.

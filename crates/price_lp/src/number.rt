@@ -1,0 +1,107 @@
+//! Numbers in fixed point.
+ghost use Rattle.std.specs.Prelude.{◌≡◌, ◌+◌, ◌*◌, ◌^◌, ◌≤◌, unsigned_abs};
+
+use std::marker::Model;
+
+/// How many binary places a coefficient, a price or a multiplier has.
+pub(crate) const PLACES: u32 = 40;
+
+/// How many binary places an amount has, in cents.
+pub(crate) const AMOUNT_PLACES: u32 = 10;
+
+// What stands for one.
+const ONE: i64 = 1 << PLACES;
+
+// The greatest number on both sides.
+const GREATEST: i128 = 1 << 58;
+
+// The least pivot that is divided by.
+const LEAST_DIVISOR: i64 = 1 << 8;
+
+/// A number of the program, from -2^58 to 2^58: a coefficient, a price or a multiplier in units of 2^-40, or an amount in units of
+/// 2^-10 of a cent. What would be greater is clamped; then the proposal is poor, and no more.
+#[derive(Clone, Copy)]
+pub(crate) struct Fixed {
+    value: i64,
+}
+
+impl Model for Fixed {
+    ghost use Rattle.std.specs.Prelude.{ℤ, ◌^◌, ◌≤◌, unsigned_abs};
+
+    ghost Value = { ℤ };
+
+    ghost view = { λ f. f.value };
+
+    ghost invariant = { λ f. unsigned_abs f.value ≤ 2 ^ 58 };
+
+    ghost inverse = { λ v. record { value = v } };
+}
+
+impl Fixed {
+    /// Nothing.
+    pub(crate) fn zero() -> Fixed {
+        Fixed { value: 0 }
+    }
+
+    /// One, in units of 2^-40.
+    pub(crate) fn one() -> Fixed {
+        Fixed { value: ONE }
+    }
+
+    /// The nearest number that is kept.
+    pub(crate) fn clamp(value: i128) -> Fixed {
+        if value > GREATEST {
+            Fixed {
+                value: GREATEST as i64,
+            }
+        } else if value < -GREATEST {
+            Fixed {
+                value: -(GREATEST as i64),
+            }
+        } else {
+            Fixed {
+                value: value as i64,
+            }
+        }
+    }
+
+    /// The number, with room to add up to 2^68 of its kind.
+    pub(crate) fn wide(self) -> i128
+        ensures value { result ≡ self }
+        ensures size { unsigned_abs result ≤ 2 ^ 58 }
+    {
+        i128::from(self.value)
+    }
+
+    /// The number.
+    pub(crate) fn get(self) -> i64
+        ensures value { result ≡ self }
+        ensures size { unsigned_abs result ≤ 2 ^ 58 }
+    {
+        self.value
+    }
+
+    /// The product, with twice as many places.
+    pub(crate) fn times(self, other: Fixed) -> i128
+        ensures { unsigned_abs result ≤ 2 ^ 116 }
+    {
+        i128::from(self.value) * i128::from(other.value)
+    }
+
+    /// The product with a number of 40 places.
+    pub(crate) fn scaled_by(self, other: Fixed) -> i128
+        ensures { unsigned_abs result ≤ 2 ^ 116 }
+    {
+        self.times(other) >> PLACES
+    }
+
+    /// A number of twice as many places, divided; None where the divisor is too near to 0.
+    pub(crate) fn quotient(dividend: i128, divisor: Fixed) -> Option<Fixed>
+        requires { unsigned_abs dividend ≤ 2 ^ 126 }
+    {
+        if -LEAST_DIVISOR < divisor.value && divisor.value < LEAST_DIVISOR {
+            return None;
+        }
+        Some(Fixed::clamp(dividend / i128::from(divisor.value)))
+    }
+}
