@@ -1,0 +1,127 @@
+-- A line that pays nothing for a need adds the same, whatever that need's price is.
+use Rattle.std.proofs.Common.{◌≡◌, ◌∙◌, ℕ, zero, suc, ◌*◌, ◌+◌, ◌<◌, ◌==◌, if◌then◌else◌, List, [], ◌∷◌, All, get_or, set, length, map, sym, ap, subst, refl, arith, ℤ, pos, ◌+ℤ◌, ◌-ℤ◌, ◌*ℤ◌, neg_ℤ, unsigned_abs}
+use Rattle.std.specs.List.{sum_by}
+use Rattle.std.proofs.lemmas.List.Elements.{All-cons}
+use Rattle.std.specs.Int.{int_min}
+use Rattle.std.proofs.lemmas.List.Sums.{sum_by-cons}
+use Rattle.escrow_units.specs.declared.security.Flow.{Flow}
+use Rattle.offer_book.specs.Book.{BookContents}
+use Rattle.offer_book.specs.Coefficients.{cost_coefficients, pay_coefficients}
+use Rattle.offer_book.specs.Portfolio.{line_cost, line_payments, par}
+use Rattle.offer_book.specs.Schedule.{IsScheduleOf, flow_by, kind_rate, pay_by}
+use Rattle.offer_book.specs.declared.coefficients.TheConstants.{COEFFICIENT_SCALE}
+use Rattle.offer_book.specs.declared.coefficients.PayCoefficients.{PayCoefficients}
+use Rattle.offer_book.specs.declared.line.Line.{Line}
+use Rattle.offer_book.specs.declared.line.LineKind.{LineKind}
+use Rattle.offer_book.specs.declared.line.LineKind.TheVariants.{Cash, Market, Security}
+use Rattle.offer_book.specs.declared.schedule.ScheduledPayment.{ScheduledPayment}
+use Rattle.dual_bound.specs.LeafBound.{cost_weight, cost_worth, form_at, form_of, least_side, least_within, limit_price, limit_weight, paid_worth, price_on, reduced_cost, signed_sum}
+use Rattle.dual_bound.specs.declared.form.Form.{Form}
+use Rattle.dual_bound.specs.declared.ranges.Interval.{Interval}
+use Rattle.dual_bound.specs.declared.tree.Leaf.{Leaf}
+use Rattle.dual_tune.specs.Steps.{with_price}
+use Rattle.dual_tune.specs.Sweep.{IsAside, IsElsewhere}
+
+set-other : (xs : List ℕ) (place other v : ℕ) → ¬ (other ≡ place) → get_or (set xs place v) other 0 ≡ get_or xs other 0
+set-other [] place other v apart = refl
+set-other (x ∷ xs) zero zero v apart = absurd (apart refl)
+set-other (x ∷ xs) zero (suc other) v apart = refl
+set-other (x ∷ xs) (suc place) zero v apart = refl
+set-other (x ∷ xs) (suc place) (suc other) v apart = set-other xs place other v (λ e. apart (ap suc e))
+
+pub set-length : (xs : List ℕ) (place v : ℕ) → length (set xs place v) ≡ length xs
+set-length [] place v = refl
+set-length (x ∷ xs) zero v = refl
+set-length (x ∷ xs) (suc place) v = ap suc (set-length xs place v)
+
+-- a day that another place prices
+price-elsewhere : (needs : List Flow) (prices : List ℕ) (place price : ℕ) (day : ℤ) → length prices ≡ length needs → IsElsewhere needs place day
+    → price_on needs (set prices place price) day ≡ price_on needs prices day
+price-elsewhere needs prices place price day same e =
+    sym (e.2 (set prices place price) (set-length prices place price ∙ same)) ∙ (set-other prices place e.0 price e.1 ∙ e.2 prices same)
+
+weight-same : (leaf : Leaf) (place price : ℕ) (kind : LineKind) → limit_weight (with_price leaf place price) kind ≡ limit_weight leaf kind
+weight-same leaf place price Cash = refl
+weight-same leaf place price (Security slgs) = refl
+weight-same leaf place price (Market note) = refl
+
+worth-elsewhere : (n : ℕ) (book : BookContents) (leaf : Leaf) (place price : ℕ) (kind : LineKind) (day : ℤ) → length leaf.prices ≡ length book.needs → IsElsewhere book.needs place day
+    → paid_worth n book (with_price leaf place price) kind day ≡ paid_worth n book leaf kind day
+worth-elsewhere n book leaf place price kind day same e =
+    λ i. pos (price-elsewhere book.needs leaf.prices place price day same e i) -ℤ pos (limit_price n book.settle (weight-same leaf place price kind i) day)
+
+cost-same : (leaf : Leaf) (place price : ℕ) (kind : LineKind) → cost_worth (with_price leaf place price) kind ≡ cost_worth leaf kind
+cost-same leaf place price kind = λ i. pos (cost_weight leaf) -ℤ pos (weight-same leaf place price kind i)
+
+-- sums of the same terms
+signed-same : {X : Type 0} (P : X → Type 0) (f g : X → ℤ) (xs : List X) → ((x : X) → P x → f x ≡ g x) → All P xs → signed_sum f xs ≡ signed_sum g xs
+signed-same P f g [] same h = refl
+signed-same P f g (x ∷ xs) same h =
+    λ i. same x (h 0 x (omega arith)) i +ℤ signed-same P f g xs same (λ k d lt. h (suc k) d (omega arith)) i
+
+sum-same : {X : Type 0} (P : X → Type 0) (f g : X → ℕ) (xs : List X) → ((x : X) → P x → f x ≡ g x) → All P xs → sum_by f xs ≡ sum_by g xs
+sum-same P f g [] same h = refl
+sum-same P f g (x ∷ xs) same h =
+    sum_by-cons f x xs ∙ ((λ i. same x (h 0 x (omega arith)) i + sum-same P f g xs same (λ k d lt. h (suc k) d (omega arith)) i) ∙ sym (sum_by-cons g x xs))
+
+-- what a line pays on its days, elsewhere
+pays-elsewhere : (settle : ℤ) (needs : List Flow) (place : ℕ) (line : Line) → IsAside settle needs place line
+    → All (λ (pay : PayCoefficients). IsElsewhere needs place pay.day) (pay_coefficients settle line)
+pays-elsewhere settle needs place line aside =
+    subst (All (λ (pay : PayCoefficients). IsElsewhere needs place pay.day)) (sym aside.1.coefficients)
+    (mapped (λ (pay : PayCoefficients). IsElsewhere needs place pay.day) (pay_by (kind_rate line.kind) line.step) aside.0 aside.2)
+  where
+    mapped : {X Y : Type 0} (P : Y → Type 0) (f : X → Y) (xs : List X) → All (λ x. P (f x)) xs → All P (map f xs)
+    mapped P f [] h = λ k d lt. absurd (omega arith)
+    mapped P f (x ∷ xs) h = All-cons P (f x) (map f xs) (h 0 x (omega arith)) (mapped P f xs (λ k d lt. h (suc k) d (omega arith)))
+
+flows-elsewhere : (settle : ℤ) (needs : List Flow) (place : ℕ) (line : Line) (units : ℕ) → IsAside settle needs place line
+    → All (λ (flow : Flow). IsElsewhere needs place flow.day) (line_payments settle line units)
+flows-elsewhere settle needs place line units aside =
+    subst (All (λ (flow : Flow). IsElsewhere needs place flow.day)) (sym (aside.1.payments units))
+    (mapped (λ (flow : Flow). IsElsewhere needs place flow.day) (flow_by (kind_rate line.kind) (par line units)) aside.0 aside.2)
+  where
+    mapped : {X Y : Type 0} (P : Y → Type 0) (f : X → Y) (xs : List X) → All (λ x. P (f x)) xs → All P (map f xs)
+    mapped P f [] h = λ k d lt. absurd (omega arith)
+    mapped P f (x ∷ xs) h = All-cons P (f x) (map f xs) (h 0 x (omega arith)) (mapped P f xs (λ k d lt. h (suc k) d (omega arith)))
+
+form-aside : (n : ℕ) (book : BookContents) (leaf : Leaf) (place price : ℕ) (line : Line) → length leaf.prices ≡ length book.needs → IsAside book.settle book.needs place line
+    → form_of n book (with_price leaf place price) line ≡ form_of n book leaf line
+unfolding form_of
+form-aside n book leaf place price line same aside =
+    let own = cost-same leaf place price line.kind in
+    let pays = pays-elsewhere book.settle book.needs place line aside in
+    let slope = signed-same (λ (pay : PayCoefficients). IsElsewhere book.needs place pay.day)
+    (λ (pay : PayCoefficients). least_side (neg_ℤ (paid_worth n book (with_price leaf place price) line.kind pay.day)) pay.low pay.high)
+    (λ (pay : PayCoefficients). least_side (neg_ℤ (paid_worth n book leaf line.kind pay.day)) pay.low pay.high)
+    (pay_coefficients book.settle line) (λ pay e. ap (λ z. least_side (neg_ℤ z) pay.low pay.high) (worth-elsewhere n book leaf place price line.kind pay.day same e)) pays in
+    let slack = sum-same (λ (pay : PayCoefficients). IsElsewhere book.needs place pay.day)
+    (λ (pay : PayCoefficients). unsigned_abs (paid_worth n book (with_price leaf place price) line.kind pay.day) * pay.slack)
+    (λ (pay : PayCoefficients). unsigned_abs (paid_worth n book leaf line.kind pay.day) * pay.slack)
+    (pay_coefficients book.settle line) (λ pay e. ap (λ z. unsigned_abs z * pay.slack) (worth-elsewhere n book leaf place price line.kind pay.day same e)) pays in
+    λ i. record {
+      slope = least_side (own i) (cost_coefficients line).low (cost_coefficients line).high +ℤ slope i;
+      slack = unsigned_abs (own i) * (cost_coefficients line).slack + slack i;
+    }
+
+reduced-aside : (n : ℕ) (book : BookContents) (leaf : Leaf) (place price : ℕ) (line : Line) (units : ℕ) → length leaf.prices ≡ length book.needs → IsAside book.settle book.needs place line
+    → reduced_cost n book (with_price leaf place price) line units ≡ reduced_cost n book leaf line units
+unfolding reduced_cost
+reduced-aside n book leaf place price line units same aside =
+    let own = cost-same leaf place price line.kind in
+    let paid = signed-same (λ (flow : Flow). IsElsewhere book.needs place flow.day)
+    (λ (flow : Flow). paid_worth n book (with_price leaf place price) line.kind flow.day *ℤ pos flow.cents.0)
+    (λ (flow : Flow). paid_worth n book leaf line.kind flow.day *ℤ pos flow.cents.0)
+    (line_payments book.settle line units) (λ flow e. ap (λ z. z *ℤ pos flow.cents.0) (worth-elsewhere n book leaf place price line.kind flow.day same e))
+    (flows-elsewhere book.settle book.needs place line units aside) in
+    λ i. pos COEFFICIENT_SCALE *ℤ (own i *ℤ pos (line_cost line units) -ℤ paid i)
+
+pub least-aside : (n : ℕ) (book : BookContents) (leaf : Leaf) (place price : ℕ) (line : Line) (interval : Interval) → length leaf.prices ≡ length book.needs
+    → IsAside book.settle book.needs place line
+    → least_within n book (with_price leaf place price) line interval ≡ least_within n book leaf line interval
+least-aside n book leaf place price line interval same aside =
+    let form = form-aside n book leaf place price line same aside in
+    let reduced = reduced-aside n book leaf place price line interval.low same aside in
+    λ i. if interval.low == interval.high then reduced i
+    else if interval.low == 0 then int_min (pos 0) (int_min (form_at (form i) line.least) (form_at (form i) interval.high))
+    else int_min (form_at (form i) interval.low) (form_at (form i) interval.high)

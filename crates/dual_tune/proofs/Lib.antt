@@ -1,0 +1,2 @@
+pub mod AsideFacts
+pub mod SweepFacts

@@ -1,0 +1,186 @@
+-- What a price that changes changes.
+use Rattle.std.proofs.Common.{◌≡◌, ◌∙◌, ℕ, zero, suc, ◌+◌, ◌*◌, ◌<◌, ◌≤◌, false, true, All, inl, inr, List, [], ◌∷◌, get_or, set, length, take, sym, ap, refl, arith, ℤ, pos, ◌+ℤ◌, ◌-ℤ◌, ◌≤ℤ◌}
+use Rattle.std.specs.List.{AllPairs, AllZip, zip}
+use Rattle.std.proofs.lemmas.Int.{ints}
+use Rattle.std.proofs.lemmas.Bool.{cases_lt}
+use Rattle.std.proofs.lemmas.Grind.{get_or-set_at}
+use Rattle.std.proofs.lemmas.List.{get_or-set_other, get_or_default, get_or_past, take_all}
+use Rattle.std.proofs.lemmas.List.Elements.{All-cons}
+use Rattle.std.proofs.lemmas.List.Sums.{sum_by-cons}
+use Rattle.escrow_units.specs.Flows.{total}
+use Rattle.escrow_units.specs.declared.security.Flow.{Flow}
+use Rattle.offer_book.specs.Book.{BookContents}
+use Rattle.offer_book.specs.declared.coefficients.TheConstants.{COEFFICIENT_SCALE}
+use Rattle.offer_book.specs.declared.line.Line.{Line}
+use Rattle.dual_bound.specs.LeafBound.{bound_of, least_within, priced_needs, signed_sum}
+use Rattle.dual_bound.specs.declared.prices.TheConstants.{PRICE_SCALE}
+use Rattle.dual_bound.specs.declared.ranges.Interval.{Interval}
+use Rattle.dual_bound.specs.declared.tree.Leaf.{Leaf}
+use Rattle.dual_bound.proofs.BoundSizes.{bound-more}
+use Rattle.dual_bound.specs.Tree.{IsLeaf}
+use Rattle.dual_tune.specs.Steps.{price_after, price_before, with_price}
+use Rattle.dual_tune.specs.Sweep.{AreLeasts, ArePaidDates, AreReached, lines_worth}
+use Rattle.dual_tune.specs.declared.paid.PaidDates.{PaidDates}
+use Rattle.dual_tune.specs.declared.sweep.LineLeast.{LineLeast}
+use Rattle.dual_tune.proofs.AsideFacts.{least-aside, set-length}
+
+priced-cons : (need : Flow) (needs : List Flow) (own : ℕ) (prices : List ℕ) → priced_needs (need ∷ needs) (own ∷ prices) ≡ need.cents.0 * own + priced_needs needs prices
+unfolding priced_needs
+priced-cons need needs own prices = sum_by-cons (λ (p : Flow × ℕ). p.0.cents.0 * p.1) (need, own) (zip needs prices)
+
+-- the needs are worth more by what one date's are
+pub priced-set : (needs : List Flow) (prices : List ℕ) (place price : ℕ) (d : Flow) → length prices ≡ length needs → place < length needs
+    → priced_needs needs (set prices place price) + (get_or needs place d).cents.0 * get_or prices place 0 ≡ priced_needs needs prices + (get_or needs place d).cents.0 * price
+priced-set [] prices place price d same few = absurd (omega arith)
+priced-set (need ∷ needs) [] place price d same few = absurd (omega arith)
+priced-set (need ∷ needs) (own ∷ prices) zero price d same few =
+    joined need.cents.0 own price (priced_needs needs prices) (priced_needs (need ∷ needs) (price ∷ prices)) (priced_needs (need ∷ needs) (own ∷ prices))
+    (priced-cons need needs price prices) (priced-cons need needs own prices)
+  where
+    joined : (cents own price rest now before : ℕ) → now ≡ cents * price + rest → before ≡ cents * own + rest → now + cents * own ≡ before + cents * price
+    joined cents own price rest now before h k = omega arith
+priced-set (need ∷ needs) (own ∷ prices) (suc place) price d same few =
+    joined (need.cents.0 * own) ((get_or needs place d).cents.0 * get_or prices place 0) ((get_or needs place d).cents.0 * price) (priced_needs needs (set prices place price)) (priced_needs needs prices)
+    (priced_needs (need ∷ needs) (own ∷ set prices place price)) (priced_needs (need ∷ needs) (own ∷ prices))
+    (priced-cons need needs own (set prices place price)) (priced-cons need needs own prices) (priced-set needs prices place price d (omega arith) (omega arith))
+  where
+    joined : (first old new rest_now rest_before now before : ℕ) → now ≡ first + rest_now → before ≡ first + rest_before → rest_now + old ≡ rest_before + new → now + old ≡ before + new
+    joined first old new rest_now rest_before now before h k e = omega arith
+
+-- a difference of two sums, a line further
+pub change-more : (f g : Line × Interval → ℤ) (change own : ℤ) (lines : List Line) (ranges : List Interval) (place : ℕ) (line : Line) (interval : Interval)
+    → place < length lines → length lines ≡ length ranges → line ≡ get_or lines place line → interval ≡ get_or ranges place interval
+    → change ≡ signed_sum f (take place (zip lines ranges)) -ℤ signed_sum g (take place (zip lines ranges))
+    → own ≡ f (line, interval) -ℤ g (line, interval)
+    → change +ℤ own ≡ signed_sum f (take (place + 1) (zip lines ranges)) -ℤ signed_sum g (take (place + 1) (zip lines ranges))
+change-more f g change own lines ranges place line interval few same line_is interval_is so_far own_is =
+    let a = bound-more (pos 0) (signed_sum f (take place (zip lines ranges))) (f (line, interval)) f lines ranges place line interval few same line_is interval_is (omega (arith, ints)) refl in
+    let b = bound-more (pos 0) (signed_sum g (take place (zip lines ranges))) (g (line, interval)) g lines ranges place line interval few same line_is interval_is (omega (arith, ints)) refl in
+    joined change own (signed_sum f (take place (zip lines ranges))) (signed_sum g (take place (zip lines ranges))) (f (line, interval)) (g (line, interval))
+    (signed_sum f (take (place + 1) (zip lines ranges))) (signed_sum g (take (place + 1) (zip lines ranges))) so_far own_is a b
+  where
+    joined : (change own a b x y more_a more_b : ℤ) → change ≡ a -ℤ b → own ≡ x -ℤ y → a +ℤ x ≡ pos 0 +ℤ more_a → b +ℤ y ≡ pos 0 +ℤ more_b → change +ℤ own ≡ more_a -ℤ more_b
+    joined change own a b x y more_a more_b h k p q = omega (arith, ints)
+
+-- a bound after a price step is the bound before, with what the needs and the lines add more
+pub bound-changed : (n : ℕ) (book : BookContents) (ranges : List Interval) (leaf : Leaf) (place price : ℕ) (d : Flow) (needs lines : ℤ)
+    → length leaf.prices ≡ length book.needs → place < length book.needs
+    → needs ≡ pos (COEFFICIENT_SCALE * ((get_or book.needs place d).cents.0 * price)) -ℤ pos (COEFFICIENT_SCALE * ((get_or book.needs place d).cents.0 * get_or leaf.prices place 0))
+    → lines ≡ lines_worth n book ranges (with_price leaf place price) -ℤ lines_worth n book ranges leaf
+    → (bound_of n book ranges leaf +ℤ needs) +ℤ lines ≡ bound_of n book ranges (with_price leaf place price)
+unfolding bound_of
+bound-changed n book ranges leaf place price d needs lines same few needs_is lines_is =
+    joined needs lines (lines_worth n book ranges (with_price leaf place price)) (lines_worth n book ranges leaf) (priced_needs book.needs leaf.prices)
+    (priced_needs book.needs (set leaf.prices place price)) ((get_or book.needs place d).cents.0 * price) ((get_or book.needs place d).cents.0 * get_or leaf.prices place 0)
+    needs_is lines_is (priced-set book.needs leaf.prices place price d same few)
+  where
+    joined : (needs lines more less : ℤ) (whole now a b : ℕ) → needs ≡ pos (COEFFICIENT_SCALE * a) -ℤ pos (COEFFICIENT_SCALE * b) → lines ≡ more -ℤ less → now + b ≡ whole + a
+        → ((pos (COEFFICIENT_SCALE * whole) +ℤ less) +ℤ needs) +ℤ lines ≡ pos (COEFFICIENT_SCALE * now) +ℤ more
+    joined needs lines more less whole now a b h k e = omega (arith, ints)
+
+pub zip-get : {A B : Type 0} (R : A → B → Type 0) (xs : List A) (ys : List B) (i : ℕ) (d : A) (e : B) → AllZip R xs ys → i < length xs → R (get_or xs i d) (get_or ys i e)
+zip-get R [] ys i d e h few = absurd (omega arith)
+zip-get R (x ∷ xs) [] i d e h few = absurd h
+zip-get R (x ∷ xs) (y ∷ ys) zero d e h few = h.0
+zip-get R (x ∷ xs) (y ∷ ys) (suc i) d e h few = zip-get R xs ys i d e h.1 (omega arith)
+
+-- a line that doesn't pay for the date adds at the priced leaf what it added
+pub kept-aside : (n : ℕ) (book : BookContents) (ranges : List Interval) (leaf : Leaf) (place price line : ℕ) (paid : List PaidDates) (leasts : List LineLeast)
+    (d : Line) (none : Interval) (e : PaidDates) (f : LineLeast) → length leaf.prices ≡ length book.needs → AllZip (ArePaidDates book) book.lines paid
+    → AreLeasts n book ranges leaf leasts → line < length book.lines → get_or (get_or paid line e).paid place true ≡ false
+    → (get_or leasts line f).least ≡ least_within n book (with_price leaf place price) (get_or book.lines line d) (get_or ranges line none)
+kept-aside n book ranges leaf place price line paid leasts d none e f same are kept few unpaid =
+    kept line d none f few
+    ∙ sym (least-aside n book leaf place price (get_or book.lines line d) (get_or ranges line none) same (zip-get (ArePaidDates book) book.lines paid line d e are few place unpaid))
+
+pub set-back : (xs : List ℕ) (place v : ℕ) → set (set xs place v) place (get_or xs place 0) ≡ xs
+set-back [] place v = refl
+set-back (x ∷ xs) zero v = refl
+set-back (x ∷ xs) (suc place) v = ap (λ ys. x ∷ ys) (set-back xs place v)
+
+pub set-at : (xs : List ℕ) (place v : ℕ) → place < length xs → get_or (set xs place v) place 0 ≡ v
+set-at [] place v few = absurd (omega arith)
+set-at (x ∷ xs) zero v few = refl
+set-at (x ∷ xs) (suc place) v few = set-at xs place v (omega arith)
+
+pub one-within : (flows : List Flow) (place : ℕ) (d : Flow) → place < length flows → (get_or flows place d).cents.0 ≤ total flows
+one-within [] place d few = absurd (omega arith)
+one-within (flow ∷ flows) zero d few = omega (arith, sum_by-cons (λ (f : Flow). f.cents.0) flow flows)
+one-within (flow ∷ flows) (suc place) d few = omega (arith, sum_by-cons (λ (f : Flow). f.cents.0) flow flows, one-within flows place d (omega arith))
+
+-- ---- price steps keep a leaf's limits
+set-falling : (xs : List ℕ) (place v : ℕ) → place < length xs → AllPairs (λ earlier later. later ≤ earlier) xs → ((k d : ℕ) → k < place → v ≤ get_or xs k d)
+    → ((k d : ℕ) → place < k → k < length xs → get_or xs k d ≤ v) → AllPairs (λ earlier later. later ≤ earlier) (set xs place v)
+set-falling xs place v few falling above below =
+    λ i j d lt there.
+    let long : j < length xs = omega (arith, there, set-length xs place v) in
+    elim (cases_lt i place) [
+      | inl early ↦
+          let own = get_or-set_other xs place i v d (λ e. omega (arith, e, early)) in
+          elim (cases_lt j place) [
+            | inl before ↦ omega (arith, own, get_or-set_other xs place j v d (λ e. omega (arith, e, before)), falling i j d lt long)
+            | inr from ↦
+                elim (cases_lt place j) [
+                  | inl after ↦ omega (arith, own, get_or-set_other xs place j v d (λ e. omega (arith, e, after)), falling i j d lt long)
+                  | inr to ↦ omega (arith, own, get_or-set_at xs place j v d (omega (arith, from, to)) few, above i d early)
+                ]
+          ]
+      | inr from ↦
+          let own = get_or-set_other xs place j v d (λ e. omega (arith, e, from, lt)) in
+          elim (cases_lt place i) [
+            | inl late ↦ omega (arith, own, get_or-set_other xs place i v d (λ e. omega (arith, e, late)), falling i j d lt long)
+            | inr to ↦ omega (arith, own, get_or-set_at xs place i v d (omega (arith, from, to)) few, below j d (omega (arith, from, lt)) long)
+          ]
+    ]
+
+set-range : (xs : List ℕ) (place v most : ℕ) → All (λ price. price ≤ most) xs → v ≤ most → All (λ price. price ≤ most) (set xs place v)
+set-range [] place v most range small = range
+set-range (x ∷ xs) zero v most range small = All-cons (λ price. price ≤ most) v xs small (λ k d lt. range (suc k) d (omega arith))
+set-range (x ∷ xs) (suc place) v most range small =
+    All-cons (λ price. price ≤ most) x (set xs place v) (range 0 x (omega arith)) (set-range xs place v most (λ k d lt. range (suc k) d (omega arith)) small)
+
+step-leaf : (dates : ℕ) (leaf : Leaf) (place v : ℕ) → IsLeaf dates leaf → place < dates → v ≤ 2 * PRICE_SCALE → ((k d : ℕ) → k < place → v ≤ get_or leaf.prices k d)
+    → ((k d : ℕ) → place < k → k < length leaf.prices → get_or leaf.prices k d ≤ v) → IsLeaf dates (with_price leaf place v)
+step-leaf dates leaf place v well few small above below = record {
+  limit = well.limit;
+  every_date = set-length leaf.prices place v ∙ well.every_date;
+  range = set-range leaf.prices place v (2 * PRICE_SCALE) well.range small;
+  falling = set-falling leaf.prices place v (omega (arith, few, well.every_date)) well.falling above below;
+}
+
+pub leaf-before : (dates : ℕ) (leaf : Leaf) (place : ℕ) → IsLeaf dates leaf → place < dates → IsLeaf dates (with_price leaf place (price_before leaf.prices place))
+leaf-before dates leaf zero well few =
+    step-leaf dates leaf 0 (2 * PRICE_SCALE) well few (omega arith) (λ k d lt. absurd (omega arith)) (λ k d lt long. well.range k d long)
+leaf-before dates leaf (suc place) well few =
+    let there : place < length leaf.prices = omega (arith, few, well.every_date) in
+    step-leaf dates leaf (suc place) (get_or leaf.prices place 0) well few (well.range place 0 there)
+    (λ k d lt.
+    elim (cases_lt k place) [
+      | inl before ↦ omega (arith, well.falling k place d before there, get_or_default leaf.prices place 0 d there)
+      | inr from ↦ let at : k ≡ place = omega (arith, lt, from) in omega (arith, get_or_default leaf.prices place 0 d there, ap (λ j. get_or leaf.prices j d) at)
+    ])
+    (λ k d lt long. omega (arith, well.falling place k d (omega arith) long, get_or_default leaf.prices place 0 d there))
+
+pub leaf-after : (dates : ℕ) (leaf : Leaf) (place : ℕ) → IsLeaf dates leaf → place < dates → IsLeaf dates (with_price leaf place (price_after leaf.prices place))
+leaf-after dates leaf place well few =
+    elim (cases_lt (place + 1) (length leaf.prices)) [
+      | inl there ↦
+          step-leaf dates leaf place (get_or leaf.prices (place + 1) 0) well few (well.range (place + 1) 0 there)
+          (λ k d lt. omega (arith, well.falling k (place + 1) d (omega arith) there, get_or_default leaf.prices (place + 1) 0 d there))
+          (λ k d lt long.
+          elim (cases_lt (place + 1) k) [
+            | inl after ↦ omega (arith, well.falling (place + 1) k d after long, get_or_default leaf.prices (place + 1) 0 d there)
+            | inr to ↦ let at : k ≡ place + 1 = omega (arith, lt, to) in omega (arith, get_or_default leaf.prices (place + 1) 0 d there, ap (λ j. get_or leaf.prices j d) at)
+          ])
+      | inr last ↦
+          let none : get_or leaf.prices (place + 1) 0 ≡ 0 = get_or_past leaf.prices (place + 1) 0 last in
+          step-leaf dates leaf place (get_or leaf.prices (place + 1) 0) well few (omega (arith, none)) (λ k d lt. omega (arith, none)) (λ k d lt long. absurd (omega (arith, last, lt, long)))
+    ]
+
+-- what is reached stays reached by more
+pub reached-more : (n : ℕ) (book : BookContents) (ranges : List Interval) (leaf : Leaf) (least most : ℤ) (place : ℕ) → least ≤ℤ most
+    → AreReached n book ranges leaf least place → AreReached n book ranges leaf most place
+reached-more n book ranges leaf least most place le reached = record {
+  before = omega (arith, ints, le, reached.before);
+  after = omega (arith, ints, le, reached.after);
+}

@@ -1,0 +1,27 @@
+use mir.Syntax.{w128}
+use Rattle.std.proofs.Common.{◌≡◌, ◌∙◌, length, inl, inr, sym, ap, subst, arith}
+use Rattle.std.proofs.lemmas.Int.{ints, to_z-of_z}
+use Rattle.dual_bound.specs.LeafBound.{bound_of}
+use Rattle.dual_bound.specs.Tree.{IsLeaf}
+use Rattle.dual_tune.specs.Sweep.{IsBest, stepped}
+use Rattle.dual_tune.specs.declared.sweep.Best.{Best}
+use Rattle.dual_tune.proofs.sweep.Sweep.try_price.Goals as goal
+
+pub returns-clause-best : goal.returns-clause-best
+returns-clause-best c =
+    let n = c.args.self.now.columns.yield_units in
+    let reached = to_z-of_z w128 c.bound_of_price_step-reached.result (record { sfits = c.bound_of_price_step-reached.type_inv }) ∙ c.bound_of_price_step-reached.ensures.value in
+    elim c.better.ensures.one [
+      | inl same ↦ subst (IsBest n c.args.book.now c.args.ranges.now c.args.leaf.now) (sym same) c.requires.best
+      | inr same ↦
+          record {
+            well_formed = subst (λ (b : Best). IsLeaf (length c.args.book.now.needs) (stepped c.args.leaf.now b.step)) (sym same) c.requires.step;
+            bound = ap (λ (b : Best). b.bound) same ∙ (reached ∙ sym (ap (λ (b : Best). bound_of n c.args.book.now c.args.ranges.now (stepped c.args.leaf.now b.step)) same));
+            given = omega (arith, ints, c.requires.best.given, c.better.ensures.first);
+          }
+    ]
+
+pub returns-clause-tried : goal.returns-clause-tried
+returns-clause-tried c =
+    let reached = to_z-of_z w128 c.bound_of_price_step-reached.result (record { sfits = c.bound_of_price_step-reached.type_inv }) ∙ c.bound_of_price_step-reached.ensures.value in
+    omega (arith, ints, reached, c.better.ensures.second)

@@ -1,0 +1,83 @@
+-- How steps are priced one by one: a price that changes on one date changes what the needs are worth, and what those lines add that
+-- pay for the need of that date. This project's own.
+use Rattle.std.specs.Prelude.{◌≡◌, ℕ, ◌*◌, ◌^◌, ◌<◌, ◌≤◌, false, true, List, All, length, slice_index, slice_index_or, ℤ, ◌≤ℤ◌, unsigned_abs}
+use Rattle.std.specs.List.{AllZip, zip}
+use Rattle.escrow_units.specs.declared.security.Flow.{Flow}
+use Rattle.offer_book.specs.Book.{BookContents}
+use Rattle.offer_book.specs.Schedule.{IsScheduleOf}
+use Rattle.offer_book.specs.declared.line.Line.{Line}
+use Rattle.offer_book.specs.declared.schedule.ScheduledPayment.{ScheduledPayment}
+use Rattle.dual_bound.specs.LeafBound.{bound_of, least_within, price_on, signed_sum}
+use Rattle.dual_bound.specs.Tree.{IsLeaf}
+use Rattle.dual_bound.specs.declared.ranges.Interval.{Interval}
+use Rattle.dual_bound.specs.declared.tree.Leaf.{Leaf}
+use Rattle.dual_tune.specs.Steps.{price_after, price_before, with_price, with_weight}
+use Rattle.dual_tune.specs.declared.paid.PaidDates.{PaidDates}
+use Rattle.dual_tune.specs.declared.sweep.Best.{Best}
+use Rattle.dual_tune.specs.declared.sweep.LineLeast.{LineLeast}
+use Rattle.dual_tune.specs.declared.sweep.Step.{Step}
+use Rattle.dual_tune.specs.declared.sweep.Sweep.{Sweep}
+use Rattle.dual_tune.specs.declared.sweep.Step.TheVariants as step
+
+-- a day's price is that of the need at a place, whatever the prices are; behind the last need, nothing
+abbrev pub Serves : List Flow → ℤ → ℕ → Type 0
+Serves needs day place = (prices : List ℕ) → length prices ≡ length needs → slice_index_or prices place 0 ≡ price_on needs prices day
+
+-- a day's price is that of another place
+abbrev pub IsElsewhere : List Flow → ℕ → ℤ → Type 0
+IsElsewhere needs place day = (other : ℕ) × ¬ (other ≡ place) × Serves needs day other
+
+-- a line pays nothing for the need at a place
+abbrev pub IsAside : ℤ → List Flow → ℕ → Line → Type 0
+IsAside settle needs place line =
+    (schedule : List ScheduledPayment) × IsScheduleOf settle line schedule × All (λ payment. IsElsewhere needs place payment.day) schedule
+
+-- the dates for which a line pays are marked
+abbrev pub ArePaidDates : BookContents → Line → PaidDates → Type 0
+ArePaidDates book line dates = (place : ℕ) → slice_index_or dates.paid place true ≡ false → IsAside book.settle book.needs place line
+
+-- what each line adds at least at a leaf
+abbrev pub AreLeasts : ℕ → BookContents → List Interval → Leaf → List LineLeast → Type 0
+AreLeasts n book ranges leaf leasts =
+    (line : ℕ) (d : Line) (e : Interval) (f : LineLeast) → line < length book.lines
+    → (slice_index_or leasts line f).least ≡ least_within n book leaf (slice_index_or book.lines line d) (slice_index_or ranges line e)
+
+-- what the lines add at least, together
+abbrev pub lines_worth : ℕ → BookContents → List Interval → Leaf → ℤ
+lines_worth n book ranges leaf = signed_sum (λ p. least_within n book leaf p.0 p.1) (zip book.lines ranges)
+
+-- what is kept to price the steps of leaves of a book, at the yield n
+pub record IsSweep (n : ℕ) (book : BookContents) (sweep : Sweep) : Type 0 where
+  pub own : sweep.columns.book ≡ book
+  pub yield_units : sweep.columns.yield_units ≡ n
+  pub paid : AllZip (ArePaidDates book) book.lines sweep.paid.items
+  pub places : length sweep.leasts.items ≡ length book.lines
+  pub small : All (λ least. unsigned_abs least.least ≤ 71 * 10 ^ 33) sweep.leasts.items
+  pub trial : IsLeaf (length book.needs) sweep.trial
+
+-- so it is kept of a leaf over ranges
+pub record IsSweepOf (n : ℕ) (book : BookContents) (ranges : List Interval) (leaf : Leaf) (sweep : Sweep) : Type 0 where
+  pub kept : IsSweep n book sweep
+  pub given : sweep.trial ≡ leaf
+  pub leasts : AreLeasts n book ranges leaf sweep.leasts.items
+
+-- a leaf after a step
+abbrev pub stepped : Leaf → Step → Leaf
+stepped leaf step.Nothing = leaf
+stepped leaf (step.Price place price) = with_price leaf place price
+stepped leaf (step.Weight mu) = with_weight leaf mu
+
+-- the best step so far, with its bound
+pub record IsBest (n : ℕ) (book : BookContents) (ranges : List Interval) (leaf : Leaf) (best : Best) : Type 0 where
+  pub well_formed : IsLeaf (length book.needs) (stepped leaf best.step)
+  pub bound : best.bound ≡ bound_of n book ranges (stepped leaf best.step)
+  pub given : bound_of n book ranges leaf ≤ℤ best.bound
+
+-- a leaf's bound isn't above so much
+abbrev pub IsReached : ℕ → BookContents → List Interval → ℤ → Leaf → Type 0
+IsReached n book ranges bound leaf = bound_of n book ranges leaf ≤ℤ bound
+
+-- so it is of both price steps at a place
+pub record AreReached (n : ℕ) (book : BookContents) (ranges : List Interval) (leaf : Leaf) (most : ℤ) (place : ℕ) : Type 0 where
+  pub before : IsReached n book ranges most (with_price leaf place (price_before leaf.prices place))
+  pub after : IsReached n book ranges most (with_price leaf place (price_after leaf.prices place))
