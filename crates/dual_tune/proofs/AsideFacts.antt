@@ -29,7 +29,7 @@ set-other (x ∷ xs) zero (suc other) v apart = refl
 set-other (x ∷ xs) (suc place) zero v apart = refl
 set-other (x ∷ xs) (suc place) (suc other) v apart = set-other xs place other v (λ e. apart (ap suc e))
 
-pub set-length : (xs : List ℕ) (place v : ℕ) → length (set xs place v) ≡ length xs
+pub set-length : {A : Type 0} (xs : List A) (place : ℕ) (v : A) → length (set xs place v) ≡ length xs
 set-length [] place v = refl
 set-length (x ∷ xs) zero v = refl
 set-length (x ∷ xs) (suc place) v = ap suc (set-length xs place v)

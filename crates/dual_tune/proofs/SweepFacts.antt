@@ -133,11 +133,13 @@ set-falling xs place v few falling above below =
           ]
     ]
 
+pub set-all : {A : Type 0} (P : A → Type 0) (xs : List A) (place : ℕ) (v : A) → All P xs → P v → All P (set xs place v)
+set-all P [] place v h own = h
+set-all P (x ∷ xs) zero v h own = All-cons P v xs own (λ k d lt. h (suc k) d (omega arith))
+set-all P (x ∷ xs) (suc place) v h own = All-cons P x (set xs place v) (h 0 x (omega arith)) (set-all P xs place v (λ k d lt. h (suc k) d (omega arith)) own)
+
 set-range : (xs : List ℕ) (place v most : ℕ) → All (λ price. price ≤ most) xs → v ≤ most → All (λ price. price ≤ most) (set xs place v)
-set-range [] place v most range small = range
-set-range (x ∷ xs) zero v most range small = All-cons (λ price. price ≤ most) v xs small (λ k d lt. range (suc k) d (omega arith))
-set-range (x ∷ xs) (suc place) v most range small =
-    All-cons (λ price. price ≤ most) x (set xs place v) (range 0 x (omega arith)) (set-range xs place v most (λ k d lt. range (suc k) d (omega arith)) small)
+set-range xs place v most range small = set-all (λ price. price ≤ most) xs place v range small
 
 step-leaf : (dates : ℕ) (leaf : Leaf) (place v : ℕ) → IsLeaf dates leaf → place < dates → v ≤ 2 * PRICE_SCALE → ((k d : ℕ) → k < place → v ≤ get_or leaf.prices k d)
     → ((k d : ℕ) → place < k → k < length leaf.prices → get_or leaf.prices k d ≤ v) → IsLeaf dates (with_price leaf place v)
@@ -184,3 +186,9 @@ reached-more n book ranges leaf least most place le reached = record {
   before = omega (arith, ints, le, reached.before);
   after = omega (arith, ints, le, reached.after);
 }
+
+pub same-items : (xs ys : List ℕ) → length xs ≡ length ys → ((k : ℕ) → k < length xs → get_or xs k 0 ≡ get_or ys k 0) → xs ≡ ys
+same-items [] [] same h = refl
+same-items [] (y ∷ ys) same h = absurd (omega arith)
+same-items (x ∷ xs) [] same h = absurd (omega arith)
+same-items (x ∷ xs) (y ∷ ys) same h = λ i. h 0 (omega arith) i ∷ same-items xs ys (omega arith) (λ k lt. h (suc k) (omega arith)) i

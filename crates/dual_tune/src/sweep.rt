@@ -8,8 +8,8 @@ ghost use Rattle.dual_bound.specs.LeafBound.{bound_of, least_within};
 ghost use Rattle.dual_bound.specs.Ranges.{HasRoomFor};
 ghost use Rattle.dual_bound.specs.Tree.{IsLeaf};
 ghost use Rattle.dual_bound.specs.declared.ranges.Interval.{Interval as IntervalOf};
-ghost use Rattle.dual_tune.specs.Steps.{IsTriedWeight, price_after as price_after_of, price_before as price_before_of, with_price, with_weight};
-ghost use Rattle.dual_tune.specs.Sweep.{AreLeasts, ArePaidDates, IsAside, IsBest, AreReached, IsReached, IsSweepOf, lines_worth};
+ghost use Rattle.dual_tune.specs.Steps.{IsStep, IsTriedWeight, price_after as price_after_of, price_before as price_before_of, with_price, with_weight};
+ghost use Rattle.dual_tune.specs.Sweep.{AreLeasts, ArePaidDates, IsAside, IsBest, AreReached, IsReached, IsSweep, IsSweepOf, lines_worth};
 
 use crate::paid::PaidDates;
 use dual_bound::{Columns, Interval, Leaf, PRICE_SCALE, Ranges};
@@ -174,6 +174,20 @@ fn better(best: Best, step: Step, bound: i128) -> Best
     }
 }
 
+/// Takes over another leaf, with as many prices. It takes no memory.
+pub(crate) fn copy_leaf(dates: u16, from: &Leaf, into: &mut Leaf)
+    requires from { length from.now.prices ≡ dates }
+    requires into { length into.old.prices ≡ dates }
+    ensures { into.new ≡ from.now }
+{
+    let prices = from.prices.as_slice();
+    into.whole = from.whole;
+    into.mu = from.mu;
+    for place in 0..dates {
+        into.prices.put(place, prices[usize::from(place)]);
+    }
+}
+
 impl<'a> Sweep<'a> {
     // The bound of the given leaf after a price step, from its own.
     fn bound_of_price_step(
@@ -333,5 +347,56 @@ impl<'a> Sweep<'a> {
         let best = self.try_weight(book, ranges, leaf, best, 0);
         let best = self.try_weight(book, ranges, leaf, best, PRICE_SCALE / 2);
         self.try_weight(book, ranges, leaf, best, PRICE_SCALE)
+    }
+
+    // Keeps what each line adds at least at the leaf that is priced.
+    fn keep_leasts(&mut self, book: &Book, ranges: &Ranges)
+        requires ranges { AllZip HasRoomFor book.now.lines ranges.now }
+        requires kept { IsSweep self.old.columns.yield_units book.now self.old }
+        ensures kept { IsSweep self.old.columns.yield_units book.now self.new }
+        ensures columns { self.new.columns ≡ self.old.columns }
+        ensures trial { self.new.trial ≡ self.old.trial }
+        ensures leasts { AreLeasts self.old.columns.yield_units book.now ranges.now self.old.columns.leaf self.new.leasts.items }
+    {
+        let intervals = ranges.intervals();
+        for line in 0..book.line_count() {
+            let at = usize::from(line);
+            self.leasts[at] = LineLeast {
+                least: self.columns.least(line, intervals[at]),
+            };
+        }
+    }
+
+    // Begins with a leaf over ranges, and gives its bound.
+    fn begin(&mut self, book: &Book, ranges: &Ranges, leaf: &Leaf) -> i128
+        requires ranges { AllZip HasRoomFor book.now.lines ranges.now }
+        requires given { IsLeaf (length book.now.needs) leaf.now }
+        requires kept { IsSweep self.old.columns.yield_units book.now self.old }
+        ensures kept { IsSweepOf self.old.columns.yield_units book.now ranges.now leaf.now self.new }
+        ensures bound { result ≡ bound_of self.old.columns.yield_units book.now ranges.now leaf.now }
+        ensures size { unsigned_abs result < 10 ^ 37 }
+    {
+        copy_leaf(book.need_count(), leaf, &mut self.trial);
+        let bound = self.columns.bound(ranges, leaf);
+        self.keep_leasts(book, ranges);
+        bound
+    }
+
+    /// The best step of a leaf over ranges, nothing included, with its bound.
+    pub(crate) fn best_step(&mut self, book: &Book, ranges: &Ranges, leaf: &Leaf) -> Best
+        requires ranges { AllZip HasRoomFor book.now.lines ranges.now }
+        requires given { IsLeaf (length book.now.needs) leaf.now }
+        requires kept { IsSweep self.old.columns.yield_units book.now self.old }
+        ensures kept { IsSweep self.old.columns.yield_units book.now self.new }
+        ensures best { IsBest self.old.columns.yield_units book.now ranges.now leaf.now result }
+        ensures steps { (step : Leaf) → IsStep leaf.now step → IsReached self.old.columns.yield_units book.now ranges.now result.bound step }
+    {
+        let bound = self.begin(book, ranges, leaf);
+        let given = Best {
+            step: Step::Nothing,
+            bound,
+        };
+        let best = self.try_places(book, ranges, leaf, bound, given);
+        self.try_weights(book, ranges, leaf, best)
     }
 }

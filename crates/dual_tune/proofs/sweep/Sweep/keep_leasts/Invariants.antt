@@ -1,0 +1,14 @@
+use Rattle.std.proofs.Common.{◌≡◌, ◌<◌, ◌≤◌, ◌*◌, ◌^◌, ℕ, All, get_or, length, unsigned_abs}
+use Rattle.offer_book.specs.declared.line.Line.{Line}
+use Rattle.dual_bound.specs.LeafBound.{least_within}
+use Rattle.dual_bound.specs.declared.ranges.Interval.{Interval}
+use Rattle.dual_tune.specs.declared.sweep.LineLeast.{LineLeast}
+use Rattle.dual_tune.proofs.sweep.Sweep.keep_leasts.Given as goal
+
+abbrev pub invariant-loop-line : goal.invariant-loop-line
+invariant-loop-line l =
+    (l.self.columns ≡ l.fn.self.columns) × (l.self.trial ≡ l.fn.self.trial) × (l.self.paid.items ≡ l.fn.self.paid.items)
+    × (length l.self.leasts.items ≡ length l.book.lines)
+    × All (λ least. unsigned_abs least.least ≤ 71 * 10 ^ 33) l.self.leasts.items
+    × ((line : ℕ) (d : Line) (e : Interval) (f : LineLeast) → line < l.line
+    → (get_or l.self.leasts.items line f).least ≡ least_within l.fn.self.columns.yield_units l.book l.fn.self.columns.leaf (get_or l.book.lines line d) (get_or l.ranges line e))
