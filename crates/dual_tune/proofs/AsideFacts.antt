@@ -1,5 +1,5 @@
 -- A line that pays nothing for a need adds the same, whatever that need's price is.
-use Rattle.std.proofs.Common.{◌≡◌, ◌∙◌, ℕ, zero, suc, ◌*◌, ◌+◌, ◌<◌, ◌==◌, if◌then◌else◌, List, [], ◌∷◌, All, get_or, set, length, map, sym, ap, subst, refl, arith, ℤ, pos, ◌+ℤ◌, ◌-ℤ◌, ◌*ℤ◌, neg_ℤ, unsigned_abs}
+use Rattle.std.proofs.Common.{◌≡◌, ◌∙◌, ℕ, zero, suc, ◌*◌, ◌+◌, ◌==◌, if◌then◌else◌, List, [], ◌∷◌, All, get_or, set, length, map, sym, ap, subst, refl, arith, ℤ, pos, ◌+ℤ◌, ◌-ℤ◌, ◌*ℤ◌, neg_ℤ, unsigned_abs}
 use Rattle.std.specs.List.{sum_by}
 use Rattle.std.proofs.lemmas.List.Elements.{All-cons}
 use Rattle.std.specs.Int.{int_min}
@@ -8,15 +8,13 @@ use Rattle.escrow_units.specs.declared.security.Flow.{Flow}
 use Rattle.offer_book.specs.Book.{BookContents}
 use Rattle.offer_book.specs.Coefficients.{cost_coefficients, pay_coefficients}
 use Rattle.offer_book.specs.Portfolio.{line_cost, line_payments, par}
-use Rattle.offer_book.specs.Schedule.{IsScheduleOf, flow_by, kind_rate, pay_by}
+use Rattle.offer_book.specs.Schedule.{flow_by, kind_rate, pay_by}
 use Rattle.offer_book.specs.declared.coefficients.TheConstants.{COEFFICIENT_SCALE}
 use Rattle.offer_book.specs.declared.coefficients.PayCoefficients.{PayCoefficients}
 use Rattle.offer_book.specs.declared.line.Line.{Line}
 use Rattle.offer_book.specs.declared.line.LineKind.{LineKind}
 use Rattle.offer_book.specs.declared.line.LineKind.TheVariants.{Cash, Market, Security}
-use Rattle.offer_book.specs.declared.schedule.ScheduledPayment.{ScheduledPayment}
 use Rattle.dual_bound.specs.LeafBound.{cost_weight, cost_worth, form_at, form_of, least_side, least_within, limit_price, limit_weight, paid_worth, price_on, reduced_cost, signed_sum}
-use Rattle.dual_bound.specs.declared.form.Form.{Form}
 use Rattle.dual_bound.specs.declared.ranges.Interval.{Interval}
 use Rattle.dual_bound.specs.declared.tree.Leaf.{Leaf}
 use Rattle.dual_tune.specs.Steps.{with_price}

@@ -4,7 +4,7 @@ use Rattle.std.specs.List.{AllPairs, AllZip, zip}
 use Rattle.std.proofs.lemmas.Int.{ints}
 use Rattle.std.proofs.lemmas.Bool.{cases_lt}
 use Rattle.std.proofs.lemmas.Grind.{get_or-set_at}
-use Rattle.std.proofs.lemmas.List.{get_or-set_other, get_or_default, get_or_past, take_all}
+use Rattle.std.proofs.lemmas.List.{get_or-set_other, get_or_default, get_or_past}
 use Rattle.std.proofs.lemmas.List.Elements.{All-cons}
 use Rattle.std.proofs.lemmas.List.Sums.{sum_by-cons}
 use Rattle.escrow_units.specs.Flows.{total}
@@ -19,7 +19,9 @@ use Rattle.dual_bound.specs.declared.tree.Leaf.{Leaf}
 use Rattle.dual_bound.proofs.BoundSizes.{bound-more}
 use Rattle.dual_bound.specs.Tree.{IsLeaf}
 use Rattle.dual_tune.specs.Steps.{price_after, price_before, with_price}
-use Rattle.dual_tune.specs.Sweep.{AreLeasts, ArePaidDates, AreReached, lines_worth}
+use Rattle.dual_tune.specs.Sweep.{AreLeasts, ArePaidDates, AreReached, lines_worth, stepped}
+use Rattle.dual_tune.specs.declared.sweep.Step.{Step}
+use Rattle.dual_tune.specs.declared.sweep.Step.TheVariants as step
 use Rattle.dual_tune.specs.declared.paid.PaidDates.{PaidDates}
 use Rattle.dual_tune.specs.declared.sweep.LineLeast.{LineLeast}
 use Rattle.dual_tune.proofs.AsideFacts.{least-aside, set-length}
@@ -192,3 +194,9 @@ same-items [] [] same h = refl
 same-items [] (y ∷ ys) same h = absurd (omega arith)
 same-items (x ∷ xs) [] same h = absurd (omega arith)
 same-items (x ∷ xs) (y ∷ ys) same h = λ i. h 0 (omega arith) i ∷ same-items xs ys (omega arith) (λ k lt. h (suc k) (omega arith)) i
+
+-- a step leaves it whether the cost counts
+pub step-whole : (leaf : Leaf) (step : Step) → (stepped leaf step).whole ≡ leaf.whole
+step-whole leaf step.Nothing = refl
+step-whole leaf (step.Price place price) = refl
+step-whole leaf (step.Weight mu) = refl

@@ -1,6 +1,6 @@
 -- How steps are priced one by one: a price that changes on one date changes what the needs are worth, and what those lines add that
 -- pay for the need of that date. This project's own.
-use Rattle.std.specs.Prelude.{◌≡◌, ℕ, ◌*◌, ◌^◌, ◌<◌, ◌≤◌, false, true, List, All, length, slice_index, slice_index_or, ℤ, ◌≤ℤ◌, unsigned_abs}
+use Rattle.std.specs.Prelude.{◌≡◌, ℕ, ◌*◌, ◌^◌, ◌<◌, ◌≤◌, false, true, List, All, length, slice_index_or, ℤ, ◌≤ℤ◌, unsigned_abs}
 use Rattle.std.specs.List.{AllZip, zip}
 use Rattle.escrow_units.specs.declared.security.Flow.{Flow}
 use Rattle.offer_book.specs.Book.{BookContents}
@@ -67,8 +67,15 @@ stepped leaf step.Nothing = leaf
 stepped leaf (step.Price place price) = with_price leaf place price
 stepped leaf (step.Weight mu) = with_weight leaf mu
 
+-- a step's place is one of so many
+abbrev pub IsPlaced : ℕ → Step → Type 0
+IsPlaced dates step.Nothing = Unit {0}
+IsPlaced dates (step.Price place price) = place < dates
+IsPlaced dates (step.Weight mu) = Unit {0}
+
 -- the best step so far, with its bound
 pub record IsBest (n : ℕ) (book : BookContents) (ranges : List Interval) (leaf : Leaf) (best : Best) : Type 0 where
+  pub placed : IsPlaced (length book.needs) best.step
   pub well_formed : IsLeaf (length book.needs) (stepped leaf best.step)
   pub bound : best.bound ≡ bound_of n book ranges (stepped leaf best.step)
   pub given : bound_of n book ranges leaf ≤ℤ best.bound

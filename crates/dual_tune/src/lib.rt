@@ -2,7 +2,8 @@
 #![tactic(auto)]
 
 mod paid;
+mod parts;
 mod sweep;
 mod tuner;
 
-pub use tuner::improve;
+pub use tuner::{Tuner, improve};

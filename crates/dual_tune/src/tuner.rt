@@ -2,16 +2,73 @@
 ghost use Rattle.std.specs.Prelude.{◌≡◌, length, IfOk};
 ghost use Rattle.std.specs.List.{AllZip};
 ghost use Rattle.fixed_powers.specs.DiscountPowers.{PowerTable};
+ghost use Rattle.dual_bound.specs.LeafBound.{bound_of};
 ghost use Rattle.dual_bound.specs.Ranges.{HasRoomFor};
 ghost use Rattle.dual_bound.specs.Tree.{IsLeaf};
 ghost use Rattle.dual_tune.specs.Steps.{IsImproved};
 
+use crate::parts::{Parts, leaf_of_nothing};
 use dual_bound::{Leaf, Ranges};
 use escrow_desk::NoMemory;
 use escrow_units::GREATEST_INDEX;
 use fixed_powers::{Powers, Side};
 use offer_book::Book;
 use std::alloc::Global;
+use std::marker::Model;
+
+/// What improves leaves of one book at one yield: the linear program, the columns, and room for what is tried. It is made once;
+/// after that nothing takes memory. Contracts see the book and the yield.
+#[derive(Drop)]
+pub struct Tuner<'a> {
+    book: &'a Book,
+    parts: Parts<'a>,
+}
+
+impl<'a> Model for Tuner<'a> {
+    ghost use Rattle.dual_tune.specs.Tuner.{AreParts, TunerContents};
+
+    ghost Value = { TunerContents };
+
+    ghost view = { λ t. record { book = t.book.now; yield_units = t.parts.sweep.columns.yield_units } };
+
+    ghost invariant = { λ t. AreParts t.book.now t.parts };
+}
+
+impl<'a> Tuner<'a> {
+    /// What improves leaves of a book, by powers of the low side, of 0 to 14,400 index days.
+    ///
+    /// # Errors
+    ///
+    /// Where memory ran out.
+    pub fn make(alloc: Global, book: &'a Book, powers: &Powers) -> Result<Tuner<'a>, NoMemory>
+        requires side { powers.now.side ≡ Side.Low }
+        requires longest { powers.now.longest ≡ GREATEST_INDEX }
+        ensures { IfOk result (λ tuner. tuner ≡ record { book = book.now; yield_units = powers.now.yield_units }) }
+    {
+        let parts = Parts::make(alloc, book, powers)?;
+        Ok(Tuner { book, parts })
+    }
+
+    /// Puts into a leaf, which has a price for each need date, the best over ranges of a given leaf, each of its steps, and what the
+    /// linear program proposes, starting from another leaf's prices where one is given. It answers the leaf's bound, and takes no
+    /// memory.
+    pub fn tune(
+        &mut self,
+        ranges: &Ranges,
+        leaf: &Leaf,
+        start: Option<&Leaf>,
+        into: &mut Leaf,
+    ) -> i128
+        requires ranges { AllZip HasRoomFor self.old.book.lines ranges.now }
+        requires leaf { IsLeaf (length self.old.book.needs) leaf.now }
+        requires into { length into.old.prices ≡ length self.old.book.needs }
+        ensures tuner { self.new ≡ self.old }
+        ensures improved { IsImproved self.old.yield_units self.old.book ranges.now leaf.now into.new }
+        ensures bound { result ≡ bound_of self.old.yield_units self.old.book ranges.now into.new }
+    {
+        self.parts.tune(self.book, ranges, leaf, start, into)
+    }
+}
 
 /// A better leaf over ranges: the one of the greatest bound among the given leaf, each of its steps, and what the linear program
 /// proposes for these ranges.
@@ -34,12 +91,8 @@ pub fn improve(
     requires leaf { IsLeaf (length book.now.needs) leaf.now }
     ensures { IfOk result (IsImproved powers.now.yield_units book.now ranges.now leaf.now) }
 {
-    let _ = (
-        alloc,
-        book.line_count(),
-        powers.yield_units(),
-        ranges.single(),
-        leaf.mu,
-    );
-    Err(NoMemory)
+    let mut tuner = Tuner::make(alloc, book, powers)?;
+    let mut improved = leaf_of_nothing(alloc, book.need_count())?;
+    tuner.tune(ranges, leaf, None, &mut improved);
+    Ok(improved)
 }

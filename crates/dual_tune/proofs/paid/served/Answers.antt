@@ -1,4 +1,4 @@
-use Rattle.std.proofs.Common.{◌≡◌, length, arith}
+use Rattle.std.proofs.Common.{arith}
 use Rattle.dual_bound.proofs.DayFacts.{found}
 use Rattle.dual_tune.proofs.paid.served.Goals as goal
 

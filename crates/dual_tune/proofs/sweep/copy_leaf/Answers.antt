@@ -1,4 +1,4 @@
-use Rattle.std.proofs.Common.{◌≡◌, ◌∙◌, ◌<◌, ℕ, get_or, length, inl, inr, sym, ap, arith}
+use Rattle.std.proofs.Common.{◌≡◌, ◌∙◌, ◌<◌, get_or, length, inl, inr, sym, ap, arith}
 use Rattle.std.proofs.lemmas.Bool.{cases_lt}
 use Rattle.std.proofs.lemmas.Grind.{get_or-set_at}
 use Rattle.std.proofs.lemmas.List.{get_or-set_other}
@@ -16,13 +16,13 @@ loop-place-preserved c =
       c.loop-place.invariant.1,
       ap length c.put.ensures ∙ set-length prices place value ∙ c.loop-place.invariant.2,
       λ k lt.
-      ap (λ ps. get_or ps k 0) c.put.ensures
-      ∙ elim (cases_lt k place) [
-        | inl before ↦ get_or-set_other prices place k value 0 (λ e. omega (arith, e, before)) ∙ c.loop-place.invariant.3 k before
-        | inr from ↦
-          let at : k ≡ place = omega (arith, lt, from) in
-          get_or-set_at prices place k value 0 at few ∙ (λ i. get_or (c.as_slice-prices.ensures i) (c.from.ensures i) 0) ∙ ap (λ j. get_or c.args.from.now.prices j 0) (sym at)
-      ],
+          ap (λ ps. get_or ps k 0) c.put.ensures
+          ∙ elim (cases_lt k place) [
+            | inl before ↦ get_or-set_other prices place k value 0 (λ e. omega (arith, e, before)) ∙ c.loop-place.invariant.3 k before
+            | inr from ↦
+                let at : k ≡ place = omega (arith, lt, from) in
+                get_or-set_at prices place k value 0 at few ∙ (λ i. get_or (c.as_slice-prices.ensures i) (c.from.ensures i) 0) ∙ ap (λ j. get_or c.args.from.now.prices j 0) (sym at)
+          ],
     )
 
 pub returns : goal.returns

@@ -1,4 +1,4 @@
-use Rattle.std.proofs.Common.{◌≡◌, ◌∙◌, ap, arith, ◌-ℤ◌}
+use Rattle.std.proofs.Common.{◌∙◌, ap, arith, ◌-ℤ◌}
 use Rattle.std.proofs.lemmas.Int.{ints}
 use Rattle.dual_bound.proofs.Signed.{read-again}
 use Rattle.dual_tune.proofs.sweep.line_change.Goals as goal

@@ -1,4 +1,4 @@
-use Rattle.std.proofs.Common.{◌≡◌, ◌∙◌, get_or, ap, subst}
+use Rattle.std.proofs.Common.{◌∙◌, get_or, ap, subst}
 use Rattle.dual_bound.specs.Columns.{ColumnsContents}
 use Rattle.dual_bound.specs.LeafBound.{least_within}
 use Rattle.dual_tune.specs.Sweep.{IsSweep}
@@ -12,5 +12,5 @@ returns-clause-kept c =
       kept = subst (λ n. IsSweep n c.args.book.now c.keep_leasts.new.self) units c.keep_leasts.ensures.kept;
       given = c.keep_leasts.ensures.trial ∙ c.copy_leaf.ensures;
       leasts = λ line d e f lt.
-      c.keep_leasts.ensures.leasts line d e f lt ∙ (λ i. least_within (units i) c.args.book.now (leaf i) (get_or c.args.book.now.lines line d) (get_or c.args.ranges.now line e));
+          c.keep_leasts.ensures.leasts line d e f lt ∙ (λ i. least_within (units i) c.args.book.now (leaf i) (get_or c.args.book.now.lines line d) (get_or c.args.ranges.now line e));
     }

@@ -1,6 +1,6 @@
 use mir.Syntax.{w128}
 use mir.Val.{of_z, to_z}
-use Rattle.std.proofs.Common.{◌≡◌, ◌∙◌, ◌<◌, ◌≤◌, ◌*◌, ◌^◌, ℕ, get_or, length, inl, inr, sym, ap, subst, arith, unsigned_abs}
+use Rattle.std.proofs.Common.{◌≡◌, ◌∙◌, ◌<◌, ◌≤◌, ◌*◌, ◌^◌, get_or, length, inl, inr, sym, ap, subst, arith, unsigned_abs}
 use Rattle.std.proofs.lemmas.Bool.{cases_lt}
 use Rattle.std.proofs.lemmas.Grind.{get_or-set_at}
 use Rattle.std.proofs.lemmas.Int.{to_z-of_z}
@@ -49,22 +49,22 @@ loop-line-preserved c =
       c.loop-line.invariant.2,
       set-length leasts place new ∙ c.loop-line.invariant.3,
       set-all (λ (least : LineLeast). unsigned_abs least.least ≤ 71 * 10 ^ 33) leasts place new c.loop-line.invariant.4
-      (subst (λ z. unsigned_abs z ≤ 71 * 10 ^ 33) (sym whole) c.least.ensures.size),
+          (subst (λ z. unsigned_abs z ≤ 71 * 10 ^ 33) (sym whole) c.least.ensures.size),
       λ line d e f lt.
-      elim (cases_lt line c.loop-line.line) [
-        | inl before ↦
-          ap (λ (l : LineLeast). l.least) (get_or-set_other leasts place line new f (λ at. omega (arith, at, before, c.from-at.ensures))) ∙ c.loop-line.invariant.5 line d e f before
-        | inr from ↦
-          let at : line ≡ place = omega (arith, lt, from, c.from-at.ensures) in
-          let there : c.loop-line.line < length c.args.ranges.now = omega (arith, room-length c.args.book.now.lines c.args.ranges.now c.requires.ranges, c.line_count-line-end.ensures.value, c.loop-line-test.true) in
-          let part : get_or c.args.ranges.now c.loop-line.line none ≡ get_or c.args.ranges.now line e =
-          get_or_default c.args.ranges.now c.loop-line.line none e there ∙ ap (λ j. get_or c.args.ranges.now j e) (sym (at ∙ c.from-at.ensures)) in
-          ap (λ (l : LineLeast). l.least) (get_or-set_at leasts place line new f at few) ∙ whole ∙ c.least.ensures.value d
-          ∙ (λ i.
-          least_within (c.loop-line.invariant.0 i).yield_units (c.loop-line.invariant.0 i).book (c.loop-line.invariant.0 i).leaf (get_or (c.loop-line.invariant.0 i).book.lines c.loop-line.line d)
-          (get_or (c.intervals-intervals.ensures.value i) (c.from-at.ensures i) none))
-          ∙ (λ i.
-          least_within c.args.self.now.columns.yield_units (c.requires.kept.own i) c.args.self.now.columns.leaf (get_or (c.requires.kept.own i).lines (sym (at ∙ c.from-at.ensures) i) d)
-          (part i))
-      ],
+          elim (cases_lt line c.loop-line.line) [
+            | inl before ↦
+                ap (λ (l : LineLeast). l.least) (get_or-set_other leasts place line new f (λ at. omega (arith, at, before, c.from-at.ensures))) ∙ c.loop-line.invariant.5 line d e f before
+            | inr from ↦
+                let at : line ≡ place = omega (arith, lt, from, c.from-at.ensures) in
+                let there : c.loop-line.line < length c.args.ranges.now = omega (arith, room-length c.args.book.now.lines c.args.ranges.now c.requires.ranges, c.line_count-line-end.ensures.value, c.loop-line-test.true) in
+                let part : get_or c.args.ranges.now c.loop-line.line none ≡ get_or c.args.ranges.now line e =
+                get_or_default c.args.ranges.now c.loop-line.line none e there ∙ ap (λ j. get_or c.args.ranges.now j e) (sym (at ∙ c.from-at.ensures)) in
+                ap (λ (l : LineLeast). l.least) (get_or-set_at leasts place line new f at few) ∙ whole ∙ c.least.ensures.value d
+                ∙ (λ i.
+                least_within (c.loop-line.invariant.0 i).yield_units (c.loop-line.invariant.0 i).book (c.loop-line.invariant.0 i).leaf (get_or (c.loop-line.invariant.0 i).book.lines c.loop-line.line d)
+                (get_or (c.intervals-intervals.ensures.value i) (c.from-at.ensures i) none))
+                ∙ (λ i.
+                least_within c.args.self.now.columns.yield_units (c.requires.kept.own i) c.args.self.now.columns.leaf (get_or (c.requires.kept.own i).lines (sym (at ∙ c.from-at.ensures) i) d)
+                (part i))
+          ],
     )

@@ -1,9 +1,9 @@
 use mir.Syntax.{w128}
-use Rattle.std.proofs.Common.{◌≡◌, ◌∙◌, length, inl, inr, sym, ap, subst, arith}
+use Rattle.std.proofs.Common.{◌∙◌, length, inl, inr, sym, ap, subst, arith}
 use Rattle.std.proofs.lemmas.Int.{ints, to_z-of_z}
 use Rattle.dual_bound.specs.LeafBound.{bound_of}
 use Rattle.dual_bound.specs.Tree.{IsLeaf}
-use Rattle.dual_tune.specs.Sweep.{IsBest, stepped}
+use Rattle.dual_tune.specs.Sweep.{IsBest, IsPlaced, stepped}
 use Rattle.dual_tune.specs.declared.sweep.Best.{Best}
 use Rattle.dual_tune.proofs.sweep.Sweep.try_price.Goals as goal
 
@@ -15,6 +15,7 @@ returns-clause-best c =
       | inl same ↦ subst (IsBest n c.args.book.now c.args.ranges.now c.args.leaf.now) (sym same) c.requires.best
       | inr same ↦
           record {
+            placed = subst (λ (b : Best). IsPlaced (length c.args.book.now.needs) b.step) (sym same) c.requires.place;
             well_formed = subst (λ (b : Best). IsLeaf (length c.args.book.now.needs) (stepped c.args.leaf.now b.step)) (sym same) c.requires.step;
             bound = ap (λ (b : Best). b.bound) same ∙ (reached ∙ sym (ap (λ (b : Best). bound_of n c.args.book.now c.args.ranges.now (stepped c.args.leaf.now b.step)) same));
             given = omega (arith, ints, c.requires.best.given, c.better.ensures.first);

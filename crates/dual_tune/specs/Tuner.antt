@@ -1,0 +1,16 @@
+-- What a tuner is for, and what it keeps.
+use Rattle.std.specs.Prelude.{◌≡◌, ℕ, length}
+use Rattle.offer_book.specs.Book.{BookContents}
+use Rattle.dual_bound.specs.Tree.{IsLeaf}
+use Rattle.dual_tune.specs.Sweep.{IsSweep}
+use Rattle.dual_tune.specs.declared.parts.Parts.{Parts}
+
+pub record TunerContents : Type 0 where
+  pub book : BookContents
+  pub yield_units : ℕ
+
+-- the parts of a tuner are for the same book, and have room for its need dates
+pub record AreParts (book : BookContents) (parts : Parts) : Type 0 where
+  pub swept : IsSweep parts.sweep.columns.yield_units book parts.sweep
+  pub dates : parts.simplex.dates ≡ length book.needs
+  pub proposed : IsLeaf (length book.needs) parts.proposal

@@ -1,0 +1,199 @@
+//! The parts of a tuner: the steps, the linear program, and what it proposes.
+ghost use Rattle.std.specs.Prelude.{All, ◌≡◌, ◌*◌, ◌^◌, ◌<◌, ◌≤◌, length, unsigned_abs, IfOk};
+ghost use Rattle.std.specs.List.{AllZip};
+ghost use Rattle.fixed_powers.specs.DiscountPowers.{PowerTable};
+ghost use Rattle.dual_bound.specs.LeafBound.{bound_of};
+ghost use Rattle.dual_bound.specs.Ranges.{HasRoomFor};
+ghost use Rattle.dual_bound.specs.Tree.{IsLeaf};
+ghost use Rattle.dual_tune.specs.Steps.{IsImproved};
+ghost use Rattle.dual_tune.specs.Sweep.{IsPlaced, stepped};
+ghost use Rattle.dual_tune.specs.Tuner.{AreParts};
+
+use crate::paid::paid_by_lines;
+use crate::sweep::{LineLeast, Step, Sweep, copy_leaf};
+use dual_bound::{Columns, Leaf, Prices, Ranges};
+use escrow_desk::NoMemory;
+use escrow_units::GREATEST_INDEX;
+use fixed_powers::{Powers, Side};
+use offer_book::Book;
+use price_lp::{Purpose, Simplex, SolveEnd};
+use std::alloc::Global;
+
+// The most iterations from a leaf, and from nothing.
+const WARM_ITERATIONS: u32 = 300;
+
+const COLD_ITERATIONS: u32 = 2_000;
+
+/// The parts of a tuner.
+#[derive(Drop)]
+pub(crate) struct Parts<'a> {
+    /// The steps, priced one by one.
+    pub sweep: Sweep<'a>,
+    /// The linear program.
+    pub simplex: Simplex,
+    /// The leaf that it proposes.
+    pub proposal: Leaf,
+}
+
+// Prices of nothing, one for each need date.
+fn no_prices(alloc: Global, count: u16) -> Result<Vec<u64>, NoMemory>
+    ensures count { IfOk result (λ prices. length prices.items ≡ count) }
+    ensures none { IfOk result (λ prices. All (λ price. price ≡ 0) prices.items) }
+{
+    let mut prices = Vec::new(alloc);
+    for _ in 0..count {
+        prices.push(0)?;
+    }
+    Ok(prices)
+}
+
+/// A leaf whose cost counts and whose prices are 0.
+pub(crate) fn leaf_of_nothing(alloc: Global, count: u16) -> Result<Leaf, NoMemory>
+    ensures { IfOk result (IsLeaf count) }
+{
+    let prices = no_prices(alloc, count)?;
+    Ok(Leaf {
+        whole: true,
+        mu: 0,
+        prices: Prices::new(prices),
+    })
+}
+
+// A place for what each line adds.
+fn no_leasts(alloc: Global, count: u16) -> Result<Vec<LineLeast>, NoMemory>
+    ensures count { IfOk result (λ leasts. length leasts.items ≡ count) }
+    ensures none { IfOk result (λ leasts. All (λ least. unsigned_abs least.least ≤ 71 * 10 ^ 33) leasts.items) }
+{
+    let mut leasts = Vec::new(alloc);
+    for _ in 0..count {
+        leasts.push(LineLeast { least: 0 })?;
+    }
+    Ok(leasts)
+}
+
+// A leaf goes a step.
+fn take_step(step: Step, leaf: &mut Leaf)
+    requires { IsPlaced (length leaf.old.prices) step }
+    ensures { leaf.new ≡ stepped leaf.old step }
+{
+    match step {
+        Step::Nothing => {}
+        Step::Price { place, price } => leaf.prices.put(place, price),
+        Step::Weight(mu) => leaf.mu = mu,
+    }
+}
+
+// Solves a program from nothing.
+fn solve_anew(simplex: &mut Simplex)
+    ensures { simplex.new ≡ simplex.old }
+{
+    simplex.start_greedily();
+    simplex.solve(COLD_ITERATIONS, None);
+}
+
+// Solves a program from a leaf's prices; where that doesn't come to an end, from nothing.
+fn solve_from(simplex: &mut Simplex, leaf: &Leaf)
+    ensures { simplex.new ≡ simplex.old }
+{
+    simplex.start_at(leaf);
+    if simplex.solve(WARM_ITERATIONS, None) != SolveEnd::Optimal {
+        solve_anew(simplex);
+    }
+}
+
+// Gives each line of a program its range.
+fn set_ranges(simplex: &mut Simplex, lines: u16, ranges: &Ranges)
+    requires { lines ≡ length ranges.now }
+    ensures { simplex.new ≡ simplex.old }
+{
+    let intervals = ranges.intervals();
+    for line in 0..lines {
+        simplex.set_range(line, intervals[usize::from(line)]);
+    }
+}
+
+impl<'a> Parts<'a> {
+    /// The parts for a book, by powers of the low side.
+    pub(crate) fn make(
+        alloc: Global,
+        book: &'a Book,
+        powers: &Powers,
+    ) -> Result<Parts<'a>, NoMemory>
+        requires side { powers.now.side ≡ Side.Low }
+        requires longest { powers.now.longest ≡ GREATEST_INDEX }
+        ensures parts { IfOk result (AreParts book.now) }
+        ensures yield_units { IfOk result (λ parts. parts.sweep.columns.yield_units ≡ powers.now.yield_units) }
+    {
+        Ok(Parts {
+            sweep: Sweep {
+                columns: Columns::make(alloc, book, powers)?,
+                paid: paid_by_lines(alloc, book)?,
+                leasts: no_leasts(alloc, book.line_count())?,
+                trial: leaf_of_nothing(alloc, book.need_count())?,
+            },
+            simplex: Simplex::make(alloc, book, powers)?,
+            proposal: leaf_of_nothing(alloc, book.need_count())?,
+        })
+    }
+
+    // Puts into the proposal what the linear program proposes.
+    fn solve(&mut self, book: &Book, ranges: &Ranges, whole: bool, start: Option<&Leaf>)
+        requires parts { AreParts book.now self.old }
+        requires ranges { AllZip HasRoomFor book.now.lines ranges.now }
+        ensures parts { AreParts book.now self.new }
+        ensures sweep { self.new.sweep ≡ self.old.sweep }
+        ensures whole { self.new.proposal.whole ≡ whole }
+    {
+        self.simplex.aim(Purpose::Bound, whole);
+        set_ranges(&mut self.simplex, book.line_count(), ranges);
+        match start {
+            Some(start) => solve_from(&mut self.simplex, start),
+            None => solve_anew(&mut self.simplex),
+        }
+        self.proposal.whole = whole;
+        self.simplex.propose(&mut self.proposal);
+    }
+
+    // The bound of what is proposed.
+    fn proposed(&mut self, book: &Book, ranges: &Ranges) -> i128
+        requires parts { AreParts book.now self.old }
+        requires ranges { AllZip HasRoomFor book.now.lines ranges.now }
+        ensures parts { AreParts book.now self.new }
+        ensures proposal { self.new.proposal ≡ self.old.proposal }
+        ensures yield_units { self.new.sweep.columns.yield_units ≡ self.old.sweep.columns.yield_units }
+        ensures bound { result ≡ bound_of self.old.sweep.columns.yield_units book.now ranges.now self.old.proposal }
+    {
+        self.sweep.columns.bound(ranges, &self.proposal)
+    }
+
+    /// Puts the better leaf over ranges into another, as [`Tuner::tune`](crate::Tuner::tune) says.
+    pub(crate) fn tune(
+        &mut self,
+        book: &Book,
+        ranges: &Ranges,
+        leaf: &Leaf,
+        start: Option<&Leaf>,
+        into: &mut Leaf,
+    ) -> i128
+        requires parts { AreParts book.now self.old }
+        requires ranges { AllZip HasRoomFor book.now.lines ranges.now }
+        requires leaf { IsLeaf (length book.now.needs) leaf.now }
+        requires into { length into.old.prices ≡ length book.now.needs }
+        ensures parts { AreParts book.now self.new }
+        ensures yield_units { self.new.sweep.columns.yield_units ≡ self.old.sweep.columns.yield_units }
+        ensures improved { IsImproved self.old.sweep.columns.yield_units book.now ranges.now leaf.now into.new }
+        ensures bound { result ≡ bound_of self.old.sweep.columns.yield_units book.now ranges.now into.new }
+    {
+        let dates = book.need_count();
+        let best = self.sweep.best_step(book, ranges, leaf);
+        self.solve(book, ranges, leaf.whole, start);
+        let proposed = self.proposed(book, ranges);
+        if proposed > best.bound {
+            copy_leaf(dates, &self.proposal, into);
+            return proposed;
+        }
+        copy_leaf(dates, leaf, into);
+        take_step(best.step, into);
+        best.bound
+    }
+}
