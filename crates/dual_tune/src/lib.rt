@@ -4,6 +4,8 @@
 mod paid;
 mod parts;
 mod sweep;
+#[cfg(test)]
+mod tests;
 mod tuner;
 
 pub use tuner::{Tuner, improve};
