@@ -5,13 +5,19 @@
 //! exact plans.
 #![tactic(auto)]
 
+mod aim;
+mod base;
 mod basis;
+mod cells;
+mod duals;
 mod factor;
+mod line_ranges;
 mod number;
 mod program;
 mod segments;
 mod simplex;
 mod sparse;
+mod total;
 
 pub use basis::Basis;
 pub use simplex::{Purpose, Simplex, SolveEnd};
