@@ -26,3 +26,8 @@ pub(crate) fn difference(one: Fixed, other: Fixed) -> Fixed {
 pub(crate) fn negated(number: Fixed) -> Fixed {
     Fixed::clamp(-number.wide())
 }
+
+/// The sum of two numbers, clamped.
+pub(crate) fn sum(one: Fixed, other: Fixed) -> Fixed {
+    Fixed::clamp(one.wide() + other.wide())
+}
