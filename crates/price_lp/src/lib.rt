@@ -18,10 +18,13 @@ mod number;
 mod pivoting;
 mod primal;
 mod program;
+mod proposing;
 mod ratio;
 mod segments;
 mod simplex;
+mod solver;
 mod sparse;
+mod starts;
 mod total;
 
 pub use basis::Basis;
