@@ -69,6 +69,20 @@ impl Simplex {
         })
     }
 
+    /// How many need dates there are.
+    pub(crate) fn dates(&self) -> u16
+        ensures { result ≡ self.now.dates }
+    {
+        self.dates
+    }
+
+    /// How many lines there are.
+    pub(crate) fn lines(&self) -> u16
+        ensures { result ≡ self.now.lines }
+    {
+        self.lines
+    }
+
     /// Says what the prices are for, and whether the cost counts. The next solve has to start anew.
     pub fn aim(&mut self, purpose: Purpose, whole: bool)
         ensures { self.new ≡ self.old }
