@@ -9,6 +9,7 @@ mod basis;
 mod factor;
 mod number;
 mod program;
+mod scatter;
 mod segments;
 mod simplex;
 mod sparse;
