@@ -235,7 +235,7 @@ impl Factor {
     }
 
     // Keeps what the column has beside its pivot.
-    fn keep_entries(&mut self, pivot: Pivot) -> Result<(), Stop> {
+    fn keep_entries(&mut self, pivot: &Pivot) -> Result<(), Stop> {
         for row in self.column.rows() {
             let entry = Entry {
                 place: *row,
@@ -256,14 +256,14 @@ impl Factor {
     }
 
     // Keeps the column, which has a pivot.
-    fn keep(&mut self, pivot: Pivot) -> Result<bool, Stop> {
+    fn keep(&mut self, pivot: &Pivot) -> Result<bool, Stop> {
         self.keep_entries(pivot)?;
         self.keep_pivot(pivot)?;
         Ok(true)
     }
 
     // Keeps the pivot of the column whose entries were kept.
-    fn keep_pivot(&mut self, pivot: Pivot) -> Result<(), Stop> {
+    fn keep_pivot(&mut self, pivot: &Pivot) -> Result<(), Stop> {
         let column = self.pivots.len();
         if !self.lower.column(column).is_empty() {
             push_within(
@@ -277,7 +277,7 @@ impl Factor {
         if let Some(mark) = self.pivoted.get_mut(usize::from(pivot.row)) {
             *mark = true;
         }
-        push_within(&mut self.pivots, pivot)
+        push_within(&mut self.pivots, *pivot)
     }
 
     // Adds the column of a line. Whether it has a pivot: else it depends on those before it, or there is no row left for it.
@@ -296,7 +296,7 @@ impl Factor {
         self.scatter(program, basis, segments, line)?;
         self.eliminate()?;
         match self.pivot_of(line, least) {
-            Some(pivot) => self.keep(pivot),
+            Some(pivot) => self.keep(&pivot),
             None => Ok(false),
         }
     }
