@@ -7,6 +7,8 @@
 
 mod basis;
 mod factor;
+#[cfg(test)]
+mod factor_tests;
 mod number;
 mod program;
 mod scatter;

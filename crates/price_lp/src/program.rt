@@ -130,7 +130,7 @@ fn add_pays(
     for pay in pays {
         let place = place_of(needs, pay.day);
         if place < needs.len() {
-            column.push(Entry {
+            column.add(Entry {
                 place: place as u16 + 1,
                 value: Fixed::ratio_up(pay.high, divisor),
             })?;
@@ -289,7 +289,8 @@ impl Program {
         }
     }
 
-    /// What a cent of a line pays on each date, counted from 1, in order; what is paid after the last date is left out.
+    /// What a cent of a line pays on each date, counted from 1: an entry a date, in order. What is paid after the last date is left
+    /// out.
     pub(crate) fn pays(&self, line: u16) -> &[Entry]
         ensures few { length result.now ≤ MOST_ENTRIES }
     {

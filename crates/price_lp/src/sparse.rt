@@ -1,5 +1,5 @@
 //! Columns of a sparse matrix.
-ghost use Rattle.std.specs.Prelude.{◌≤◌, length};
+ghost use Rattle.std.specs.Prelude.{◌<◌, ◌≤◌, IsTrue, length};
 
 use crate::number::Fixed;
 use escrow_desk::NoMemory;
@@ -78,6 +78,37 @@ impl Sparse {
         self.entries[self.used] = entry;
         self.used += 1;
         Ok(())
+    }
+
+    // Whether the column that is being made ends with an entry of a place.
+    fn ends_at(&self, place: u16) -> bool
+        ensures { IsTrue result → 0 < self.now.used }
+    {
+        if self.used <= self.start(self.columns) {
+            return false;
+        }
+        match self.entries.get(self.used - 1) {
+            Some(last) => last.place == place,
+            None => false,
+        }
+    }
+
+    // Adds to the last entry.
+    fn add_to_last(&mut self, value: Fixed)
+        requires { 0 < self.old.used }
+    {
+        if let Some(last) = self.entries.get_mut(self.used - 1) {
+            last.value = last.value.plus(value);
+        }
+    }
+
+    /// Adds an entry to the column that is being made, or to its last entry where that is of the same place.
+    pub(crate) fn add(&mut self, entry: Entry) -> Result<(), Stop> {
+        if self.ends_at(entry.place) {
+            self.add_to_last(entry.value);
+            return Ok(());
+        }
+        self.push(entry)
     }
 
     /// Ends the column that is being made.
