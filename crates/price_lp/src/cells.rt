@@ -19,15 +19,5 @@ pub(crate) fn put(cells: &mut [Fixed], place: usize, number: Fixed) {
 
 /// The difference of two numbers, clamped.
 pub(crate) fn difference(one: Fixed, other: Fixed) -> Fixed {
-    Fixed::clamp(one.wide() - other.wide())
-}
-
-/// The number on the other side of 0.
-pub(crate) fn negated(number: Fixed) -> Fixed {
-    Fixed::clamp(-number.wide())
-}
-
-/// The sum of two numbers, clamped.
-pub(crate) fn sum(one: Fixed, other: Fixed) -> Fixed {
-    Fixed::clamp(one.wide() + other.wide())
+    one.plus(other.negated())
 }

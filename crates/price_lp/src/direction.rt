@@ -2,7 +2,7 @@
 
 use crate::base::Base;
 use crate::basis::{LineState, Multiplier};
-use crate::cells::{negated, put, read, sum};
+use crate::cells::{put, read};
 use crate::leaving::Leaving;
 use crate::number::Fixed;
 use crate::program::Program;
@@ -30,7 +30,7 @@ pub(crate) struct Direction {
 fn shift(run: Segment, link: usize, date: usize) -> Fixed {
     if run == Segment::Head {
         if link < date {
-            negated(Fixed::one())
+            Fixed::one().negated()
         } else {
             Fixed::zero()
         }
@@ -59,7 +59,7 @@ fn by_line(line: u16, leaving: u16, end: LineState) -> Fixed {
     if line != leaving {
         Fixed::zero()
     } else if end == LineState::Low {
-        negated(Fixed::one())
+        Fixed::one().negated()
     } else {
         Fixed::one()
     }
@@ -68,7 +68,7 @@ fn by_line(line: u16, leaving: u16, end: LineState) -> Fixed {
 // The right-hand side of the column of a line, as the multiplier leaves.
 fn by_multiplier(program: &Program, line: u16, from: Multiplier) -> Fixed {
     if from == Multiplier::Top {
-        negated(program.value(line))
+        program.value(line).negated()
     } else {
         program.value(line)
     }
@@ -87,7 +87,7 @@ fn right_of(program: &Program, base: &Base, leaving: Leaving, line: u16) -> Fixe
 fn multiplier_move(leaving: Leaving) -> Fixed {
     match leaving {
         Leaving::Multiplier(Multiplier::Zero) => Fixed::one(),
-        Leaving::Multiplier(Multiplier::Top) => negated(Fixed::one()),
+        Leaving::Multiplier(Multiplier::Top) => Fixed::one().negated(),
         _ => Fixed::zero(),
     }
 }
@@ -179,7 +179,7 @@ impl Direction {
     fn spread(&mut self, program: &Program, base: &Base, leaving: Leaving) {
         for date in 0..usize::from(program.dates()) + 2 {
             let run = self.run_move(base, date);
-            let price = sum(run, shift_of(base, leaving, date));
+            let price = run.plus(shift_of(base, leaving, date));
             put(self.prices.as_mut_slice(), date, price);
         }
     }

@@ -2,7 +2,7 @@
 
 use crate::base::Base;
 use crate::basis::{LineState, Multiplier};
-use crate::cells::{difference, negated};
+use crate::cells::difference;
 use crate::number::Fixed;
 use crate::primal::Primal;
 use crate::program::Program;
@@ -84,7 +84,7 @@ fn with_links(
     for link in 0..=program.dates() {
         let place = usize::from(link);
         if base.basis.is_joined(place) {
-            let lacking = negated(primal.carried(place));
+            let lacking = primal.carried(place).negated();
             worst = worse(worst, Leaving::Link(link), lacking);
         }
     }
@@ -96,7 +96,7 @@ fn with_multiplier(base: &Base, primal: &Primal, worst: Option<Violation>) -> Op
     let from = base.basis.multiplier();
     let amount = match from {
         Multiplier::Zero => primal.excess(),
-        Multiplier::Top => negated(primal.excess()),
+        Multiplier::Top => primal.excess().negated(),
         Multiplier::Free => Fixed::zero(),
     };
     worse(worst, Leaving::Multiplier(from), amount)

@@ -12,6 +12,8 @@ mod cells;
 mod direction;
 mod duals;
 mod factor;
+#[cfg(test)]
+mod factor_tests;
 mod leaving;
 mod line_ranges;
 mod number;
@@ -20,8 +22,11 @@ mod primal;
 mod program;
 mod proposing;
 mod ratio;
+mod scatter;
 mod segments;
 mod simplex;
+#[cfg(test)]
+mod simplex_tests;
 mod solver;
 mod sparse;
 mod starts;

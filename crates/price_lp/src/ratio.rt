@@ -2,7 +2,7 @@
 
 use crate::base::Base;
 use crate::basis::{LineState, Multiplier};
-use crate::cells::{difference, negated};
+use crate::cells::difference;
 use crate::direction::Direction;
 use crate::duals::{Duals, reduced_cost};
 use crate::leaving::{Leaving, Violation};
@@ -91,9 +91,9 @@ fn breakpoint_at_end(base: &Base, line: u16, reduced: Fixed, rise: Fixed) -> Opt
     let range = base.ranges.range(line);
     let width = Some(difference(range.high, range.low));
     if base.basis.line(line) == LineState::High {
-        breakpoint_at(negated(reduced), rise, Entering::Line(line), width)
+        breakpoint_at(reduced.negated(), rise, Entering::Line(line), width)
     } else {
-        breakpoint_at(reduced, negated(rise), Entering::Line(line), width)
+        breakpoint_at(reduced, rise.negated(), Entering::Line(line), width)
     }
 }
 
@@ -150,7 +150,7 @@ fn multiplier_breakpoint(
     }
     let rise = direction.multiplier();
     if rise.get() < 0 {
-        breakpoint_at(duals.multiplier(), negated(rise), Entering::Zero, None)
+        breakpoint_at(duals.multiplier(), rise.negated(), Entering::Zero, None)
     } else {
         let left = difference(base.aim.multiplier, duals.multiplier());
         breakpoint_at(left, rise, Entering::Top, None)
