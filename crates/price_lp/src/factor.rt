@@ -111,7 +111,7 @@ fn product(column: &[Entry], values: &[Fixed]) -> i128
     sum
 }
 
-// The quotient of a difference of wide numbers.
+// A number less what is taken off it, which has 40 more places, divided by a pivot. It stops where the pivot is too near to 0.
 fn solved(right: Fixed, taken: i128, pivot: Fixed) -> Result<Fixed, Stop>
     requires { unsigned_abs taken ≤ 2 ^ 125 }
 {
@@ -204,7 +204,7 @@ impl Factor {
         Ok(())
     }
 
-    // Takes the columns before off the column, so that nothing is left in their rows' place below.
+    // Carries out on the column the eliminations of the columns before it.
     fn eliminate(&mut self) -> Result<(), Stop> {
         for elimination in self.eliminations.as_slice() {
             let times = self.column.get(elimination.row);
