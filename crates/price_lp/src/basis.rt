@@ -37,6 +37,12 @@ pub struct Basis {
     multiplier: Multiplier,
 }
 
+// Copies what two lists share: the first places, as far as both go.
+fn copy_shared<T: Copy>(into: &mut [T], from: &[T]) {
+    let shared = into.len().min(from.len());
+    into[..shared].copy_from_slice(&from[..shared]);
+}
+
 impl Basis {
     /// Room for a basis of a program.
     ///
@@ -44,18 +50,18 @@ impl Basis {
     ///
     /// Where memory ran out.
     pub fn make(alloc: Global, simplex: &Simplex) -> Result<Basis, NoMemory> {
-        let _ = simplex.objective();
-        Basis::with_room(alloc, 0, 0)
+        Basis::with_room(alloc, simplex.lines(), simplex.dates())
     }
 
     /// Room for so many lines and dates: every line at its low end, every link but the first joined, the multiplier at 0.
     pub(crate) fn with_room(alloc: Global, lines: u16, dates: u16) -> Result<Basis, NoMemory> {
-        let _ = (lines, dates);
-        Ok(Basis {
-            lines: Vec::new(alloc),
-            joined: Vec::new(alloc),
+        let mut basis = Basis {
+            lines: vec![in alloc; LineState::Low; usize::from(lines)]?,
+            joined: vec![in alloc; true; usize::from(dates) + 1]?,
             multiplier: Multiplier::Zero,
-        })
+        };
+        basis.put_link(0, false);
+        Ok(basis)
     }
 
     /// Where a line stands; at its low end where it isn't there.
@@ -100,11 +106,15 @@ impl Basis {
 
     /// Every line at its low end, every link joined, the multiplier as given.
     pub(crate) fn reset(&mut self, multiplier: Multiplier) {
+        self.lines.as_mut_slice().fill(LineState::Low);
+        self.joined.as_mut_slice().fill(true);
         self.multiplier = multiplier;
     }
 
     /// Takes over another basis, as far as both have room.
     pub(crate) fn copy(&mut self, other: &Basis) {
+        copy_shared(self.lines.as_mut_slice(), other.lines.as_slice());
+        copy_shared(self.joined.as_mut_slice(), other.joined.as_slice());
         self.multiplier = other.multiplier;
     }
 }

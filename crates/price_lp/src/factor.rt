@@ -1,12 +1,23 @@
 //! The factor of a basis: its columns, made triangular.
+ghost use Rattle.std.specs.Prelude.{◌≤◌, ◌^◌, length, unsigned_abs};
 
-use crate::basis::{Basis, Multiplier};
+use crate::basis::{Basis, LineState, Multiplier};
 use crate::number::Fixed;
 use crate::program::Program;
-use crate::segments::Segments;
-use crate::sparse::{Sparse, Stop};
+use crate::scatter::Scatter;
+use crate::segments::{Segment, Segments};
+use crate::sparse::{Entry, MOST_ENTRIES, Sparse, Stop};
 use escrow_desk::NoMemory;
 use std::alloc::Global;
+
+// The least pivot of a factor, in units of 2^-40. A column without one depends on those before it.
+const LEAST_PIVOT: u64 = 1 << 8;
+
+// The least pivot of a basis that is made regular. It is greater, so that the next bases are regular too.
+const LEAST_REGULAR_PIVOT: u64 = 1 << 30;
+
+// How many more entries there is room for, by the row.
+const MORE_ENTRIES: usize = 8;
 
 /// A pivot: where a column of the basis is solved for.
 #[derive(Clone, Copy)]
@@ -19,26 +30,275 @@ pub(crate) struct Pivot {
     pub line: u16,
 }
 
+// A column with entries below its pivot, and the row of the pivot.
+#[derive(Clone, Copy)]
+struct Elimination {
+    column: usize,
+    row: u16,
+}
+
 /// The factor of a basis, made anew in each iteration. Its rows are the free runs of dates, and then the multiplier where it is
 /// free; its columns are the basic lines. All its memory is taken when it is made.
 #[derive(Drop)]
 pub(crate) struct Factor {
+    rows: usize,
     pivots: Vec<Pivot>,
-    count: usize,
+    pivoted: Vec<bool>,
     lower: Sparse,
     upper: Sparse,
+    eliminations: Vec<Elimination>,
+    column: Scatter,
+}
+
+// How many rows a basis has.
+fn row_count(basis: &Basis, segments: &Segments) -> usize {
+    let free = usize::from(segments.free());
+    if basis.multiplier() == Multiplier::Free {
+        free + 1
+    } else {
+        free
+    }
+}
+
+// Whether a row is marked.
+fn is_marked(marks: &[bool], row: u16) -> bool {
+    match marks.get(usize::from(row)) {
+        Some(mark) => *mark,
+        None => false,
+    }
+}
+
+// The number of a row; nothing where there is no such row.
+fn value_at(values: &[Fixed], row: u16) -> Fixed {
+    match values.get(usize::from(row)) {
+        Some(value) => *value,
+        None => Fixed::zero(),
+    }
+}
+
+// Puts the number at a place. It stops where there is no such place.
+fn put_at(values: &mut [Fixed], place: usize, value: Fixed) -> Result<(), Stop> {
+    match values.get_mut(place) {
+        Some(kept) => {
+            *kept = value;
+            Ok(())
+        }
+        None => Err(Stop),
+    }
+}
+
+// Takes so many times a column off numbers of the rows.
+fn subtract(values: &mut [Fixed], column: &[Entry], times: Fixed) {
+    if times.is_zero() {
+        return;
+    }
+    for entry in column {
+        if let Some(value) = values.get_mut(usize::from(entry.place)) {
+            *value = value.less_product(entry.value, times);
+        }
+    }
+}
+
+// The product of a column with numbers of the rows.
+fn product(column: &[Entry], values: &[Fixed]) -> i128
+    requires { length column.now ≤ MOST_ENTRIES }
+    ensures { unsigned_abs result ≤ 2 ^ 125 }
+{
+    let mut sum = 0i128;
+    for entry in column {
+        sum += entry.value.times(value_at(values, entry.place));
+    }
+    sum
+}
+
+// A number less what is taken off it, which has 40 more places, divided by a pivot. It stops where the pivot is too near to 0.
+fn solved(right: Fixed, taken: i128, pivot: Fixed) -> Result<Fixed, Stop>
+    requires { unsigned_abs taken ≤ 2 ^ 125 }
+{
+    match Fixed::quotient(right.widened() - taken, pivot) {
+        Some(value) => Ok(value),
+        None => Err(Stop),
+    }
+}
+
+// Keeps an entry of a column beside its pivot: above where the row has a pivot, and else below, divided by the pivot.
+fn keep_entry(
+    upper: &mut Sparse,
+    lower: &mut Sparse,
+    entry: Entry,
+    has_pivot: bool,
+    pivot: Fixed,
+) -> Result<(), Stop> {
+    if has_pivot {
+        return upper.push(entry);
+    }
+    let value = solved(entry.value, 0, pivot)?;
+    if value.is_zero() {
+        return Ok(());
+    }
+    lower.push(Entry {
+        place: entry.place,
+        value,
+    })
+}
+
+// Adds to a list that has room for it.
+fn push_within<T: Copy>(list: &mut Vec<T>, item: T) -> Result<(), Stop> {
+    if list.capacity() <= list.len() {
+        return Err(Stop);
+    }
+    match list.push(item) {
+        Ok(()) => Ok(()),
+        Err(_) => Err(Stop),
+    }
 }
 
 impl Factor {
     /// Room for a factor of a program.
     pub(crate) fn make(alloc: Global, program: &Program) -> Result<Factor, NoMemory> {
-        let _ = program.lines();
+        let rows = usize::from(program.dates()) + 2;
+        let more = MORE_ENTRIES * rows;
         Ok(Factor {
-            pivots: Vec::new(alloc),
-            count: 0,
-            lower: Sparse::with_room(alloc, 0, 0)?,
-            upper: Sparse::with_room(alloc, 0, 0)?,
+            rows: 0,
+            pivots: Vec::with_capacity(alloc, rows)?,
+            pivoted: vec![in alloc; false; rows]?,
+            lower: Sparse::with_room(alloc, rows, more)?,
+            upper: Sparse::with_room(alloc, rows, program.entry_count().saturating_add(more))?,
+            eliminations: Vec::with_capacity(alloc, rows)?,
+            column: Scatter::with_room(alloc, rows)?,
         })
+    }
+
+    // Leaves no pivot, for a basis with so many rows.
+    fn clear(&mut self, rows: usize) {
+        for pivot in self.pivots.as_slice() {
+            if let Some(mark) = self.pivoted.get_mut(usize::from(pivot.row)) {
+                *mark = false;
+            }
+        }
+        self.rows = rows;
+        self.pivots.clear();
+        self.eliminations.clear();
+        self.lower.clear();
+        self.upper.clear();
+        self.column.clear();
+    }
+
+    // Puts a line's column into the rows.
+    fn scatter(
+        &mut self,
+        program: &Program,
+        basis: &Basis,
+        segments: &Segments,
+        line: u16,
+    ) -> Result<(), Stop> {
+        for entry in program.pays(line) {
+            if let Segment::Free(row) = segments.of(usize::from(entry.place)) {
+                self.column.add(row, entry.value)?;
+            }
+        }
+        if basis.multiplier() == Multiplier::Free {
+            self.column
+                .put(segments.free(), program.value(line).negated())?;
+        }
+        Ok(())
+    }
+
+    // Carries out on the column the eliminations of the columns before it.
+    fn eliminate(&mut self) -> Result<(), Stop> {
+        for elimination in self.eliminations.as_slice() {
+            let times = self.column.get(elimination.row);
+            if !times.is_zero() {
+                self.column
+                    .subtract(self.lower.column(elimination.column), times)?;
+            }
+        }
+        Ok(())
+    }
+
+    // The pivot of the column: the greatest of its values in rows without a pivot, where it is great enough.
+    fn pivot_of(&self, line: u16, least: u64) -> Option<Pivot> {
+        let mut greatest = None;
+        let mut size = least.saturating_sub(1);
+        for row in self.column.rows() {
+            let value = self.column.get(*row);
+            if size < value.size() && !is_marked(self.pivoted.as_slice(), *row) {
+                size = value.size();
+                greatest = Some(Pivot {
+                    row: *row,
+                    value,
+                    line,
+                });
+            }
+        }
+        greatest
+    }
+
+    // Keeps what the column has beside its pivot.
+    fn keep_entries(&mut self, pivot: &Pivot) -> Result<(), Stop> {
+        for row in self.column.rows() {
+            let entry = Entry {
+                place: *row,
+                value: self.column.get(*row),
+            };
+            if *row != pivot.row && !entry.value.is_zero() {
+                keep_entry(
+                    &mut self.upper,
+                    &mut self.lower,
+                    entry,
+                    is_marked(self.pivoted.as_slice(), *row),
+                    pivot.value,
+                )?;
+            }
+        }
+        self.upper.end_column()?;
+        self.lower.end_column()
+    }
+
+    // Keeps the column, which has a pivot.
+    fn keep(&mut self, pivot: &Pivot) -> Result<bool, Stop> {
+        self.keep_entries(pivot)?;
+        self.keep_pivot(pivot)?;
+        Ok(true)
+    }
+
+    // Keeps the pivot of the column whose entries were kept.
+    fn keep_pivot(&mut self, pivot: &Pivot) -> Result<(), Stop> {
+        let column = self.pivots.len();
+        if !self.lower.column(column).is_empty() {
+            push_within(
+                &mut self.eliminations,
+                Elimination {
+                    column,
+                    row: pivot.row,
+                },
+            )?;
+        }
+        if let Some(mark) = self.pivoted.get_mut(usize::from(pivot.row)) {
+            *mark = true;
+        }
+        push_within(&mut self.pivots, *pivot)
+    }
+
+    // Adds the column of a line. Whether it has a pivot: else it depends on those before it, or there is no row left for it.
+    fn add_line(
+        &mut self,
+        program: &Program,
+        basis: &Basis,
+        segments: &Segments,
+        line: u16,
+        least: u64,
+    ) -> Result<bool, Stop> {
+        if self.rows <= self.pivots.len() {
+            return Ok(false);
+        }
+        self.column.clear();
+        self.scatter(program, basis, segments, line)?;
+        self.eliminate()?;
+        match self.pivot_of(line, least) {
+            Some(pivot) => self.keep(&pivot),
+            None => Ok(false),
+        }
     }
 
     /// The factor of a basis. It stops where a column depends on others, or there are more or fewer columns than rows.
@@ -48,9 +308,64 @@ impl Factor {
         basis: &Basis,
         segments: &Segments,
     ) -> Result<(), Stop> {
-        let _ = (program.lines(), basis.multiplier(), segments.free());
-        self.count = 0;
-        Err(Stop)
+        self.clear(row_count(basis, segments));
+        for line in program.order() {
+            if basis.line(*line) == LineState::Basic {
+                let is_added = self.add_line(program, basis, segments, *line, LEAST_PIVOT)?;
+                if !is_added {
+                    return Err(Stop);
+                }
+            }
+        }
+        if self.is_full() { Ok(()) } else { Err(Stop) }
+    }
+
+    // Whether each row has a pivot.
+    fn is_full(&self) -> bool {
+        self.pivots.len() == self.rows
+    }
+
+    // The factor of the columns that don't depend on those before them; the others leave the basis.
+    fn refactor_independent(
+        &mut self,
+        program: &Program,
+        basis: &mut Basis,
+        segments: &Segments,
+    ) -> Result<(), Stop> {
+        self.clear(row_count(basis, segments));
+        for line in program.order() {
+            if basis.line(*line) == LineState::Basic {
+                let is_added = self.add_line(program, basis, segments, *line, LEAST_REGULAR_PIVOT)?;
+                if !is_added {
+                    basis.put_line(*line, LineState::Low);
+                }
+            }
+        }
+        Ok(())
+    }
+
+    // Joins the runs without a pivot to those before them. Whether there were any.
+    fn join_runs(&self, basis: &mut Basis, segments: &Segments, dates: u16) -> bool {
+        let mut is_joined = false;
+        for date in 1..usize::from(dates) + 1 {
+            if let Segment::Free(row) = segments.of(date) {
+                if !is_marked(self.pivoted.as_slice(), row) && !basis.is_joined(date - 1) {
+                    basis.put_link(date - 1, true);
+                    is_joined = true;
+                }
+            }
+        }
+        is_joined
+    }
+
+    // Ends a free multiplier without a pivot. Whether it did.
+    fn end_multiplier(&self, basis: &mut Basis, segments: &Segments, nearer: Multiplier) -> bool {
+        let is_ended = basis.multiplier() == Multiplier::Free
+            && !is_marked(self.pivoted.as_slice(), segments.free());
+        if is_ended {
+            basis.put_multiplier(nearer);
+        }
+        is_ended
     }
 
     /// Makes a basis regular: columns that depend on others leave it, runs without a pivot are joined to those before them, and a
@@ -62,15 +377,25 @@ impl Factor {
         segments: &mut Segments,
         nearer: Multiplier,
     ) -> Result<(), Stop> {
-        let _ = program.lines();
-        basis.put_multiplier(nearer);
-        segments.refresh(basis)?;
+        // Each round but the last takes a row away.
+        for _ in 0..usize::from(program.dates()) + 3 {
+            segments.refresh(basis)?;
+            self.refactor_independent(program, basis, segments)?;
+            if self.is_full() {
+                return Ok(());
+            }
+            let is_ended = self.end_multiplier(basis, segments, nearer);
+            let is_joined = self.join_runs(basis, segments, program.dates());
+            if !is_ended && !is_joined {
+                return Err(Stop);
+            }
+        }
         Err(Stop)
     }
 
     /// How many columns it has.
     pub(crate) fn count(&self) -> usize {
-        self.count
+        self.pivots.len()
     }
 
     /// A column's pivot, counted from 0 in the order of the factor.
@@ -81,15 +406,58 @@ impl Factor {
         }
     }
 
+    // Solves the columns as they were made triangular, from the first to the last.
+    fn solve_upper(&self, right: &[Fixed], into: &mut [Fixed]) -> Result<(), Stop> {
+        for column in 0..self.pivots.len().min(right.len()) {
+            let pivot = self.pivots[column];
+            let taken = product(self.upper.column(column), into);
+            put_at(
+                into,
+                usize::from(pivot.row),
+                solved(right[column], taken, pivot.value)?,
+            )?;
+        }
+        Ok(())
+    }
+
+    // Undoes the eliminations, from the last to the first.
+    fn undo_eliminations(&self, into: &mut [Fixed]) {
+        for place in (0..self.eliminations.len()).rev() {
+            let elimination = self.eliminations[place];
+            let taken = product(self.lower.column(elimination.column), into);
+            if let Some(value) = into.get_mut(usize::from(elimination.row)) {
+                *value = value.less_wide(taken);
+            }
+        }
+    }
+
     /// Solves for a number of each row, from a right-hand side for each column: prices.
     pub(crate) fn solve_transposed(&self, right: &[Fixed], into: &mut [Fixed]) -> Result<(), Stop> {
-        let _ = (right.len(), into.len());
-        Err(Stop)
+        if right.len() < self.pivots.len() {
+            return Err(Stop);
+        }
+        self.solve_upper(right, into)?;
+        self.undo_eliminations(into);
+        Ok(())
+    }
+
+    // Carries out the eliminations on a right-hand side.
+    fn eliminate_right(&self, right: &mut [Fixed]) {
+        for elimination in self.eliminations.as_slice() {
+            let times = value_at(right, elimination.row);
+            subtract(right, self.lower.column(elimination.column), times);
+        }
     }
 
     /// Solves for a number of each column, from a right-hand side for each row, which is used up: amounts.
     pub(crate) fn solve(&self, right: &mut [Fixed], into: &mut [Fixed]) -> Result<(), Stop> {
-        let _ = (right.len(), into.len());
-        Err(Stop)
+        self.eliminate_right(right);
+        for column in (0..self.pivots.len()).rev() {
+            let pivot = self.pivots[column];
+            let amount = solved(value_at(right, pivot.row), 0, pivot.value)?;
+            put_at(into, column, amount)?;
+            subtract(right, self.upper.column(column), amount);
+        }
+        Ok(())
     }
 }

@@ -15,6 +15,9 @@ const ONE: i64 = 1 << PLACES;
 // The greatest number on both sides.
 const GREATEST: i128 = 1 << 58;
 
+// The greatest dividend of a ratio: far more than any coefficient.
+const GREATEST_DIVIDEND: u128 = 1 << 80;
+
 // The least pivot that is divided by.
 const LEAST_DIVISOR: i64 = 1 << 8;
 
@@ -65,6 +68,24 @@ impl Fixed {
         }
     }
 
+    /// A ratio in units of 2^-40, rounded down.
+    pub(crate) fn ratio_down(dividend: u128, divisor: u128) -> Fixed
+        requires some { 1 ≤ divisor }
+        requires small { divisor ≤ 2 ^ 64 }
+    {
+        let places = dividend.min(GREATEST_DIVIDEND) * (ONE as u128);
+        Fixed::clamp((places / divisor) as i128)
+    }
+
+    /// A ratio in units of 2^-40, rounded up.
+    pub(crate) fn ratio_up(dividend: u128, divisor: u128) -> Fixed
+        requires some { 1 ≤ divisor }
+        requires small { divisor ≤ 2 ^ 64 }
+    {
+        let places = dividend.min(GREATEST_DIVIDEND) * (ONE as u128);
+        Fixed::clamp(((places + (divisor - 1)) / divisor) as i128)
+    }
+
     /// The number, with room to add up to 2^68 of its kind.
     pub(crate) fn wide(self) -> i128
         ensures value { result ≡ self }
@@ -79,6 +100,45 @@ impl Fixed {
         ensures size { unsigned_abs result ≤ 2 ^ 58 }
     {
         self.value
+    }
+
+    /// Whether it is nothing.
+    pub(crate) fn is_zero(self) -> bool {
+        self.value == 0
+    }
+
+    /// How far it is from nothing.
+    pub(crate) fn size(self) -> u64 {
+        self.value.unsigned_abs()
+    }
+
+    /// The number with the other sign.
+    pub(crate) fn negated(self) -> Fixed {
+        Fixed { value: -self.value }
+    }
+
+    /// The sum.
+    pub(crate) fn plus(self, other: Fixed) -> Fixed {
+        Fixed::clamp(self.wide() + other.wide())
+    }
+
+    /// The number with 40 more places.
+    pub(crate) fn widened(self) -> i128
+        ensures { unsigned_abs result ≤ 2 ^ 98 }
+    {
+        self.wide() * i128::from(ONE)
+    }
+
+    /// The number less another with 40 more places.
+    pub(crate) fn less_wide(self, taken: i128) -> Fixed
+        requires { unsigned_abs taken ≤ 2 ^ 126 }
+    {
+        Fixed::clamp(self.wide() - (taken >> PLACES))
+    }
+
+    /// The number less a product with a factor of 40 places.
+    pub(crate) fn less_product(self, factor: Fixed, times: Fixed) -> Fixed {
+        Fixed::clamp(self.wide() - times.scaled_by(factor))
     }
 
     /// The product, with twice as many places.

@@ -23,21 +23,48 @@ pub(crate) struct Segments {
     free: u16,
 }
 
+// Puts the run of each date, where all runs but the head are counted from 0. How many there are beside the head.
+fn count_runs(of_date: &mut [Segment], basis: &Basis) -> u16 {
+    let mut run = Segment::Head;
+    let mut opened = 0u16;
+    for date in 1..of_date.len() {
+        if !basis.is_joined(date - 1) {
+            run = Segment::Free(opened);
+            opened = opened.saturating_add(1);
+        }
+        of_date[date] = run;
+    }
+    opened
+}
+
+// Turns a run into the tail.
+fn end_with(of_date: &mut [Segment], last: u16) {
+    for date in 0..of_date.len() {
+        if of_date[date] == Segment::Free(last) {
+            of_date[date] = Segment::Tail;
+        }
+    }
+}
+
 impl Segments {
     /// Room for so many dates, and the two before and after them.
     pub(crate) fn make(alloc: Global, dates: u16) -> Result<Segments, NoMemory> {
-        let _ = dates;
         Ok(Segments {
-            of_date: Vec::new(alloc),
+            of_date: vec![in alloc; Segment::Head; usize::from(dates) + 2]?,
             free: 0,
         })
     }
 
     /// The runs of a basis. It stops where no link is open.
     pub(crate) fn refresh(&mut self, basis: &Basis) -> Result<(), Stop> {
-        let _ = basis.multiplier();
         self.free = 0;
-        Err(Stop)
+        let opened = count_runs(self.of_date.as_mut_slice(), basis);
+        if opened == 0 {
+            return Err(Stop);
+        }
+        self.free = opened - 1;
+        end_with(self.of_date.as_mut_slice(), self.free);
+        Ok(())
     }
 
     /// The run of a date, from 0 to the one after the last; the tail for others.

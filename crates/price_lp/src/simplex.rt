@@ -3,7 +3,12 @@ ghost use Rattle.std.specs.Prelude.{◌≡◌, length, IfOk};
 ghost use Rattle.fixed_powers.specs.DiscountPowers.{PowerTable};
 ghost use Rattle.dual_bound.specs.Tree.{IsLeaf};
 
+use crate::aim::Aim;
 use crate::basis::Basis;
+use crate::number::AMOUNT_PLACES;
+use crate::program::Program;
+use crate::proposing::{propose_prices, proposed_multiplier};
+use crate::solver::Solver;
 use dual_bound::{Interval, Leaf};
 use escrow_desk::NoMemory;
 use escrow_units::{Cents, Flow, GREATEST_INDEX};
@@ -38,8 +43,8 @@ pub enum SolveEnd {
 /// memory is taken when it is made.
 #[derive(Drop)]
 pub struct Simplex {
-    dates: u16,
-    lines: u16,
+    program: Program,
+    solver: Solver,
 }
 
 impl Model for Simplex {
@@ -47,7 +52,7 @@ impl Model for Simplex {
 
     ghost Value = { ProgramSize };
 
-    ghost view = { λ s. record { dates = s.dates; lines = s.lines } };
+    ghost view = { λ s. record { dates = s.program.dates; lines = s.program.lines } };
 }
 
 impl Simplex {
@@ -62,25 +67,37 @@ impl Simplex {
         requires longest { powers.now.longest ≡ GREATEST_INDEX }
         ensures { IfOk result (λ simplex. simplex ≡ record { dates = length book.now.needs; lines = length book.now.lines }) }
     {
-        let _ = (alloc, powers.yield_units());
-        Ok(Simplex {
-            dates: book.need_count(),
-            lines: book.line_count(),
-        })
+        let program = Program::make(alloc, book, powers)?;
+        let solver = Solver::make(alloc, &program, book)?;
+        Ok(Simplex { program, solver })
+    }
+
+    /// How many need dates there are.
+    pub(crate) fn dates(&self) -> u16
+        ensures { result ≡ self.now.dates }
+    {
+        self.program.dates()
+    }
+
+    /// How many lines there are.
+    pub(crate) fn lines(&self) -> u16
+        ensures { result ≡ self.now.lines }
+    {
+        self.program.lines()
     }
 
     /// Says what the prices are for, and whether the cost counts. The next solve has to start anew.
     pub fn aim(&mut self, purpose: Purpose, whole: bool)
         ensures { self.new ≡ self.old }
     {
-        let _ = (purpose, whole);
+        self.solver.base.aim = Aim::new(purpose, whole);
     }
 
     /// The range of a line, counted from 0, in units; it isn't fixed any longer. A line that isn't there is passed over.
     pub fn set_range(&mut self, line: u16, interval: Interval)
         ensures { self.new ≡ self.old }
     {
-        let _ = (line, interval);
+        self.solver.base.ranges.set(&self.program, line, interval);
     }
 
     /// Fixes a line, counted from 0, at a number of units, with what they cost and pay exactly: the line's payments in order.
@@ -88,69 +105,74 @@ impl Simplex {
     pub fn fix(&mut self, line: u16, units: u64, cost: Cents, payments: &[Flow])
         ensures { self.new ≡ self.old }
     {
-        let _ = (line, units, cost, payments.len());
+        self.solver
+            .base
+            .ranges
+            .fix(&self.program, line, units, cost, payments);
     }
 
     /// Starts from the highest prices that never rise under which no line that matures so far has a negative reduced cost.
     pub fn start_greedily(&mut self)
         ensures { self.new ≡ self.old }
-    {}
+    {
+        self.solver.start_greedily(&self.program);
+    }
 
     /// Starts from a leaf's prices alone: dates of equal prices are joined, and lines with a reduced cost near 0 are basic. Where
     /// no basis comes of it, it starts greedily.
     pub fn start_at(&mut self, leaf: &Leaf)
         ensures { self.new ≡ self.old }
     {
-        let _ = leaf;
+        self.solver.start_at(&self.program, leaf);
     }
 
     /// Starts from a basis that was saved.
     pub fn start_from(&mut self, basis: &Basis)
         ensures { self.new ≡ self.old }
     {
-        let _ = basis;
+        self.solver.base.basis.copy(basis);
     }
 
     /// Saves the basis.
     pub fn save(&self, basis: &mut Basis) {
-        let _ = basis;
+        basis.copy(&self.solver.base.basis);
     }
 
     /// Improves the solution by at most so many iterations, or until the objective, in cents, is at least a limit.
     pub fn solve(&mut self, iterations: u32, limit: Option<u64>) -> SolveEnd
         ensures { self.new ≡ self.old }
     {
-        let _ = (iterations, limit);
-        SolveEnd::Stopped
+        self.solver.solve(&self.program, iterations, limit)
     }
 
     /// The objective of the solution, in units of 2^-40 of a cent: what it costs, and what it pays for what it lacks.
     pub fn objective(&self) -> i128 {
-        i128::from(self.dates)
+        self.solver.primal.objective().wide() >> AMOUNT_PLACES
     }
 
     /// Whether a line, counted from 0, is in the basis: its amount may be anything within its range.
     pub fn is_basic(&self, line: u16) -> bool {
-        line < self.lines
+        self.solver.base.is_basic(line)
     }
 
     /// How much of a line, counted from 0, the solution buys at par, in units of 2^-10 of a cent.
     pub fn amount(&self, line: u16) -> i64 {
-        i64::from(line)
+        self.solver.primal.amount(line).get()
     }
 
     /// How many iterations all solves took together, counted up to the type's end.
     pub fn iterations(&self) -> u64 {
-        u64::from(self.dates)
+        self.solver.iterations
     }
 
     /// Puts the prices and the multiplier into a leaf that has a price for each need date, so that it keeps its limits. Whether
     /// its cost counts stays as it is. It takes no memory.
     pub fn propose(&self, leaf: &mut Leaf)
-        requires { IsLeaf self.now.dates leaf.old }
+        requires { length leaf.old.prices ≡ self.now.dates }
         ensures well_formed { IsLeaf self.now.dates leaf.new }
         ensures whole { leaf.new.whole ≡ leaf.old.whole }
     {
-        leaf.mu = 0;
+        leaf.mu = proposed_multiplier(self.solver.duals.multiplier());
+        propose_prices(&self.solver.duals, self.program.dates(), &mut leaf.prices);
     }
 }

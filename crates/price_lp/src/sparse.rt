@@ -1,8 +1,12 @@
 //! Columns of a sparse matrix.
+ghost use Rattle.std.specs.Prelude.{◌<◌, ◌≤◌, IsTrue, length};
 
 use crate::number::Fixed;
 use escrow_desk::NoMemory;
 use std::alloc::Global;
+
+/// The most entries that a column has: more than there are need dates.
+pub(crate) const MOST_ENTRIES: usize = 512;
 
 /// A solve can't go on: the basis isn't as it should be, or the room for a factor is used up.
 #[derive(Clone, Copy)]
@@ -15,6 +19,16 @@ pub(crate) struct Entry {
     pub place: u16,
     /// Its value.
     pub value: Fixed,
+}
+
+impl Entry {
+    // The entry that fills room that isn't used.
+    fn empty() -> Entry {
+        Entry {
+            place: 0,
+            value: Fixed::zero(),
+        }
+    }
 }
 
 /// Columns one after another, in room that is taken once.
@@ -37,11 +51,10 @@ impl Sparse {
         columns: usize,
         entries: usize,
     ) -> Result<Sparse, NoMemory> {
-        let _ = (columns, entries);
         Ok(Sparse {
-            entries: Vec::new(alloc),
+            entries: vec![in alloc; Entry::empty(); entries]?,
             used: 0,
-            ends: Vec::new(alloc),
+            ends: vec![in alloc; 0; columns]?,
             columns: 0,
         })
     }
@@ -52,20 +65,85 @@ impl Sparse {
         self.columns = 0;
     }
 
+    /// How many entries there are in all columns together.
+    pub(crate) fn entry_count(&self) -> usize {
+        self.used
+    }
+
     /// Adds an entry to the column that is being made.
     pub(crate) fn push(&mut self, entry: Entry) -> Result<(), Stop> {
-        let _ = entry;
-        Err(Stop)
+        if self.used >= self.entries.len() {
+            return Err(Stop);
+        }
+        self.entries[self.used] = entry;
+        self.used += 1;
+        Ok(())
+    }
+
+    // Whether the column that is being made ends with an entry of a place.
+    fn ends_at(&self, place: u16) -> bool
+        ensures { IsTrue result → 0 < self.now.used }
+    {
+        if self.used <= self.start(self.columns) {
+            return false;
+        }
+        match self.entries.get(self.used - 1) {
+            Some(last) => last.place == place,
+            None => false,
+        }
+    }
+
+    // Adds to the last entry.
+    fn add_to_last(&mut self, value: Fixed)
+        requires { 0 < self.old.used }
+    {
+        if let Some(last) = self.entries.get_mut(self.used - 1) {
+            last.value = last.value.plus(value);
+        }
+    }
+
+    /// Adds an entry to the column that is being made, or to its last entry where that is of the same place.
+    pub(crate) fn add(&mut self, entry: Entry) -> Result<(), Stop> {
+        if self.ends_at(entry.place) {
+            self.add_to_last(entry.value);
+            return Ok(());
+        }
+        self.push(entry)
     }
 
     /// Ends the column that is being made.
     pub(crate) fn end_column(&mut self) -> Result<(), Stop> {
-        Err(Stop)
+        if self.columns >= self.ends.len() {
+            return Err(Stop);
+        }
+        self.ends[self.columns] = self.used;
+        self.columns += 1;
+        Ok(())
     }
 
-    /// The entries of a column, counted from 0; none where there is no such column.
-    pub(crate) fn column(&self, column: usize) -> &[Entry] {
-        let _ = column;
-        self.entries.as_slice()
+    // Where a column begins: behind the columns before it.
+    fn start(&self, column: usize) -> usize {
+        if column == 0 {
+            return 0;
+        }
+        match self.ends.get(column - 1) {
+            Some(end) => *end,
+            None => 0,
+        }
+    }
+
+    /// The entries of a column, counted from 0; none where there is no such column, or it has more than the most entries.
+    pub(crate) fn column(&self, column: usize) -> &[Entry]
+        ensures few { length result.now ≤ MOST_ENTRIES }
+    {
+        if column >= self.columns {
+            return &[];
+        }
+        let start = self.start(column);
+        let end = self.start(column + 1);
+        if end < start || MOST_ENTRIES < end - start || self.entries.len() < end {
+            return &[];
+        }
+        &self.entries.as_slice()[start..end]
     }
 }

@@ -1,0 +1,119 @@
+//! A column that is being made triangular.
+
+use crate::number::Fixed;
+use crate::sparse::{Entry, Stop};
+use escrow_desk::NoMemory;
+use std::alloc::Global;
+
+/// A column by its rows, most of which hold nothing. It remembers which rows it met, so that only those are cleared.
+#[derive(Drop)]
+pub(crate) struct Scatter {
+    values: Vec<Fixed>,
+    met: Vec<bool>,
+    rows: Vec<u16>,
+    count: usize,
+}
+
+impl Scatter {
+    /// Room for so many rows.
+    ///
+    /// # Errors
+    ///
+    /// Where memory ran out.
+    pub(crate) fn with_room(alloc: Global, rows: usize) -> Result<Scatter, NoMemory> {
+        Ok(Scatter {
+            values: vec![in alloc; Fixed::zero(); rows]?,
+            met: vec![in alloc; false; rows]?,
+            rows: vec![in alloc; 0; rows]?,
+            count: 0,
+        })
+    }
+
+    /// The rows that it met, in the order in which it met them.
+    pub(crate) fn rows(&self) -> &[u16] {
+        if self.count <= self.rows.len() {
+            &self.rows.as_slice()[..self.count]
+        } else {
+            &[]
+        }
+    }
+
+    /// The value of a row; nothing where there is no such row.
+    pub(crate) fn get(&self, row: u16) -> Fixed {
+        match self.values.get(usize::from(row)) {
+            Some(value) => *value,
+            None => Fixed::zero(),
+        }
+    }
+
+    // Remembers that a row is met, which it wasn't before.
+    fn remember(&mut self, row: u16) -> Result<(), Stop> {
+        if self.count >= self.rows.len() {
+            return Err(Stop);
+        }
+        self.rows[self.count] = row;
+        self.count += 1;
+        Ok(())
+    }
+
+    // Meets a row.
+    fn meet(&mut self, row: u16) -> Result<(), Stop> {
+        let place = usize::from(row);
+        if place >= self.met.len() {
+            return Err(Stop);
+        }
+        if self.met[place] {
+            return Ok(());
+        }
+        self.met[place] = true;
+        self.remember(row)
+    }
+
+    /// Puts the value of a row. It stops where there is no such row.
+    pub(crate) fn put(&mut self, row: u16, value: Fixed) -> Result<(), Stop> {
+        self.meet(row)?;
+        match self.values.get_mut(usize::from(row)) {
+            Some(place) => {
+                *place = value;
+                Ok(())
+            }
+            None => Err(Stop),
+        }
+    }
+
+    /// Adds to the value of a row. It stops where there is no such row.
+    pub(crate) fn add(&mut self, row: u16, value: Fixed) -> Result<(), Stop> {
+        let sum = self.get(row).plus(value);
+        self.put(row, sum)
+    }
+
+    /// Takes off so many times another column. It stops where there is no such row.
+    pub(crate) fn subtract(&mut self, column: &[Entry], times: Fixed) -> Result<(), Stop> {
+        for entry in column {
+            let rest = self.get(entry.place).less_product(entry.value, times);
+            self.put(entry.place, rest)?;
+        }
+        Ok(())
+    }
+
+    // Forgets a row.
+    fn forget(&mut self, row: u16) {
+        if let Some(value) = self.values.get_mut(usize::from(row)) {
+            *value = Fixed::zero();
+        }
+        if let Some(met) = self.met.get_mut(usize::from(row)) {
+            *met = false;
+        }
+    }
+
+    /// Leaves nothing in any row.
+    pub(crate) fn clear(&mut self) {
+        for place in 0..self.count {
+            if let Some(row) = self.rows.get(place) {
+                let row = *row;
+                self.forget(row);
+            }
+        }
+        self.count = 0;
+    }
+}

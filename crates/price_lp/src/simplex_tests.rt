@@ -1,0 +1,91 @@
+//! Worked figures of solves. They come from another program.
+
+use crate::basis::{Basis, LineState};
+use crate::simplex::{Purpose, Simplex, SolveEnd};
+use case_file::read_case;
+use dual_bound::{Interval, Leaf, Prices};
+use escrow_units::{Cents, GREATEST_INDEX, YieldUnits};
+use fixed_powers::{Powers, Side};
+use std::alloc::Global;
+use std::test::Fail;
+
+const ISSUE: &[u8] =
+    b"settle,2025-01-15\nneed,2025-07-15,1000000.00\nneed,2027-01-15,2000000.00\nrestricted,3.50\n";
+
+const RATES: &[u8] =
+    b"terms,1000,1\nrate,2025-02-14,2027-01-15,4.00\noffer,2025-07-15,max,,10000000\noffer,2025-07-15,3.00,,10000000\noffer,2027-01-15,max,,10000000\noffer,2027-01-15,3.00,,10000000\n";
+
+// Opening cash, and for each need date two lines, of 4 and of 3 percent.
+fn simplex_of(alloc: Global) -> Result<Simplex, Fail> {
+    let powers = Powers::make(alloc, YieldUnits(350_100_000), Side::Low, GREATEST_INDEX)?;
+    match read_case(alloc, ISSUE, RATES, b"") {
+        Ok(case) => Ok(Simplex::make(alloc, &case.book, &powers)?),
+        Err(_) => Err(Fail::new("no case")),
+    }
+}
+
+// The leaf that a solution proposes.
+fn leaf_of(alloc: Global, simplex: &Simplex) -> Result<Leaf, Fail> {
+    let mut leaf = Leaf {
+        whole: true,
+        mu: 0,
+        prices: Prices::new(vec![in alloc; 0; usize::from(simplex.dates())]?),
+    };
+    simplex.propose(&mut leaf);
+    Ok(leaf)
+}
+
+// The whole cents of the objective.
+fn cents_of(simplex: &Simplex) -> i128 {
+    simplex.objective() >> 40
+}
+
+#[test]
+fn a_solve_keeps_to_the_yield_limit(rt: HostRuntime) -> Result<(), Fail> {
+    let mut simplex = simplex_of(rt.alloc())?;
+    simplex.start_greedily();
+    assert_eq!(rt; simplex.solve(100, None), SolveEnd::Optimal);
+    assert_eq!(rt; simplex.iterations(), 1);
+    assert_eq!(rt; cents_of(&simplex), 285_028_911);
+    let amounts = [0, 97_122_537_446, 0, 85_954_225_172, 108_792_843_366];
+    for line in 0..5u16 {
+        assert_eq!(rt; Some(&simplex.amount(line)), amounts.get(usize::from(line)));
+        assert_eq!(rt; simplex.is_basic(line), line == 1 || 3 <= line);
+    }
+    // 1,080,565,599,353 and 1,026,680,214,347 in units of 2^-40.
+    let leaf = leaf_of(rt.alloc(), &simplex)?;
+    assert_eq!(rt;
+        leaf.prices.as_slice(),
+        [982_768_687_529, 933_760_215_363].as_slice()
+    );
+    Ok(())
+}
+
+#[test]
+fn a_solve_starts_from_a_leaf_or_a_basis(rt: HostRuntime) -> Result<(), Fail> {
+    let mut simplex = simplex_of(rt.alloc())?;
+    let mut basis = Basis::make(rt.alloc(), &simplex)?;
+    assert_eq!(rt; simplex.solve(100, None), SolveEnd::Optimal);
+    let leaf = leaf_of(rt.alloc(), &simplex)?;
+    let solved = simplex.iterations();
+    simplex.start_at(&leaf);
+    assert_eq!(rt; simplex.solve(1, None), SolveEnd::Optimal);
+    assert_eq!(rt; simplex.iterations(), solved);
+    simplex.save(&mut basis);
+    // Without the last line it costs more.
+    simplex.set_range(4, Interval { low: 0, high: 0 });
+    assert_eq!(rt; simplex.solve(0, None), SolveEnd::Capped);
+    assert_eq!(rt; simplex.solve(100, Some(285_028_910)), SolveEnd::AtLimit);
+    simplex.set_range(4, Interval { low: 0, high: 1000 });
+    simplex.start_from(&basis);
+    simplex.fix(0, 0, Cents(0), &[]);
+    assert_eq!(rt; simplex.solve(100, None), SolveEnd::Optimal);
+    // More columns than runs of dates.
+    basis.put_line(2, LineState::Basic);
+    simplex.start_from(&basis);
+    assert_eq!(rt; simplex.solve(1, None), SolveEnd::Stopped);
+    simplex.aim(Purpose::Plan, true);
+    simplex.start_greedily();
+    assert_eq!(rt; simplex.solve(100, None), SolveEnd::Optimal);
+    Ok(())
+}
