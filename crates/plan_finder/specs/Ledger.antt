@@ -3,7 +3,7 @@ use Rattle.std.specs.Prelude.{◌≡◌, ℕ, ◌*◌, ◌<◌, ◌≤◌, List,
 use Rattle.std.specs.List.{zip}
 use Rattle.escrow_units.specs.declared.security.Flow.{Flow}
 use Rattle.fixed_powers.specs.DiscountPowers.{one}
-use Rattle.offer_book.specs.Book.{BookContents}
+use Rattle.offer_book.specs.Book.{BookContents, IsBook}
 use Rattle.offer_book.specs.Portfolio.{IsPermitted, cost as cost_of, line_cost, line_payments, payments as payments_of}
 use Rattle.offer_book.specs.Schedule.{IsScheduleOf, kind_accrued}
 use Rattle.offer_book.specs.declared.line.Line.{Line}
@@ -39,13 +39,13 @@ pub record IsPurchase (n : ℕ) (settle : ℤ) (line : Line) (units : ℕ) (purc
 -- the terms of the lines of a book
 pub record AreTerms (n : ℕ) (book : BookContents) (terms : List LineTerms) : Type 0 where
   pub count : length terms ≡ length book.lines
-  pub each : (k : ℕ) (line : Line) (own : LineTerms) → k < length book.lines
+  pub each : (k : ℕ) (own : LineTerms) → k < length book.lines → (line : Line)
       → IsTerms n book.settle (slice_index_or book.lines k line) (slice_index_or terms k own)
 
 -- what a plan's units of each line cost and pay
 pub record AreHeld (n : ℕ) (book : BookContents) (plan : List ℕ) (held : List Purchase) : Type 0 where
   pub count : length held ≡ length book.lines
-  pub each : (k : ℕ) (line : Line) (own : Purchase) → k < length book.lines
+  pub each : (k : ℕ) (own : Purchase) → k < length book.lines → (line : Line)
       → IsPurchase n book.settle (slice_index_or book.lines k line) (slice_index plan k) (slice_index_or held k own)
 
 -- what the plan's securities are worth against the limit
@@ -54,6 +54,7 @@ plan_worth n book plan = sum_by (λ p. line_worth n book.settle p.0 p.1) (zip bo
 
 -- a ledger of a book, at the yield n: all that it has is that of its plan
 pub record IsLedger (n : ℕ) (book : BookContents) (ledger : Ledger) : Type 0 where
+  pub limits : IsBook book
   pub permitted : IsPermitted book ledger.plan
   pub terms : AreTerms n book ledger.terms.items
   pub held : AreHeld n book ledger.plan ledger.held.items

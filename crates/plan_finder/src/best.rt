@@ -1,5 +1,5 @@
 //! The cheapest plan that was found.
-ghost use Rattle.std.specs.Prelude.{ℕ, ◌<◌, ◌≤◌, All, IfSome, OnOk, length};
+ghost use Rattle.std.specs.Prelude.{◌≡◌, ℕ, ◌<◌, ◌≤◌, All, IfSome, OnOk, length};
 ghost use Rattle.offer_book.specs.Portfolio.{IsPermitted};
 ghost use Rattle.plan_finder.specs.Ledger.{IsLedger};
 ghost use Rattle.plan_finder.specs.Proposal.{IsProposal};

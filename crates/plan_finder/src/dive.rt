@@ -6,7 +6,7 @@ ghost use Rattle.std.specs.Prelude.{◌≡◌, ℕ, ◌<◌, ◌≤◌, All, IfO
 ghost use Rattle.fixed_powers.specs.DiscountPowers.{PowerTable};
 ghost use Rattle.offer_book.specs.Portfolio.{IsPermitted, IsPermittedUnits};
 ghost use Rattle.offer_book.specs.declared.line.Line.{Line};
-ghost use Rattle.plan_finder.specs.Dive.{IsDiver};
+ghost use Rattle.plan_finder.specs.Dive.{AreLinesOf, IsDiver};
 ghost use Rattle.plan_finder.specs.Ledger.{IsLedger};
 
 use crate::draw::Draw;

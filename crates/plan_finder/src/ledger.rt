@@ -52,8 +52,8 @@ fn run_up(amounts: &mut [u64], dates: usize)
     }
 }
 
-/// What flows come to up to each need date, in cents.
-pub(crate) fn paid_by(needs: &[Flow], flows: &[Flow]) -> [u64; MOST_NEED_DATES]
+// What flows come to up to each need date, in cents.
+fn paid_by(needs: &[Flow], flows: &[Flow]) -> [u64; MOST_NEED_DATES]
     requires places { length needs.now ≤ MOST_NEED_DATES }
     requires rising { Rise needs.now }
     requires small { total flows.now < 2 ^ 64 }
@@ -63,6 +63,14 @@ pub(crate) fn paid_by(needs: &[Flow], flows: &[Flow]) -> [u64; MOST_NEED_DATES]
     add_receipts(&mut paid, needs, flows);
     run_up(&mut paid, needs.len());
     paid
+}
+
+/// What a purchase pays up to each need date, in cents.
+pub(crate) fn paid(book: &Book, purchase: &Purchase) -> [u64; MOST_NEED_DATES]
+    requires { total purchase.now.payments.items ≤ 2 * 10 ^ 13 }
+    ensures { ArePaid book.now.needs purchase.now.payments.items result }
+{
+    paid_by(book.needs(), purchase.payments.as_slice())
 }
 
 // Takes off what a line paid before by each date, and adds what it pays now.
@@ -83,12 +91,12 @@ fn exchange(received: &mut [u64], before: &[u64], after: &[u64], dates: usize)
 fn terms_of(alloc: Global, book: &Book, powers: &Powers) -> Result<Vec<LineTerms>, NoMemory>
     requires side { powers.now.side ≡ Side.Low }
     requires longest { powers.now.longest ≡ GREATEST_INDEX }
-    ensures { IfOk result (AreTerms powers.now.yield_units book.now) }
+    ensures { IfOk result (λ terms. AreTerms powers.now.yield_units book.now terms.items) }
 {
     let settle = book.settle();
     let mut terms = Vec::new(alloc);
-    for line in book.lines() {
-        terms.push(LineTerms::make(alloc, settle, powers, line)?)?;
+    for line in 0..book.line_count() {
+        terms.push(LineTerms::make(alloc, settle, powers, book.line(line))?)?;
     }
     Ok(terms)
 }
@@ -103,8 +111,8 @@ fn nothing_held(
     ensures { IfOk result (λ held. (n : ℕ) → AreTerms n book.now terms.now → AreHeld n book.now (replicate (length book.now.lines) 0) held.items) }
 {
     let mut held = Vec::new(alloc);
-    for (line, own) in book.lines().iter().zip(terms) {
-        held.push(own.purchase(line, 0))?;
+    for line in 0..book.line_count() {
+        held.push(terms[usize::from(line)].purchase(book.line(line), 0))?;
     }
     Ok(held)
 }
@@ -146,7 +154,8 @@ impl Ledger {
         requires ledger { (n : ℕ) × IsLedger n book.now self.now }
         requires line { line < length book.now.lines }
         requires units { (d : Line) → units ≤ (slice_index_or book.now.lines line d).most }
-        ensures { (n : ℕ) (d : Line) → IsLedger n book.now self.now → IsPurchase n book.now.settle (slice_index_or book.now.lines line d) units result }
+        ensures value { (n : ℕ) (d : Line) → IsLedger n book.now self.now → IsPurchase n book.now.settle (slice_index_or book.now.lines line d) units result }
+        ensures little { total result.payments.items ≤ 2 * 10 ^ 13 }
     {
         self.terms[usize::from(line)].purchase(book.line(line), units)
     }
@@ -164,9 +173,9 @@ impl Ledger {
         let before = &self.held[place];
         exchange(
             &mut self.received,
-            &paid_by(book.needs(), before.payments.as_slice()),
-            &paid_by(book.needs(), after.payments.as_slice()),
-            book.needs().len(),
+            &paid(book, before),
+            &paid(book, &after),
+            usize::from(book.need_count()),
         );
         self.cost = Cents(self.cost.0 - before.cost.0 + after.cost.0);
         self.worth = self.worth - before.worth + after.worth;
@@ -188,7 +197,7 @@ impl Ledger {
         requires ledger { (n : ℕ) × IsLedger n book.now self.now }
         requires line { line < length book.now.lines }
     {
-        let mut due = paid_by(book.needs(), self.held[usize::from(line)].payments.as_slice());
+        let mut due = paid(book, &self.held[usize::from(line)]);
         for place in 0..usize::from(book.need_count()) {
             due[place] = self.needed[place].saturating_sub(self.received[place] - due[place]);
         }

@@ -93,7 +93,7 @@ fn weight(held: Cents, bought: Cents, filled: u64, short: u64) -> u64 {
 fn rise_of(book: &Book, ledger: &Ledger, line: u16, shortage: Shortage) -> Option<Rise>
     requires ledger { (n : ℕ) × IsLedger n book.now ledger.now }
     requires line { line < length book.now.lines }
-    ensures { IfSome result (λ rise. (rise.line ≡ line) × ((d : Line) → IsPermittedUnits (slice_index_or book.now.lines line d) rise.units)) }
+    ensures { IfSome result (IsRise book.now) }
 {
     let offer = book.line(line);
     let units = ledger.units(line);
@@ -114,7 +114,11 @@ fn rise_of(book: &Book, ledger: &Ledger, line: u16, shortage: Shortage) -> Optio
 }
 
 // The one of two rises that weighs less, the earlier one where they weigh the same.
-fn lighter(first: Option<Rise>, second: Option<Rise>) -> Option<Rise> {
+fn lighter(book: &Book, first: Option<Rise>, second: Option<Rise>) -> Option<Rise>
+    requires first { IfSome first (IsRise book.now) }
+    requires second { IfSome second (IsRise book.now) }
+    ensures { IfSome result (IsRise book.now) }
+{
     match (first, second) {
         (Some(one), Some(other)) => Some(if other.weight < one.weight { other } else { one }),
         (None, other) => other,
@@ -133,17 +137,27 @@ fn first_shortage(book: &Book, ledger: &Ledger) -> Option<Shortage>
     })
 }
 
-// The rise of one line that covers the first shortage at the least cost.
-fn cheapest_rise(book: &Book, ledger: &Ledger) -> Option<Rise>
+// The rise of one line that covers a shortage at the least cost.
+fn cheapest_rise(book: &Book, ledger: &Ledger, shortage: Shortage) -> Option<Rise>
     requires { (n : ℕ) × IsLedger n book.now ledger.now }
     ensures { IfSome result (IsRise book.now) }
 {
-    let shortage = first_shortage(book, ledger)?;
     let mut cheapest = None;
     for line in 0..book.line_count() {
-        cheapest = lighter(cheapest, rise_of(book, ledger, line, shortage));
+        cheapest = lighter(book, cheapest, rise_of(book, ledger, line, shortage));
     }
     cheapest
+}
+
+// The rise of one line that covers the first shortage at the least cost, if there is any.
+fn next_rise(book: &Book, ledger: &Ledger) -> Option<Rise>
+    requires { (n : ℕ) × IsLedger n book.now ledger.now }
+    ensures { IfSome result (IsRise book.now) }
+{
+    match first_shortage(book, ledger) {
+        Some(shortage) => cheapest_rise(book, ledger, shortage),
+        None => None,
+    }
 }
 
 /// Raises lines while the plan is short, each time the one that covers the first shortage at the least cost: at most four times
@@ -153,7 +167,7 @@ pub(crate) fn mend(book: &Book, ledger: &mut Ledger)
     ensures ledger { (n : ℕ) → IsLedger n book.now ledger.old → IsLedger n book.now ledger.new }
 {
     for _ in 0..4 * u32::from(book.line_count()) + 64 {
-        match cheapest_rise(book, ledger) {
+        match next_rise(book, ledger) {
             Some(rise) => ledger.put(book, rise.line, rise.units),
             None => return,
         }

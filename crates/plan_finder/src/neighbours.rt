@@ -1,6 +1,5 @@
 //! The permitted numbers of units next to an amount.
-ghost use Rattle.std.specs.Prelude.{◌≤◌, ℤ};
-ghost use Rattle.offer_book.specs.Book.{IsLine};
+ghost use Rattle.std.specs.Prelude.{◌^◌, ◌<◌, ◌≤◌};
 ghost use Rattle.offer_book.specs.Portfolio.{IsPermittedUnits};
 
 use offer_book::Line;
@@ -21,16 +20,17 @@ const AMOUNT_SCALE: u64 = 1 << 10;
 
 /// The greatest permitted number of units up to a number.
 pub(crate) fn permitted_below(line: &Line, units: u64) -> u64
-    requires { (settle : ℤ) × IsLine settle line.now }
     ensures { IsPermittedUnits line.now result }
 {
-    let most = units.min(line.most);
-    if most < line.least { 0 } else { most }
+    if units < line.least || line.most < line.least {
+        0
+    } else {
+        units.min(line.most)
+    }
 }
 
-/// The least permitted number of units above 0 from a number on, or the most where there is none.
-pub(crate) fn permitted_above(line: &Line, units: u64) -> u64
-    requires { (settle : ℤ) × IsLine settle line.now }
+// The least permitted number of units above 0 from a number on, or the most where there is none.
+fn permitted_above(line: &Line, units: u64) -> u64
     ensures { IsPermittedUnits line.now result }
 {
     if line.most < line.least {
@@ -42,7 +42,8 @@ pub(crate) fn permitted_above(line: &Line, units: u64) -> u64
 
 /// The permitted numbers of units next to an amount at par, in units of 2^-10 of a cent.
 pub(crate) fn next_to(line: &Line, amount: i64) -> Neighbours
-    requires { (settle : ℤ) × IsLine settle line.now }
+    requires some { 0 < line.now.step }
+    requires step { line.now.step ≤ 10 ^ 8 }
     ensures below { IsPermittedUnits line.now result.below }
     ensures above { IsPermittedUnits line.now result.above }
 {

@@ -39,10 +39,10 @@ fn end_of(needs: &[Flow], flows: &[Flow]) -> u16
     for flow in flows {
         let place = place_of(needs, flow.day);
         if place < needs.len() {
-            end = place + 1;
+            end = place as u16 + 1;
         }
     }
-    end as u16
+    end
 }
 
 /// The last need date that each line's payments serve, counted from 1: 0 where they serve none.

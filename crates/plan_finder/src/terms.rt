@@ -55,23 +55,23 @@ fn power_on(settle: Day, powers: &Powers, kind: LineKind, day: Day) -> u64
     }
 }
 
-// The discount factors of the days on which a kind of line pays.
+// The discount factors of the days on which a line pays.
 fn powers_of(
     alloc: Global,
     settle: Day,
     powers: &Powers,
-    kind: LineKind,
+    line: &Line,
     schedule: &[ScheduledPayment],
 ) -> Result<Vec<u64>, NoMemory>
     requires side { powers.now.side ≡ Side.Low }
     requires longest { powers.now.longest ≡ GREATEST_INDEX }
     requires within { All (λ payment. (settle ≤ℤ payment.day) × (payment.day ≤ℤ years_after_of settle 40)) schedule.now }
-    ensures value { IfOk result (λ factors. factors.items ≡ map (λ payment. kind_power powers.now.yield_units settle kind payment.day) schedule.now) }
+    ensures value { IfOk result (λ factors. factors.items ≡ map (λ payment. kind_power powers.now.yield_units settle line.now.kind payment.day) schedule.now) }
     ensures small { IfOk result (λ factors. All (λ power. power ≤ one) factors.items) }
 {
     let mut factors = Vec::new(alloc);
     for payment in schedule {
-        factors.push(power_on(settle, powers, kind, payment.day))?;
+        factors.push(power_on(settle, powers, line.kind, payment.day))?;
     }
     Ok(factors)
 }
@@ -147,7 +147,7 @@ impl LineTerms {
         ensures { IfOk result (IsTerms powers.now.yield_units settle line.now) }
     {
         let schedule = line.schedule(settle);
-        let powers = powers_of(alloc, settle, powers, line.kind, schedule.as_slice())?;
+        let powers = powers_of(alloc, settle, powers, line, schedule.as_slice())?;
         Ok(LineTerms {
             accrued: line.accrued(),
             schedule,

@@ -5,7 +5,7 @@ ghost use Rattle.offer_book.specs.declared.line.Line.{Line};
 ghost use Rattle.backward_build.specs.Spare.{ArePaid};
 ghost use Rattle.plan_finder.specs.Ledger.{IsLedger};
 
-use crate::ledger::{Ledger, paid_by};
+use crate::ledger::{Ledger, paid};
 use crate::order::Ranked;
 use escrow_units::MOST_NEED_DATES;
 use offer_book::Book;
@@ -30,8 +30,7 @@ fn suffices(book: &Book, ledger: &Ledger, duty: &Duty, units: u64) -> bool
     requires line { duty.now.line < length book.now.lines }
     requires units { (d : Line) → units ≤ (slice_index_or book.now.lines duty.now.line d).most }
 {
-    let bought = ledger.purchase(book, duty.line, units);
-    let paid = paid_by(book.needs(), bought.payments.as_slice());
+    let paid = paid(book, &ledger.purchase(book, duty.line, units));
     for place in 0..usize::from(book.need_count()) {
         if paid[place] < duty.due[place] {
             return false;
