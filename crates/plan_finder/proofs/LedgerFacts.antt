@@ -8,14 +8,23 @@ use Rattle.std.proofs.lemmas.List.Elements.{All-map}
 use Rattle.std.proofs.lemmas.List.Sums.{sum_by-cons}
 use Rattle.escrow_units.specs.declared.security.Flow.{Flow}
 use Rattle.slgs_interest.specs.PaymentLaws.{IsShort}
-use Rattle.offer_book.specs.Book.{BookContents}
+use Rattle.escrow_units.specs.Flows.{total}
+use Rattle.escrow_units.specs.SlgsTerms.{IsSettlement}
+use Rattle.offer_book.specs.Book.{BookContents, IsBook, IsLine}
+use Rattle.offer_book.specs.Portfolio.{IsPermitted}
+use Rattle.offer_book.proofs.LineFacts.{line_payments-total}
+use Rattle.cash_table.proofs.CostFacts.{permitted_few}
+use Rattle.cash_table.proofs.PaymentFacts.{all_lines}
+use Rattle.backward_build.proofs.TrimFacts.{some_line}
+use Rattle.backward_build.proofs.UnitFacts.{permitted-at}
 use Rattle.offer_book.specs.Schedule.{flow_by}
 use Rattle.offer_book.specs.declared.line.Line.{Line}
 use Rattle.offer_book.specs.declared.line.LineKind.{LineKind}
 use Rattle.offer_book.specs.declared.schedule.ScheduledPayment.{ScheduledPayment}
 use Rattle.dual_bound.specs.Columns.{kind_power}
 use Rattle.dual_bound.proofs.ColumnSizes.{cents-little}
-use Rattle.plan_finder.specs.Ledger.{AreHeld, IsPurchase, flows_worth}
+use Rattle.plan_finder.specs.Ledger.{AreHeld, AreTerms, IsPurchase, IsTerms, flows_worth}
+use Rattle.plan_finder.specs.declared.terms.LineTerms.{LineTerms}
 use Rattle.plan_finder.specs.declared.terms.Purchase.{Purchase}
 
 -- what a flow is worth by a power, as a function of their pair
@@ -88,3 +97,29 @@ held-set n book plan held i units after within same was now = record {
     | inr away ↦ rw (get_or-set_other plan i k units 0 away, get_or-set_other held i k after own away) (was.each k own here line)
   ];
 }
+
+-- the lines of a book, and the terms of each
+pub book-line : (book : BookContents) (i : ℕ) (d : Line) → IsBook book → i < length book.lines → IsLine book.settle (get_or book.lines i d)
+book-line book i d limits within = all_lines book.settle book.lines limits.lines i d within
+
+pub line-is : (book : BookContents) (i : ℕ) (line : Line) → IsBook book → i < length book.lines → line ≡ get_or book.lines i line → IsLine book.settle line
+line-is book i line limits within at = subst (IsLine book.settle) (sym at) (book-line book i line limits within)
+
+pub terms-at : (n : ℕ) (book : BookContents) (terms : List LineTerms) (i : ℕ) (line : Line) (own : LineTerms) → AreTerms n book terms → i < length book.lines
+    → line ≡ get_or book.lines i line → own ≡ get_or terms i own → IsTerms n book.settle line own
+terms-at n book terms i line own are within at here =
+    subst (λ x. IsTerms n book.settle x own) (sym at) (subst (λ y. IsTerms n book.settle (get_or book.lines i line) y) (sym here) (are.each i own within line))
+
+-- a purchase pays little
+pub purchase-little : (n : ℕ) (settle : ℤ) (line : Line) (units : ℕ) (purchase : Purchase) → IsSettlement settle → IsLine settle line → units ≤ line.most
+    → IsPurchase n settle line units purchase → total purchase.payments.items ≤ 2 * 10 ^ 13
+purchase-little n settle line units purchase settled is few own =
+    subst (λ flows. total flows ≤ 2 * 10 ^ 13) (sym own.payments) (line_payments-total settle line units settled is few)
+
+pub held-little : (n : ℕ) (book : BookContents) (plan : List ℕ) (held : List Purchase) (i : ℕ) (own : Purchase) → IsBook book → IsPermitted book plan → AreHeld n book plan held
+    → i < length book.lines → own ≡ get_or held i own → total own.payments.items ≤ 2 * 10 ^ 13
+held-little n book plan held i own limits permitted are within at =
+    let line = get_or book.lines i some_line in
+    subst (λ (purchase : Purchase). total purchase.payments.items ≤ 2 * 10 ^ 13) (sym at)
+    (purchase-little n book.settle line (get_or plan i 0) (get_or held i own) limits.settlement (book-line book i some_line limits within)
+    (permitted_few line (get_or plan i 0) (permitted-at book plan i within permitted some_line)) (are.each i own within some_line))
