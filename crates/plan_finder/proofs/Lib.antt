@@ -1,1 +1,3 @@
 mod LedgerFacts
+mod PutFacts
+mod WorthFacts
