@@ -1,3 +1,4 @@
 mod LedgerFacts
 mod PutFacts
 mod WorthFacts
+mod MakeFacts

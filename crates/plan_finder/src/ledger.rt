@@ -126,7 +126,7 @@ impl Ledger {
     pub(crate) fn make(alloc: Global, book: &Book, powers: &Powers) -> Result<Ledger, NoMemory>
         requires side { powers.now.side ≡ Side.Low }
         requires longest { powers.now.longest ≡ GREATEST_INDEX }
-        ensures ledger { IfOk result (IsLedger powers.now.yield_units book.now) }
+        ensures { IfOk result (IsLedger powers.now.yield_units book.now) }
     {
         let terms = terms_of(alloc, book, powers)?;
         let held = nothing_held(alloc, book, terms.as_slice())?;
