@@ -55,19 +55,8 @@ pub(crate) fn offer(
     Ok(())
 }
 
-/// Takes the units of the ledger's plan over.
-fn keep(book: &Book, ledger: &Ledger, plan: &mut Plan)
-    requires ledger { (n : ℕ) × IsLedger n book.now ledger.now }
-    requires plan { length plan.old ≡ length book.now.lines }
-    ensures { IsPermitted book.now plan.new }
-{
-    for line in 0..book.line_count() {
-        plan.put(line, ledger.units(line));
-    }
-}
-
-/// Gives the ledger the units of a plan.
-pub(crate) fn restore(book: &Book, ledger: &mut Ledger, plan: &Plan)
+// Gives the ledger the units of a plan.
+fn restore(book: &Book, ledger: &mut Ledger, plan: &Plan)
     requires ledger { (n : ℕ) × IsLedger n book.now ledger.old }
     requires plan { IsPermitted book.now plan.now }
     ensures { (n : ℕ) → IsLedger n book.now ledger.old → IsLedger n book.now ledger.new }
@@ -92,24 +81,21 @@ pub(crate) fn finish(
     limit: YieldUnits,
     orders: &[Vec<Ranked>],
     ledger: &mut Ledger,
-    mended: &mut Plan,
     best: &mut Option<Proposal>,
 ) -> Result<(), NoMemory>
     requires ledger { (n : ℕ) × IsLedger n book.now ledger.old }
     requires orders { All (λ order. All (λ ranked. ranked.line < length book.now.lines) order.items) orders.now }
-    requires plan { length mended.old ≡ length book.now.lines }
     requires best { IfSome best.old (IsProposal limit.0 book.now) }
     ensures ledger { OnOk result ((n : ℕ) → IsLedger n book.now ledger.old → IsLedger n book.now ledger.new) }
-    ensures plan { OnOk result (length mended.new ≡ length book.now.lines) }
     ensures best { OnOk result (IfSome best.new (IsProposal limit.0 book.now)) }
 {
     mend(book, ledger);
     if ledger.first_short(book).is_some() {
         return Ok(());
     }
-    keep(book, ledger, mended);
+    let mended = ledger.plan.copy(alloc)?;
     for order in orders {
-        restore(book, ledger, mended);
+        restore(book, ledger, &mended);
         trim(book, ledger, order.as_slice());
         offer(alloc, book, limit, ledger, best)?;
     }

@@ -244,7 +244,7 @@ impl Diver {
         requires ledger { (n : ℕ) × IsLedger n book.now ledger.now }
         ensures { IsDiver book.now self.new }
     {
-        for _ in 0..book.line_count() {
+        for _turn in 0..book.line_count() {
             match self.next_line(book, sequence) {
                 Some(line) => self.decide(book, ledger, line),
                 None => return,

@@ -90,7 +90,7 @@ fn weight(held: Cents, bought: Cents, filled: u64, short: u64) -> u64 {
 }
 
 // The rise of a line that covers a shortage, or as much of it as the line can, if it pays anything by then.
-fn rise_of(book: &Book, ledger: &Ledger, line: u16, shortage: Shortage) -> Option<Rise>
+fn rise_of(book: &Book, ledger: &Ledger, line: u16, shortage: &Shortage) -> Option<Rise>
     requires ledger { (n : ℕ) × IsLedger n book.now ledger.now }
     requires line { line < length book.now.lines }
     ensures { IfSome result (IsRise book.now) }
@@ -138,7 +138,7 @@ fn first_shortage(book: &Book, ledger: &Ledger) -> Option<Shortage>
 }
 
 // The rise of one line that covers a shortage at the least cost.
-fn cheapest_rise(book: &Book, ledger: &Ledger, shortage: Shortage) -> Option<Rise>
+fn cheapest_rise(book: &Book, ledger: &Ledger, shortage: &Shortage) -> Option<Rise>
     requires { (n : ℕ) × IsLedger n book.now ledger.now }
     ensures { IfSome result (IsRise book.now) }
 {
@@ -155,7 +155,7 @@ fn next_rise(book: &Book, ledger: &Ledger) -> Option<Rise>
     ensures { IfSome result (IsRise book.now) }
 {
     match first_shortage(book, ledger) {
-        Some(shortage) => cheapest_rise(book, ledger, shortage),
+        Some(shortage) => cheapest_rise(book, ledger, &shortage),
         None => None,
     }
 }
@@ -166,7 +166,7 @@ pub(crate) fn mend(book: &Book, ledger: &mut Ledger)
     requires ledger { (n : ℕ) × IsLedger n book.now ledger.old }
     ensures ledger { (n : ℕ) → IsLedger n book.now ledger.old → IsLedger n book.now ledger.new }
 {
-    for _ in 0..4 * u32::from(book.line_count()) + 64 {
+    for _round in 0..4 * u32::from(book.line_count()) + 64 {
         match next_rise(book, ledger) {
             Some(rise) => ledger.put(book, rise.line, rise.units),
             None => return,

@@ -1,7 +1,6 @@
 //! Dives, and the exact plans that come of them.
 ghost use Rattle.std.specs.Prelude.{◌≤◌, ◌≡◌, ℕ, All, IfOk, IfSome, OnOk, length};
 ghost use Rattle.fixed_powers.specs.DiscountPowers.{PowerTable};
-ghost use Rattle.offer_book.specs.Portfolio.{IsPermitted};
 ghost use Rattle.plan_finder.specs.Dive.{AreLinesOf, IsDiver, IsSearch};
 ghost use Rattle.plan_finder.specs.Ledger.{IsLedger};
 ghost use Rattle.plan_finder.specs.Proposal.{IsProposal};
@@ -11,7 +10,6 @@ use crate::dive::{Diver, Sequence};
 use crate::finding::Proposal;
 use crate::ledger::Ledger;
 use crate::order::{By, Ranked, ends_of, order};
-use cash_table::Plan;
 use escrow_desk::NoMemory;
 use escrow_units::{GREATEST_INDEX, GREATEST_YIELD, YieldUnits};
 use fixed_powers::{Powers, Side};
@@ -27,8 +25,6 @@ pub(crate) struct Search {
     pub diver: Diver,
     /// The orders in which lines are trimmed.
     pub orders: Vec<Vec<Ranked>>,
-    /// A plan that was mended, before it is trimmed.
-    pub mended: Plan,
 }
 
 // The orders in which lines are trimmed.
@@ -66,7 +62,6 @@ impl Search {
             ledger,
             diver: Diver::make(alloc, book, &powers, earliest, drawn)?,
             orders: orders_of(alloc, book, ends.as_slice())?,
-            mended: Plan::zero(alloc, book)?,
         })
     }
 
@@ -92,7 +87,6 @@ impl Search {
             limit,
             self.orders.as_slice(),
             &mut self.ledger,
-            &mut self.mended,
             best,
         )
     }
