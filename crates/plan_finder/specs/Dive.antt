@@ -1,6 +1,6 @@
 -- What a dive keeps.
 use Rattle.std.specs.Prelude.{◌≡◌, ℕ, ◌<◌, List, All, length}
-use Rattle.offer_book.specs.Book.{BookContents}
+use Rattle.offer_book.specs.Book.{BookContents, IsBook}
 use Rattle.plan_finder.specs.declared.dive.Diver.{Diver}
 use Rattle.plan_finder.specs.declared.order.Ranked.{Ranked}
 use Rattle.plan_finder.specs.declared.search.Search.{Search}
@@ -12,6 +12,7 @@ AreLinesOf book order = All (λ ranked. ranked.line < length book.lines) order
 
 -- a dive over the lines of a book: for each line there is whether it is fixed, and the orders name no other lines
 pub record IsDiver (book : BookContents) (diver : Diver) : Type 0 where
+  pub limits : IsBook book
   pub fixed : length diver.fixed.items ≡ length book.lines
   pub order : AreLinesOf book diver.order.items
   pub drawn : AreLinesOf book diver.drawn.items

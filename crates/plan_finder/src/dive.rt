@@ -75,6 +75,19 @@ fn turn_of(line: &Line, amount: i64) -> Turn {
     }
 }
 
+// Puts lines into an order that is drawn: each place gets one of the lines that are left.
+fn shuffle(lines: &mut [Ranked], draw: &mut Draw)
+    ensures { (count : ℕ) → All (λ ranked. ranked.line < count) lines.old → All (λ ranked. ranked.line < count) lines.new }
+{
+    for place in 0..lines.len() {
+        let left = lines.len() - place;
+        let other = place + draw.below(left as u64) as usize;
+        let moved = lines[place];
+        lines[place] = lines[other];
+        lines[other] = moved;
+    }
+}
+
 impl Diver {
     /// A dive over the lines of a book, against the limit of the powers, in the order of their ends.
     ///
@@ -112,13 +125,7 @@ impl Diver {
         requires { IsDiver book.now self.old }
         ensures { IsDiver book.now self.new }
     {
-        let lines = self.drawn.as_mut_slice();
-        for place in 0..lines.len() {
-            let other = place + draw.below((lines.len() - place) as u64) as usize;
-            let moved = lines[place];
-            lines[place] = lines[other];
-            lines[other] = moved;
-        }
+        shuffle(self.drawn.as_mut_slice(), draw);
     }
 
     // Whether a line can be fixed next.
@@ -222,6 +229,16 @@ impl Diver {
         }
     }
 
+    // The permitted numbers of units next to the amount of a line.
+    fn neighbours(&self, book: &Book, line: u16) -> Neighbours
+        requires diver { IsDiver book.now self.now }
+        requires line { line < length book.now.lines }
+        ensures below { (d : Line) → IsPermittedUnits (slice_index_or book.now.lines line d) result.below }
+        ensures above { (d : Line) → IsPermittedUnits (slice_index_or book.now.lines line d) result.above }
+    {
+        next_to(book.line(line), self.simplex.amount(line))
+    }
+
     // Fixes a line at a permitted number of units next to its amount.
     fn decide(&mut self, book: &Book, ledger: &Ledger, line: u16)
         requires diver { IsDiver book.now self.old }
@@ -229,7 +246,7 @@ impl Diver {
         requires line { line < length book.now.lines }
         ensures { IsDiver book.now self.new }
     {
-        let choice = next_to(book.line(line), self.simplex.amount(line));
+        let choice = self.neighbours(book, line);
         if choice.exact || choice.below == choice.above {
             self.fix(book, ledger, line, choice.below);
             self.solve(book, WARM_ITERATIONS);
@@ -310,10 +327,9 @@ impl Diver {
         requires line { line < length book.now.lines }
         ensures { (d : Line) → IsPermittedUnits (slice_index_or book.now.lines line d) result }
     {
-        let offer = book.line(line);
         match self.fixed[usize::from(line)] {
-            Some(units) => permitted_below(offer, units),
-            None => next_to(offer, self.simplex.amount(line)).below,
+            Some(units) => permitted_below(book.line(line), units),
+            None => self.neighbours(book, line).below,
         }
     }
 

@@ -1,4 +1,4 @@
-use Rattle.std.specs.Option.{IfSome}
+use Rattle.std.specs.Prelude.{IfSome}
 use Rattle.plan_finder.specs.Mend.{IsRise}
 use Rattle.plan_finder.proofs.mend.cheapest_rise.Given as goal
 

@@ -1,5 +1,5 @@
 use Rattle.plan_finder.specs.Dive.{IsDiver}
 use Rattle.plan_finder.proofs.dive.Diver.descend.Given as goal
 
-abbrev pub invariant-loop-_turn : goal.invariant-loop-_turn
-invariant-loop-_turn l = IsDiver l.book l.self
+abbrev pub invariant-loop-turn : goal.invariant-loop-turn
+invariant-loop-turn l = IsDiver l.book l.self

@@ -1,5 +1,5 @@
 use Rattle.std.proofs.Common.{◌<◌, length}
-use Rattle.std.specs.Option.{IfSome}
+use Rattle.std.specs.Prelude.{IfSome}
 use Rattle.plan_finder.proofs.dive.Diver.next_in_turn.Given as goal
 
 abbrev pub invariant-loop-place : goal.invariant-loop-place
