@@ -1,10 +1,10 @@
 -- What a plan is worth against the limit is what its securities are.
-use Rattle.std.proofs.Common.{◌≡◌, ℕ, ◌+◌, ◌*◌, ◌<◌, List, [], ◌∷◌, length, drop, refl, sym, ◌∙◌, arith, ℤ, IsTrue, nat_lt, rules}
+use Rattle.std.proofs.Common.{◌≡◌, ℕ, ◌*◌, ◌<◌, List, [], ◌∷◌, drop, refl, sym, ◌∙◌, arith, ℤ, IsTrue, nat_lt, rules}
 use Rattle.std.specs.List.{All, sum_by, zip}
 use Rattle.std.proofs.lemmas.List.Elements.{All-head, All-tail}
 use Rattle.std.proofs.lemmas.List.Sums.{sum_by-cons}
 use Rattle.day_sums.specs.SummedLaws.{weighted}
-use Rattle.escrow_units.specs.Flows.{index360_of, indexed}
+use Rattle.escrow_units.specs.Flows.{index360_of}
 use Rattle.escrow_units.specs.declared.security.Flow.{Flow}
 use Rattle.fixed_powers.specs.DiscountPowers.{low}
 use Rattle.fixed_powers.specs.declared.side.Side.TheVariants.{Low}
@@ -15,7 +15,6 @@ use Rattle.offer_book.specs.declared.line.LineKind.{LineKind}
 use Rattle.offer_book.specs.declared.line.LineKind.TheVariants.{Cash, Market, Security}
 use Rattle.cash_table.specs.Points.{low_value}
 use Rattle.cash_table.proofs.PointFacts.{pair_value, value-securities, value-weighted}
-use Rattle.cash_table.proofs.PaymentFacts.{pair_payments}
 use Rattle.dual_bound.specs.Columns.{kind_power}
 use Rattle.plan_finder.specs.Ledger.{flows_worth, line_worth, plan_worth}
 use Rattle.plan_finder.proofs.PutFacts.{pair_line_worth}

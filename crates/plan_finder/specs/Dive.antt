@@ -17,9 +17,12 @@ pub record IsDiver (book : BookContents) (diver : Diver) : Type 0 where
   pub order : AreLinesOf book diver.order.items
   pub drawn : AreLinesOf book diver.drawn.items
 
--- what a search works with: a ledger of the book, a dive over its lines, and the orders in which lines are trimmed
+-- what a search works with: a ledger of the book, a dive over its lines, the orders in which lines are trimmed, and what is kept for
+-- each line
 pub record IsSearch (book : BookContents) (search : Search) : Type 0 where
   pub yield_units : ℕ
   pub ledger : IsLedger yield_units book search.ledger
   pub diver : IsDiver book search.diver
   pub orders : All (λ order. AreLinesOf book order.items) search.orders.items
+  pub ends : length search.ends.items ≡ length book.lines
+  pub free : length search.free.items ≡ length book.lines

@@ -3,9 +3,9 @@ ghost use Rattle.std.specs.Prelude.{◌≤◌, IfOk, IfSome, OnOk};
 ghost use Rattle.plan_finder.specs.Dive.{IsSearch};
 ghost use Rattle.plan_finder.specs.Proposal.{IsProposal};
 
+use crate::again::{Stop, dive_again};
 use crate::best::offer;
 use crate::dive::Sequence;
-use crate::draw::Draw;
 use crate::search::Search;
 use cash_table::Plan;
 use escrow_desk::NoMemory;
@@ -22,9 +22,6 @@ pub struct Proposal {
     pub cost: Cents,
 }
 
-// From what number draws start.
-const SEED: u64 = 1;
-
 // How many dives in an order that is drawn follow where the first one gives no plan.
 const MORE_DIVES: u32 = 12;
 
@@ -33,7 +30,6 @@ fn dive_until_found(
     alloc: Global,
     book: &Book,
     limit: YieldUnits,
-    draw: &mut Draw,
     search: &mut Search,
     best: &mut Option<Proposal>,
 ) -> Result<(), NoMemory>
@@ -46,7 +42,7 @@ fn dive_until_found(
         if best.is_some() {
             return Ok(());
         }
-        search.diver.shuffle(book, draw);
+        search.shuffle(book);
         search.dive_whole(alloc, book, limit, Sequence::Drawn, best)?;
     }
     Ok(())
@@ -57,18 +53,16 @@ fn find_by_dives(
     alloc: Global,
     book: &Book,
     limit: YieldUnits,
-    effort: u32,
-    target: Cents,
+    stop: &Stop,
     search: &mut Search,
 ) -> Result<Option<Proposal>, NoMemory>
     requires search { IsSearch book.now search.old }
     ensures { IfOk result (λ proposal. IfSome proposal (IsProposal limit.0 book.now)) }
 {
     let mut best = None;
-    let mut draw = Draw::from(SEED);
     search.dive_whole(alloc, book, limit, Sequence::Coarse, &mut best)?;
-    dive_until_found(alloc, book, limit, &mut draw, search, &mut best)?;
-    let _ = (effort, target);
+    dive_until_found(alloc, book, limit, search, &mut best)?;
+    dive_again(alloc, book, limit, stop, search, &mut best)?;
     Ok(best)
 }
 
@@ -98,5 +92,5 @@ pub fn find(
         offer(alloc, book, limit, &search.ledger, &mut best)?;
         return Ok(best);
     }
-    find_by_dives(alloc, book, limit, effort, target, &mut search)
+    find_by_dives(alloc, book, limit, &Stop { effort, target }, &mut search)
 }

@@ -5,6 +5,7 @@
 //! look for a cheaper plan near the best one.
 #![tactic(auto)]
 
+mod again;
 mod best;
 mod dive;
 mod draw;
@@ -13,6 +14,7 @@ mod ledger;
 mod mend;
 mod neighbours;
 mod order;
+mod parts;
 mod search;
 mod terms;
 mod trimming;

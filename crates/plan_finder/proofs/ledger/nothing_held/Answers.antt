@@ -1,4 +1,4 @@
-use Rattle.std.proofs.Common.{◌≡◌, ◌∙◌, ◌+◌, ◌<◌, ℕ, length, get_or, replicate, sym, subst, arith, rules}
+use Rattle.std.proofs.Common.{◌≡◌, ◌∙◌, ◌+◌, ◌<◌, ℕ, length, get_or, sym, subst, arith, rules}
 use Rattle.std.proofs.lemmas.List.{get_or_default, length-replicate}
 use Rattle.offer_book.specs.declared.line.Line.{Line}
 use Rattle.plan_finder.specs.Ledger.{IsPurchase}

@@ -1,5 +1,5 @@
 use Rattle.std.proofs.Common.{◌≡◌, ◌∙◌, ◌+◌, ◌<◌, ℕ, length, get_or, sym, subst, arith, rules}
-use Rattle.std.proofs.lemmas.List.{get_or_default, length_push}
+use Rattle.std.proofs.lemmas.List.{get_or_default}
 use Rattle.offer_book.specs.declared.line.Line.{Line}
 use Rattle.plan_finder.specs.Ledger.{IsTerms}
 use Rattle.plan_finder.specs.declared.terms.LineTerms.{LineTerms}

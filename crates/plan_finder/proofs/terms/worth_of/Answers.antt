@@ -1,4 +1,4 @@
-use Rattle.std.proofs.Common.{◌+◌, length, ap, arith}
+use Rattle.std.proofs.Common.{length, ap, arith}
 use Rattle.std.specs.List.{sum_by, zip}
 use Rattle.std.proofs.lemmas.List.{take_all, length_push}
 use Rattle.cash_table.proofs.ZipFacts.{this_pair, all_pairs, sum_by-zip_more}

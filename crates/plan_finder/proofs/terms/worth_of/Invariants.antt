@@ -1,7 +1,6 @@
 use Rattle.std.proofs.Common.{◌≡◌, ◌≤◌, ◌*◌, ◌^◌, length, take}
 use Rattle.std.specs.List.{sum_by, zip}
 use Rattle.fixed_powers.specs.DiscountPowers.{one}
-use Rattle.escrow_units.specs.declared.security.Flow.{Flow}
 use Rattle.plan_finder.proofs.LedgerFacts.{pair_worth}
 use Rattle.plan_finder.proofs.terms.worth_of.Given as goal
 

@@ -1,4 +1,4 @@
-use Rattle.std.proofs.Common.{◌≡◌, ◌*◌, ◌-◌, arith, rules}
+use Rattle.std.proofs.Common.{◌≡◌, arith, rules}
 use Rattle.offer_book.specs.Portfolio.{security_cost}
 use Rattle.cash_table.specs.Points.{low_value}
 use Rattle.cash_table.proofs.CostFacts.{cost_is}

@@ -1,4 +1,4 @@
-use Rattle.std.proofs.Common.{rules, arith, replicate}
+use Rattle.std.proofs.Common.{rules, arith}
 use Rattle.std.proofs.lemmas.List.{get_or-replicate}
 use Rattle.plan_finder.proofs.MakeFacts.{make-ledger}
 use Rattle.plan_finder.proofs.ledger.Ledger.make.Goals as goal

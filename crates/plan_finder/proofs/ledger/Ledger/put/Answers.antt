@@ -1,7 +1,4 @@
-use Rattle.std.proofs.Common.{◌≡◌, ℕ, ◌<◌, get_or, length, refl, rules, arith}
-use Rattle.offer_book.specs.declared.line.Line.{Line}
-use Rattle.backward_build.proofs.TrimFacts.{some_line}
-use Rattle.plan_finder.specs.Ledger.{IsPurchase}
+use Rattle.std.proofs.Common.{◌≡◌, get_or, refl, rules, arith}
 use Rattle.plan_finder.proofs.LedgerFacts.{held-little}
 use Rattle.plan_finder.proofs.PutFacts.{cost-part, cost-room, put-ledger, received-part, received-room, worth-part, worth-room}
 use Rattle.plan_finder.proofs.ledger.Ledger.put.Goals as goal

@@ -1,4 +1,3 @@
-use Rattle.std.proofs.Common.{rules}
 use Rattle.dual_bound.proofs.ColumnMade.{schedule-within}
 use Rattle.plan_finder.proofs.terms.LineTerms.make.Goals as goal
 
