@@ -64,7 +64,7 @@ worth-zip n settle kind rate amount (payment ∷ schedule) =
     omega (
       arith,
       sum_by-cons pair_worth (kind_power n settle kind payment.day, flow_by rate amount payment)
-      (zip (map (λ (p : ScheduledPayment). kind_power n settle kind p.day) schedule) (map (flow_by rate amount) schedule)),
+          (zip (map (λ (p : ScheduledPayment). kind_power n settle kind p.day) schedule) (map (flow_by rate amount) schedule)),
       sum_by-cons (λ (flow : Flow). flow.cents.0 * kind_power n settle kind flow.day) (flow_by rate amount payment) (map (flow_by rate amount) schedule),
       worth-zip n settle kind rate amount schedule,
     )

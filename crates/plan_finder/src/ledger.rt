@@ -102,11 +102,7 @@ fn terms_of(alloc: Global, book: &Book, powers: &Powers) -> Result<Vec<LineTerms
 }
 
 // Nothing of each line.
-fn nothing_held(
-    alloc: Global,
-    book: &Book,
-    terms: &[LineTerms],
-) -> Result<Vec<Purchase>, NoMemory>
+fn nothing_held(alloc: Global, book: &Book, terms: &[LineTerms]) -> Result<Vec<Purchase>, NoMemory>
     requires { (n : ℕ) × AreTerms n book.now terms.now }
     ensures { IfOk result (λ held. (n : ℕ) → AreTerms n book.now terms.now → AreHeld n book.now (replicate (length book.now.lines) 0) held.items) }
 {

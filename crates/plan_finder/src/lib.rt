@@ -20,3 +20,6 @@ mod terms;
 mod trimming;
 
 pub use finding::{Proposal, find};
+
+#[cfg(test)]
+mod tests;

@@ -49,8 +49,10 @@ fn gain(held: &Purchase, other: &Purchase, day: Day) -> u64
     requires held { total held.now.payments.items < 2 ^ 64 }
     requires other { total other.now.payments.items < 2 ^ 64 }
 {
-    paid_until(other.payments.as_slice(), day)
-        .saturating_sub(paid_until(held.payments.as_slice(), day))
+    paid_until(other.payments.as_slice(), day).saturating_sub(paid_until(
+        held.payments.as_slice(),
+        day,
+    ))
 }
 
 // The first units of a line beyond those that are held, if there are any.
@@ -120,7 +122,11 @@ fn lighter(book: &Book, first: Option<Rise>, second: Option<Rise>) -> Option<Ris
     ensures { IfSome result (IsRise book.now) }
 {
     match (first, second) {
-        (Some(one), Some(other)) => Some(if other.weight < one.weight { other } else { one }),
+        (Some(one), Some(other)) => Some(if other.weight < one.weight {
+            other
+        } else {
+            one
+        }),
         (None, other) => other,
         (one, None) => one,
     }

@@ -77,13 +77,7 @@ fn free_two_windows(free: &mut [bool], draw: &mut Draw, ends: &[u16], dates: u64
 
 /// Frees a part of the lines that is drawn, and opening cash: the lines that end within a window; some lines and a third of
 /// those that the plan buys; the lines that end within two narrow windows, and some others; or half of the lines.
-pub(crate) fn free_part(
-    free: &mut [bool],
-    draw: &mut Draw,
-    ends: &[u16],
-    plan: &Plan,
-    dates: u64,
-)
+pub(crate) fn free_part(free: &mut [bool], draw: &mut Draw, ends: &[u16], plan: &Plan, dates: u64)
     requires some { 0 < length free.old }
     requires few { length free.old ≤ 257 }
     requires ends { length ends.now ≡ length free.old }

@@ -27,12 +27,12 @@ loop-line-preserved c =
     record {
       count = search rules;
       each = λ n are.
-      let Own : ℕ → Purchase → Type 0 = λ k own. (line : Line) → IsPurchase n book.settle (get_or book.lines k line) 0 own in
-      let terms = terms-at n book c.args.terms.now c.loop-line.line c.line.result.now c.index-terms-from.result are within c.line.ensures at in
-      let made = c.purchase.ensures book.settle n (line-is book c.loop-line.line c.line.result.now limits within c.line.ensures) terms in
-      subst (λ items. (k : ℕ) (own : Purchase) → k < c.loop-line.line + 1 → (line : Line) → IsPurchase n book.settle (get_or book.lines k line) 0 (get_or items k own)) (sym c.in_ok-push.ensures.items)
-      (push-each Own c.loop-line.held.items c.loop-line.line bought c.loop-line.invariant.count (c.loop-line.invariant.each n are)
-      (λ line. subst (λ (own : Line). IsPurchase n book.settle own 0 bought) (here line) made));
+          let Own : ℕ → Purchase → Type 0 = λ k own. (line : Line) → IsPurchase n book.settle (get_or book.lines k line) 0 own in
+          let terms = terms-at n book c.args.terms.now c.loop-line.line c.line.result.now c.index-terms-from.result are within c.line.ensures at in
+          let made = c.purchase.ensures book.settle n (line-is book c.loop-line.line c.line.result.now limits within c.line.ensures) terms in
+          subst (λ items. (k : ℕ) (own : Purchase) → k < c.loop-line.line + 1 → (line : Line) → IsPurchase n book.settle (get_or book.lines k line) 0 (get_or items k own)) (sym c.in_ok-push.ensures.items)
+          (push-each Own c.loop-line.held.items c.loop-line.line bought c.loop-line.invariant.count (c.loop-line.invariant.each n are)
+          (λ line. subst (λ (own : Line). IsPurchase n book.settle own 0 bought) (here line) made));
     }
 
 pub returns : goal.returns

@@ -15,6 +15,6 @@ overflow_sub-self c =
     omega (
       arith,
       received-part c.requires.ledger.0 c.args.book.now c.args.self.now c.args.line c.index.result.now c.paid-due.result c.requires.ledger.1 c.requires.line at c.paid-due.ensures c.loop-place.place
-      (omega arith),
+          (omega arith),
       c.loop-place.invariant c.loop-place.place (omega arith),
     )

@@ -35,7 +35,7 @@ overflow_add-self c =
     omega (
       arith,
       cost-room n c.args.book.now c.args.self.now c.args.line c.args.units c.index-before.result.now c.purchase-after.result c.requires.ledger.1 c.requires.line c.requires.permitted at
-      (λ d. c.purchase-after.ensures.value n d c.requires.ledger.1),
+          (λ d. c.purchase-after.ensures.value n d c.requires.ledger.1),
     )
 
 pub overflow_sub-self-2 : goal.overflow_sub-self-2
@@ -50,7 +50,7 @@ overflow_add-self-2 c =
     omega (
       arith,
       worth-room n c.args.book.now c.args.self.now c.args.line c.args.units c.index-before.result.now c.purchase-after.result c.requires.ledger.1 c.requires.line c.requires.permitted at
-      (λ d. c.purchase-after.ensures.value n d c.requires.ledger.1),
+          (λ d. c.purchase-after.ensures.value n d c.requires.ledger.1),
     )
 
 pub returns-clause-ledger : goal.returns-clause-ledger
