@@ -1,4 +1,5 @@
 mod LedgerFacts
-mod PutFacts
-mod WorthFacts
 mod MakeFacts
+mod PutFacts
+mod TrimFacts
+mod WorthFacts

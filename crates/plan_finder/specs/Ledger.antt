@@ -1,7 +1,8 @@
 -- What the ledger of a plan has: the terms of each line, what the plan's units of it cost and pay, and what all of them come to.
-use Rattle.std.specs.Prelude.{◌≡◌, ℕ, ◌*◌, ◌<◌, ◌≤◌, List, All, length, map, slice_index, slice_index_or, sum_by, ℤ}
+use Rattle.std.specs.Prelude.{◌≡◌, ℕ, ◌-◌, ◌*◌, ◌<◌, ◌≤◌, List, All, length, map, slice_index, slice_index_or, sum_by, ℤ}
 use Rattle.std.specs.List.{zip}
 use Rattle.escrow_units.specs.declared.security.Flow.{Flow}
+use Rattle.day_sums.specs.Summed.{total_by}
 use Rattle.fixed_powers.specs.DiscountPowers.{one}
 use Rattle.offer_book.specs.Book.{BookContents, IsBook}
 use Rattle.offer_book.specs.Portfolio.{IsPermitted, cost as cost_of, line_cost, line_payments, payments as payments_of}
@@ -62,3 +63,9 @@ pub record IsLedger (n : ℕ) (book : BookContents) (ledger : Ledger) : Type 0 w
   pub received : ArePaid book.needs (payments_of book ledger.plan) ledger.received
   pub cost : ledger.cost.0 ≡ cost_of book ledger.plan
   pub worth : ledger.worth ≡ plan_worth n book ledger.plan
+
+-- what a line has to pay up to each need date, so that nothing is short: what is needed, less what the other lines pay
+abbrev pub AreDue : List Flow → List Flow → List Flow → List ℕ → Type 0
+AreDue needs all own due =
+    (k : ℕ) (d : Flow) → k < length needs
+    → slice_index due k ≡ total_by (slice_index_or needs k d).day needs - (total_by (slice_index_or needs k d).day all - total_by (slice_index_or needs k d).day own)

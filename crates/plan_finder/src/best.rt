@@ -59,13 +59,11 @@ pub(crate) fn offer(
 fn restore(book: &Book, ledger: &mut Ledger, plan: &Plan)
     requires ledger { (n : ℕ) × IsLedger n book.now ledger.old }
     requires plan { IsPermitted book.now plan.now }
-    ensures { (n : ℕ) → IsLedger n book.now ledger.old → IsLedger n book.now ledger.new }
+    ensures ledger { (n : ℕ) → IsLedger n book.now ledger.old → IsLedger n book.now ledger.new }
+    ensures plan { ledger.new.plan ≡ plan.now }
 {
     for line in 0..book.line_count() {
-        let units = plan.get(line);
-        if ledger.units(line) != units {
-            ledger.put(book, line, units);
-        }
+        ledger.change(book, line, plan.get(line));
     }
 }
 

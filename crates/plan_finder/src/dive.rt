@@ -340,10 +340,7 @@ impl Diver {
         ensures { (n : ℕ) → IsLedger n book.now ledger.old → IsLedger n book.now ledger.new }
     {
         for line in 0..book.line_count() {
-            let units = self.units(book, line);
-            if ledger.units(line) != units {
-                ledger.put(book, line, units);
-            }
+            ledger.change(book, line, self.units(book, line));
         }
     }
 }

@@ -4,11 +4,11 @@ ghost use Rattle.std.specs.List.{sum};
 ghost use Rattle.escrow_units.specs.Flows.{Rise, total};
 ghost use Rattle.escrow_units.specs.declared.security.Flow.{Flow};
 ghost use Rattle.fixed_powers.specs.DiscountPowers.{PowerTable, one};
-ghost use Rattle.offer_book.specs.Portfolio.{IsPermitted, IsPermittedUnits, Meets, line_payments, security_cost};
+ghost use Rattle.offer_book.specs.Portfolio.{IsPermitted, IsPermittedUnits, Meets, line_payments, payments, security_cost};
 ghost use Rattle.offer_book.specs.declared.line.Line.{Line};
 ghost use Rattle.cash_table.specs.Points.{low_value};
 ghost use Rattle.backward_build.specs.Spare.{ArePaid};
-ghost use Rattle.plan_finder.specs.Ledger.{AreHeld, AreTerms, IsLedger, IsPurchase};
+ghost use Rattle.plan_finder.specs.Ledger.{AreDue, AreHeld, AreTerms, IsLedger, IsPurchase};
 ghost use Rattle.plan_finder.specs.declared.terms.Purchase.{Purchase};
 
 use crate::terms::{LineTerms, Purchase};
@@ -179,6 +179,20 @@ impl Ledger {
         self.plan.put(line, units);
     }
 
+    /// Changes the units of a line where they are others.
+    pub(crate) fn change(&mut self, book: &Book, line: u16, units: u64)
+        requires ledger { (n : ℕ) × IsLedger n book.now self.old }
+        requires line { line < length book.now.lines }
+        requires permitted { (d : Line) → IsPermittedUnits (slice_index_or book.now.lines line d) units }
+        ensures plan { self.new.plan ≡ slice_set self.old.plan line units }
+        ensures ledger { (n : ℕ) → IsLedger n book.now self.old → IsLedger n book.now self.new }
+    {
+        if self.units(line) == units {
+            return;
+        }
+        self.put(book, line, units);
+    }
+
     /// By how much the plan is short up to a need date, counted from 0, in cents.
     pub(crate) fn short_by(&self, place: u16) -> u64
         requires place { place < MOST_NEED_DATES }
@@ -192,6 +206,7 @@ impl Ledger {
     pub(crate) fn due(&self, book: &Book, line: u16) -> [u64; MOST_NEED_DATES]
         requires ledger { (n : ℕ) × IsLedger n book.now self.now }
         requires line { line < length book.now.lines }
+        ensures { (d : Line) → AreDue book.now.needs (payments book.now self.now.plan) (line_payments book.now.settle (slice_index_or book.now.lines line d) (slice_index self.now.plan line)) result }
     {
         let mut due = paid(book, &self.held[usize::from(line)]);
         for place in 0..usize::from(book.need_count()) {

@@ -1,6 +1,7 @@
 //! Plans taken down as far as the needs allow, one line after another.
-ghost use Rattle.std.specs.Prelude.{◌≡◌, ℕ, ◌-◌, ◌<◌, ◌≤◌, All, IfOk, length, slice_index, slice_index_or};
-ghost use Rattle.offer_book.specs.Portfolio.{IsPermittedUnits};
+ghost use Rattle.std.specs.Prelude.{◌≡◌, ℕ, ◌<◌, ◌≤◌, ◌↔◌, All, IsTrue, length, slice_index, slice_index_or};
+ghost use Rattle.offer_book.specs.Portfolio.{IsPermittedUnits, Meets, line_payments};
+ghost use Rattle.backward_build.specs.Spare.{Cover};
 ghost use Rattle.offer_book.specs.declared.line.Line.{Line};
 ghost use Rattle.backward_build.specs.Spare.{ArePaid};
 ghost use Rattle.plan_finder.specs.Ledger.{IsLedger};
@@ -24,19 +25,33 @@ struct Bracket {
     high: u64,
 }
 
+// Whether each of the first amounts is at least what is due there.
+fn covers(paid: &[u64], due: &[u64], dates: usize) -> bool
+    requires paid { dates ≤ length paid.now }
+    requires due { dates ≤ length due.now }
+    ensures { IsTrue result ↔ ((k : ℕ) → k < dates → slice_index due.now k ≤ slice_index paid.now k) }
+{
+    for place in 0..dates {
+        if paid[place] < due[place] {
+            return false;
+        }
+    }
+    true
+}
+
 // Whether units of a line pay what is due up to each need date.
 fn suffices(book: &Book, ledger: &Ledger, duty: &Duty, units: u64) -> bool
     requires ledger { (n : ℕ) × IsLedger n book.now ledger.now }
     requires line { duty.now.line < length book.now.lines }
     requires units { (d : Line) → units ≤ (slice_index_or book.now.lines duty.now.line d).most }
+    ensures { (d : Line) → IsTrue result ↔ Cover book.now.needs duty.now.due (line_payments book.now.settle (slice_index_or book.now.lines duty.now.line d) units) }
 {
-    let paid = paid(book, &ledger.purchase(book, duty.line, units));
-    for place in 0..usize::from(book.need_count()) {
-        if paid[place] < duty.due[place] {
-            return false;
-        }
-    }
-    true
+    let bought = ledger.purchase(book, duty.line, units);
+    covers(
+        &paid(book, &bought),
+        &duty.due,
+        usize::from(book.need_count()),
+    )
 }
 
 // Looks for the fewest units that suffice downward from some that do, in steps that double.
@@ -45,9 +60,11 @@ fn bracket_of(book: &Book, ledger: &Ledger, duty: &Duty, units: u64) -> Bracket
     requires line { duty.now.line < length book.now.lines }
     requires least { (d : Line) → (slice_index_or book.now.lines duty.now.line d).least ≤ units }
     requires most { (d : Line) → units ≤ (slice_index_or book.now.lines duty.now.line d).most }
+    requires enough { (d : Line) → Cover book.now.needs duty.now.due (line_payments book.now.settle (slice_index_or book.now.lines duty.now.line d) units) }
     ensures least { (d : Line) → (slice_index_or book.now.lines duty.now.line d).least ≤ result.low }
     ensures ordered { result.low ≤ result.high }
     ensures most { result.high ≤ units }
+    ensures enough { (d : Line) → Cover book.now.needs duty.now.due (line_payments book.now.settle (slice_index_or book.now.lines duty.now.line d) result.high) }
 {
     let least = book.line(duty.line).least;
     let mut high = units;
@@ -56,13 +73,14 @@ fn bracket_of(book: &Book, ledger: &Ledger, duty: &Duty, units: u64) -> Bracket
         if high - least < step {
             return Bracket { low: least, high };
         }
-        if !suffices(book, ledger, duty, high - step) {
+        if suffices(book, ledger, duty, high - step) {
+            high -= step;
+        } else {
             return Bracket {
                 low: high - step + 1,
                 high,
             };
         }
-        high -= step;
     }
     Bracket { low: least, high }
 }
@@ -73,8 +91,10 @@ fn fewest_within(book: &Book, ledger: &Ledger, duty: &Duty, bracket: Bracket) ->
     requires line { duty.now.line < length book.now.lines }
     requires ordered { bracket.low ≤ bracket.high }
     requires most { (d : Line) → bracket.high ≤ (slice_index_or book.now.lines duty.now.line d).most }
+    requires enough { (d : Line) → Cover book.now.needs duty.now.due (line_payments book.now.settle (slice_index_or book.now.lines duty.now.line d) bracket.high) }
     ensures least { bracket.low ≤ result }
     ensures most { result ≤ bracket.high }
+    ensures enough { (d : Line) → Cover book.now.needs duty.now.due (line_payments book.now.settle (slice_index_or book.now.lines duty.now.line d) result) }
 {
     let mut low = bracket.low;
     let mut high = bracket.high;
@@ -94,20 +114,26 @@ fn fewest(book: &Book, ledger: &Ledger, duty: &Duty, units: u64) -> u64
     requires ledger { (n : ℕ) × IsLedger n book.now ledger.now }
     requires line { duty.now.line < length book.now.lines }
     requires permitted { (d : Line) → IsPermittedUnits (slice_index_or book.now.lines duty.now.line d) units }
-    ensures { (d : Line) → IsPermittedUnits (slice_index_or book.now.lines duty.now.line d) result }
+    requires enough { (d : Line) → Cover book.now.needs duty.now.due (line_payments book.now.settle (slice_index_or book.now.lines duty.now.line d) units) }
+    ensures permitted { (d : Line) → IsPermittedUnits (slice_index_or book.now.lines duty.now.line d) result }
+    ensures most { result ≤ units }
+    ensures enough { (d : Line) → Cover book.now.needs duty.now.due (line_payments book.now.settle (slice_index_or book.now.lines duty.now.line d) result) }
 {
-    if units == 0 || suffices(book, ledger, duty, 0) {
-        return 0;
+    if suffices(book, ledger, duty, 0) {
+        0
+    } else {
+        let bracket = bracket_of(book, ledger, duty, units);
+        fewest_within(book, ledger, duty, bracket)
     }
-    let bracket = bracket_of(book, ledger, duty, units);
-    fewest_within(book, ledger, duty, bracket)
 }
 
 // Takes a line down as far as the needs allow.
 fn trim_line(book: &Book, ledger: &mut Ledger, line: u16)
     requires ledger { (n : ℕ) × IsLedger n book.now ledger.old }
     requires line { line < length book.now.lines }
-    ensures { (n : ℕ) → IsLedger n book.now ledger.old → IsLedger n book.now ledger.new }
+    requires meets { Meets book.now ledger.old.plan }
+    ensures ledger { (n : ℕ) → IsLedger n book.now ledger.old → IsLedger n book.now ledger.new }
+    ensures meets { Meets book.now ledger.new.plan }
 {
     let units = ledger.units(line);
     let duty = Duty {
@@ -115,17 +141,17 @@ fn trim_line(book: &Book, ledger: &mut Ledger, line: u16)
         due: ledger.due(book, line),
     };
     let fewest = fewest(book, ledger, &duty, units);
-    if fewest < units {
-        ledger.put(book, line, fewest);
-    }
+    ledger.change(book, line, fewest);
 }
 
 /// Takes each line of a plan that meets the needs down as far as the needs allow, in an order. What one gives back only
 /// tightens the others, so that once is enough.
 pub(crate) fn trim(book: &Book, ledger: &mut Ledger, order: &[Ranked])
     requires ledger { (n : ℕ) × IsLedger n book.now ledger.old }
+    requires meets { Meets book.now ledger.old.plan }
     requires order { All (λ ranked. ranked.line < length book.now.lines) order.now }
-    ensures { (n : ℕ) → IsLedger n book.now ledger.old → IsLedger n book.now ledger.new }
+    ensures ledger { (n : ℕ) → IsLedger n book.now ledger.old → IsLedger n book.now ledger.new }
+    ensures meets { Meets book.now ledger.new.plan }
 {
     for ranked in order {
         if ledger.units(ranked.line) > 0 {
