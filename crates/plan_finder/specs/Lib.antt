@@ -1,1 +1,4 @@
+pub mod Dive
+pub mod Ledger
+pub mod Mend
 pub mod Proposal

@@ -1,6 +1,25 @@
 //! Plans for every case: a dive over the linear relaxation, made exact in cents.
+//!
+//! A dive fixes one line after the other where the relaxation is cheapest. A ledger keeps what its plan costs and pays exactly;
+//! by it the plan is mended where it is short, and trimmed where it pays more than it has to. Then dives over parts of the lines
+//! look for a cheaper plan near the best one.
 #![tactic(auto)]
 
+mod again;
+mod best;
+mod dive;
+mod draw;
 mod finding;
+mod ledger;
+mod mend;
+mod neighbours;
+mod order;
+mod parts;
+mod search;
+mod terms;
+mod trimming;
 
 pub use finding::{Proposal, find};
+
+#[cfg(test)]
+mod tests;

@@ -1,0 +1,5 @@
+mod LedgerFacts
+mod MakeFacts
+mod PutFacts
+mod TrimFacts
+mod WorthFacts

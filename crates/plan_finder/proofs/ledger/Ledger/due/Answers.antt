@@ -1,0 +1,56 @@
+use Rattle.std.proofs.Common.{◌≡◌, ◌∙◌, ◌<◌, get_or, length, inl, inr, rules, arith}
+use Rattle.std.proofs.lemmas.Bool.{cases_eq}
+use Rattle.std.proofs.lemmas.List.{get_or-set_other, get_or-set_same, length-set}
+use Rattle.plan_finder.proofs.LedgerFacts.{held-little}
+use Rattle.plan_finder.proofs.PutFacts.{held-is, purchase-paid, received-part}
+use Rattle.plan_finder.proofs.ledger.Ledger.due.Goals as goal
+
+pub paid-due-requires : goal.paid-due-requires
+paid-due-requires c =
+    let at : c.index.result.now ≡ get_or c.args.self.now.held.items c.args.line c.index.result.now = search rules in
+    let ledger = c.requires.ledger.1 in
+    held-little c.requires.ledger.0 c.args.book.now c.args.self.now.plan c.args.self.now.held.items c.args.line c.index.result.now ledger.limits ledger.permitted ledger.held c.requires.line at
+
+pub overflow_sub-self : goal.overflow_sub-self
+overflow_sub-self c =
+    let at : c.index.result.now ≡ get_or c.args.self.now.held.items c.args.line c.index.result.now = search rules in
+    omega (
+      arith,
+      received-part c.requires.ledger.0 c.args.book.now c.args.self.now c.args.line c.index.result.now c.paid-due.result c.requires.ledger.1 c.requires.line at c.paid-due.ensures c.loop-place.place
+          (omega arith),
+      c.loop-place.invariant.rest c.loop-place.place (omega arith),
+    )
+
+pub returns : goal.returns
+returns c = λ d k need within.
+    let book = c.args.book.now in
+    let n = c.requires.ledger.0 in
+    let ledger = c.requires.ledger.1 in
+    let at : c.index.result.now ≡ get_or c.args.self.now.held.items c.args.line c.index.result.now = search rules in
+    let own = purchase-paid n book (get_or book.lines c.args.line d) (get_or c.args.self.now.plan c.args.line 0) c.index.result.now c.paid-due.result
+    (held-is n book c.args.self.now.plan c.args.self.now.held.items c.args.line c.index.result.now ledger.held c.requires.line at d) c.paid-due.ensures in
+    omega (
+      arith,
+      c.loop-place.invariant.done k (omega (arith, within, c.from-place-end.ensures, c.need_count.ensures.value)),
+      ledger.needed k need within,
+      ledger.received k need within,
+      own k need within,
+    )
+
+pub loop-place-preserved : goal.loop-place-preserved
+loop-place-preserved c =
+    let place = c.loop-place.place in
+    let due = c.loop-place.due in
+    let v = c.saturating_sub.result in
+    let within : place < length due = omega (arith, c.loop-place.invariant.size, c.loop-place-test.true, c.from-place-end.ensures, c.need_count.ensures.value, c.need_count.ensures.limits.needs.few) in
+    record {
+      size = length-set due place v ∙ c.loop-place.invariant.size;
+      done = λ k below. elim (cases_eq k place) [
+        | inl here ↦ rw here (omega (arith, get_or-set_same due place v 0 within, c.saturating_sub.ensures, c.loop-place.invariant.rest place (omega arith)))
+        | inr away ↦ get_or-set_other due place k v 0 away ∙ c.loop-place.invariant.done k (omega (arith, below, away))
+      ];
+      rest = λ k above. elim (cases_eq k place) [
+        | inl here ↦ absurd (omega (arith, here, above))
+        | inr away ↦ get_or-set_other due place k v 0 away ∙ c.loop-place.invariant.rest k (omega (arith, above))
+      ];
+    }

@@ -1,0 +1,12 @@
+use Rattle.std.proofs.Common.{◌≤◌, get_or}
+use Rattle.offer_book.specs.Portfolio.{line_payments}
+use Rattle.offer_book.specs.declared.line.Line.{Line}
+use Rattle.backward_build.specs.Spare.{Cover}
+use Rattle.plan_finder.proofs.trimming.bracket_of.Given as goal
+
+abbrev pub invariant-loop-doublings : goal.invariant-loop-doublings
+invariant-loop-doublings l = record {
+  least : l.least ≤ l.high;
+  most : l.high ≤ l.units;
+  enough : (d : Line) → Cover l.book.needs l.duty.due (line_payments l.book.settle (get_or l.book.lines l.duty.line d) l.high);
+}

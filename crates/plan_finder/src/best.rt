@@ -1,0 +1,101 @@
+//! The cheapest plan that was found.
+ghost use Rattle.std.specs.Prelude.{◌≡◌, ℕ, ◌<◌, ◌≤◌, All, IfSome, OnOk, length};
+ghost use Rattle.offer_book.specs.Portfolio.{IsPermitted};
+ghost use Rattle.plan_finder.specs.Ledger.{IsLedger};
+ghost use Rattle.plan_finder.specs.Proposal.{IsProposal};
+
+use crate::finding::Proposal;
+use crate::ledger::Ledger;
+use crate::mend::mend;
+use crate::order::Ranked;
+use crate::trimming::trim;
+use cash_table::{Plan, within_limit};
+use escrow_desk::NoMemory;
+use escrow_units::{Cents, YieldUnits};
+use offer_book::Book;
+use std::alloc::Global;
+
+/// Whether a plan at a cost is cheaper than the best one, if there is any.
+pub(crate) fn is_cheaper(cost: Cents, best: &Option<Proposal>) -> bool {
+    match best {
+        Some(proposal) => cost.0 < proposal.cost.0,
+        None => true,
+    }
+}
+
+/// Keeps the ledger's plan if it meets the needs, is within the limit and is cheaper than the best one. The ledger's test of the
+/// limit comes first, since the exact one takes memory and time.
+///
+/// # Errors
+///
+/// Where memory ran out.
+pub(crate) fn offer(
+    alloc: Global,
+    book: &Book,
+    limit: YieldUnits,
+    ledger: &Ledger,
+    best: &mut Option<Proposal>,
+) -> Result<(), NoMemory>
+    requires ledger { (n : ℕ) × IsLedger n book.now ledger.now }
+    requires best { IfSome best.old (IsProposal limit.0 book.now) }
+    ensures { OnOk result (IfSome best.new (IsProposal limit.0 book.now)) }
+{
+    if !is_cheaper(ledger.cost, best)
+        || ledger.is_dearer(book)
+        || ledger.first_short(book).is_some()
+    {
+        return Ok(());
+    }
+    if within_limit(alloc, book, &ledger.plan, limit)? {
+        *best = Some(Proposal {
+            plan: ledger.plan.copy(alloc)?,
+            cost: ledger.cost,
+        });
+    }
+    Ok(())
+}
+
+// Gives the ledger the units of a plan.
+fn restore(book: &Book, ledger: &mut Ledger, plan: &Plan)
+    requires ledger { (n : ℕ) × IsLedger n book.now ledger.old }
+    requires plan { IsPermitted book.now plan.now }
+    ensures ledger { (n : ℕ) → IsLedger n book.now ledger.old → IsLedger n book.now ledger.new }
+    ensures plan { ledger.new.plan ≡ plan.now }
+{
+    for line in 0..book.line_count() {
+        ledger.change(book, line, plan.get(line));
+    }
+}
+
+/// Makes the ledger's plan exact: it is mended once, and then trimmed in each of some orders. Each plan that comes of it is
+/// offered.
+///
+/// # Errors
+///
+/// Where memory ran out.
+pub(crate) fn finish(
+    alloc: Global,
+    book: &Book,
+    limit: YieldUnits,
+    orders: &[Vec<Ranked>],
+    ledger: &mut Ledger,
+    best: &mut Option<Proposal>,
+) -> Result<(), NoMemory>
+    requires ledger { (n : ℕ) × IsLedger n book.now ledger.old }
+    requires orders { All (λ order. All (λ ranked. ranked.line < length book.now.lines) order.items) orders.now }
+    requires best { IfSome best.old (IsProposal limit.0 book.now) }
+    ensures ledger { OnOk result ((n : ℕ) → IsLedger n book.now ledger.old → IsLedger n book.now ledger.new) }
+    ensures best { OnOk result (IfSome best.new (IsProposal limit.0 book.now)) }
+{
+    mend(book, ledger);
+    if ledger.first_short(book).is_some() {
+        return Ok(());
+    }
+    let mended = ledger.plan.copy(alloc)?;
+    for order in orders {
+        restore(book, ledger, &mended);
+        trim(book, ledger, order.as_slice());
+        offer(alloc, book, limit, ledger, best)?;
+    }
+    Ok(())
+}

@@ -1,0 +1,354 @@
+//! A dive: one line after the other is fixed where the relaxation is cheapest, those that pay last first.
+//!
+//! What is fixed counts exactly from then on, so that the rounding of a late line comes back as exact receipts in all earlier
+//! balances, which the next linear program corrects.
+ghost use Rattle.std.specs.Prelude.{◌≡◌, ℕ, ◌<◌, ◌≤◌, All, IfOk, IfSome, length, slice_index_or};
+ghost use Rattle.fixed_powers.specs.DiscountPowers.{PowerTable};
+ghost use Rattle.offer_book.specs.Portfolio.{IsPermitted, IsPermittedUnits};
+ghost use Rattle.offer_book.specs.declared.line.Line.{Line};
+ghost use Rattle.plan_finder.specs.Dive.{AreLinesOf, IsDiver};
+ghost use Rattle.plan_finder.specs.Ledger.{IsLedger};
+
+use crate::draw::Draw;
+use crate::ledger::Ledger;
+use crate::neighbours::{Neighbours, next_to, permitted_below};
+use crate::order::Ranked;
+use cash_table::Plan;
+use dual_bound::Interval;
+use escrow_desk::NoMemory;
+use escrow_units::GREATEST_INDEX;
+use fixed_powers::{Powers, Side};
+use offer_book::{Book, Line};
+use price_lp::{Basis, Purpose, Simplex, SolveEnd};
+use std::alloc::Global;
+
+/// The most iterations of a solve from a basis near by.
+const WARM_ITERATIONS: u32 = 200;
+
+/// The most iterations of a solve from the start.
+const COLD_ITERATIONS: u32 = 600;
+
+/// In which turn lines are fixed.
+#[derive(Clone, Copy, Debug, PartialEq, Eq)]
+pub(crate) enum Sequence {
+    /// Lines with steps over a dollar first, then those below their least purchase, then the others: each the latest first.
+    Coarse,
+    /// In an order that is drawn.
+    Drawn,
+}
+
+/// The turn of a line.
+#[derive(Clone, Copy, Debug, PartialEq, Eq, PartialOrd, Ord)]
+enum Turn {
+    First,
+    Second,
+    Last,
+}
+
+/// The linear program of a dive, and what is fixed of it.
+#[derive(Drop)]
+pub(crate) struct Diver {
+    /// The linear program.
+    pub simplex: Simplex,
+    /// The basis before a line is fixed.
+    pub start: Basis,
+    /// The basis with the line fixed below.
+    pub below: Basis,
+    /// The units of each line that is fixed.
+    pub fixed: Vec<Option<u64>>,
+    /// The lines in the order in which they are looked at, the last one first.
+    pub order: Vec<Ranked>,
+    /// The lines in an order that is drawn.
+    pub drawn: Vec<Ranked>,
+    /// How many linear programs were solved, up to the type's end.
+    pub programs: u32,
+}
+
+// The turn of a line that isn't fixed, by the amount of it, in units of 2^-10 of a cent.
+fn turn_of(line: &Line, amount: i64) -> Turn {
+    if line.step > 100 {
+        Turn::First
+    } else if i128::from(amount) < i128::from(line.least) * i128::from(line.step) * 1024 {
+        Turn::Second
+    } else {
+        Turn::Last
+    }
+}
+
+// Puts lines into an order that is drawn: each place gets one of the lines that are left.
+fn shuffle(lines: &mut [Ranked], draw: &mut Draw)
+    ensures { (count : ℕ) → All (λ ranked. ranked.line < count) lines.old → All (λ ranked. ranked.line < count) lines.new }
+{
+    for place in 0..lines.len() {
+        let left = lines.len() - place;
+        let other = place + draw.below(left as u64) as usize;
+        let moved = lines[place];
+        lines[place] = lines[other];
+        lines[other] = moved;
+    }
+}
+
+impl Diver {
+    /// A dive over the lines of a book, against the limit of the powers, in the order of their ends.
+    ///
+    /// # Errors
+    ///
+    /// Where memory ran out.
+    pub(crate) fn make(
+        alloc: Global,
+        book: &Book,
+        powers: &Powers,
+        order: Vec<Ranked>,
+        drawn: Vec<Ranked>,
+    ) -> Result<Diver, NoMemory>
+        requires side { powers.now.side ≡ Side.Low }
+        requires longest { powers.now.longest ≡ GREATEST_INDEX }
+        requires order { AreLinesOf book.now order.items }
+        requires drawn { AreLinesOf book.now drawn.items }
+        ensures { IfOk result (IsDiver book.now) }
+    {
+        let mut simplex = Simplex::make(alloc, book, powers)?;
+        simplex.aim(Purpose::Plan, true);
+        Ok(Diver {
+            start: Basis::make(alloc, &simplex)?,
+            below: Basis::make(alloc, &simplex)?,
+            simplex,
+            fixed: vec![in alloc; None; usize::from(book.line_count())]?,
+            order,
+            drawn,
+            programs: 0,
+        })
+    }
+
+    /// Puts the lines into another order of draws.
+    pub(crate) fn shuffle(&mut self, book: &Book, draw: &mut Draw)
+        requires { IsDiver book.now self.old }
+        ensures { IsDiver book.now self.new }
+    {
+        shuffle(self.drawn.as_mut_slice(), draw);
+    }
+
+    // Whether a line can be fixed next.
+    fn is_open(&self, line: u16) -> bool
+        requires { line < length self.now.fixed.items }
+    {
+        self.simplex.is_basic(line) && self.fixed[usize::from(line)].is_none()
+    }
+
+    // The first open line in the order that is drawn.
+    fn next_drawn(&self, book: &Book) -> Option<u16>
+        requires { IsDiver book.now self.now }
+        ensures { IfSome result (λ line. line < length book.now.lines) }
+    {
+        for ranked in self.drawn.as_slice() {
+            if self.is_open(ranked.line) {
+                return Some(ranked.line);
+            }
+        }
+        None
+    }
+
+    // The first open line of the first turn in which there is one, those that pay last first.
+    fn next_in_turn(&self, book: &Book) -> Option<u16>
+        requires { IsDiver book.now self.now }
+        ensures { IfSome result (λ line. line < length book.now.lines) }
+    {
+        let mut next = None;
+        let mut soonest = None;
+        for place in (0..self.order.len()).rev() {
+            let line = self.order[place].line;
+            if self.is_open(line) {
+                let turn = turn_of(book.line(line), self.simplex.amount(line));
+                if is_sooner(turn, soonest) {
+                    soonest = Some(turn);
+                    next = Some(line);
+                }
+            }
+        }
+        next
+    }
+
+    // The line that is fixed next.
+    fn next_line(&self, book: &Book, sequence: Sequence) -> Option<u16>
+        requires { IsDiver book.now self.now }
+        ensures { IfSome result (λ line. line < length book.now.lines) }
+    {
+        match sequence {
+            Sequence::Coarse => self.next_in_turn(book),
+            Sequence::Drawn => self.next_drawn(book),
+        }
+    }
+
+    // Fixes a line at a number of units, with what they cost and pay exactly.
+    fn fix(&mut self, book: &Book, ledger: &Ledger, line: u16, units: u64)
+        requires diver { IsDiver book.now self.old }
+        requires ledger { (n : ℕ) × IsLedger n book.now ledger.now }
+        requires line { line < length book.now.lines }
+        requires permitted { (d : Line) → IsPermittedUnits (slice_index_or book.now.lines line d) units }
+        ensures { IsDiver book.now self.new }
+    {
+        let bought = ledger.purchase(book, line, units);
+        self.simplex
+            .fix(line, units, bought.cost, bought.payments.as_slice());
+        self.fixed[usize::from(line)] = Some(units);
+    }
+
+    // Solves one linear program more, and gives its objective: the greatest number where there is no solution.
+    fn solve(&mut self, book: &Book, iterations: u32) -> i128
+        requires { IsDiver book.now self.old }
+        ensures { IsDiver book.now self.new }
+    {
+        self.programs = self.programs.saturating_add(1);
+        match self.simplex.solve(iterations, None) {
+            SolveEnd::Stopped => i128::MAX,
+            SolveEnd::Optimal | SolveEnd::AtLimit | SolveEnd::Capped => self.simplex.objective(),
+        }
+    }
+
+    // Fixes a line at the better of two numbers of units, by the objective of the program.
+    fn choose(&mut self, book: &Book, ledger: &Ledger, line: u16, choice: Neighbours)
+        requires diver { IsDiver book.now self.old }
+        requires ledger { (n : ℕ) × IsLedger n book.now ledger.now }
+        requires line { line < length book.now.lines }
+        requires below { (d : Line) → IsPermittedUnits (slice_index_or book.now.lines line d) choice.below }
+        requires above { (d : Line) → IsPermittedUnits (slice_index_or book.now.lines line d) choice.above }
+        ensures { IsDiver book.now self.new }
+    {
+        self.simplex.save(&mut self.start);
+        self.fix(book, ledger, line, choice.below);
+        let below = self.solve(book, WARM_ITERATIONS);
+        self.simplex.save(&mut self.below);
+        self.simplex.start_from(&self.start);
+        self.fix(book, ledger, line, choice.above);
+        let above = self.solve(book, WARM_ITERATIONS);
+        if below <= above {
+            // The program that was solved before, so that it doesn't count again.
+            self.fix(book, ledger, line, choice.below);
+            self.simplex.start_from(&self.below);
+            self.simplex.solve(WARM_ITERATIONS, None);
+        }
+    }
+
+    // The permitted numbers of units next to the amount of a line.
+    fn neighbours(&self, book: &Book, line: u16) -> Neighbours
+        requires diver { IsDiver book.now self.now }
+        requires line { line < length book.now.lines }
+        ensures below { (d : Line) → IsPermittedUnits (slice_index_or book.now.lines line d) result.below }
+        ensures above { (d : Line) → IsPermittedUnits (slice_index_or book.now.lines line d) result.above }
+    {
+        next_to(book.line(line), self.simplex.amount(line))
+    }
+
+    // Fixes a line at a permitted number of units next to its amount.
+    fn decide(&mut self, book: &Book, ledger: &Ledger, line: u16)
+        requires diver { IsDiver book.now self.old }
+        requires ledger { (n : ℕ) × IsLedger n book.now ledger.now }
+        requires line { line < length book.now.lines }
+        ensures { IsDiver book.now self.new }
+    {
+        let choice = self.neighbours(book, line);
+        if choice.exact || choice.below == choice.above {
+            self.fix(book, ledger, line, choice.below);
+            self.solve(book, WARM_ITERATIONS);
+        } else {
+            self.choose(book, ledger, line, choice);
+        }
+    }
+
+    /// Fixes one open line after the other until none is left: at most every line once.
+    pub(crate) fn descend(&mut self, book: &Book, ledger: &Ledger, sequence: Sequence)
+        requires diver { IsDiver book.now self.old }
+        requires ledger { (n : ℕ) × IsLedger n book.now ledger.now }
+        ensures { IsDiver book.now self.new }
+    {
+        for _turn in 0..book.line_count() {
+            match self.next_line(book, sequence) {
+                Some(line) => self.decide(book, ledger, line),
+                None => return,
+            }
+        }
+    }
+
+    // Frees a line.
+    fn free(&mut self, book: &Book, line: u16)
+        requires diver { IsDiver book.now self.old }
+        requires line { line < length book.now.lines }
+        ensures { IsDiver book.now self.new }
+    {
+        let whole = Interval {
+            low: 0,
+            high: book.line(line).most,
+        };
+        self.simplex.set_range(line, whole);
+        self.fixed[usize::from(line)] = None;
+    }
+
+    /// Solves the program of all lines from the start, and gives its objective.
+    pub(crate) fn start_whole(&mut self, book: &Book) -> i128
+        requires { IsDiver book.now self.old }
+        ensures { IsDiver book.now self.new }
+    {
+        for line in 0..book.line_count() {
+            self.free(book, line);
+        }
+        self.simplex.start_greedily();
+        self.solve(book, COLD_ITERATIONS)
+    }
+
+    /// Solves the program from the start in which only some lines are free, and all others are fixed at a plan's units; it gives
+    /// its objective.
+    pub(crate) fn start_near(
+        &mut self,
+        book: &Book,
+        ledger: &Ledger,
+        plan: &Plan,
+        free: &[bool],
+    ) -> i128
+        requires diver { IsDiver book.now self.old }
+        requires ledger { (n : ℕ) × IsLedger n book.now ledger.now }
+        requires plan { IsPermitted book.now plan.now }
+        requires free { length free.now ≡ length book.now.lines }
+        ensures { IsDiver book.now self.new }
+    {
+        for line in 0..book.line_count() {
+            if free[usize::from(line)] {
+                self.free(book, line);
+            } else {
+                self.fix(book, ledger, line, plan.get(line));
+            }
+        }
+        self.simplex.start_greedily();
+        self.solve(book, COLD_ITERATIONS)
+    }
+
+    // The units at which a line stands after a dive.
+    fn units(&self, book: &Book, line: u16) -> u64
+        requires diver { IsDiver book.now self.now }
+        requires line { line < length book.now.lines }
+        ensures { (d : Line) → IsPermittedUnits (slice_index_or book.now.lines line d) result }
+    {
+        match self.fixed[usize::from(line)] {
+            Some(units) => permitted_below(book.line(line), units),
+            None => self.neighbours(book, line).below,
+        }
+    }
+
+    /// Gives the ledger the plan at which a dive ended.
+    pub(crate) fn surface(&self, book: &Book, ledger: &mut Ledger)
+        requires diver { IsDiver book.now self.now }
+        requires ledger { (n : ℕ) × IsLedger n book.now ledger.old }
+        ensures { (n : ℕ) → IsLedger n book.now ledger.old → IsLedger n book.now ledger.new }
+    {
+        for line in 0..book.line_count() {
+            ledger.change(book, line, self.units(book, line));
+        }
+    }
+}
+
+// Whether a turn comes before another, if there is any.
+fn is_sooner(turn: Turn, soonest: Option<Turn>) -> bool {
+    match soonest {
+        Some(other) => turn < other,
+        None => true,
+    }
+}

@@ -1,0 +1,32 @@
+//! Pseudo-random draws, the same in each run.
+ghost use Rattle.std.specs.Prelude.{◌<◌, ◌≤◌};
+
+/// A linear congruential generator of 64 bits.
+#[derive(Clone, Copy)]
+pub(crate) struct Draw {
+    state: u64,
+}
+
+impl Draw {
+    /// The generator that starts from a number.
+    pub(crate) fn from(seed: u64) -> Draw {
+        Draw { state: seed }
+    }
+
+    // The next number of 31 bits. The high bits of the state are the most irregular ones.
+    fn next(&mut self) -> u64 {
+        self.state = self
+            .state
+            .wrapping_mul(6_364_136_223_846_793_005)
+            .wrapping_add(1_442_695_040_888_963_407);
+        self.state >> 33
+    }
+
+    /// A number below a bound above 0.
+    pub(crate) fn below(&mut self, bound: u64) -> u64
+        requires { 0 < bound }
+        ensures { result < bound }
+    {
+        self.next() % bound
+    }
+}

@@ -1,0 +1,181 @@
+//! A plan that is short is mended, at the least cost that one line at a time allows.
+ghost use Rattle.std.specs.Prelude.{◌≡◌, ℕ, ◌*◌, ◌^◌, ◌<◌, ◌≤◌, IfSome, length, slice_index_or};
+ghost use Rattle.escrow_units.specs.Flows.{total};
+ghost use Rattle.day_sums.specs.Summed.{total_by};
+ghost use Rattle.offer_book.specs.Portfolio.{IsPermittedUnits};
+ghost use Rattle.offer_book.specs.declared.line.Line.{Line};
+ghost use Rattle.plan_finder.specs.Ledger.{IsLedger};
+ghost use Rattle.plan_finder.specs.Mend.{IsRise};
+
+use crate::ledger::Ledger;
+use crate::terms::Purchase;
+use escrow_units::{Cents, Day, Flow};
+use offer_book::{Book, Line};
+
+/// What is short on a need date.
+#[derive(Clone, Copy)]
+pub(crate) struct Shortage {
+    /// The date.
+    pub day: Day,
+    /// How much is short, in cents.
+    pub cents: u64,
+}
+
+// A rise of a line to more units.
+#[derive(Clone, Copy)]
+struct Rise {
+    line: u16,
+    units: u64,
+    // What it costs, in cents, and what is still short afterwards counts twice and a cent.
+    weight: u64,
+}
+
+// What flows come to up to a day, in cents.
+fn paid_until(flows: &[Flow], day: Day) -> u64
+    requires { total flows.now < 2 ^ 64 }
+    ensures { result ≡ total_by day flows.now }
+{
+    let mut paid = 0;
+    for flow in flows {
+        if flow.day <= day {
+            paid += flow.cents.0;
+        }
+    }
+    paid
+}
+
+// How much more a purchase pays up to a day than another, in cents.
+fn gain(held: &Purchase, other: &Purchase, day: Day) -> u64
+    requires held { total held.now.payments.items < 2 ^ 64 }
+    requires other { total other.now.payments.items < 2 ^ 64 }
+{
+    paid_until(other.payments.as_slice(), day).saturating_sub(paid_until(
+        held.payments.as_slice(),
+        day,
+    ))
+}
+
+// The first units of a line beyond those that are held, if there are any.
+fn next_units(line: &Line, held: u64) -> Option<u64>
+    ensures { IfSome result (λ units. (line.now.least ≤ units) × (held < units) × (units ≤ line.now.most)) }
+{
+    if line.most <= held || line.most < line.least {
+        None
+    } else {
+        Some(line.least.max(held + 1))
+    }
+}
+
+// Units that cover a shortage where each pays as much as the first ones do on average, or the most.
+fn enough_units(line: &Line, held: u64, first: u64, gain: u64, short: u64) -> u64
+    requires first { first ≤ line.now.most }
+    requires more { held < first }
+    requires gain { 0 < gain }
+    ensures first { first ≤ result }
+    ensures most { result ≤ line.now.most }
+{
+    let more = short.saturating_mul(first - held).div_ceil(gain);
+    held.saturating_add(more).max(first).min(line.most)
+}
+
+// What a rise weighs: what it costs, and twice what is still short with a cent more, in cents.
+fn weight(held: Cents, bought: Cents, filled: u64, short: u64) -> u64 {
+    let cost = bought.0.saturating_sub(held.0);
+    if filled < short {
+        (short - filled)
+            .saturating_mul(2)
+            .saturating_add(1)
+            .saturating_add(cost)
+    } else {
+        cost
+    }
+}
+
+// The rise of a line that covers a shortage, or as much of it as the line can, if it pays anything by then.
+fn rise_of(book: &Book, ledger: &Ledger, line: u16, shortage: &Shortage) -> Option<Rise>
+    requires ledger { (n : ℕ) × IsLedger n book.now ledger.now }
+    requires line { line < length book.now.lines }
+    ensures { IfSome result (IsRise book.now) }
+{
+    let offer = book.line(line);
+    let units = ledger.units(line);
+    let first = next_units(offer, units)?;
+    let held = ledger.purchase(book, line, units);
+    let gained = gain(&held, &ledger.purchase(book, line, first), shortage.day);
+    if gained == 0 {
+        return None;
+    }
+    let enough = enough_units(offer, units, first, gained, shortage.cents);
+    let bought = ledger.purchase(book, line, enough);
+    let filled = gain(&held, &bought, shortage.day);
+    Some(Rise {
+        line,
+        units: enough,
+        weight: weight(held.cost, bought.cost, filled, shortage.cents),
+    })
+}
+
+// The one of two rises that weighs less, the earlier one where they weigh the same.
+fn lighter(book: &Book, first: Option<Rise>, second: Option<Rise>) -> Option<Rise>
+    requires first { IfSome first (IsRise book.now) }
+    requires second { IfSome second (IsRise book.now) }
+    ensures { IfSome result (IsRise book.now) }
+{
+    match (first, second) {
+        (Some(one), Some(other)) => Some(if other.weight < one.weight {
+            other
+        } else {
+            one
+        }),
+        (None, other) => other,
+        (one, None) => one,
+    }
+}
+
+// What is short on the first need date on which the plan is short.
+fn first_shortage(book: &Book, ledger: &Ledger) -> Option<Shortage>
+    requires { (n : ℕ) × IsLedger n book.now ledger.now }
+{
+    let place = ledger.first_short(book)?;
+    Some(Shortage {
+        day: book.need(place).day,
+        cents: ledger.short_by(place),
+    })
+}
+
+// The rise of one line that covers a shortage at the least cost.
+fn cheapest_rise(book: &Book, ledger: &Ledger, shortage: &Shortage) -> Option<Rise>
+    requires { (n : ℕ) × IsLedger n book.now ledger.now }
+    ensures { IfSome result (IsRise book.now) }
+{
+    let mut cheapest = None;
+    for line in 0..book.line_count() {
+        cheapest = lighter(book, cheapest, rise_of(book, ledger, line, shortage));
+    }
+    cheapest
+}
+
+// The rise of one line that covers the first shortage at the least cost, if there is any.
+fn next_rise(book: &Book, ledger: &Ledger) -> Option<Rise>
+    requires { (n : ℕ) × IsLedger n book.now ledger.now }
+    ensures { IfSome result (IsRise book.now) }
+{
+    match first_shortage(book, ledger) {
+        Some(shortage) => cheapest_rise(book, ledger, &shortage),
+        None => None,
+    }
+}
+
+/// Raises lines while the plan is short, each time the one that covers the first shortage at the least cost: at most four times
+/// for each line, and 64 times.
+pub(crate) fn mend(book: &Book, ledger: &mut Ledger)
+    requires ledger { (n : ℕ) × IsLedger n book.now ledger.old }
+    ensures ledger { (n : ℕ) → IsLedger n book.now ledger.old → IsLedger n book.now ledger.new }
+{
+    for _round in 0..4 * u32::from(book.line_count()) + 64 {
+        match next_rise(book, ledger) {
+            Some(rise) => ledger.put(book, rise.line, rise.units),
+            None => return,
+        }
+    }
+}

@@ -1,0 +1,103 @@
+//! Parts of the lines that are free in a dive near a plan.
+ghost use Rattle.std.specs.Prelude.{◌≡◌, ◌<◌, ◌≤◌, length};
+
+use crate::draw::Draw;
+use cash_table::Plan;
+
+// Frees no line.
+fn free_none(free: &mut [bool]) {
+    for line in 0..free.len() {
+        free[line] = false;
+    }
+}
+
+// Frees the lines whose payments end on one of some need dates, counted from 1, after a start.
+fn free_window(free: &mut [bool], ends: &[u16], start: u64, dates: u64)
+    requires { length ends.now ≡ length free.old }
+{
+    for line in 0..free.len() {
+        let end = u64::from(ends[line]);
+        if start < end && end - start <= dates {
+            free[line] = true;
+        }
+    }
+}
+
+// Frees a number of lines that are drawn.
+fn free_drawn(free: &mut [bool], draw: &mut Draw, count: u64)
+    requires { 0 < length free.old }
+{
+    for _ in 0..count {
+        let line = draw.below(free.len() as u64) as usize;
+        free[line] = true;
+    }
+}
+
+// Frees about one in so many of the lines that a plan buys.
+fn free_bought(free: &mut [bool], draw: &mut Draw, plan: &Plan, among: u64)
+    requires plan { length plan.now ≡ length free.old }
+    requires few { length free.old ≤ 257 }
+    requires among { 0 < among }
+{
+    for line in 0..free.len() {
+        if plan.get(line as u16) > 0 && draw.below(among) == 0 {
+            free[line] = true;
+        }
+    }
+}
+
+/// Frees all lines but about one in so many, which are drawn.
+pub(crate) fn free_most(free: &mut [bool], draw: &mut Draw, among: u64)
+    requires among { 0 < among }
+{
+    for line in 0..free.len() {
+        free[line] = draw.below(among) > 0;
+    }
+}
+
+// Frees the lines whose payments end within a window that is drawn: 5 to 30 in a hundred of the need dates.
+fn free_one_window(free: &mut [bool], draw: &mut Draw, ends: &[u16], dates: u64)
+    requires ends { length ends.now ≡ length free.old }
+    requires dates { 0 < dates }
+    requires few { dates ≤ 480 }
+{
+    let length = (dates * (1 + draw.below(6)) / 20).max(2);
+    free_window(free, ends, draw.below(dates), length);
+}
+
+// Frees the lines whose payments end within two windows that are drawn: each of a sixteenth of the need dates.
+fn free_two_windows(free: &mut [bool], draw: &mut Draw, ends: &[u16], dates: u64)
+    requires ends { length ends.now ≡ length free.old }
+    requires dates { 0 < dates }
+{
+    let length = (dates / 16).max(1);
+    free_window(free, ends, draw.below(dates), length);
+    free_window(free, ends, draw.below(dates), length);
+}
+
+/// Frees a part of the lines that is drawn, and opening cash: the lines that end within a window; some lines and a third of
+/// those that the plan buys; the lines that end within two narrow windows, and some others; or half of the lines.
+pub(crate) fn free_part(free: &mut [bool], draw: &mut Draw, ends: &[u16], plan: &Plan, dates: u64)
+    requires some { 0 < length free.old }
+    requires few { length free.old ≤ 257 }
+    requires ends { length ends.now ≡ length free.old }
+    requires plan { length plan.now ≡ length free.old }
+    requires dates { 0 < dates }
+    requires few_dates { dates ≤ 480 }
+{
+    free_none(free);
+    let count = 6 + draw.below(free.len() as u64 / 3 + 1);
+    match draw.below(4) {
+        0 => free_one_window(free, draw, ends, dates),
+        1 => {
+            free_drawn(free, draw, count);
+            free_bought(free, draw, plan, 3);
+        }
+        2 => {
+            free_two_windows(free, draw, ends, dates);
+            free_drawn(free, draw, count / 3);
+        }
+        _ => free_most(free, draw, 2),
+    }
+    free[0] = true;
+}

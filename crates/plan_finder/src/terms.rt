@@ -1,0 +1,173 @@
+//! What units of a line cost and pay, by terms that are read once: no calendar is read again.
+ghost use Rattle.std.specs.Prelude.{All, ◌≡◌, ◌*◌, ◌^◌, ◌<◌, ◌≤◌, ◌≤ℤ◌, ℕ, ℤ, IfOk, length, map, sum_by};
+ghost use Rattle.std.specs.List.{zip};
+ghost use Rattle.escrow_units.specs.Calendar.{years_after_of};
+ghost use Rattle.escrow_units.specs.SlgsTerms.{IsSettlement};
+ghost use Rattle.fixed_powers.specs.DiscountPowers.{PowerTable, one};
+ghost use Rattle.offer_book.specs.Book.{IsLine};
+ghost use Rattle.offer_book.specs.Portfolio.{line_payments};
+ghost use Rattle.offer_book.specs.Schedule.{flow_by};
+ghost use Rattle.slgs_interest.specs.PaymentLaws.{IsShort};
+ghost use Rattle.dual_bound.specs.Columns.{kind_power};
+ghost use Rattle.plan_finder.specs.Ledger.{IsPurchase, IsTerms};
+
+use arrayvec::ArrayVec;
+use escrow_desk::NoMemory;
+use escrow_units::{Accrual, Cents, Day, Flow, GREATEST_INDEX, GREATEST_RATE, Rate, index360};
+use fixed_powers::{Powers, Side};
+use offer_book::{Line, LineKind, ScheduledPayment};
+use std::alloc::Global;
+
+/// What a line costs and pays, by its terms.
+#[derive(Drop)]
+pub(crate) struct LineTerms {
+    /// The part of a year for which interest has accrued.
+    pub accrued: Accrual,
+    /// The payments, in order of date.
+    pub schedule: ArrayVec<ScheduledPayment, 84>,
+    /// The discount factor of each payment's day, in units of 2^-62: 0 for opening cash, which the yield limit doesn't bind.
+    pub powers: Vec<u64>,
+}
+
+/// What units of a line cost and pay.
+#[derive(Drop)]
+pub(crate) struct Purchase {
+    /// What they cost.
+    pub cost: Cents,
+    /// What they pay, in order of date.
+    pub payments: ArrayVec<Flow, 84>,
+    /// What the payments are worth at the yield limit, in units of 2^-62 of a cent: nothing for opening cash.
+    pub worth: u128,
+}
+
+// The discount factor of a day on which a kind of line pays.
+fn power_on(settle: Day, powers: &Powers, kind: LineKind, day: Day) -> u64
+    requires side { powers.now.side ≡ Side.Low }
+    requires longest { powers.now.longest ≡ GREATEST_INDEX }
+    requires from { settle ≤ℤ day }
+    requires to { day ≤ℤ years_after_of settle 40 }
+    ensures value { result ≡ kind_power powers.now.yield_units settle kind day }
+    ensures small { result ≤ one }
+{
+    match kind {
+        LineKind::Cash => 0,
+        LineKind::Security(_) | LineKind::Market(_) => powers.power(index360(settle, day)),
+    }
+}
+
+// The discount factors of the days on which a line pays.
+fn powers_of(
+    alloc: Global,
+    settle: Day,
+    powers: &Powers,
+    line: &Line,
+    schedule: &[ScheduledPayment],
+) -> Result<Vec<u64>, NoMemory>
+    requires side { powers.now.side ≡ Side.Low }
+    requires longest { powers.now.longest ≡ GREATEST_INDEX }
+    requires within { All (λ payment. (settle ≤ℤ payment.day) × (payment.day ≤ℤ years_after_of settle 40)) schedule.now }
+    ensures value { IfOk result (λ factors. factors.items ≡ map (λ payment. kind_power powers.now.yield_units settle line.now.kind payment.day) schedule.now) }
+    ensures small { IfOk result (λ factors. All (λ power. power ≤ one) factors.items) }
+{
+    let mut factors = Vec::new(alloc);
+    for payment in schedule {
+        factors.push(power_on(settle, powers, line.kind, payment.day))?;
+    }
+    Ok(factors)
+}
+
+// What an amount at a rate pays by a payment.
+fn flow_of(rate: Rate, amount: Cents, payment: &ScheduledPayment) -> Flow
+    requires rate { rate.0 ≤ GREATEST_RATE }
+    requires amount { amount.0 ≤ 10 ^ 13 }
+    requires short { IsShort payment.now.accrual }
+    ensures { result ≡ flow_by rate.0 amount.0 payment.now }
+{
+    Flow {
+        day: payment.day,
+        cents: payment.cents(rate, amount),
+    }
+}
+
+// What an amount at a rate pays by a schedule.
+fn flows_of(rate: Rate, amount: Cents, schedule: &[ScheduledPayment]) -> ArrayVec<Flow, 84>
+    requires rate { rate.0 ≤ GREATEST_RATE }
+    requires amount { amount.0 ≤ 10 ^ 13 }
+    requires short { All (λ payment. IsShort payment.accrual) schedule.now }
+    requires few { length schedule.now ≤ 84 }
+    ensures { result.items ≡ map (flow_by rate.0 amount.0) schedule.now }
+{
+    let mut flows = ArrayVec::new();
+    for payment in schedule {
+        flows.push(flow_of(rate, amount, payment));
+    }
+    flows
+}
+
+// What cents are worth by a power, in units of 2^-62 of a cent.
+fn worth_by(power: u64, cents: Cents) -> u128
+    requires power { power ≤ one }
+    requires cents { cents.0 ≤ 2 * 10 ^ 13 }
+    ensures value { result ≡ cents.0 * power }
+    ensures small { result ≤ one * (2 * 10 ^ 13) }
+{
+    u128::from(cents.0) * u128::from(power)
+}
+
+// What flows are worth by the powers of their days, in units of 2^-62 of a cent.
+fn worth_of(powers: &[u64], flows: &[Flow]) -> u128
+    requires powers { All (λ power. power ≤ one) powers.now }
+    requires flows { All (λ flow. flow.cents.0 ≤ 2 * 10 ^ 13) flows.now }
+    requires few { length flows.now ≤ 84 }
+    ensures { result ≡ sum_by (λ p. p.1.cents.0 * p.0) (zip powers.now flows.now) }
+{
+    let mut worth = 0;
+    for (power, flow) in powers.iter().zip(flows) {
+        worth += worth_by(*power, flow.cents);
+    }
+    worth
+}
+
+impl LineTerms {
+    /// The terms of a line of a book with a settlement day, against the limit of the powers.
+    ///
+    /// # Errors
+    ///
+    /// Where memory ran out.
+    pub(crate) fn make(
+        alloc: Global,
+        settle: Day,
+        powers: &Powers,
+        line: &Line,
+    ) -> Result<LineTerms, NoMemory>
+        requires settlement { IsSettlement settle }
+        requires line { IsLine settle line.now }
+        requires side { powers.now.side ≡ Side.Low }
+        requires longest { powers.now.longest ≡ GREATEST_INDEX }
+        ensures { IfOk result (IsTerms powers.now.yield_units settle line.now) }
+    {
+        let schedule = line.schedule(settle);
+        let powers = powers_of(alloc, settle, powers, line, schedule.as_slice())?;
+        Ok(LineTerms {
+            accrued: line.accrued(),
+            schedule,
+            powers,
+        })
+    }
+
+    /// What units of the line, at most its most, cost and pay.
+    pub(crate) fn purchase(&self, line: &Line, units: u64) -> Purchase
+        requires line { (settle : ℤ) × IsLine settle line.now }
+        requires terms { (settle : ℤ) × (n : ℕ) × IsTerms n settle line.now self.now }
+        requires units { units ≤ line.now.most }
+        ensures { (settle : ℤ) (n : ℕ) → IsLine settle line.now → IsTerms n settle line.now self.now → IsPurchase n settle line.now units result }
+    {
+        let payments = flows_of(line.rate(), line.par(units), self.schedule.as_slice());
+        let worth = worth_of(self.powers.as_slice(), payments.as_slice());
+        Purchase {
+            cost: line.cost_by(self.accrued, units),
+            payments,
+            worth,
+        }
+    }
+}

@@ -1,0 +1,161 @@
+//! Plans taken down as far as the needs allow, one line after another.
+ghost use Rattle.std.specs.Prelude.{◌≡◌, ℕ, ◌<◌, ◌≤◌, ◌↔◌, All, IsTrue, length, slice_index, slice_index_or};
+ghost use Rattle.offer_book.specs.Portfolio.{IsPermittedUnits, Meets, line_payments};
+ghost use Rattle.backward_build.specs.Spare.{Cover};
+ghost use Rattle.offer_book.specs.declared.line.Line.{Line};
+ghost use Rattle.backward_build.specs.Spare.{ArePaid};
+ghost use Rattle.plan_finder.specs.Ledger.{IsLedger};
+
+use crate::ledger::{Ledger, paid};
+use crate::order::Ranked;
+use escrow_units::MOST_NEED_DATES;
+use offer_book::Book;
+
+// A line of a plan, and what it has to pay up to each need date, in cents.
+#[derive(Drop)]
+struct Duty {
+    line: u16,
+    due: [u64; MOST_NEED_DATES],
+}
+
+// From how many units to how many the fewest lie that suffice: the high end suffices.
+#[derive(Clone, Copy)]
+struct Bracket {
+    low: u64,
+    high: u64,
+}
+
+// Whether each of the first amounts is at least what is due there.
+fn covers(paid: &[u64], due: &[u64], dates: usize) -> bool
+    requires paid { dates ≤ length paid.now }
+    requires due { dates ≤ length due.now }
+    ensures { IsTrue result ↔ ((k : ℕ) → k < dates → slice_index due.now k ≤ slice_index paid.now k) }
+{
+    for place in 0..dates {
+        if paid[place] < due[place] {
+            return false;
+        }
+    }
+    true
+}
+
+// Whether units of a line pay what is due up to each need date.
+fn suffices(book: &Book, ledger: &Ledger, duty: &Duty, units: u64) -> bool
+    requires ledger { (n : ℕ) × IsLedger n book.now ledger.now }
+    requires line { duty.now.line < length book.now.lines }
+    requires units { (d : Line) → units ≤ (slice_index_or book.now.lines duty.now.line d).most }
+    ensures { (d : Line) → IsTrue result ↔ Cover book.now.needs duty.now.due (line_payments book.now.settle (slice_index_or book.now.lines duty.now.line d) units) }
+{
+    let bought = ledger.purchase(book, duty.line, units);
+    covers(
+        &paid(book, &bought),
+        &duty.due,
+        usize::from(book.need_count()),
+    )
+}
+
+// Looks for the fewest units that suffice downward from some that do, in steps that double.
+fn bracket_of(book: &Book, ledger: &Ledger, duty: &Duty, units: u64) -> Bracket
+    requires ledger { (n : ℕ) × IsLedger n book.now ledger.now }
+    requires line { duty.now.line < length book.now.lines }
+    requires least { (d : Line) → (slice_index_or book.now.lines duty.now.line d).least ≤ units }
+    requires most { (d : Line) → units ≤ (slice_index_or book.now.lines duty.now.line d).most }
+    requires enough { (d : Line) → Cover book.now.needs duty.now.due (line_payments book.now.settle (slice_index_or book.now.lines duty.now.line d) units) }
+    ensures least { (d : Line) → (slice_index_or book.now.lines duty.now.line d).least ≤ result.low }
+    ensures ordered { result.low ≤ result.high }
+    ensures most { result.high ≤ units }
+    ensures enough { (d : Line) → Cover book.now.needs duty.now.due (line_payments book.now.settle (slice_index_or book.now.lines duty.now.line d) result.high) }
+{
+    let least = book.line(duty.line).least;
+    let mut high = units;
+    for doublings in 0..63u32 {
+        let step = 1u64 << doublings;
+        if high - least < step {
+            return Bracket { low: least, high };
+        }
+        if suffices(book, ledger, duty, high - step) {
+            high -= step;
+        } else {
+            return Bracket {
+                low: high - step + 1,
+                high,
+            };
+        }
+    }
+    Bracket { low: least, high }
+}
+
+// The fewest units of a line that suffice within a bracket, by bisection: more units pay no less.
+fn fewest_within(book: &Book, ledger: &Ledger, duty: &Duty, bracket: Bracket) -> u64
+    requires ledger { (n : ℕ) × IsLedger n book.now ledger.now }
+    requires line { duty.now.line < length book.now.lines }
+    requires ordered { bracket.low ≤ bracket.high }
+    requires most { (d : Line) → bracket.high ≤ (slice_index_or book.now.lines duty.now.line d).most }
+    requires enough { (d : Line) → Cover book.now.needs duty.now.due (line_payments book.now.settle (slice_index_or book.now.lines duty.now.line d) bracket.high) }
+    ensures least { bracket.low ≤ result }
+    ensures most { result ≤ bracket.high }
+    ensures enough { (d : Line) → Cover book.now.needs duty.now.due (line_payments book.now.settle (slice_index_or book.now.lines duty.now.line d) result) }
+{
+    let mut low = bracket.low;
+    let mut high = bracket.high;
+    while low < high {
+        let middle = low + (high - low) / 2;
+        if suffices(book, ledger, duty, middle) {
+            high = middle;
+        } else {
+            low = middle + 1;
+        }
+    }
+    high
+}
+
+// The fewest permitted units of a line that suffice, of which some do.
+fn fewest(book: &Book, ledger: &Ledger, duty: &Duty, units: u64) -> u64
+    requires ledger { (n : ℕ) × IsLedger n book.now ledger.now }
+    requires line { duty.now.line < length book.now.lines }
+    requires permitted { (d : Line) → IsPermittedUnits (slice_index_or book.now.lines duty.now.line d) units }
+    requires enough { (d : Line) → Cover book.now.needs duty.now.due (line_payments book.now.settle (slice_index_or book.now.lines duty.now.line d) units) }
+    ensures permitted { (d : Line) → IsPermittedUnits (slice_index_or book.now.lines duty.now.line d) result }
+    ensures most { result ≤ units }
+    ensures enough { (d : Line) → Cover book.now.needs duty.now.due (line_payments book.now.settle (slice_index_or book.now.lines duty.now.line d) result) }
+{
+    if suffices(book, ledger, duty, 0) {
+        0
+    } else {
+        let bracket = bracket_of(book, ledger, duty, units);
+        fewest_within(book, ledger, duty, bracket)
+    }
+}
+
+// Takes a line down as far as the needs allow.
+fn trim_line(book: &Book, ledger: &mut Ledger, line: u16)
+    requires ledger { (n : ℕ) × IsLedger n book.now ledger.old }
+    requires line { line < length book.now.lines }
+    requires meets { Meets book.now ledger.old.plan }
+    ensures ledger { (n : ℕ) → IsLedger n book.now ledger.old → IsLedger n book.now ledger.new }
+    ensures meets { Meets book.now ledger.new.plan }
+{
+    let units = ledger.units(line);
+    let duty = Duty {
+        line,
+        due: ledger.due(book, line),
+    };
+    let fewest = fewest(book, ledger, &duty, units);
+    ledger.change(book, line, fewest);
+}
+
+/// Takes each line of a plan that meets the needs down as far as the needs allow, in an order. What one gives back only
+/// tightens the others, so that once is enough.
+pub(crate) fn trim(book: &Book, ledger: &mut Ledger, order: &[Ranked])
+    requires ledger { (n : ℕ) × IsLedger n book.now ledger.old }
+    requires meets { Meets book.now ledger.old.plan }
+    requires order { All (λ ranked. ranked.line < length book.now.lines) order.now }
+    ensures ledger { (n : ℕ) → IsLedger n book.now ledger.old → IsLedger n book.now ledger.new }
+    ensures meets { Meets book.now ledger.new.plan }
+{
+    for ranked in order {
+        if ledger.units(ranked.line) > 0 {
+            trim_line(book, ledger, ranked.line);
+        }
+    }
+}
