@@ -1,8 +1,6 @@
 //! Better prices for a leaf: the best of the linear program's prices, the given leaf and each of its steps.
 #![tactic(auto)]
 
-mod paid;
-mod sweep;
 mod tuner;
 
 pub use tuner::improve;

@@ -1,2 +1,0 @@
-pub mod AsideFacts
-pub mod SweepFacts
