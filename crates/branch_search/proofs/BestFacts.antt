@@ -1,6 +1,6 @@
 -- The cheapest plan at the root, and what comes of it.
-use Rattle.std.proofs.Common.{◌≡◌, ℕ, ◌≤◌, ◌*◌, List, Ok, Err, Some, None, Bool, true, false, refl, sym, subst, inl, inr, arith, ℤ, pos, ◌-ℤ◌}
-use Rattle.std.specs.Prelude.{IfOk, IfSome, MatchOption, Option, Result}
+use Rattle.std.proofs.Common.{◌≡◌, ℕ, ◌≤◌, List, Ok, Err, Some, None, Bool, true, false, refl, sym, subst, inl, inr, arith, ℤ, pos, ◌-ℤ◌}
+use Rattle.std.specs.Prelude.{IfOk, MatchOption, Option, Result}
 use Rattle.std.proofs.lemmas.Int.{ints}
 use Rattle.backward_build.proofs.BackwardFacts.{built_backward}
 use Rattle.backward_build.specs.BackwardPlan.{backward_plan}
@@ -15,7 +15,7 @@ use Rattle.offer_book.specs.Book.{BookContents, IsBook}
 use Rattle.offer_book.specs.Portfolio.{IsPermitted, cost}
 use Rattle.plan_finder.specs.Proposal.{IsProposal}
 use Rattle.plan_finder.specs.declared.finding.Proposal.{Proposal}
-use Rattle.branch_search.proofs.RootFacts.{bears, bound_at_root, found-at_root, leaf-sound, sound-leaf}
+use Rattle.branch_search.proofs.RootFacts.{bound_at_root, found-at_root, leaf-sound, sound-leaf}
 use Rattle.branch_search.specs.Root.{AreBeyond, HasNone, IsBest, IsBuilt, IsLeastGap, IsRoot, IsTaken}
 use Rattle.branch_search.specs.Search.{CostsNoMore, HasNoGap, HoldsOfBoth, IsFound, IsFoundAtRoot, IsLeftOpen, IsOpenAtRoot, IsTrimmedFrom, OfBackward, leaf_alone}
 use Rattle.branch_search.specs.declared.root_leaf.RootLeaf.{RootLeaf}

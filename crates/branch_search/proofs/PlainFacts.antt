@@ -1,9 +1,9 @@
 -- Plain cases are settled at the root, proved.
-use Rattle.std.proofs.Common.{◌≡◌, ℕ, ◌≤◌, ◌-◌, ◌*◌, List, Some, true, sym, ap, subst, inl, inr, refl, arith, ℤ, pos, ◌-ℤ◌, ◌*ℤ◌, ◌<ℤ◌, ◌≤ℤ◌}
+use Rattle.std.proofs.Common.{◌≡◌, ℕ, ◌≤◌, ◌*◌, Some, true, sym, ap, subst, inl, inr, refl, arith, ℤ, pos, ◌-ℤ◌, ◌*ℤ◌, ◌<ℤ◌, ◌≤ℤ◌}
 use Rattle.std.specs.Prelude.{length, replicate, unwrap_or}
 use Rattle.std.proofs.lemmas.Int.{ints}
 use Rattle.backward_build.specs.PlainCase.{plain_gap}
-use Rattle.backward_build.specs.PriceCurve.{bootstrapped_prices, leaf_of_prices}
+use Rattle.backward_build.specs.PriceCurve.{leaf_of_prices}
 use Rattle.case_file.specs.Case.{CaseContents}
 use Rattle.cash_table.proofs.PointFacts.{beyond_no_rival}
 use Rattle.dual_bound.specs.declared.prices.TheConstants.{PRICE_SCALE}
