@@ -1,5 +1,5 @@
 pub mod FoundFacts
 pub mod PlanBuys
 pub mod RootFacts
-pub mod SearchFacts
+pub mod BestFacts
 pub mod PlainFacts

@@ -18,8 +18,8 @@ use Rattle.offer_book.specs.Portfolio.{IsPermitted, Meets, cost}
 use Rattle.offer_book.specs.declared.line.Line.{Line}
 use Rattle.branch_search.proofs.PlanBuys.{plan-again, plan-bought, plan-buys_well}
 use Rattle.branch_search.specs.Purchases.{certificate_of}
-use Rattle.branch_search.specs.Root.{HasNoGap, IsLeastGap}
-use Rattle.branch_search.specs.Search.{IsFound}
+use Rattle.branch_search.specs.Root.{IsLeastGap}
+use Rattle.branch_search.specs.Search.{HasNoGap, IsFound}
 
 -- each range of the root is within its line's most
 pub root-room : (lines : List Line) → AllZip HasRoomFor lines (root_of lines)

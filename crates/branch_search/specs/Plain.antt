@@ -1,5 +1,5 @@
 -- Plain cases are settled at the root.
-use Rattle.std.specs.Prelude.{◌≡◌, ℕ, ◌≤◌}
+use Rattle.std.specs.Prelude.{◌≡◌, ◌≤◌}
 use Rattle.backward_build.specs.PlainCase.{IsPlain, plain_gap}
 use Rattle.case_file.specs.Case.{CaseContents}
 use Rattle.escrow_units.specs.declared.limits.TheConstants.{GREATEST_YIELD}

@@ -1,16 +1,18 @@
 -- What a search finds, and where the root of its tree alone doesn't settle a case. The search is this project's own.
-use Rattle.std.specs.Prelude.{◌≡◌, ◌⊎◌, ℕ, ◌<◌, ◌≤◌, false, true, List, [], ◌∷◌, length, Ok, Err, Some, None}
+use Rattle.std.specs.Prelude.{◌≡◌, ◌⊎◌, ℕ, ◌-◌, ◌<◌, ◌≤◌, false, true, List, [], ◌∷◌, length, replicate, unwrap_or, Ok, Some}
 use Rattle.backward_build.specs.BackwardPlan.{backward_plan}
 use Rattle.backward_build.specs.PriceCurve.{bootstrapped_prices, leaf_of_prices}
 use Rattle.backward_build.specs.Trim.{HasNoMore, IsTrimmed}
-use Rattle.backward_build.specs.declared.backward.BuildEnd.{BuildEnd}
 use Rattle.bound_certificate.specs.Certificate.{IsWellFormed}
 use Rattle.case_file.specs.Case.{CaseContents}
 use Rattle.cash_table.specs.First.{first_short_of}
 use Rattle.cash_table.specs.Points.{is_within_limit}
 use Rattle.cash_table.specs.Reach.{AreAllShort, IsInReach, plan_of_most}
+use Rattle.dual_bound.specs.Ranges.{root_of}
+use Rattle.dual_bound.specs.declared.tree.Leaf.{Leaf}
 use Rattle.dual_bound.specs.declared.tree.TreeNode.{TreeNode}
 use Rattle.dual_bound.specs.declared.tree.TreeNode.TheVariants as node
+use Rattle.dual_tune.specs.Steps.{IsImproved}
 use Rattle.escrow_check.specs.Reasons.{IsSoundTree, IsUnopposed}
 use Rattle.offer_book.specs.Book.{BookContents}
 use Rattle.offer_book.specs.Portfolio.{IsPermitted, Meets, cost}
@@ -27,6 +29,20 @@ pub record IsFound (case : CaseContents) (plan : List ℕ) (nodes : List TreeNod
   pub unopposed : IsUnopposed case (certificate_of plan nodes gap)
   pub least : (less : ℕ) → less < gap → ¬ IsSoundTree case (certificate_of plan nodes less)
 
+-- ---- the leaf at the root
+-- the leaf with which a search starts: that of the bootstrapped prices, and where there are none, that of 0 for each need date
+abbrev pub base_leaf : BookContents → Leaf
+base_leaf book = leaf_of_prices (unwrap_or (bootstrapped_prices book) (replicate (length book.needs) 0))
+
+-- a leaf at the root is the base leaf, improved over the root's ranges, one unit of yield below the limit
+abbrev pub IsRootLeaf : ℕ → BookContents → Leaf → Type 0
+IsRootLeaf limit book leaf = IsImproved (limit - 1) book (root_of book.lines) (base_leaf book) leaf
+
+-- the tree of the root alone: one leaf
+abbrev pub leaf_alone : Leaf → List TreeNode
+leaf_alone leaf = node.Closed leaf ∷ []
+
+-- ---- the backward plan and the one that it is trimmed to
 -- a plan to which another is trimmed: it costs no more, and no line of it can go down alone
 pub record IsTrimmedFrom (book : BookContents) (built trimmed : List ℕ) : Type 0 where
   pub permitted : IsPermitted book trimmed
@@ -35,48 +51,43 @@ pub record IsTrimmedFrom (book : BookContents) (built trimmed : List ℕ) : Type
   pub costs : cost book trimmed ≤ cost book built
   pub local : IsTrimmed book trimmed
 
--- of a built plan and a trimmed one, the trimmed one is taken where it is within the limit, and else the built one where that is
-abbrev pub IsTaken : CaseContents → List ℕ → List ℕ → List ℕ → Type 0
-IsTaken case built trimmed taken =
-    (taken ≡ trimmed) × (is_within_limit case.limit case.book trimmed ≡ true)
-    ⊎ (taken ≡ built) × (is_within_limit case.limit case.book trimmed ≡ false) × (is_within_limit case.limit case.book built ≡ true)
-
--- the tree of the root alone: one leaf, of the bootstrapped prices
-abbrev pub leaf_alone : List ℕ → List TreeNode
-leaf_alone prices = node.Closed (leaf_of_prices prices) ∷ []
-
--- a plan and the prices at the root: the backward plan, trimmed, and the bootstrapped prices
-pub record IsAtRoot (case : CaseContents) (prices built trimmed : List ℕ) : Type 0 where
-  pub curve : bootstrapped_prices case.book ≡ Some prices
-  pub backward : backward_plan case.book ≡ Ok built
-  pub from_built : IsTrimmedFrom case.book built trimmed
-
--- neither plan is within the limit, or no gap that is allowed is supported by the leaf
-abbrev pub IsLeftOpen : CaseContents → List ℕ → List ℕ → List ℕ → Type 0
-IsLeftOpen case prices built trimmed =
-    (is_within_limit case.limit case.book trimmed ≡ false) × (is_within_limit case.limit case.book built ≡ false)
-    ⊎ (taken : List ℕ) × IsTaken case built trimmed taken × ((gap : ℕ) → gap ≤ case.allowance → ¬ IsSoundTree case (certificate_of taken (leaf_alone prices) gap))
-
-pub record IsWeakAtRoot (case : CaseContents) : Type 0 where
-  pub prices : List ℕ
-  pub built : List ℕ
+-- this holds of a plan, and of one that it is trimmed to
+pub record HoldsOfBoth (Holds : List ℕ → Type 0) (book : BookContents) (built : List ℕ) : Type 0 where
   pub trimmed : List ℕ
-  pub at_root : IsAtRoot case prices built trimmed
-  pub left_open : IsLeftOpen case prices built trimmed
+  pub from_built : IsTrimmedFrom book built trimmed
+  pub of_built : Holds built
+  pub of_trimmed : Holds trimmed
 
--- the root alone doesn't settle a case: there is no backward plan, there are no bootstrapped prices, or they leave it open
-abbrev pub IsOpenAtRoot : CaseContents → Type 0
-IsOpenAtRoot case =
-    ((fault : BuildEnd) × (backward_plan case.book ≡ Err fault)) ⊎ (bootstrapped_prices case.book ≡ None) ⊎ IsWeakAtRoot case
+-- where there is a backward plan, this holds of it, and of one that it is trimmed to
+abbrev pub OfBackward : (List ℕ → Type 0) → BookContents → Type 0
+OfBackward Holds book = (built : List ℕ) → backward_plan book ≡ Ok built → HoldsOfBoth Holds book built
 
--- what is found at the root: the taken plan, with the one leaf
+-- ---- what is found at the root, and what isn't
+-- a plan costs no more than another, where that one is within the limit
+abbrev pub CostsNoMore : ℕ → BookContents → List ℕ → List ℕ → Type 0
+CostsNoMore limit book plan other = is_within_limit limit book other ≡ true → cost book plan ≤ cost book other
+
+-- what is found at the root: the tree is its leaf, and the plan costs no more than the backward plan and one that it is trimmed to,
+-- each where it is within the limit
 pub record IsFoundAtRoot (case : CaseContents) (plan : List ℕ) (nodes : List TreeNode) : Type 0 where
-  pub prices : List ℕ
-  pub built : List ℕ
-  pub trimmed : List ℕ
-  pub at_root : IsAtRoot case prices built trimmed
-  pub taken : IsTaken case built trimmed plan
-  pub leaf : nodes ≡ leaf_alone prices
+  pub leaf : Leaf
+  pub root : IsRootLeaf case.limit case.book leaf
+  pub tree : nodes ≡ leaf_alone leaf
+  pub no_dearer : OfBackward (CostsNoMore case.limit case.book plan) case.book
+
+-- a tree supports no gap that is allowed
+abbrev pub HasNoGap : CaseContents → List ℕ → List TreeNode → Type 0
+HasNoGap case plan nodes = (gap : ℕ) → gap ≤ case.allowance → ¬ IsSoundTree case (certificate_of plan nodes gap)
+
+-- a plan doesn't settle a case with a leaf: it is beyond the limit, or the leaf supports no gap that is allowed
+abbrev pub IsLeftOpen : CaseContents → Leaf → List ℕ → Type 0
+IsLeftOpen case leaf plan = (is_within_limit case.limit case.book plan ≡ false) ⊎ HasNoGap case plan (leaf_alone leaf)
+
+-- the root alone doesn't settle a case: with its leaf, neither the backward plan does nor one that it is trimmed to
+pub record IsOpenAtRoot (case : CaseContents) : Type 0 where
+  pub leaf : Leaf
+  pub root : IsRootLeaf case.limit case.book leaf
+  pub left_open : OfBackward (IsLeftOpen case leaf) case.book
 
 -- the case that a search is of
 abbrev pub searched : BookContents → ℕ → ℕ → ℕ → CaseContents

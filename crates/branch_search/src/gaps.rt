@@ -1,10 +1,10 @@
-//! The least gap that a bound supports.
+//! The least gap that a bound supports, and the greatest cost that it supports with a gap.
 
-ghost use Rattle.std.specs.Prelude.{◌≡◌, ℕ, ◌*◌, ◌^◌, ◌<◌, ◌≤◌, true, Some, pos, ◌-ℤ◌, unsigned_abs};
+ghost use Rattle.std.specs.Prelude.{◌≡◌, ◌⊎◌, ℕ, ◌*◌, ◌^◌, ◌<◌, ◌≤◌, true, Some, pos, ◌-ℤ◌, unsigned_abs};
 ghost use Rattle.escrow_check.specs.Acceptance.{bears_out};
 
 use dual_bound::PRICE_SCALE;
-use escrow_units::Cents;
+use escrow_units::{AMOUNT_LIMIT, Cents};
 use offer_book::COEFFICIENT_SCALE;
 
 // A cent of cost, as a bound weighs it.
@@ -22,5 +22,21 @@ pub(crate) fn least_gap(bound: i128, cost: Cents) -> u64
         0
     } else {
         (over as u128 / COST_SCALE as u128) as u64
+    }
+}
+
+/// The greatest cost, in cents, that a bound bears out with a gap of at most the allowance; 0 where it bears out none.
+pub(crate) fn greatest_cost(bound: i128, allowance: Cents) -> Cents
+    requires bound { unsigned_abs bound < 10 ^ 37 }
+    requires allowance { allowance.0 ≤ AMOUNT_LIMIT }
+    ensures supported { (result.0 ≡ 0) ⊎ (bears_out bound (Some (pos result.0 -ℤ pos allowance.0)) ≡ true) }
+    ensures greatest { (cost : ℕ) → bears_out bound (Some (pos cost -ℤ pos allowance.0)) ≡ true → cost ≤ result.0 }
+{
+    if bound > 0 {
+        let whole = ((bound - 1) as u128 / COST_SCALE as u128) as u64;
+        Cents(whole + 1 + allowance.0)
+    } else {
+        let below = ((0 - bound) as u128 / COST_SCALE as u128) as u64;
+        Cents(allowance.0.saturating_sub(below))
     }
 }

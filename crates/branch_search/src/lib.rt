@@ -1,13 +1,14 @@
 //! The search for the cheapest permitted purchases, with a tree that shows how much cheaper others can be.
 #![tactic(auto)]
 
+mod cheapest;
 mod closing;
 mod found;
 mod gaps;
 mod laws;
 mod purchases;
 mod root;
-mod start;
+mod root_leaf;
 mod starting;
 mod taken;
 #[cfg(test)]

@@ -1,52 +1,55 @@
-//! How a search starts: the prices and the plans at the root of the tree.
+//! How a search starts: the leaf at the root of the tree.
 
-ghost use Rattle.std.specs.Prelude.{◌≡◌, IfOk, None, Err, MatchOption};
-ghost use Rattle.backward_build.specs.BackwardPlan.{backward_plan};
-ghost use Rattle.backward_build.specs.PriceCurve.{bootstrapped_prices};
-ghost use Rattle.backward_build.specs.declared.backward.BuildEnd.{BuildEnd as BuildFault};
-ghost use Rattle.branch_search.specs.Root.{HasNoStart, IsBuilt, IsCurveLeaf, IsStart};
+ghost use Rattle.std.specs.Prelude.{◌≡◌, ◌≤◌, IfOk, length, replicate};
+ghost use Rattle.backward_build.specs.PriceCurve.{leaf_of_prices};
+ghost use Rattle.dual_bound.specs.Tree.{IsLeaf};
+ghost use Rattle.branch_search.specs.Root.{IsRoot};
+ghost use Rattle.branch_search.specs.Search.{base_leaf as base_leaf_of};
 
-use crate::start::Start;
-use backward_build::{BuildEnd, bootstrap, build, trim};
-use cash_table::Plan;
-use dual_bound::Leaf;
+use crate::root_leaf::RootLeaf;
+use backward_build::bootstrap;
+use dual_bound::{Leaf, Prices, Ranges, bound};
+use dual_tune::improve;
 use escrow_desk::NoMemory;
+use escrow_units::{GREATEST_INDEX, GREATEST_YIELD, YieldUnits};
+use fixed_powers::{Powers, Side};
 use offer_book::Book;
 use std::alloc::Global;
 
-// The backward plan, where there is one.
-fn backward(alloc: Global, book: &Book) -> Result<Option<Plan>, NoMemory>
-    ensures { IfOk result (λ plan. MatchOption plan ((fault : BuildFault) × (backward_plan book.now ≡ Err fault)) (IsBuilt book.now)) }
+// The leaf of so many prices of 0.
+fn leaf_of_zeros(alloc: Global, count: u16) -> Result<Leaf, NoMemory>
+    ensures value { IfOk result (λ leaf. leaf ≡ leaf_of_prices (replicate count 0)) }
+    ensures well { IfOk result (IsLeaf count) }
 {
-    match build(alloc, book) {
-        Ok(plan) => Ok(Some(plan)),
-        Err(BuildEnd::NoMemory) => Err(NoMemory),
-        Err(BuildEnd::NoOwnOffer(_)) => Ok(None),
-        Err(BuildEnd::OverCap(_)) => Ok(None),
+    let prices = vec![in alloc; 0u64; usize::from(count)]?;
+    Ok(Leaf {
+        whole: true,
+        mu: 0,
+        prices: Prices::new(prices),
+    })
+}
+
+// The leaf of the bootstrapped prices, and where there are none, of 0 for each need date.
+fn base_leaf(alloc: Global, book: &Book) -> Result<Leaf, NoMemory>
+    ensures value { IfOk result (λ leaf. leaf ≡ base_leaf_of book.now) }
+    ensures well { IfOk result (IsLeaf (length book.now.needs)) }
+{
+    match bootstrap(alloc, book)? {
+        Some(leaf) => Ok(leaf),
+        None => leaf_of_zeros(alloc, book.need_count()),
     }
 }
 
-// The leaf of the bootstrapped prices, where there are any.
-fn curve(alloc: Global, book: &Book) -> Result<Option<Leaf>, NoMemory>
-    ensures { IfOk result (λ leaf. MatchOption leaf (bootstrapped_prices book.now ≡ None) (IsCurveLeaf book.now)) }
+/// The base leaf improved over the ranges of the root, one unit below the limit, with its bound there.
+pub(crate) fn root_leaf(alloc: Global, book: &Book, limit: YieldUnits) -> Result<RootLeaf, NoMemory>
+    requires limit_from { 1 ≤ limit.0 }
+    requires limit_to { limit.0 ≤ GREATEST_YIELD }
+    ensures { IfOk result (IsRoot limit.0 book.now) }
 {
-    bootstrap(alloc, book)
-}
-
-/// Where a search starts; None where there is no backward plan, or where there are no bootstrapped prices.
-pub(crate) fn start(alloc: Global, book: &Book) -> Result<Option<Start>, NoMemory>
-    ensures { IfOk result (λ start. MatchOption start (HasNoStart book.now) (IsStart book.now)) }
-{
-    let Some(built) = backward(alloc, book)? else {
-        return Ok(None);
-    };
-    let Some(leaf) = curve(alloc, book)? else {
-        return Ok(None);
-    };
-    let trimmed = trim(alloc, book, &built)?;
-    Ok(Some(Start {
-        leaf,
-        built,
-        trimmed,
-    }))
+    let powers = Powers::make(alloc, YieldUnits(limit.0 - 1), Side::Low, GREATEST_INDEX)?;
+    let ranges = Ranges::root(alloc, book)?;
+    let base = base_leaf(alloc, book)?;
+    let leaf = improve(alloc, book, &powers, &ranges, &base)?;
+    let bound = bound(book, &powers, &ranges, &leaf);
+    Ok(RootLeaf { leaf, bound })
 }

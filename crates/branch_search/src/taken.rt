@@ -1,9 +1,8 @@
-//! Which plan a search takes at the root.
+//! Which plan a search takes of the backward plan and the one that it is trimmed to.
 
 ghost use Rattle.std.specs.Prelude.{IfOk, MatchOption};
 ghost use Rattle.offer_book.specs.Portfolio.{IsPermitted};
-ghost use Rattle.branch_search.specs.Root.{AreBeyond};
-ghost use Rattle.branch_search.specs.Search.{IsTaken, searched};
+ghost use Rattle.branch_search.specs.Root.{AreBeyond, IsTaken};
 
 use cash_table::{Plan, within_limit};
 use escrow_desk::NoMemory;
@@ -21,7 +20,7 @@ pub(crate) fn taken(
 ) -> Result<Option<Plan>, NoMemory>
     requires built { IsPermitted book.now built }
     requires trimmed { IsPermitted book.now trimmed }
-    ensures { IfOk result (λ plan. MatchOption plan (AreBeyond limit.0 book.now built trimmed) (IsTaken (searched book.now limit.0 0 0) built trimmed)) }
+    ensures { IfOk result (λ plan. MatchOption plan (AreBeyond limit.0 book.now built trimmed) (IsTaken limit.0 book.now built trimmed)) }
 {
     if within_limit(alloc, book, &trimmed, limit)? {
         return Ok(Some(trimmed));

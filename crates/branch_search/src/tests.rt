@@ -157,11 +157,15 @@ fn cases_close_at_the_root_or_end(rt: HostRuntime) -> Result<(), Fail> {
             rates: RATES_D,
             told: Told::Ended(SearchEnd::RootOnly),
         },
-        // nothing matures on the need date
+        // nothing matures on the need date, so that there is no backward plan
         Row {
             issue: b"settle,2025-01-15\nneed,2025-04-16,5000.00\nrestricted,4.00\n",
             rates: RATES_A,
-            told: Told::Ended(SearchEnd::RootOnly),
+            told: Told::Found {
+                buys: &[Buy { line: 1, units: 50 }],
+                cost: 500_000,
+                gap: 0,
+            },
         },
         Row {
             issue: b"settle,2025-01-15\ncash,50.00\nneed,2025-01-20,100.00\nrestricted,4.00\n",

@@ -18,4 +18,6 @@ pub use status::Status;
 #[cfg(test)]
 mod bound_tests;
 #[cfg(test)]
+mod structure_tests;
+#[cfg(test)]
 mod tests;

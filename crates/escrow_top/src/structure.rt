@@ -47,7 +47,8 @@ fn end_answer(alloc: Global, ended: SearchEnd) -> Result<Answer, NoMemory>
     }
 }
 
-// What is put out for a case.
+// What is put out for a case. It isn't inlined: the tables of the search would stand on the stack while rows are read.
+#[inline(never)]
 fn draft_of_case(alloc: Global, case: &Case) -> Result<Draft, NoMemory>
     requires book { IsBook case.now.book }
     requires terms { HasTerms (case_view case.now) }

@@ -1,4 +1,4 @@
-//! Whole runs over a desk in memory.
+//! Whole runs of `check`, and of words that are no command, over a desk in memory.
 
 ghost use Rattle.std.specs.Prelude.{◌≡◌, IfOk, string_bytes};
 
@@ -8,17 +8,17 @@ use std::alloc::Global;
 use std::process::Abort;
 use std::test::Fail;
 
-// The bytes of the four files.
+/// The bytes of the four files.
 #[derive(Clone, Copy)]
-struct Files {
-    issue: &'static [u8],
-    rates: &'static [u8],
-    prices: &'static [u8],
-    cert: &'static [u8],
+pub(crate) struct Files {
+    pub issue: &'static [u8],
+    pub rates: &'static [u8],
+    pub prices: &'static [u8],
+    pub cert: &'static [u8],
 }
 
-// One need, one offer and one purchase that covers the need to the cent.
-const FIRST: Files = Files {
+/// One need, one offer and one purchase that covers the need to the cent.
+pub(crate) const FIRST: Files = Files {
     issue: b"settle,2025-01-15\nneed,2025-04-15,5000.00\nrestricted,4.00\n",
     rates: b"terms,1000,100\noffer,2025-04-15,0.00,,10000\n",
     prices: b"",
@@ -36,7 +36,8 @@ const SECOND: Files = Files {
     cert: b"escrow-certificate 1\nportfolio 2\nbuy 1 40\nbuy 2 15\ngap 0\nnodes 1\nl 1 0 1000000000000 1000000000000\nend\n",
 };
 
-const CHECK: [&str; 5] = ["check", "i", "r", "p", "c"];
+/// The words of `check`.
+pub(crate) const CHECK: [&str; 5] = ["check", "i", "r", "p", "c"];
 
 const USAGE: &[u8] = b"usage: structure ISSUE RATES PRICES CERT | check ISSUE RATES PRICES CERT\n";
 
@@ -58,14 +59,20 @@ fn desk_of(alloc: Global, files: &Files, failing: u64) -> Result<MemoryDesk, Fai
     Ok(MemoryDesk::make(alloc, files, vec![in alloc; failing]?))
 }
 
-// How a run ended, and the desk that it left.
+/// How a run ended, and the desk that it left.
 #[derive(Drop)]
-struct Outcome {
-    status: Status,
-    desk: MemoryDesk,
+pub(crate) struct Outcome {
+    pub status: Status,
+    pub desk: MemoryDesk,
 }
 
-fn outcome_of(alloc: Global, words: &[&str], files: &Files, failing: u64) -> Result<Outcome, Fail> {
+/// Runs words over a desk of the four files, of which one call fails.
+pub(crate) fn outcome_of(
+    alloc: Global,
+    words: &[&str],
+    files: &Files,
+    failing: u64,
+) -> Result<Outcome, Fail> {
     let mut desk = desk_of(alloc, files, failing)?;
     let mut list = Vec::new(alloc);
     for word in words {
@@ -755,132 +762,6 @@ fn each_call_fails_in_turn(rt: HostRuntime) -> Result<(), Fail> {
     let lacking = outcome_of(rt.alloc(), &["check", "i", "none", "p", "c"], &FIRST, 8)?;
     assert_eq!(rt; lacking.status, Status::NoFile);
     assert_eq!(rt; lacking.desk.said(), b"".as_slice());
-    Ok(())
-}
-
-const STRUCTURE: [&str; 5] = ["structure", "i", "r", "p", "c"];
-
-const FIRST_REPORT: &[u8] = b"escrow report\nsettlement 2025-01-15\n\
-    buy 1 certificate 2025-04-15 0.000 5000.00 5000.00\ncash 0.00\ncost 5000.00\n\
-    yield 0.00000000 0.00000000\nlimit 4.00100000\ngap 0.00\npay 1 2025-04-15 5000.00\n\
-    date 2025-01-15 0.00 0.00 0.00\ndate 2025-04-15 5000.00 5000.00 0.00\n\
-    proof 2025-04-15 5000.00 5000.00 5000.00\nend\n";
-
-// Two needs with an own offer each, at interest.
-const PLAIN: Files = Files {
-    issue: b"settle,2025-01-15\nneed,2025-07-15,1000000.00\nneed,2026-01-15,2000000.00\nrestricted,5.00\nallowance,2002.33\n",
-    rates: b"terms,1000,1\nrate,2025-02-14,2026-01-15,4.00\noffer,2025-07-15,max,,10000000\noffer,2026-01-15,max,,10000000\n",
-    prices: b"",
-    cert: b"",
-};
-
-// What `structure` comes to, and the file of the certificate after it.
-#[test]
-fn structured_cases(rt: HostRuntime) -> Result<(), Fail> {
-    let rows: [(Files, Status, &[u8], &[u8]); 5] = [
-        (
-            Files {
-                cert: b"x",
-                ..FIRST
-            },
-            Status::Done,
-            FIRST_REPORT,
-            FIRST.cert,
-        ),
-        (
-            Files {
-                issue: b"settle,2025-01-15\nrestricted,4.00\n",
-                ..FIRST
-            },
-            Status::Done,
-            b"escrow report\nsettlement 2025-01-15\ncash 0.00\ncost 0.00\nyield empty\nlimit 4.00100000\ngap 0.00\n\
-                date 2025-01-15 0.00 0.00 0.00\nend\n",
-            b"escrow-certificate 1\nportfolio 0\ngap 0\nnodes 1\nl 1 0\nend\n",
-        ),
-        (
-            Files {
-                issue: b"settle,2025-01-15\ncash,50.00\nneed,2025-01-20,100.00\nrestricted,4.00\n",
-                rates: b"",
-                prices: b"",
-                cert: b"x",
-            },
-            Status::Infeasible,
-            b"infeasible 2025-01-20\n",
-            b"x",
-        ),
-        (
-            Files {
-                issue: b"settle,2025-01-15\nneed,2026-01-15,1041.03\nrestricted,5.00\n",
-                rates: b"terms,1000,1\nrate,2025-02-14,2026-01-15,4.00\noffer,2026-01-15,max,,10000\n",
-                prices: b"",
-                cert: b"x",
-            },
-            Status::Unbuilt,
-            b"unbuilt structure\n",
-            b"x",
-        ),
-        (
-            Files {
-                rates: b"offer\n",
-                ..FIRST
-            },
-            Status::Refused,
-            b"refused rates row 1 Missing\n",
-            FIRST.cert,
-        ),
-    ];
-    for (files, status, said, cert) in &rows {
-        let ran = outcome_of(rt.alloc(), &STRUCTURE, files, u64::MAX)?;
-        assert_eq!(rt; ran.status, *status);
-        assert_eq!(rt; ran.desk.said(), *said);
-        assert_eq!(rt; ran.desk.bytes_of("c"), Some(*cert));
-    }
-    Ok(())
-}
-
-// What is structured is checked, with the same summary.
-#[test]
-fn structured_and_checked(rt: HostRuntime) -> Result<(), Fail> {
-    let alloc = rt.alloc();
-    let ran = outcome_of(alloc, &STRUCTURE, &PLAIN, u64::MAX)?;
-    assert_eq!(rt; ran.status, Status::Done);
-    let mut desk = ran.desk;
-    let said = desk.said().len();
-    let mut words = Vec::new(alloc);
-    for word in &CHECK {
-        words.push(String::from_str(alloc, word)?)?;
-    }
-    assert_eq!(rt; run(alloc, words.as_slice(), &mut desk), Status::Done);
-    let text = b"yes\ncost 2903628.00\nyield 3.96206893 3.96206894\nlimit 5.00100000\ngap 0.90\n";
-    assert_eq!(rt; &desk.said()[said..], text.as_slice());
-    Ok(())
-}
-
-// A call that fails leaves the certificate's file as it was, empty or whole, and says nothing.
-#[test]
-fn each_call_of_structure_fails_in_turn(rt: HostRuntime) -> Result<(), Fail> {
-    let files = Files {
-        cert: b"x",
-        ..FIRST
-    };
-    for failing in 0..8 {
-        let ran = outcome_of(rt.alloc(), &STRUCTURE, &files, failing)?;
-        let (status, cert): (Status, &[u8]) = match failing {
-            5 => (Status::WriteFault, b"x"),
-            6 => (Status::WriteFault, b""),
-            7 => (Status::WriteFault, FIRST.cert),
-            _ => (Status::ReadFault, b"x"),
-        };
-        assert_eq!(rt; ran.status, status);
-        assert_eq!(rt; ran.desk.bytes_of("c"), Some(cert));
-        assert_eq!(rt; ran.desk.said(), b"".as_slice());
-    }
-    // The certificate may take the place of a file that was read.
-    let ran = outcome_of(rt.alloc(), &["structure", "i", "r", "p", "p"], &files, 8)?;
-    assert_eq!(rt; ran.status, Status::Done);
-    assert_eq!(rt; ran.desk.bytes_of("p"), Some(FIRST.cert));
-    let lacking = outcome_of(rt.alloc(), &["structure", "i", "r", "none", "c"], &files, 8)?;
-    assert_eq!(rt; lacking.status, Status::NoFile);
     Ok(())
 }
 

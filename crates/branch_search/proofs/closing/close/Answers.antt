@@ -7,18 +7,18 @@ use Rattle.branch_search.proofs.closing.close.Goals as goal
 
 pub returns-then-gap-allowance-clause-gap : goal.returns-then-gap-allowance-clause-gap
 returns-then-gap-allowance-clause-gap c =
-    let same : to_z w128 (of_z w128 c.in_ok-bound.bound) ≡ c.in_ok-bound.bound = to_z-of_z w128 c.in_ok-bound.bound (record { sfits = omega (arith, ints, c.in_ok-bound.ensures.size) }) in
-    λ budget. (
-    let case = searched c.args.book.now c.args.limit.0 c.args.allowance.0 budget in
-    no-gap case c.args.plan c.args.leaf c.gap_of-gap.result c.requires.whole c.requires.permitted
-    (borne-by case c.args.plan c.args.leaf (to_z w128 (of_z w128 c.in_ok-bound.bound)) c.gap_of-gap.result (same ∙ c.in_ok-bound.ensures.value) c.gap_of-gap.ensures.supported c.gap_of-gap.ensures.least)
+    let same : to_z w128 (of_z w128 c.args.root.bound) ≡ c.args.root.bound = to_z-of_z w128 c.args.root.bound (record { sfits = omega (arith, ints, c.requires.size) }) in
+    λ limit budget is. (
+    let case = searched c.args.book.now limit c.args.allowance.0 budget in
+    no-gap case c.args.plan c.args.root.leaf c.gap_of-gap.result is.leaf.whole c.requires.permitted
+    (borne-by case c.args.plan c.args.root.leaf (to_z w128 (of_z w128 c.args.root.bound)) c.gap_of-gap.result (same ∙ is.bound) c.gap_of-gap.ensures.supported c.gap_of-gap.ensures.least)
     c.if-gap-allowance.true)
 
 pub returns-clause-gap : goal.returns-clause-gap
 returns-clause-gap c =
-    let same : to_z w128 (of_z w128 c.in_ok-bound.bound) ≡ c.in_ok-bound.bound = to_z-of_z w128 c.in_ok-bound.bound (record { sfits = omega (arith, ints, c.in_ok-bound.ensures.size) }) in
-    λ budget. (
-    let case = searched c.args.book.now c.args.limit.0 c.args.allowance.0 budget in
-    least-gap case c.args.plan c.args.leaf c.gap_of-gap.result c.requires.whole c.requires.permitted
-    (borne-by case c.args.plan c.args.leaf (to_z w128 (of_z w128 c.in_ok-bound.bound)) c.gap_of-gap.result (same ∙ c.in_ok-bound.ensures.value) c.gap_of-gap.ensures.supported c.gap_of-gap.ensures.least)
+    let same : to_z w128 (of_z w128 c.args.root.bound) ≡ c.args.root.bound = to_z-of_z w128 c.args.root.bound (record { sfits = omega (arith, ints, c.requires.size) }) in
+    λ limit budget is. (
+    let case = searched c.args.book.now limit c.args.allowance.0 budget in
+    least-gap case c.args.plan c.args.root.leaf c.gap_of-gap.result is.leaf.whole c.requires.permitted
+    (borne-by case c.args.plan c.args.root.leaf (to_z w128 (of_z w128 c.args.root.bound)) c.gap_of-gap.result (same ∙ is.bound) c.gap_of-gap.ensures.supported c.gap_of-gap.ensures.least)
     c.if-gap-allowance.false)
