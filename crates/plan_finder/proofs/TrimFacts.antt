@@ -1,6 +1,5 @@
 -- A line that pays what is due leaves nothing short.
-use Rattle.std.proofs.Common.{◌≡◌, ℕ, ◌-◌, ◌<◌, ◌≤◌, List, length, get_or, set, arith, ℤ}
-use Rattle.day_sums.specs.Summed.{total_by}
+use Rattle.std.proofs.Common.{◌≡◌, ℕ, ◌<◌, List, length, get_or, set, arith}
 use Rattle.offer_book.specs.Book.{BookContents}
 use Rattle.offer_book.specs.Portfolio.{Meets, line_payments, payments}
 use Rattle.offer_book.specs.declared.line.Line.{Line}

@@ -62,6 +62,9 @@ fn find_by_dives(
     let mut best = None;
     search.dive_whole(alloc, book, limit, Sequence::Coarse, &mut best)?;
     dive_until_found(alloc, book, limit, search, &mut best)?;
+    if best.is_none() {
+        return Ok(None);
+    }
     dive_again(alloc, book, limit, stop, search, &mut best)?;
     Ok(best)
 }

@@ -100,14 +100,14 @@ fn rise_of(book: &Book, ledger: &Ledger, line: u16, shortage: &Shortage) -> Opti
     let offer = book.line(line);
     let units = ledger.units(line);
     let first = next_units(offer, units)?;
-    let held = ledger.purchase(book, line, units);
-    let gained = gain(&held, &ledger.purchase(book, line, first), shortage.day);
+    let held = &ledger.held[usize::from(line)];
+    let gained = gain(held, &ledger.purchase(book, line, first), shortage.day);
     if gained == 0 {
         return None;
     }
     let enough = enough_units(offer, units, first, gained, shortage.cents);
     let bought = ledger.purchase(book, line, enough);
-    let filled = gain(&held, &bought, shortage.day);
+    let filled = gain(held, &bought, shortage.day);
     Some(Rise {
         line,
         units: enough,
