@@ -4,8 +4,6 @@
 mod paid;
 mod parts;
 mod sweep;
-#[cfg(test)]
-mod tests;
 mod tuner;
 
 pub use tuner::{Tuner, improve};
