@@ -23,5 +23,5 @@ pub covered-meets : (book : BookContents) (plan due : List ℕ) (i units : ℕ) 
     → Cover book.needs due (line_payments book.settle (get_or book.lines i d) units) → Meets book (set plan i units)
 covered-meets book plan due i units d within same owed cover = λ t.
     met_on_every_day book.needs (payments book (set plan i units)) t (λ k e here _.
-      let day = (get_or book.needs k e).day in
-      omega (arith, payments_exchange day book plan i units d within same, owed k e here, cover k e here, line-paid day book plan i d within same))
+    let day = (get_or book.needs k e).day in
+    omega (arith, payments_exchange day book plan i units d within same, owed k e here, cover k e here, line-paid day book plan i d within same))

@@ -89,7 +89,8 @@ fn shuffle(lines: &mut [Ranked], draw: &mut Draw)
 }
 
 impl Diver {
-    /// A dive over the lines of a book, against the limit of the powers, in the order of their ends.
+    /// A dive over the lines of a book, against the limit of the powers: in an order of their ends, the last one first, or in one
+    /// that is drawn.
     ///
     /// # Errors
     ///

@@ -48,7 +48,7 @@ fn dive_until_found(
     Ok(())
 }
 
-// The best plan of dives over needs of a day or more.
+// The best plan of dives, where something is needed.
 fn find_by_dives(
     alloc: Global,
     book: &Book,

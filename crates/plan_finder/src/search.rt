@@ -20,7 +20,7 @@ use fixed_powers::{Powers, Side};
 use offer_book::Book;
 use std::alloc::Global;
 
-/// What a search works with. But for plans that are kept, all its memory is taken when it is made.
+/// What a search works with. All its memory is taken when it is made, but for plans and for the exact test of the limit.
 #[derive(Drop)]
 pub(crate) struct Search {
     /// The exact book of the plan at hand.
