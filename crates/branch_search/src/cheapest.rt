@@ -16,7 +16,7 @@ use offer_book::Book;
 use plan_finder::{Proposal, find};
 use std::alloc::Global;
 
-/// How many linear programs a search for a plan solves, about.
+// How many linear programs the search for a plan solves, about.
 const EFFORT: u32 = 10_000;
 
 // The backward plan, where there is one.
@@ -43,8 +43,8 @@ fn backward_within(alloc: Global, book: &Book, limit: YieldUnits) -> Result<Opti
 }
 
 // Whether a plan is there and costs at most a target.
-fn is_cheap(book: &Book, plan: &Option<Plan>, target: Cents) -> bool
-    requires permitted { IfSome plan.now (IsPermitted book.now) }
+fn is_cheap(book: &Book, plan: Option<&Plan>, target: Cents) -> bool
+    requires permitted { IfSome plan (λ plan. IsPermitted book.now plan.now) }
 {
     match plan {
         Some(plan) => cost(book, plan).0 <= target.0,
@@ -100,7 +100,7 @@ pub(crate) fn cheapest(
     ensures { IfOk result (λ plan. MatchOption plan (HasNone limit.0 book.now) (IsBest limit.0 book.now)) }
 {
     let plan = backward_within(alloc, book, limit)?;
-    if is_cheap(book, &plan, target) {
+    if is_cheap(book, plan.as_ref(), target) {
         return Ok(plan);
     }
     let proposed = find(alloc, book, limit, EFFORT, target)?;
