@@ -1,9 +1,9 @@
 //! The cheapest plan that a search has at the root.
 
-ghost use Rattle.std.specs.Prelude.{◌≡◌, ◌≤◌, ℕ, Err, IfOk, IfSome, MatchOption};
+ghost use Rattle.std.specs.Prelude.{◌≡◌, ◌↔◌, ◌≤◌, ℕ, Err, IfOk, IfSome, IsSomeAnd, IsTrue, MatchOption};
 ghost use Rattle.backward_build.specs.BackwardPlan.{backward_plan};
 ghost use Rattle.backward_build.specs.declared.backward.BuildEnd.{BuildEnd as BuildFault};
-ghost use Rattle.offer_book.specs.Portfolio.{IsPermitted};
+ghost use Rattle.offer_book.specs.Portfolio.{IsPermitted, cost as cost_of};
 ghost use Rattle.plan_finder.specs.Proposal.{IsProposal};
 ghost use Rattle.branch_search.specs.Root.{HasNone, IsBest, IsBuilt};
 
@@ -45,6 +45,7 @@ fn backward_within(alloc: Global, book: &Book, limit: YieldUnits) -> Result<Opti
 // Whether a plan is there and costs at most a target.
 fn is_cheap(book: &Book, plan: Option<&Plan>, target: Cents) -> bool
     requires permitted { IfSome plan (λ plan. IsPermitted book.now plan.now) }
+    ensures { IsTrue result ↔ IsSomeAnd plan.entry (λ plan. cost_of book.now plan.now ≤ target.0) }
 {
     match plan {
         Some(plan) => cost(book, plan).0 <= target.0,
