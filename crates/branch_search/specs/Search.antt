@@ -83,7 +83,8 @@ HasNoGap case plan nodes = (gap : ℕ) → gap ≤ case.allowance → ¬ IsSound
 abbrev pub IsLeftOpen : CaseContents → Leaf → List ℕ → Type 0
 IsLeftOpen case leaf plan = (is_within_limit case.limit case.book plan ≡ false) ⊎ HasNoGap case plan (leaf_alone leaf)
 
--- the root alone doesn't settle a case: with its leaf, neither the backward plan does nor one that it is trimmed to
+-- the root alone doesn't settle a case: with its leaf, neither the backward plan does nor one that it is trimmed to. How cheap another
+-- plan is, if one was found, isn't said
 pub record IsOpenAtRoot (case : CaseContents) : Type 0 where
   pub leaf : Leaf
   pub root : IsRootLeaf case.limit case.book leaf

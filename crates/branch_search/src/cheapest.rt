@@ -1,9 +1,9 @@
 //! The cheapest plan that a search has at the root.
 
-ghost use Rattle.std.specs.Prelude.{◌≡◌, ◌≤◌, ℕ, Err, IfOk, IfSome, MatchOption};
+ghost use Rattle.std.specs.Prelude.{◌≡◌, ◌↔◌, ◌≤◌, ℕ, Err, IfOk, IfSome, IsSomeAnd, IsTrue, MatchOption};
 ghost use Rattle.backward_build.specs.BackwardPlan.{backward_plan};
 ghost use Rattle.backward_build.specs.declared.backward.BuildEnd.{BuildEnd as BuildFault};
-ghost use Rattle.offer_book.specs.Portfolio.{IsPermitted};
+ghost use Rattle.offer_book.specs.Portfolio.{IsPermitted, cost as cost_of};
 ghost use Rattle.plan_finder.specs.Proposal.{IsProposal};
 ghost use Rattle.branch_search.specs.Root.{HasNone, IsBest, IsBuilt};
 
@@ -16,7 +16,7 @@ use offer_book::Book;
 use plan_finder::{Proposal, find};
 use std::alloc::Global;
 
-/// How many linear programs a search for a plan solves, about.
+// How many linear programs the search for a plan solves, about.
 const EFFORT: u32 = 10_000;
 
 // The backward plan, where there is one.
@@ -43,8 +43,9 @@ fn backward_within(alloc: Global, book: &Book, limit: YieldUnits) -> Result<Opti
 }
 
 // Whether a plan is there and costs at most a target.
-fn is_cheap(book: &Book, plan: &Option<Plan>, target: Cents) -> bool
-    requires permitted { IfSome plan.now (IsPermitted book.now) }
+fn is_cheap(book: &Book, plan: Option<&Plan>, target: Cents) -> bool
+    requires permitted { IfSome plan (λ plan. IsPermitted book.now plan.now) }
+    ensures { IsTrue result ↔ IsSomeAnd plan.entry (λ plan. cost_of book.now plan.now ≤ target.0) }
 {
     match plan {
         Some(plan) => cost(book, plan).0 <= target.0,
@@ -100,7 +101,7 @@ pub(crate) fn cheapest(
     ensures { IfOk result (λ plan. MatchOption plan (HasNone limit.0 book.now) (IsBest limit.0 book.now)) }
 {
     let plan = backward_within(alloc, book, limit)?;
-    if is_cheap(book, &plan, target) {
+    if is_cheap(book, plan.as_ref(), target) {
         return Ok(plan);
     }
     let proposed = find(alloc, book, limit, EFFORT, target)?;
