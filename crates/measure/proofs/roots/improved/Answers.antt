@@ -1,0 +1,8 @@
+use Rattle.measure.proofs.RootFacts.{root-room}
+use Rattle.measure.proofs.roots.improved.Goals as goal
+
+pub improve-requires-clause-ranges : goal.improve-requires-clause-ranges
+improve-requires-clause-ranges c = rw c.in_ok-ranges.ensures (root-room c.args.book.now.lines)
+
+pub bound-requires-clause-ranges : goal.bound-requires-clause-ranges
+bound-requires-clause-ranges c = rw c.in_ok-ranges.ensures (root-room c.args.book.now.lines)

@@ -1,0 +1,35 @@
+//! Plans.
+ghost use Rattle.std.specs.Prelude.{◌≤◌};
+
+use crate::roots::{micros_since, starved};
+use escrow_units::{Cents, GREATEST_YIELD, YieldUnits};
+use offer_book::Book;
+use plan_finder::find;
+use std::io;
+use std::time::Instant;
+
+/// Measures plans of one dive, and of so many linear programs, and how far they cost above a bound, in cents.
+pub(crate) fn measure_plans(
+    rt: &HostRuntime,
+    book: &Book,
+    limit: YieldUnits,
+    bound: i128,
+) -> io::Result<()>
+    requires limit_from { 1 ≤ limit.0 }
+    requires limit_to { limit.0 ≤ GREATEST_YIELD }
+{
+    for effort in [0, 1_000, 10_000] {
+        let start = Instant::now(rt)?;
+        let found = find(rt.alloc(), book, limit, effort, Cents(0));
+        let micros = micros_since(rt, start)?;
+        match found {
+            Ok(Some(proposal)) => {
+                let gap = i128::from(proposal.cost.0).saturating_sub(bound);
+                println!(rt; "  effort {effort}: {gap} cents above, {micros} us")?;
+            }
+            Ok(None) => println!(rt; "  effort {effort}: no plan, {micros} us")?,
+            Err(memory) => return Err(starved(memory)),
+        }
+    }
+    Ok(())
+}

@@ -1,0 +1,214 @@
+//! Prices at the root.
+ghost use Rattle.std.specs.Prelude.{◌≡◌, ◌≤◌, ◌^◌, IfOk, length};
+ghost use Rattle.std.specs.List.{AllZip};
+ghost use Rattle.fixed_powers.specs.DiscountPowers.{PowerTable};
+ghost use Rattle.dual_bound.specs.Ranges.{HasRoomFor};
+ghost use Rattle.dual_bound.specs.Tree.{IsLeaf};
+
+use backward_build::bootstrap;
+use dual_bound::{Interval, Leaf, PRICE_SCALE, Prices, Ranges, bound};
+use dual_tune::improve;
+use escrow_desk::NoMemory;
+use escrow_units::{GREATEST_INDEX, GREATEST_YIELD, YieldUnits};
+use fixed_powers::{Powers, Side};
+use offer_book::{Book, COEFFICIENT_SCALE};
+use price_lp::{Purpose, Simplex};
+use std::io;
+use std::io::ErrorKind;
+use std::time::Instant;
+
+// Iterations from nothing, and after a changed range.
+const COLD: u32 = 2_000;
+
+const WARM: u32 = 300;
+
+// How many ranges are changed.
+const MOST_CHANGES: u64 = 60;
+
+/// Want of memory, as a fault.
+pub(crate) fn starved(_memory: NoMemory) -> io::Error {
+    io::Error::from(ErrorKind::OutOfMemory)
+}
+
+/// Microseconds since an instant.
+pub(crate) fn micros_since(rt: &HostRuntime, start: Instant) -> io::Result<u64> {
+    let micros = start.elapsed(rt)?.as_micros();
+    Ok(micros.min(u128::from(u64::MAX)) as u64)
+}
+
+// The powers of a limit, one unit below it.
+fn powers_of(rt: &HostRuntime, limit: YieldUnits) -> io::Result<Powers>
+    requires limit_from { 1 ≤ limit.0 }
+    requires limit_to { limit.0 ≤ GREATEST_YIELD }
+    ensures side { IfOk result (λ powers. powers.side ≡ Side.Low) }
+    ensures longest { IfOk result (λ powers. powers.longest ≡ GREATEST_INDEX) }
+{
+    match Powers::make(
+        rt.alloc(),
+        YieldUnits(limit.0 - 1),
+        Side::Low,
+        GREATEST_INDEX,
+    ) {
+        Ok(powers) => Ok(powers),
+        Err(memory) => Err(starved(memory)),
+    }
+}
+
+// The least time of three solves from nothing.
+fn time_of_solves(rt: &HostRuntime, simplex: &mut Simplex) -> io::Result<u64> {
+    let mut least = u64::MAX;
+    for _ in 0..3 {
+        let start = Instant::now(rt)?;
+        simplex.start_greedily();
+        simplex.solve(COLD, None);
+        least = least.min(micros_since(rt, start)?);
+    }
+    Ok(least)
+}
+
+// What a solve takes after a line's range has changed.
+fn time_of_change(
+    rt: &HostRuntime,
+    simplex: &mut Simplex,
+    line: u16,
+    interval: Interval,
+) -> io::Result<u64> {
+    simplex.start_greedily();
+    simplex.solve(COLD, None);
+    simplex.set_range(line, interval);
+    let start = Instant::now(rt)?;
+    simplex.solve(WARM, None);
+    micros_since(rt, start)
+}
+
+// The whole number of units below the amount of a line in the solution.
+fn units_below(simplex: &Simplex, line: u16, step: u64) -> u64 {
+    let cents = simplex.amount(line).max(0) as u64 / 1024;
+    cents.checked_div(step).unwrap_or(0)
+}
+
+// What changed ranges take together, of the lines that are in the basis: up to an amount, and from one unit more.
+fn measure_changes(rt: &HostRuntime, book: &Book, simplex: &mut Simplex) -> io::Result<()> {
+    let mut tries = 0u64;
+    let mut micros = 0u64;
+    let mut iterations = 0u64;
+    for line in 0..book.line_count() {
+        let most = book.line(line).most;
+        let units = units_below(simplex, line, book.line(line).step);
+        if !simplex.is_basic(line) || units >= most || tries >= MOST_CHANGES {
+            continue;
+        }
+        let whole = Interval { low: 0, high: most };
+        let before = simplex.iterations();
+        let below = time_of_change(
+            rt,
+            simplex,
+            line,
+            Interval {
+                low: 0,
+                high: units,
+            },
+        )?;
+        simplex.set_range(line, whole);
+        let above = time_of_change(
+            rt,
+            simplex,
+            line,
+            Interval {
+                low: units + 1,
+                high: most,
+            },
+        )?;
+        simplex.set_range(line, whole);
+        micros = micros.saturating_add(below).saturating_add(above);
+        iterations = iterations.saturating_add(simplex.iterations().saturating_sub(before));
+        tries += 2;
+        simplex.start_greedily();
+        simplex.solve(COLD, None);
+    }
+    let mean = micros.saturating_mul(1_000).checked_div(tries).unwrap_or(0);
+    println!(rt; "  changed ranges: {tries}, {mean} ns each")
+}
+
+/// Measures what the linear program takes at the root, and after a changed range.
+pub(crate) fn measure_root(rt: &HostRuntime, book: &Book, limit: YieldUnits) -> io::Result<()>
+    requires limit_from { 1 ≤ limit.0 }
+    requires limit_to { limit.0 ≤ GREATEST_YIELD }
+{
+    let powers = powers_of(rt, limit)?;
+    let mut simplex = match Simplex::make(rt.alloc(), book, &powers) {
+        Ok(simplex) => simplex,
+        Err(memory) => return Err(starved(memory)),
+    };
+    simplex.aim(Purpose::Bound, true);
+    let before = simplex.iterations();
+    let micros = time_of_solves(rt, &mut simplex)?;
+    let iterations = simplex.iterations().saturating_sub(before) / 3;
+    println!(rt; ", {iterations} iterations, {micros} us")?;
+    measure_changes(rt, book, &mut simplex)
+}
+
+/// Measures what improving the base leaf takes at the root, and answers the bound in cents.
+pub(crate) fn measure_steps(rt: &HostRuntime, book: &Book, limit: YieldUnits) -> io::Result<i128>
+    requires limit_from { 1 ≤ limit.0 }
+    requires limit_to { limit.0 ≤ GREATEST_YIELD }
+{
+    match bound_at_root(rt, book, limit)? {
+        Ok(bound) => Ok(bound),
+        Err(memory) => Err(starved(memory)),
+    }
+}
+
+// The bound of the improved base leaf, in cents; what it took is printed.
+fn bound_at_root(
+    rt: &HostRuntime,
+    book: &Book,
+    limit: YieldUnits,
+) -> io::Result<Result<i128, NoMemory>>
+    requires limit_from { 1 ≤ limit.0 }
+    requires limit_to { limit.0 ≤ GREATEST_YIELD }
+{
+    let powers = powers_of(rt, limit)?;
+    let start = Instant::now(rt)?;
+    let leaf = match improved(rt, book, &powers) {
+        Ok(leaf) => leaf,
+        Err(memory) => return Ok(Err(memory)),
+    };
+    let micros = micros_since(rt, start)?;
+    println!(rt; "  improved in {micros} us, bound {} cents", leaf)?;
+    Ok(Ok(leaf))
+}
+
+// The bound of the base leaf, improved over the ranges of the root, in cents.
+fn improved(rt: &HostRuntime, book: &Book, powers: &Powers) -> Result<i128, NoMemory>
+    requires side { powers.now.side ≡ Side.Low }
+    requires longest { powers.now.longest ≡ GREATEST_INDEX }
+{
+    let ranges = Ranges::root(rt.alloc(), book)?;
+    let base = base_leaf(rt, book)?;
+    let leaf = improve(rt.alloc(), book, powers, &ranges, &base)?;
+    let scale = i128::from(PRICE_SCALE) * i128::from(COEFFICIENT_SCALE);
+    Ok(bound(book, powers, &ranges, &leaf) / scale)
+}
+
+// The leaf of the bootstrapped prices, and where there are none, of 0 for each need date.
+fn base_leaf(rt: &HostRuntime, book: &Book) -> Result<Leaf, NoMemory>
+    ensures { IfOk result (IsLeaf (length book.now.needs)) }
+{
+    match bootstrap(rt.alloc(), book)? {
+        Some(leaf) => Ok(leaf),
+        None => leaf_of_zeros(rt, book.need_count()),
+    }
+}
+
+// The leaf of so many prices of 0.
+fn leaf_of_zeros(rt: &HostRuntime, count: u16) -> Result<Leaf, NoMemory>
+    ensures { IfOk result (IsLeaf count) }
+{
+    let prices = vec![in rt.alloc(); 0u64; usize::from(count)]?;
+    Ok(Leaf {
+        whole: true,
+        mu: 0,
+        prices: Prices::new(prices),
+    })
+}
