@@ -13,6 +13,7 @@ use crate::draw::Draw;
 use crate::ledger::Ledger;
 use crate::neighbours::{Neighbours, next_to, permitted_below};
 use crate::order::Ranked;
+use crate::terms::Purchase;
 use cash_table::Plan;
 use dual_bound::Interval;
 use escrow_desk::NoMemory;
@@ -86,6 +87,18 @@ fn shuffle(lines: &mut [Ranked], draw: &mut Draw)
         lines[place] = lines[other];
         lines[other] = moved;
     }
+}
+
+// What a purchase is worth at the yield of the limit less what it costs, in units of 2^-62 of a cent; nothing for opening cash,
+// which the limit doesn't bind.
+fn excess_of(line: u16, bought: &Purchase) -> i128 {
+    if line == 0 {
+        return 0;
+    }
+    let cost = i128::from(bought.cost.0).saturating_mul(1 << 62);
+    i128::try_from(bought.worth)
+        .unwrap_or(i128::MAX)
+        .saturating_sub(cost)
 }
 
 impl Diver {
@@ -189,8 +202,8 @@ impl Diver {
         ensures { IsDiver book.now self.new }
     {
         let bought = ledger.purchase(book, line, units);
-        self.simplex
-            .fix(line, units, bought.cost, bought.payments.as_slice());
+        let excess = excess_of(line, &bought);
+        self.simplex.fix(line, units, bought.cost, bought.payments.as_slice(), excess);
         self.fixed[usize::from(line)] = Some(units);
     }
 

@@ -4,9 +4,10 @@ ghost use Rattle.std.specs.Prelude.{◌≡◌, ◌+◌, ◌*◌, ◌^◌, ◌<�
 use crate::number::{AMOUNT_PLACES, Fixed};
 use crate::program::Program;
 use crate::sparse::Entry;
+use crate::total::Total;
 use dual_bound::Interval;
 use escrow_desk::NoMemory;
-use escrow_units::{Cents, Day, Flow};
+use escrow_units::{Day, Flow};
 use offer_book::Book;
 use std::alloc::Global;
 
@@ -33,12 +34,21 @@ fn face(units: u64, step: u64) -> Fixed
     Fixed::clamp(i128::from(units) * i128::from(step) << AMOUNT_PLACES)
 }
 
+/// What a fixed line comes to exactly.
+#[derive(Clone, Copy)]
+pub(crate) struct Exact {
+    /// What it costs, in cents.
+    pub cost: u64,
+    /// What it is worth at the yield of the limit, less what it costs.
+    pub excess: Total,
+}
+
 /// The ranges of all lines, and what fixed lines cost and pay exactly. All its memory is taken when it is made.
 #[derive(Drop)]
 pub(crate) struct LineRanges {
     ranges: Vec<Range>,
-    // Of a fixed line what it costs, in cents.
-    costs: Vec<Option<u64>>,
+    // Of a fixed line what it costs, and what it is worth beyond that.
+    exact: Vec<Option<Exact>>,
     // Where the receipts of a line start, and at last where they end. There is one for each entry of a column.
     starts: Vec<usize>,
     receipts: Vec<u64>,
@@ -99,7 +109,7 @@ impl LineRanges {
         };
         Ok(LineRanges {
             ranges: whole_ranges(alloc, program, book)?,
-            costs: vec![in alloc; None; usize::from(program.lines())]?,
+            exact: vec![in alloc; None; usize::from(program.lines())]?,
             starts,
             receipts: vec![in alloc; 0; entries]?,
             days: days_of(alloc, book)?,
@@ -117,10 +127,10 @@ impl LineRanges {
         }
     }
 
-    /// What a fixed line costs, in cents; None where it isn't fixed.
-    pub(crate) fn exact_cost(&self, line: u16) -> Option<u64> {
-        match self.costs.get(usize::from(line)) {
-            Some(cost) => *cost,
+    /// What a fixed line comes to; None where it isn't fixed.
+    pub(crate) fn exact(&self, line: u16) -> Option<Exact> {
+        match self.exact.get(usize::from(line)) {
+            Some(exact) => *exact,
             None => None,
         }
     }
@@ -142,13 +152,13 @@ impl LineRanges {
         &self.receipts.as_slice()[start..]
     }
 
-    // Sets a range and the exact cost.
-    fn put(&mut self, line: u16, range: Range, cost: Option<u64>) {
+    // Sets a range, and what a fixed line comes to.
+    fn put(&mut self, line: u16, range: Range, exact: Option<Exact>) {
         if let Some(place) = self.ranges.get_mut(usize::from(line)) {
             *place = range;
         }
-        if let Some(place) = self.costs.get_mut(usize::from(line)) {
-            *place = cost;
+        if let Some(place) = self.exact.get_mut(usize::from(line)) {
+            *place = exact;
         }
     }
 
@@ -162,13 +172,13 @@ impl LineRanges {
         self.put(line, range, None);
     }
 
-    /// Fixes a line at a number of units, with what they cost and pay exactly.
+    /// Fixes a line at a number of units, with what they cost and pay exactly, and what that is worth beyond the cost.
     pub(crate) fn fix(
         &mut self,
         program: &Program,
         line: u16,
         units: u64,
-        cost: Cents,
+        exact: Exact,
         payments: &[Flow],
     ) {
         let amount = face(units, program.step(line));
@@ -176,7 +186,7 @@ impl LineRanges {
             low: amount,
             high: amount,
         };
-        self.put(line, range, Some(cost.0));
+        self.put(line, range, Some(exact));
         let entries = program.pays(line);
         let start = self.start(line);
         self.clear(start, entries.len());

@@ -82,16 +82,17 @@ impl Sums {
         if amount.get() == 0 {
             return;
         }
-        self.excess = self.excess.with(program.value(line), amount);
-        match base.ranges.exact_cost(line) {
-            Some(cents) if !base.is_basic(line) => {
+        match base.ranges.exact(line) {
+            Some(exact) if !base.is_basic(line) => {
                 self.pay_exactly(program, base, line);
+                self.excess = self.excess.plus(exact.excess);
                 if base.aim.whole {
-                    self.cost = self.cost.plus(Total::of_cents(cents));
+                    self.cost = self.cost.plus(Total::of_cents(exact.cost));
                 }
             }
             _ => {
                 self.pay(program, line, amount);
+                self.excess = self.excess.with(program.value(line), amount);
                 self.cost = self.cost.with(base.cost(program, line), amount);
             }
         }

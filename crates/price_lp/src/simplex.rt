@@ -5,10 +5,12 @@ ghost use Rattle.dual_bound.specs.Tree.{IsLeaf};
 
 use crate::aim::Aim;
 use crate::basis::Basis;
+use crate::line_ranges::Exact;
 use crate::number::AMOUNT_PLACES;
 use crate::program::Program;
 use crate::proposing::{propose_prices, proposed_multiplier};
 use crate::solver::Solver;
+use crate::total::Total;
 use dual_bound::{Interval, Leaf};
 use escrow_desk::NoMemory;
 use escrow_units::{Cents, Flow, GREATEST_INDEX};
@@ -100,15 +102,20 @@ impl Simplex {
         self.solver.base.ranges.set(&self.program, line, interval);
     }
 
-    /// Fixes a line, counted from 0, at a number of units, with what they cost and pay exactly: the line's payments in order.
-    /// A line that isn't there is passed over.
-    pub fn fix(&mut self, line: u16, units: u64, cost: Cents, payments: &[Flow])
+    /// Fixes a line, counted from 0, at a number of units, with what they cost and pay exactly: the line's payments in order; and
+    /// the excess, what these are worth at the yield of the limit less what they cost, in units of 2^-62 of a cent, which is 0 for
+    /// opening cash. A line that isn't there is passed over.
+    pub fn fix(&mut self, line: u16, units: u64, cost: Cents, payments: &[Flow], excess: i128)
         ensures { self.new ≡ self.old }
     {
+        let exact = Exact {
+            cost: cost.0,
+            excess: Total::of_excess(excess),
+        };
         self.solver
             .base
             .ranges
-            .fix(&self.program, line, units, cost, payments);
+            .fix(&self.program, line, units, exact, payments);
     }
 
     /// Starts from the highest prices that never rise under which no line that matures so far has a negative reduced cost.

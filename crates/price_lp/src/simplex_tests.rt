@@ -78,7 +78,7 @@ fn a_solve_starts_from_a_leaf_or_a_basis(rt: HostRuntime) -> Result<(), Fail> {
     assert_eq!(rt; simplex.solve(100, Some(285_028_910)), SolveEnd::AtLimit);
     simplex.set_range(4, Interval { low: 0, high: 1000 });
     simplex.start_from(&basis);
-    simplex.fix(0, 0, Cents(0), &[]);
+    simplex.fix(0, 0, Cents(0), &[], 0);
     assert_eq!(rt; simplex.solve(100, None), SolveEnd::Optimal);
     // More columns than runs of dates.
     basis.put_line(2, LineState::Basic);

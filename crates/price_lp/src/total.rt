@@ -4,6 +4,9 @@ ghost use Rattle.std.specs.Prelude.{◌≡◌, ◌+◌, ◌*◌, ◌^◌, ◌<�
 use crate::number::{AMOUNT_PLACES, Fixed, PLACES};
 use std::marker::Model;
 
+// How many binary places an excess has, in cents.
+const EXCESS_PLACES: u32 = 62;
+
 // The greatest total on both sides.
 const GREATEST: i128 = 1 << 120;
 
@@ -54,6 +57,11 @@ impl Total {
     /// An amount in cents, times one.
     pub(crate) fn of_cents(cents: u64) -> Total {
         Total::clamp(i128::from(cents) << (PLACES + AMOUNT_PLACES))
+    }
+
+    /// An excess in units of 2^-62 of a cent.
+    pub(crate) fn of_excess(excess: i128) -> Total {
+        Total::clamp(excess >> (EXCESS_PLACES - PLACES - AMOUNT_PLACES))
     }
 
     /// With a product more.
