@@ -20,4 +20,5 @@ pub use backward::{BuildEnd, build};
 pub use laws::{plan_laws, price_laws};
 pub use offers::own_offer;
 pub use price_curve::bootstrap;
+pub use spare::{covers, run_up};
 pub use trimming::trim;

@@ -14,8 +14,9 @@ use cash_table::{Plan, line_receipts, receipts};
 use escrow_units::{Flow, MOST_NEED_DATES};
 use offer_book::Book;
 
-// Puts for each date the sum of the amounts up to it.
-fn run_up(amounts: &mut [u64], dates: usize)
+/// Puts in the place of each of the first amounts, one for each need date, the sum of the amounts up to it. There is a place for
+/// each date, and all amounts together are less than 2^64.
+pub fn run_up(amounts: &mut [u64], dates: usize)
     requires places { dates ≤ length amounts.old }
     requires small { sum amounts.old < 2 ^ 64 }
     ensures { (k : ℕ) → k < dates → slice_index amounts.new k ≡ sum (take (k + 1) amounts.old) }
@@ -75,8 +76,9 @@ pub(crate) fn take_spare(paid: &mut [u64], spare: &[u64])
     }
 }
 
-// Whether each of the first amounts is at least what is due there.
-fn covers(paid: &[u64], due: &[u64], dates: usize) -> bool
+/// Whether each of the first amounts, one for each need date, is at least what is due there. There is a place for each date in
+/// both lists.
+pub fn covers(paid: &[u64], due: &[u64], dates: usize) -> bool
     requires paid { dates ≤ length paid.now }
     requires due { dates ≤ length due.now }
     ensures { IsTrue result ↔ ((k : ℕ) → k < dates → slice_index due.now k ≤ slice_index paid.now k) }

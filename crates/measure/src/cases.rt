@@ -1,6 +1,7 @@
 //! A case of three files in a folder.
 
 use crate::plans::measure_plans;
+use crate::random::try_random;
 use crate::roots::{measure_root, measure_steps};
 use case_file::{Case, read_case};
 use escrow_desk::FILE_LIMIT;
@@ -40,8 +41,8 @@ fn case_of(rt: &HostRuntime, folder: &str) -> io::Result<Option<Case>> {
     }
 }
 
-/// Measures the case of a folder.
-pub(crate) fn measure(rt: &HostRuntime, folder: &str) -> io::Result<()> {
+/// Measures the case of a folder, or solves so many random programs of it.
+pub(crate) fn measure(rt: &HostRuntime, folder: &str, random: Option<u32>) -> io::Result<()> {
     let Some(case) = case_of(rt, folder)? else {
         println!(rt; "{folder}: refused")?;
         return Ok(());
@@ -54,6 +55,9 @@ pub(crate) fn measure(rt: &HostRuntime, folder: &str) -> io::Result<()> {
     if case.limit.0 == 0 || case.limit.0 > 3_000_000_000 {
         println!(rt; ", no limit")?;
         return Ok(());
+    }
+    if let Some(programs) = random {
+        return try_random(rt, &case.book, case.limit, programs);
     }
     measure_root(rt, &case.book, case.limit)?;
     let bound = measure_steps(rt, &case.book, case.limit)?;

@@ -28,7 +28,7 @@ pub(crate) fn measure_plans(
                 println!(rt; "  effort {effort}: {gap} cents above, {micros} us")?;
             }
             Ok(None) => println!(rt; "  effort {effort}: no plan, {micros} us")?,
-            Err(memory) => return Err(starved(memory)),
+            Err(_) => return Err(starved()),
         }
     }
     Ok(())

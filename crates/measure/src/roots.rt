@@ -17,27 +17,33 @@ use std::io;
 use std::io::ErrorKind;
 use std::time::Instant;
 
-// Iterations from nothing, and after a changed range.
-const COLD: u32 = 2_000;
+/// The most iterations from nothing.
+pub(crate) const COLD: u32 = 2_000;
 
-const WARM: u32 = 300;
+/// The most iterations after a changed range.
+pub(crate) const WARM: u32 = 300;
 
 // How many ranges are changed.
 const MOST_CHANGES: u64 = 60;
 
 /// Want of memory, as a fault.
-pub(crate) fn starved(_memory: NoMemory) -> io::Error {
+pub(crate) fn starved() -> io::Error {
     io::Error::from(ErrorKind::OutOfMemory)
+}
+
+// Nanoseconds since an instant.
+fn nanos_since(rt: &HostRuntime, start: Instant) -> io::Result<u64> {
+    let nanos = start.elapsed(rt)?.as_nanos();
+    Ok(nanos.min(u128::from(u64::MAX)) as u64)
 }
 
 /// Microseconds since an instant.
 pub(crate) fn micros_since(rt: &HostRuntime, start: Instant) -> io::Result<u64> {
-    let micros = start.elapsed(rt)?.as_micros();
-    Ok(micros.min(u128::from(u64::MAX)) as u64)
+    Ok(nanos_since(rt, start)? / 1_000)
 }
 
-// The powers of a limit, one unit below it.
-fn powers_of(rt: &HostRuntime, limit: YieldUnits) -> io::Result<Powers>
+/// The powers of a limit, one unit below it.
+pub(crate) fn powers_of(rt: &HostRuntime, limit: YieldUnits) -> io::Result<Powers>
     requires limit_from { 1 ≤ limit.0 }
     requires limit_to { limit.0 ≤ GREATEST_YIELD }
     ensures side { IfOk result (λ powers. powers.side ≡ Side.Low) }
@@ -50,7 +56,7 @@ fn powers_of(rt: &HostRuntime, limit: YieldUnits) -> io::Result<Powers>
         GREATEST_INDEX,
     ) {
         Ok(powers) => Ok(powers),
-        Err(memory) => Err(starved(memory)),
+        Err(_) => Err(starved()),
     }
 }
 
@@ -78,7 +84,7 @@ fn time_of_change(
     simplex.set_range(line, interval);
     let start = Instant::now(rt)?;
     simplex.solve(WARM, None);
-    micros_since(rt, start)
+    nanos_since(rt, start)
 }
 
 // The whole number of units below the amount of a line in the solution.
@@ -87,46 +93,46 @@ fn units_below(simplex: &Simplex, line: u16, step: u64) -> u64 {
     cents.checked_div(step).unwrap_or(0)
 }
 
-// What changed ranges take together, of the lines that are in the basis: up to an amount, and from one unit more.
+// What it takes after each of two ranges of a line in turn: up to some units, and from one more.
+fn time_of_split(
+    rt: &HostRuntime,
+    simplex: &mut Simplex,
+    line: u16,
+    units: u64,
+    most: u64,
+) -> io::Result<u64> {
+    let below = Interval {
+        low: 0,
+        high: units,
+    };
+    let above = Interval {
+        low: units.saturating_add(1),
+        high: most,
+    };
+    let whole = Interval { low: 0, high: most };
+    let mut nanos = 0u64;
+    for interval in [below, above] {
+        nanos = nanos.saturating_add(time_of_change(rt, simplex, line, interval)?);
+        simplex.set_range(line, whole);
+    }
+    Ok(nanos)
+}
+
+// What changed ranges take on average, of the lines that are in the basis: up to an amount, and from one unit more.
 fn measure_changes(rt: &HostRuntime, book: &Book, simplex: &mut Simplex) -> io::Result<()> {
     let mut tries = 0u64;
-    let mut micros = 0u64;
-    let mut iterations = 0u64;
+    let mut nanos = 0u64;
     for line in 0..book.line_count() {
         let most = book.line(line).most;
         let units = units_below(simplex, line, book.line(line).step);
-        if !simplex.is_basic(line) || units >= most || tries >= MOST_CHANGES {
-            continue;
+        if simplex.is_basic(line) && units < most && tries < MOST_CHANGES {
+            nanos = nanos.saturating_add(time_of_split(rt, simplex, line, units, most)?);
+            tries += 2;
+            simplex.start_greedily();
+            simplex.solve(COLD, None);
         }
-        let whole = Interval { low: 0, high: most };
-        let before = simplex.iterations();
-        let below = time_of_change(
-            rt,
-            simplex,
-            line,
-            Interval {
-                low: 0,
-                high: units,
-            },
-        )?;
-        simplex.set_range(line, whole);
-        let above = time_of_change(
-            rt,
-            simplex,
-            line,
-            Interval {
-                low: units + 1,
-                high: most,
-            },
-        )?;
-        simplex.set_range(line, whole);
-        micros = micros.saturating_add(below).saturating_add(above);
-        iterations = iterations.saturating_add(simplex.iterations().saturating_sub(before));
-        tries += 2;
-        simplex.start_greedily();
-        simplex.solve(COLD, None);
     }
-    let mean = micros.saturating_mul(1_000).checked_div(tries).unwrap_or(0);
+    let mean = nanos.checked_div(tries).unwrap_or(0);
     println!(rt; "  changed ranges: {tries}, {mean} ns each")
 }
 
@@ -138,7 +144,7 @@ pub(crate) fn measure_root(rt: &HostRuntime, book: &Book, limit: YieldUnits) -> 
     let powers = powers_of(rt, limit)?;
     let mut simplex = match Simplex::make(rt.alloc(), book, &powers) {
         Ok(simplex) => simplex,
-        Err(memory) => return Err(starved(memory)),
+        Err(_) => return Err(starved()),
     };
     simplex.aim(Purpose::Bound, true);
     let before = simplex.iterations();
@@ -155,7 +161,7 @@ pub(crate) fn measure_steps(rt: &HostRuntime, book: &Book, limit: YieldUnits) ->
 {
     match bound_at_root(rt, book, limit)? {
         Ok(bound) => Ok(bound),
-        Err(memory) => Err(starved(memory)),
+        Err(_) => Err(starved()),
     }
 }
 
@@ -201,8 +207,8 @@ fn base_leaf(rt: &HostRuntime, book: &Book) -> Result<Leaf, NoMemory>
     }
 }
 
-// The leaf of so many prices of 0.
-fn leaf_of_zeros(rt: &HostRuntime, count: u16) -> Result<Leaf, NoMemory>
+/// The leaf of so many prices of 0.
+pub(crate) fn leaf_of_zeros(rt: &HostRuntime, count: u16) -> Result<Leaf, NoMemory>
     ensures { IfOk result (IsLeaf count) }
 {
     let prices = vec![in rt.alloc(); 0u64; usize::from(count)]?;

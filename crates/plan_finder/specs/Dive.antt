@@ -10,12 +10,11 @@ use Rattle.plan_finder.specs.Ledger.{IsLedger}
 abbrev pub AreLinesOf : BookContents → List Ranked → Type 0
 AreLinesOf book order = All (λ ranked. ranked.line < length book.lines) order
 
--- a dive over the lines of a book: for each line there is whether it is fixed, and the orders name no other lines
+-- a dive over the lines of a book: for each line there is whether it is fixed, and the order names no other lines
 pub record IsDiver (book : BookContents) (diver : Diver) : Type 0 where
   pub limits : IsBook book
   pub fixed : length diver.fixed.items ≡ length book.lines
   pub order : AreLinesOf book diver.order.items
-  pub drawn : AreLinesOf book diver.drawn.items
 
 -- what a search works with: a ledger of the book, a dive over its lines, the orders in which lines are trimmed, and what is kept for
 -- each line

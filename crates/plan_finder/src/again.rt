@@ -17,6 +17,9 @@ use std::alloc::Global;
 // After how many dives in a row that find nothing cheaper a chain ends.
 const MOST_FAILURES: u32 = 250;
 
+// Rounds times this draw the orders of dives over all lines, so that they differ from those of dives near a plan.
+const SPREAD: u32 = 7_919;
+
 /// When a search ends.
 #[derive(Clone, Copy, Debug, PartialEq, Eq)]
 pub(crate) struct Stop {
@@ -144,11 +147,12 @@ fn chain(
     Ok(())
 }
 
-// A plan of a dive over all lines in an order that is drawn, if it gives one.
+// A plan of a dive over all lines in the order that a round draws, if it gives one.
 fn start_anew(
     alloc: Global,
     book: &Book,
     limit: YieldUnits,
+    round: u32,
     search: &mut Search,
 ) -> Result<Option<Proposal>, NoMemory>
     requires { IsSearch book.now search.old }
@@ -156,16 +160,17 @@ fn start_anew(
     ensures near { IfOk result (λ near. IfSome near (IsProposal limit.0 book.now)) }
 {
     let mut near = None;
-    search.shuffle(book);
-    search.dive_whole(alloc, book, limit, Sequence::Drawn, &mut near)?;
+    let sequence = Sequence::Drawn(round.wrapping_mul(SPREAD));
+    search.dive_whole(alloc, book, limit, sequence, &mut near)?;
     Ok(near)
 }
 
-// A plan of a dive in an order that is drawn, with two in three lines free and the others as in a plan, if it gives one.
+// A plan of a dive in the order that a round draws, with two in three lines free and the others as in a plan, if it gives one.
 fn start_far(
     alloc: Global,
     book: &Book,
     limit: YieldUnits,
+    round: u32,
     search: &mut Search,
     plan: &Plan,
 ) -> Result<Option<Proposal>, NoMemory>
@@ -175,9 +180,8 @@ fn start_far(
     ensures near { IfOk result (λ near. IfSome near (IsProposal limit.0 book.now)) }
 {
     let mut near = None;
-    search.shuffle(book);
     search.draw_most(book);
-    search.dive_near(alloc, book, limit, Sequence::Drawn, plan, &mut near)?;
+    search.dive_near(alloc, book, limit, Sequence::Drawn(round), plan, &mut near)?;
     Ok(near)
 }
 
@@ -199,10 +203,10 @@ fn start(
         return copied(alloc, book, limit, best);
     }
     if round % 3 == 1 {
-        return start_anew(alloc, book, limit, search);
+        return start_anew(alloc, book, limit, round, search);
     }
     match best {
-        Some(proposal) => start_far(alloc, book, limit, search, &proposal.plan),
+        Some(proposal) => start_far(alloc, book, limit, round, search, &proposal.plan),
         None => Ok(None),
     }
 }

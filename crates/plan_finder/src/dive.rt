@@ -9,7 +9,7 @@ ghost use Rattle.offer_book.specs.declared.line.Line.{Line};
 ghost use Rattle.plan_finder.specs.Dive.{AreLinesOf, IsDiver};
 ghost use Rattle.plan_finder.specs.Ledger.{IsLedger};
 
-use crate::draw::Draw;
+use crate::draw::drawn_rank;
 use crate::ledger::Ledger;
 use crate::neighbours::{Neighbours, next_to, permitted_below};
 use crate::order::Ranked;
@@ -34,8 +34,8 @@ const COLD_ITERATIONS: u32 = 600;
 pub(crate) enum Sequence {
     /// Lines with steps over a dollar first, then those below their least purchase, then the others: each the latest first.
     Coarse,
-    /// In an order that is drawn.
-    Drawn,
+    /// In the order that a number draws.
+    Drawn(u32),
 }
 
 /// The turn of a line.
@@ -57,10 +57,8 @@ pub(crate) struct Diver {
     pub below: Basis,
     /// The units of each line that is fixed.
     pub fixed: Vec<Option<u64>>,
-    /// The lines in the order in which they are looked at, the last one first.
+    /// The lines in the order of their ends.
     pub order: Vec<Ranked>,
-    /// The lines in an order that is drawn.
-    pub drawn: Vec<Ranked>,
     /// How many linear programs were solved, up to the type's end.
     pub programs: u32,
 }
@@ -73,19 +71,6 @@ fn turn_of(line: &Line, amount: i64) -> Turn {
         Turn::Second
     } else {
         Turn::Last
-    }
-}
-
-// Puts lines into an order that is drawn: each place gets one of the lines that are left.
-fn shuffle(lines: &mut [Ranked], draw: &mut Draw)
-    ensures { (count : ℕ) → All (λ ranked. ranked.line < count) lines.old → All (λ ranked. ranked.line < count) lines.new }
-{
-    for place in 0..lines.len() {
-        let left = lines.len() - place;
-        let other = place + draw.below(left as u64) as usize;
-        let moved = lines[place];
-        lines[place] = lines[other];
-        lines[other] = moved;
     }
 }
 
@@ -102,8 +87,7 @@ fn excess_of(line: u16, bought: &Purchase) -> i128 {
 }
 
 impl Diver {
-    /// A dive over the lines of a book, against the limit of the powers: in an order of their ends, the last one first, or in one
-    /// that is drawn.
+    /// A dive over the lines of a book, which are given in the order of their ends, against the limit of the powers.
     ///
     /// # Errors
     ///
@@ -113,12 +97,10 @@ impl Diver {
         book: &Book,
         powers: &Powers,
         order: Vec<Ranked>,
-        drawn: Vec<Ranked>,
     ) -> Result<Diver, NoMemory>
         requires side { powers.now.side ≡ Side.Low }
         requires longest { powers.now.longest ≡ GREATEST_INDEX }
         requires order { AreLinesOf book.now order.items }
-        requires drawn { AreLinesOf book.now drawn.items }
         ensures { IfOk result (IsDiver book.now) }
     {
         let mut simplex = Simplex::make(alloc, book, powers)?;
@@ -129,17 +111,8 @@ impl Diver {
             simplex,
             fixed: vec![in alloc; None; usize::from(book.line_count())]?,
             order,
-            drawn,
             programs: 0,
         })
-    }
-
-    /// Puts the lines into another order of draws.
-    pub(crate) fn shuffle(&mut self, book: &Book, draw: &mut Draw)
-        requires { IsDiver book.now self.old }
-        ensures { IsDiver book.now self.new }
-    {
-        shuffle(self.drawn.as_mut_slice(), draw);
     }
 
     // Whether a line can be fixed next.
@@ -149,17 +122,24 @@ impl Diver {
         self.simplex.is_basic(line) && self.fixed[usize::from(line)].is_none()
     }
 
-    // The first open line in the order that is drawn.
-    fn next_drawn(&self, book: &Book) -> Option<u16>
+    // The open line that comes first in the order that a number draws.
+    fn next_drawn(&self, book: &Book, number: u32) -> Option<u16>
         requires { IsDiver book.now self.now }
         ensures { IfSome result (λ line. line < length book.now.lines) }
     {
-        for ranked in self.drawn.as_slice() {
-            if self.is_open(ranked.line) {
-                return Some(ranked.line);
+        let mut next = None;
+        let mut first = None;
+        for ranked in self.order.as_slice() {
+            let line = ranked.line;
+            if self.is_open(line) {
+                let rank = drawn_rank(line, number);
+                if is_before(rank, first) {
+                    first = Some(rank);
+                    next = Some(line);
+                }
             }
         }
-        None
+        next
     }
 
     // The first open line of the first turn in which there is one, those that pay last first.
@@ -189,7 +169,7 @@ impl Diver {
     {
         match sequence {
             Sequence::Coarse => self.next_in_turn(book),
-            Sequence::Drawn => self.next_drawn(book),
+            Sequence::Drawn(number) => self.next_drawn(book, number),
         }
     }
 
@@ -356,6 +336,14 @@ impl Diver {
         for line in 0..book.line_count() {
             ledger.change(book, line, self.units(book, line));
         }
+    }
+}
+
+// Whether a rank comes before another, if there is any.
+fn is_before(rank: u64, first: Option<u64>) -> bool {
+    match first {
+        Some(other) => rank < other,
+        None => true,
     }
 }
 

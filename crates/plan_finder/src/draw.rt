@@ -30,3 +30,12 @@ impl Draw {
         self.next() % bound
     }
 }
+
+/// Where a line stands in the order that a number draws, from the least rank on: a hash of both.
+pub(crate) fn drawn_rank(line: u16, number: u32) -> u64 {
+    let mixed = (u64::from(line) + 1)
+        .wrapping_add(u64::from(number).wrapping_mul(0xD1B5_4A32_D192_ED03))
+        .wrapping_mul(0x9E37_79B9_7F4A_7C15);
+    let hash = (mixed ^ (mixed >> 31)).wrapping_mul(0xBF58_476D_1CE4_E5B9);
+    u64::MAX - (hash >> 40)
+}

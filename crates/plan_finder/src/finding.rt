@@ -38,12 +38,11 @@ fn dive_until_found(
     ensures search { OnOk result (IsSearch book.now search.new) }
     ensures best { OnOk result (IfSome best.new (IsProposal limit.0 book.now)) }
 {
-    for _ in 0..MORE_DIVES {
+    for number in 1..MORE_DIVES + 1 {
         if best.is_some() {
             return Ok(());
         }
-        search.shuffle(book);
-        search.dive_whole(alloc, book, limit, Sequence::Drawn, best)?;
+        search.dive_whole(alloc, book, limit, Sequence::Drawn(number), best)?;
     }
     Ok(())
 }

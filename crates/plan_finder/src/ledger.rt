@@ -1,6 +1,5 @@
 //! The exact book of a plan: what it costs and pays, and what it is worth at the yield limit.
-ghost use Rattle.std.specs.Prelude.{◌≡◌, ℕ, ◌+◌, ◌-◌, ◌*◌, ◌^◌, ◌<◌, ◌≤◌, ◌↔◌, All, IfOk, IfNone, IfSome, IsTrue, length, replicate, slice_index, slice_index_or, slice_set, sum_by, take};
-ghost use Rattle.std.specs.List.{sum};
+ghost use Rattle.std.specs.Prelude.{◌≡◌, ℕ, ◌+◌, ◌-◌, ◌*◌, ◌^◌, ◌<◌, ◌≤◌, ◌↔◌, All, IfOk, IfNone, IfSome, IsTrue, length, replicate, slice_index, slice_index_or, slice_set};
 ghost use Rattle.escrow_units.specs.Flows.{Rise, total};
 ghost use Rattle.escrow_units.specs.declared.security.Flow.{Flow};
 ghost use Rattle.fixed_powers.specs.DiscountPowers.{PowerTable, one};
@@ -12,6 +11,7 @@ ghost use Rattle.plan_finder.specs.Ledger.{AreDue, AreHeld, AreTerms, IsLedger, 
 ghost use Rattle.plan_finder.specs.declared.terms.Purchase.{Purchase};
 
 use crate::terms::{LineTerms, Purchase};
+use backward_build::run_up;
 use cash_table::{Plan, add_receipts};
 use escrow_desk::NoMemory;
 use escrow_units::{Cents, Flow, GREATEST_INDEX, MOST_NEED_DATES};
@@ -37,19 +37,6 @@ pub(crate) struct Ledger {
     pub cost: Cents,
     /// What its securities are worth at the yield limit, in units of 2^-62 of a cent.
     pub worth: u128,
-}
-
-// Puts for each date the sum of the amounts up to it.
-fn run_up(amounts: &mut [u64], dates: usize)
-    requires places { dates ≤ length amounts.old }
-    requires small { sum amounts.old < 2 ^ 64 }
-    ensures { (k : ℕ) → k < dates → slice_index amounts.new k ≡ sum (take (k + 1) amounts.old) }
-{
-    let mut total = 0;
-    for place in 0..dates {
-        total += amounts[place];
-        amounts[place] = total;
-    }
 }
 
 // What flows come to up to each need date, in cents.

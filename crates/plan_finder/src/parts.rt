@@ -46,13 +46,21 @@ fn free_bought(free: &mut [bool], draw: &mut Draw, plan: &Plan, among: u64)
     }
 }
 
-/// Frees all lines but about one in so many, which are drawn.
-pub(crate) fn free_most(free: &mut [bool], draw: &mut Draw, among: u64)
-    requires among { 0 < among }
+// Frees all lines but about one in so many, which are drawn.
+fn free_all_but(free: &mut [bool], draw: &mut Draw, among: u64)
+    requires { 0 < among }
 {
     for line in 0..free.len() {
         free[line] = draw.below(among) > 0;
     }
+}
+
+/// Frees two in three lines, which are drawn, and opening cash.
+pub(crate) fn free_most(free: &mut [bool], draw: &mut Draw)
+    requires { 0 < length free.old }
+{
+    free_all_but(free, draw, 3);
+    free[0] = true;
 }
 
 // Frees the lines whose payments end within a window that is drawn: 5 to 30 in a hundred of the need dates.
@@ -86,8 +94,9 @@ pub(crate) fn free_part(free: &mut [bool], draw: &mut Draw, ends: &[u16], plan: 
     requires few_dates { dates ≤ 480 }
 {
     free_none(free);
+    let choice = draw.below(4);
     let count = 6 + draw.below(free.len() as u64 / 3 + 1);
-    match draw.below(4) {
+    match choice {
         0 => free_one_window(free, draw, ends, dates),
         1 => {
             free_drawn(free, draw, count);
@@ -97,7 +106,7 @@ pub(crate) fn free_part(free: &mut [bool], draw: &mut Draw, ends: &[u16], plan: 
             free_two_windows(free, draw, ends, dates);
             free_drawn(free, draw, count / 3);
         }
-        _ => free_most(free, draw, 2),
+        _ => free_all_but(free, draw, 2),
     }
     free[0] = true;
 }

@@ -82,10 +82,9 @@ impl Search {
         let ledger = Ledger::make(alloc, book, &powers)?;
         let ends = ends_of(alloc, book, &ledger)?;
         let earliest = order(alloc, book, ends.as_slice(), By::EarliestFirst)?;
-        let drawn = order(alloc, book, ends.as_slice(), By::EarliestFirst)?;
         Ok(Search {
             ledger,
-            diver: Diver::make(alloc, book, &powers, earliest, drawn)?,
+            diver: Diver::make(alloc, book, &powers, earliest)?,
             orders: orders_of(alloc, book, ends.as_slice())?,
             ends,
             free: vec![in alloc; false; usize::from(book.line_count())]?,
@@ -171,14 +170,6 @@ impl Search {
         self.dive(alloc, book, limit, sequence, found)
     }
 
-    /// Puts the lines into another order of draws.
-    pub(crate) fn shuffle(&mut self, book: &Book)
-        requires { IsSearch book.now self.old }
-        ensures { IsSearch book.now self.new }
-    {
-        self.diver.shuffle(book, &mut self.draw);
-    }
-
     /// Draws which lines are free in the next dive near a plan.
     pub(crate) fn draw_part(&mut self, book: &Book, plan: &Plan)
         requires search { IsSearch book.now self.old }
@@ -195,11 +186,11 @@ impl Search {
         );
     }
 
-    /// Draws two in three lines to be free in the next dive near a plan.
+    /// Draws two in three lines, beside opening cash, to be free in the next dive near a plan.
     pub(crate) fn draw_most(&mut self, book: &Book)
         requires { IsSearch book.now self.old }
         ensures { IsSearch book.now self.new }
     {
-        free_most(self.free.as_mut_slice(), &mut self.draw, 3);
+        free_most(self.free.as_mut_slice(), &mut self.draw);
     }
 }

@@ -1,5 +1,5 @@
 //! Plans taken down as far as the needs allow, one line after another.
-ghost use Rattle.std.specs.Prelude.{◌≡◌, ℕ, ◌<◌, ◌≤◌, ◌↔◌, All, IsTrue, length, slice_index, slice_index_or};
+ghost use Rattle.std.specs.Prelude.{ℕ, ◌<◌, ◌≤◌, ◌↔◌, All, IsTrue, length, slice_index_or};
 ghost use Rattle.offer_book.specs.Portfolio.{IsPermittedUnits, Meets, line_payments};
 ghost use Rattle.backward_build.specs.Spare.{Cover};
 ghost use Rattle.offer_book.specs.declared.line.Line.{Line};
@@ -8,6 +8,7 @@ ghost use Rattle.plan_finder.specs.Ledger.{IsLedger};
 
 use crate::ledger::{Ledger, paid};
 use crate::order::Ranked;
+use backward_build::covers;
 use escrow_units::MOST_NEED_DATES;
 use offer_book::Book;
 
@@ -23,20 +24,6 @@ struct Duty {
 struct Bracket {
     low: u64,
     high: u64,
-}
-
-// Whether each of the first amounts is at least what is due there.
-fn covers(paid: &[u64], due: &[u64], dates: usize) -> bool
-    requires paid { dates ≤ length paid.now }
-    requires due { dates ≤ length due.now }
-    ensures { IsTrue result ↔ ((k : ℕ) → k < dates → slice_index due.now k ≤ slice_index paid.now k) }
-{
-    for place in 0..dates {
-        if paid[place] < due[place] {
-            return false;
-        }
-    }
-    true
 }
 
 // Whether units of a line pay what is due up to each need date.

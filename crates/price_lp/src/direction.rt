@@ -8,7 +8,6 @@ use crate::number::Fixed;
 use crate::program::Program;
 use crate::segments::Segment;
 use crate::sparse::Stop;
-use crate::total::Total;
 use escrow_desk::NoMemory;
 use std::alloc::Global;
 
@@ -28,14 +27,15 @@ pub(crate) struct Direction {
 // By how much a date moves against the others of its run as a link opens: in the run with the day of settlement the dates after
 // the link fall, in other runs those up to it rise.
 fn shift(run: Segment, link: usize, date: usize) -> Fixed {
+    shift_worth(run, link, date, Fixed::one()).negated()
+}
+
+// What the shift of a date takes from what is paid on it.
+fn shift_worth(run: Segment, link: usize, date: usize, paid: Fixed) -> Fixed {
     if run == Segment::Head {
-        if link < date {
-            Fixed::one().negated()
-        } else {
-            Fixed::zero()
-        }
+        if link < date { paid } else { Fixed::zero() }
     } else if date <= link {
-        Fixed::one()
+        paid.negated()
     } else {
         Fixed::zero()
     }
@@ -44,14 +44,14 @@ fn shift(run: Segment, link: usize, date: usize) -> Fixed {
 // What the shift of the dates of a link's run is worth to a line, with the sign turned.
 fn shifted(program: &Program, base: &Base, line: u16, link: usize) -> Fixed {
     let run = base.segments.of(link);
-    let mut worth = Total::zero();
+    let mut worth = Fixed::zero();
     for entry in program.pays(line) {
         let date = usize::from(entry.place);
         if base.segments.of(date) == run {
-            worth = worth.without(entry.value, shift(run, link, date));
+            worth = worth.plus(shift_worth(run, link, date, entry.value));
         }
     }
-    worth.rounded()
+    worth
 }
 
 // The right-hand side of the column of a line, as another line leaves to an end.

@@ -2,12 +2,11 @@
 
 use crate::base::Base;
 use crate::basis::Multiplier;
-use crate::cells::{put, read};
+use crate::cells::{product, put, read};
 use crate::number::Fixed;
 use crate::program::Program;
 use crate::segments::Segment;
 use crate::sparse::{Entry, Stop};
-use crate::total::Total;
 use escrow_desk::NoMemory;
 use std::alloc::Global;
 
@@ -25,15 +24,6 @@ pub(crate) struct Duals {
     rows: Vec<Fixed>,
 }
 
-/// What payments are worth at prices of their dates.
-pub(crate) fn worth(pays: &[Entry], prices: &[Fixed]) -> Total {
-    let mut worth = Total::zero();
-    for entry in pays {
-        worth = worth.with(entry.value, read(prices, usize::from(entry.place)));
-    }
-    worth
-}
-
 /// A cost, and what the yield limit adds to it, less what the payments of a line are worth.
 pub(crate) fn reduced_cost(
     program: &Program,
@@ -42,19 +32,18 @@ pub(crate) fn reduced_cost(
     multiplier: Fixed,
     prices: &[Fixed],
 ) -> Fixed {
-    Total::of(cost)
-        .with(multiplier, program.value(line))
-        .minus(worth(program.pays(line), prices))
-        .rounded()
+    let own = cost.widened() + multiplier.times(program.value(line));
+    Fixed::narrowed(own - product(program.pays(line), prices))
 }
 
-// What is paid in the run with the day of settlement.
-fn head_payments(program: &Program, base: &Base, line: u16) -> Total {
-    let mut paid = Total::zero();
-    for entry in program.pays(line) {
-        if base.segments.of(usize::from(entry.place)) == Segment::Head {
-            paid = paid.plus(Total::of(entry.value));
+// What is paid in the run with the day of settlement: on the first dates.
+fn head_payments(base: &Base, pays: &[Entry]) -> Fixed {
+    let mut paid = Fixed::zero();
+    for entry in pays {
+        if base.segments.of(usize::from(entry.place)) != Segment::Head {
+            return paid;
         }
+        paid = paid.plus(entry.value);
     }
     paid
 }
@@ -69,10 +58,10 @@ fn known_multiplier(base: &Base) -> Fixed {
 
 // What the payments of a basic line have to be worth in the runs with a price of their own.
 fn owed(program: &Program, base: &Base, line: u16) -> Fixed {
-    Total::of(base.cost(program, line))
-        .with(known_multiplier(base), program.value(line))
-        .minus(head_payments(program, base, line).times(base.aim.greatest_price()))
-        .rounded()
+    let own = base.cost(program, line).widened()
+        + known_multiplier(base).times(program.value(line));
+    let head = head_payments(base, program.pays(line));
+    Fixed::narrowed(own - head.times(base.aim.price))
 }
 
 impl Duals {

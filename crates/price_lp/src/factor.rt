@@ -1,12 +1,13 @@
 //! The factor of a basis: its columns, made triangular.
-ghost use Rattle.std.specs.Prelude.{◌≤◌, ◌^◌, length, unsigned_abs};
+ghost use Rattle.std.specs.Prelude.{◌≤◌, ◌^◌, unsigned_abs};
 
 use crate::basis::{Basis, LineState, Multiplier};
+use crate::cells::{product, read};
 use crate::number::Fixed;
 use crate::program::Program;
 use crate::scatter::Scatter;
 use crate::segments::{Segment, Segments};
-use crate::sparse::{Entry, MOST_ENTRIES, Sparse, Stop};
+use crate::sparse::{Entry, Sparse, Stop};
 use escrow_desk::NoMemory;
 use std::alloc::Global;
 
@@ -68,14 +69,6 @@ fn is_marked(marks: &[bool], row: u16) -> bool {
     }
 }
 
-// The number of a row; nothing where there is no such row.
-fn value_at(values: &[Fixed], row: u16) -> Fixed {
-    match values.get(usize::from(row)) {
-        Some(value) => *value,
-        None => Fixed::zero(),
-    }
-}
-
 // Puts the number at a place. It stops where there is no such place.
 fn put_at(values: &mut [Fixed], place: usize, value: Fixed) -> Result<(), Stop> {
     match values.get_mut(place) {
@@ -97,18 +90,6 @@ fn subtract(values: &mut [Fixed], column: &[Entry], times: Fixed) {
             *value = value.less_product(entry.value, times);
         }
     }
-}
-
-// The product of a column with numbers of the rows.
-fn product(column: &[Entry], values: &[Fixed]) -> i128
-    requires { length column.now ≤ MOST_ENTRIES }
-    ensures { unsigned_abs result ≤ 2 ^ 125 }
-{
-    let mut sum = 0i128;
-    for entry in column {
-        sum += entry.value.times(value_at(values, entry.place));
-    }
-    sum
 }
 
 // A number less what is taken off it, which has 40 more places, divided by a pivot. It stops where the pivot is too near to 0.
@@ -444,7 +425,7 @@ impl Factor {
     // Carries out the eliminations on a right-hand side.
     fn eliminate_right(&self, right: &mut [Fixed]) {
         for elimination in self.eliminations.as_slice() {
-            let times = value_at(right, elimination.row);
+            let times = read(right, usize::from(elimination.row));
             subtract(right, self.lower.column(elimination.column), times);
         }
     }
@@ -454,7 +435,7 @@ impl Factor {
         self.eliminate_right(right);
         for column in (0..self.pivots.len()).rev() {
             let pivot = self.pivots[column];
-            let amount = solved(value_at(right, pivot.row), 0, pivot.value)?;
+            let amount = solved(read(right, usize::from(pivot.row)), 0, pivot.value)?;
             put_at(into, column, amount)?;
             subtract(right, self.upper.column(column), amount);
         }

@@ -13,7 +13,7 @@ pub(crate) const AMOUNT_PLACES: u32 = 10;
 const ONE: i64 = 1 << PLACES;
 
 // The greatest number on both sides.
-const GREATEST: i128 = 1 << 58;
+const GREATEST: i64 = 1 << 58;
 
 // The greatest dividend of a ratio: far more than any coefficient.
 const GREATEST_DIVIDEND: u128 = 1 << 80;
@@ -53,19 +53,31 @@ impl Fixed {
 
     /// The nearest number that is kept.
     pub(crate) fn clamp(value: i128) -> Fixed {
-        if value > GREATEST {
-            Fixed {
-                value: GREATEST as i64,
-            }
-        } else if value < -GREATEST {
-            Fixed {
-                value: -(GREATEST as i64),
-            }
+        if value > i128::from(GREATEST) {
+            Fixed { value: GREATEST }
+        } else if value < -i128::from(GREATEST) {
+            Fixed { value: -GREATEST }
         } else {
             Fixed {
                 value: value as i64,
             }
         }
+    }
+
+    // The nearest number that is kept, of a sum of two.
+    fn clamp_sum(value: i64) -> Fixed {
+        if value > GREATEST {
+            Fixed { value: GREATEST }
+        } else if value < -GREATEST {
+            Fixed { value: -GREATEST }
+        } else {
+            Fixed { value }
+        }
+    }
+
+    /// A number from one with 40 more places, rounded down.
+    pub(crate) fn narrowed(wide: i128) -> Fixed {
+        Fixed::clamp(wide >> PLACES)
     }
 
     /// A ratio in units of 2^-40, rounded down.
@@ -119,7 +131,7 @@ impl Fixed {
 
     /// The sum.
     pub(crate) fn plus(self, other: Fixed) -> Fixed {
-        Fixed::clamp(self.wide() + other.wide())
+        Fixed::clamp_sum(self.value + other.value)
     }
 
     /// The number with 40 more places.

@@ -99,13 +99,14 @@ impl Sums {
     }
 }
 
-// What is needed in the run with the day of settlement: it is bought at the greatest price.
+// What is needed in the run with the day of settlement, on the first dates: it is bought at the greatest price.
 fn head_rest(base: &Base, sums: &Sums) -> Total {
     let mut head = Total::zero();
     for date in 0..sums.rest.len() {
-        if base.segments.of(date) == Segment::Head {
-            head = head.plus(sums.rest(date));
+        if base.segments.of(date) != Segment::Head {
+            return head;
         }
+        head = head.plus(sums.rest(date));
     }
     head
 }

@@ -83,8 +83,14 @@ impl Scatter {
 
     /// Adds to the value of a row. It stops where there is no such row.
     pub(crate) fn add(&mut self, row: u16, value: Fixed) -> Result<(), Stop> {
-        let sum = self.get(row).plus(value);
-        self.put(row, sum)
+        self.meet(row)?;
+        match self.values.get_mut(usize::from(row)) {
+            Some(place) => {
+                *place = place.plus(value);
+                Ok(())
+            }
+            None => Err(Stop),
+        }
     }
 
     /// Takes off so many times another column. It stops where there is no such row.

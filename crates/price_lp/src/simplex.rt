@@ -92,14 +92,14 @@ impl Simplex {
     pub fn aim(&mut self, purpose: Purpose, whole: bool)
         ensures { self.new ≡ self.old }
     {
-        self.solver.base.aim = Aim::new(purpose, whole);
+        self.solver.aim(Aim::new(purpose, whole));
     }
 
     /// The range of a line, counted from 0, in units; it isn't fixed any longer. A line that isn't there is passed over.
     pub fn set_range(&mut self, line: u16, interval: Interval)
         ensures { self.new ≡ self.old }
     {
-        self.solver.base.ranges.set(&self.program, line, interval);
+        self.solver.set_range(&self.program, line, interval);
     }
 
     /// Fixes a line, counted from 0, at a number of units, with what they cost and pay exactly: the line's payments in order; and
@@ -113,8 +113,6 @@ impl Simplex {
             excess: Total::of_excess(excess),
         };
         self.solver
-            .base
-            .ranges
             .fix(&self.program, line, units, exact, payments);
     }
 
@@ -137,7 +135,7 @@ impl Simplex {
     pub fn start_from(&mut self, basis: &Basis)
         ensures { self.new ≡ self.old }
     {
-        self.solver.base.basis.copy(basis);
+        self.solver.start_from(basis);
     }
 
     /// Saves the basis.

@@ -58,6 +58,16 @@ fn a_solve_keeps_to_the_yield_limit(rt: HostRuntime) -> Result<(), Fail> {
         leaf.prices.as_slice(),
         [982_768_687_529, 933_760_215_363].as_slice()
     );
+    // A line that isn't in the basis goes with its range.
+    simplex.set_range(
+        0,
+        Interval {
+            low: 100,
+            high: 1000,
+        },
+    );
+    assert_eq!(rt; simplex.solve(100, None), SolveEnd::Optimal);
+    assert_eq!(rt; simplex.amount(0), 102_400);
     Ok(())
 }
 

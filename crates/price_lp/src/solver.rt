@@ -2,9 +2,11 @@
 
 use crate::aim::Aim;
 use crate::base::Base;
+use crate::basis::Basis;
 use crate::direction::Direction;
 use crate::duals::Duals;
 use crate::leaving::{Violation, greatest_violation};
+use crate::line_ranges::Exact;
 use crate::number::{AMOUNT_PLACES, Fixed, PLACES};
 use crate::pivoting::pivot;
 use crate::primal::Primal;
@@ -13,10 +15,22 @@ use crate::ratio::Breakpoints;
 use crate::simplex::{Purpose, SolveEnd};
 use crate::sparse::Stop;
 use crate::starts::{start_at, start_greedily};
-use dual_bound::Leaf;
+use dual_bound::{Interval, Leaf};
 use escrow_desk::NoMemory;
+use escrow_units::Flow;
 use offer_book::Book;
 use std::alloc::Global;
+
+// How much of what a solver keeps is that of its basis as it stands. What is, isn't made again.
+#[derive(Clone, Copy, PartialEq, Eq)]
+enum Current {
+    // Nothing.
+    Nothing,
+    // The factor and the prices: other ranges leave them.
+    Prices,
+    // The amounts too: another range of a basic line leaves them.
+    Amounts,
+}
 
 /// A basis with its prices and amounts. All its memory is taken when it is made.
 #[derive(Drop)]
@@ -29,6 +43,7 @@ pub(crate) struct Solver {
     pub primal: Primal,
     direction: Direction,
     breakpoints: Breakpoints,
+    current: Current,
     /// How many iterations all solves took.
     pub iterations: u64,
 }
@@ -55,21 +70,62 @@ impl Solver {
             primal: Primal::make(alloc, program)?,
             direction: Direction::make(alloc, program)?,
             breakpoints: Breakpoints::make(alloc, program)?,
+            current: Current::Nothing,
             iterations: 0,
         })
+    }
+
+    /// Says what the solve is for.
+    pub(crate) fn aim(&mut self, aim: Aim) {
+        self.base.aim = aim;
+        self.current = Current::Nothing;
+    }
+
+    // Another range of a line.
+    fn note_range(&mut self, line: u16) {
+        if self.current == Current::Amounts && !self.base.is_basic(line) {
+            self.current = Current::Prices;
+        }
+    }
+
+    /// The range of a line, in units.
+    pub(crate) fn set_range(&mut self, program: &Program, line: u16, interval: Interval) {
+        self.base.ranges.set(program, line, interval);
+        self.note_range(line);
+    }
+
+    /// Fixes a line at a number of units, with what they come to and pay exactly.
+    pub(crate) fn fix(
+        &mut self,
+        program: &Program,
+        line: u16,
+        units: u64,
+        exact: Exact,
+        payments: &[Flow],
+    ) {
+        self.base.ranges.fix(program, line, units, exact, payments);
+        self.note_range(line);
     }
 
     /// Starts greedily.
     pub(crate) fn start_greedily(&mut self, program: &Program) {
         start_greedily(program, &mut self.base, &mut self.duals);
+        self.current = Current::Nothing;
     }
 
     /// Starts from a leaf's prices; where no basis comes of it, greedily.
     pub(crate) fn start_at(&mut self, program: &Program, leaf: &Leaf) {
         let started = start_at(program, &mut self.base, &mut self.duals, leaf);
+        self.current = Current::Nothing;
         if started.is_err() {
             self.start_greedily(program);
         }
+    }
+
+    /// Starts from another basis.
+    pub(crate) fn start_from(&mut self, basis: &Basis) {
+        self.base.basis.copy(basis);
+        self.current = Current::Nothing;
     }
 
     // Puts each line that isn't basic at the end that its reduced cost asks for.
@@ -80,12 +136,25 @@ impl Solver {
         }
     }
 
+    // The factor and the prices of the basis.
+    fn refresh_prices(&mut self, program: &Program) -> Result<(), Stop> {
+        if self.current == Current::Nothing {
+            self.base.refactor(program)?;
+            self.duals.refresh(program, &self.base)?;
+            self.current = Current::Prices;
+        }
+        Ok(())
+    }
+
     // The factor, the prices and the amounts of the basis.
     fn refresh(&mut self, program: &Program) -> Result<(), Stop> {
-        self.base.refactor(program)?;
-        self.duals.refresh(program, &self.base)?;
-        self.put_lines(program);
-        self.primal.refresh(program, &self.base)
+        self.refresh_prices(program)?;
+        if self.current == Current::Prices {
+            self.put_lines(program);
+            self.primal.refresh(program, &self.base)?;
+            self.current = Current::Amounts;
+        }
+        Ok(())
     }
 
     // Goes to the next basis, without a violation.
@@ -95,6 +164,7 @@ impl Solver {
         self.breakpoints
             .gather(program, &self.base, &self.duals, &self.direction, leaving);
         let passed = self.breakpoints.pass(violation).ok_or(Stop)?;
+        self.current = Current::Nothing;
         pivot(&mut self.base.basis, &self.breakpoints, passed, leaving)
     }
 

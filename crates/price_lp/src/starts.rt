@@ -2,11 +2,11 @@
 
 use crate::base::Base;
 use crate::basis::{LineState, Multiplier};
+use crate::cells::product;
 use crate::duals::Duals;
 use crate::number::{Fixed, PLACES};
 use crate::program::Program;
 use crate::sparse::{Entry, Stop};
-use crate::total::Total;
 use dual_bound::{Leaf, PRICE_SCALE};
 
 // The least that a line pays on its last date, for each cent, to make the price of that date: a half.
@@ -34,60 +34,33 @@ fn last_date(pays: &[Entry]) -> usize {
     }
 }
 
-// What a line pays on a date.
-fn paid_on(pays: &[Entry], date: usize) -> Fixed {
-    let mut paid = Total::zero();
-    for entry in pays {
-        if usize::from(entry.place) == date {
-            paid = paid.plus(Total::of(entry.value));
-        }
-    }
-    paid.rounded()
-}
-
-// What a line costs, less what it pays before a date at the prices so far.
-fn left_to_pay(program: &Program, base: &Base, duals: &Duals, line: u16, date: usize) -> Total {
-    let mut left = Total::of(base.cost(program, line));
-    for entry in program.pays(line) {
-        let place = usize::from(entry.place);
-        if place != date {
-            left = left.without(entry.value, duals.price(place));
-        }
-    }
-    left
-}
-
-// The price of its last date at which a line has a reduced cost of 0, from the prices of the dates before.
-fn own_price(
-    program: &Program,
-    base: &Base,
-    duals: &Duals,
-    line: u16,
-    date: usize,
-) -> Option<Fixed> {
-    let paid = paid_on(program.pays(line), date);
-    if base.ranges.range(line).is_single() || paid.get() < LEAST_PAYMENT {
+// The price of a line's last date at which it has a reduced cost of 0, from the prices of the dates before; None where it pays too
+// little on that date.
+fn own_price(program: &Program, base: &Base, duals: &Duals, line: u16) -> Option<Fixed> {
+    let [before @ .., last] = program.pays(line) else {
+        return None;
+    };
+    if base.ranges.range(line).is_single() || last.value.get() < LEAST_PAYMENT {
         return None;
     }
-    let left = left_to_pay(program, base, duals, line, date);
-    let price = Fixed::quotient(left.wide(), paid)?;
+    let left = base.cost(program, line).widened() - product(before, duals.prices());
+    let price = Fixed::quotient(left, last.value)?;
     if price.get() < 0 {
         return None;
     }
     Some(price)
 }
 
-// With a line that matures on a date: it makes the price where its own is lower.
+// With a line that matures on the date: it makes the price where its own is lower.
 fn with_line(
     program: &Program,
     base: &Base,
     duals: &Duals,
     line: u16,
-    date: usize,
     before: Progress,
 ) -> Progress {
     let passed = before.passed.saturating_add(1);
-    match own_price(program, base, duals, line, date) {
+    match own_price(program, base, duals, line) {
         Some(price) if price.get() < before.price.get() => Progress {
             passed,
             price,
@@ -122,7 +95,7 @@ fn next_price(
         if date < last_date(program.pays(*line)) {
             return progress;
         }
-        progress = with_line(program, base, duals, *line, date, progress);
+        progress = with_line(program, base, duals, *line, progress);
     }
     progress
 }
