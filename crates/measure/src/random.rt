@@ -1,5 +1,5 @@
 //! Programs with ranges that are drawn.
-ghost use Rattle.std.specs.Prelude.{◌≤◌};
+ghost use Rattle.std.specs.Prelude.{◌≡◌, ◌≤◌, length};
 ghost use Rattle.fixed_powers.specs.DiscountPowers.{PowerTable};
 
 use crate::roots::{COLD, WARM, leaf_of_zeros, powers_of, starved};
@@ -75,7 +75,9 @@ fn drawn_interval(draws: &mut Pcg32, most: u64) -> Interval {
 }
 
 // Draws the ranges of up to twelve lines.
-fn draw_ranges(draws: &mut Pcg32, book: &Book, simplex: &mut Simplex) {
+fn draw_ranges(draws: &mut Pcg32, book: &Book, simplex: &mut Simplex)
+    ensures { simplex.new ≡ simplex.old }
+{
     if book.line_count() == 0 {
         return;
     }
@@ -87,7 +89,9 @@ fn draw_ranges(draws: &mut Pcg32, book: &Book, simplex: &mut Simplex) {
 }
 
 // Gives each line its whole range.
-fn free(book: &Book, simplex: &mut Simplex) {
+fn free(book: &Book, simplex: &mut Simplex)
+    ensures { simplex.new ≡ simplex.old }
+{
     for line in 0..book.line_count() {
         let high = book.line(line).most;
         simplex.set_range(line, Interval { low: 0, high });
@@ -95,7 +99,9 @@ fn free(book: &Book, simplex: &mut Simplex) {
 }
 
 // Draws what the next programs are for.
-fn draw_aim(draws: &mut Pcg32, simplex: &mut Simplex) {
+fn draw_aim(draws: &mut Pcg32, simplex: &mut Simplex)
+    ensures { simplex.new ≡ simplex.old }
+{
     let purpose = if draws.random_range(0u32..2) == 0 {
         Purpose::Bound
     } else {
@@ -115,7 +121,9 @@ fn drawn_start(draws: &mut Pcg32) -> Start {
 }
 
 // Goes where a solve starts.
-fn go(start: Start, simplex: &mut Simplex, leaf: &Leaf) {
+fn go(start: Start, simplex: &mut Simplex, leaf: &Leaf)
+    ensures { simplex.new ≡ simplex.old }
+{
     match start {
         Start::Nothing => simplex.start_greedily(),
         Start::Basis => {}
@@ -124,7 +132,9 @@ fn go(start: Start, simplex: &mut Simplex, leaf: &Leaf) {
 }
 
 // Solves a program; one that doesn't come to an end from where it stands is solved from nothing.
-fn solve(simplex: &mut Simplex, start: Start, leaf: &Leaf, tally: Tally) -> Tally {
+fn solve(simplex: &mut Simplex, start: Start, leaf: &Leaf, tally: Tally) -> Tally
+    ensures { simplex.new ≡ simplex.old }
+{
     go(start, simplex, leaf);
     if start == Start::Nothing {
         return tally.with(simplex.solve(COLD, None));
@@ -135,6 +145,17 @@ fn solve(simplex: &mut Simplex, start: Start, leaf: &Leaf, tally: Tally) -> Tall
     }
     simplex.start_greedily();
     tally.with_again().with(simplex.solve(COLD, None))
+}
+
+// Solves a program from where it stands, from its own leaf or from nothing.
+fn try_one(draws: &mut Pcg32, simplex: &mut Simplex, leaf: &mut Leaf, tally: Tally) -> Tally
+    requires { length leaf.old.prices ≡ simplex.old.dates }
+    ensures simplex { simplex.new ≡ simplex.old }
+    ensures leaf { length leaf.new.prices ≡ simplex.new.dates }
+{
+    simplex.propose(leaf);
+    let start = drawn_start(draws);
+    solve(simplex, start, leaf, tally)
 }
 
 /// Solves so many programs of a book, with ranges that are drawn, and prints how they ended.
@@ -167,9 +188,7 @@ pub(crate) fn try_random(
             draw_aim(&mut draws, &mut simplex);
         }
         draw_ranges(&mut draws, book, &mut simplex);
-        simplex.propose(&mut leaf);
-        let start = drawn_start(&mut draws);
-        tally = solve(&mut simplex, start, &leaf, tally);
+        tally = try_one(&mut draws, &mut simplex, &mut leaf, tally);
     }
     println!(rt;
         ", {programs} programs: {} optimal, {} capped, {} stopped, {} again",

@@ -1,5 +1,5 @@
 //! The exact book of a plan: what it costs and pays, and what it is worth at the yield limit.
-ghost use Rattle.std.specs.Prelude.{◌≡◌, ℕ, ◌+◌, ◌-◌, ◌*◌, ◌^◌, ◌<◌, ◌≤◌, ◌↔◌, All, IfOk, IfNone, IfSome, IsTrue, length, replicate, slice_index, slice_index_or, slice_set};
+ghost use Rattle.std.specs.Prelude.{◌≡◌, ℕ, ◌+◌, ◌-◌, ◌*◌, ◌/◌, ◌^◌, ◌<◌, ◌≤◌, ◌↔◌, All, IfOk, IfNone, IfSome, IsTrue, length, replicate, slice_index, slice_index_or, slice_set};
 ghost use Rattle.escrow_units.specs.Flows.{Rise, total};
 ghost use Rattle.escrow_units.specs.declared.security.Flow.{Flow};
 ghost use Rattle.fixed_powers.specs.DiscountPowers.{PowerTable, one};
@@ -216,12 +216,15 @@ impl Ledger {
         None
     }
 
-    /// Whether the plan's securities are worth more than they cost at the yield limit.
+    /// Whether the plan's securities are worth more at the yield of the ledger's powers than they cost, by more than a part in 10^8
+    /// of that. A yield that is higher by a unit of 10^-10 makes less of a difference in forty years.
     pub(crate) fn is_dearer(&self, book: &Book) -> bool
         requires ledger { (n : ℕ) × IsLedger n book.now self.now }
-        ensures { (n : ℕ) → IsLedger n book.now self.now → IsTrue result ↔ (one * security_cost book.now self.now.plan < low_value book.now n self.now.plan) }
+        ensures { (n : ℕ) → IsLedger n book.now self.now
+            → IsTrue result ↔ (one * (security_cost book.now self.now.plan + security_cost book.now self.now.plan / 10 ^ 8) < low_value book.now n self.now.plan) }
     {
         let security_cost = self.cost.0 - self.plan.get(0);
-        u128::from(ONE) * u128::from(security_cost) < self.worth
+        let most = security_cost + security_cost / 100_000_000;
+        u128::from(ONE) * u128::from(most) < self.worth
     }
 }

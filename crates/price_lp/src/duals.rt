@@ -106,7 +106,7 @@ impl Duals {
         self.multiplier = multiplier;
     }
 
-    /// The reduced cost of a line; 0 of one that is in the basis.
+    /// The reduced cost of a line; 0 of one that is in the basis, or has a single amount.
     pub(crate) fn reduced(&self, line: u16) -> Fixed {
         read(self.reduced.as_slice(), usize::from(line))
     }
@@ -154,9 +154,9 @@ impl Duals {
         };
     }
 
-    // The reduced cost of a line at the prices that stand.
+    // The reduced cost of a line at the prices that stand; none is asked of one with a single amount.
     fn reduced_of(&self, program: &Program, base: &Base, line: u16) -> Fixed {
-        if base.is_basic(line) {
+        if base.is_basic(line) || base.ranges.range(line).is_single() {
             return Fixed::zero();
         }
         let cost = base.cost(program, line);

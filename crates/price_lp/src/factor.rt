@@ -387,16 +387,30 @@ impl Factor {
         }
     }
 
-    // Solves the columns as they were made triangular, from the first to the last.
+    // Solves a column as it was made triangular, after those before it.
+    fn solve_column(
+        &self,
+        pivot: Pivot,
+        column: usize,
+        right: Fixed,
+        into: &mut [Fixed],
+    ) -> Result<(), Stop> {
+        let taken = product(self.upper.column(column), into);
+        put_at(into, usize::from(pivot.row), solved(right, taken, pivot.value)?)
+    }
+
+    // Solves the columns as they were made triangular, from the first to the last. As long as the right-hand side is 0, so is what
+    // comes of it.
     fn solve_upper(&self, right: &[Fixed], into: &mut [Fixed]) -> Result<(), Stop> {
+        let mut is_met = false;
         for column in 0..self.pivots.len().min(right.len()) {
             let pivot = self.pivots[column];
-            let taken = product(self.upper.column(column), into);
-            put_at(
-                into,
-                usize::from(pivot.row),
-                solved(right[column], taken, pivot.value)?,
-            )?;
+            is_met = is_met || !right[column].is_zero();
+            if is_met {
+                self.solve_column(pivot, column, right[column], into)?;
+            } else {
+                put_at(into, usize::from(pivot.row), Fixed::zero())?;
+            }
         }
         Ok(())
     }

@@ -29,7 +29,9 @@ pub(crate) struct Primal {
 // What is still needed on each date, what the lines are worth beyond their cost, and what they cost.
 #[derive(Drop)]
 struct Sums {
-    rest: Vec<Total>,
+    // With the places of a total. No sum of a permitted case needs more than 128 bits. Another one would wrap: then the amounts are
+    // poor, and no more.
+    rest: Vec<i128>,
     excess: Total,
     cost: Total,
 }
@@ -38,15 +40,15 @@ impl Sums {
     // What is still needed on a date; nothing where it isn't there.
     fn rest(&self, date: usize) -> Total {
         match self.rest.get(date) {
-            Some(rest) => *rest,
+            Some(rest) => Total::clamp(*rest),
             None => Total::zero(),
         }
     }
 
-    // Puts what is still needed on a date.
-    fn put_rest(&mut self, date: usize, rest: Total) {
-        if let Some(place) = self.rest.get_mut(date) {
-            *place = rest;
+    // Takes what is paid on a date from what is needed.
+    fn take(&mut self, date: u16, paid: i128) {
+        if let Some(rest) = self.rest.get_mut(usize::from(date)) {
+            *rest = rest.wrapping_sub(paid);
         }
     }
 
@@ -55,47 +57,60 @@ impl Sums {
         self.excess = Total::zero();
         self.cost = Total::zero();
         for date in 0..self.rest.len() {
-            self.put_rest(date, Total::of_cents(program.need(date)));
+            self.rest[date] = Total::of_cents(program.need(date)).wide();
         }
     }
 
     // Takes the payments of an amount of a line from what is needed.
     fn pay(&mut self, program: &Program, line: u16, amount: Fixed) {
         for entry in program.pays(line) {
-            let date = usize::from(entry.place);
-            let rest = self.rest(date).without(entry.value, amount);
-            self.put_rest(date, rest);
+            self.take(entry.place, entry.value.times(amount));
+        }
+    }
+
+    // The same of a basic line, on the dates that share their run: on others nothing is left over, and no cash is carried.
+    fn pay_shared(&mut self, program: &Program, base: &Base, line: u16, amount: Fixed) {
+        for entry in program.pays(line) {
+            if base.segments.is_shared(usize::from(entry.place)) {
+                self.take(entry.place, entry.value.times(amount));
+            }
         }
     }
 
     // Takes the exact payments of a fixed line from what is needed.
     fn pay_exactly(&mut self, program: &Program, base: &Base, line: u16) {
         for (entry, cents) in program.pays(line).iter().zip(base.ranges.receipts(line)) {
-            let date = usize::from(entry.place);
-            let rest = self.rest(date).minus(Total::of_cents(*cents));
-            self.put_rest(date, rest);
+            self.take(entry.place, Total::of_cents(*cents).wide());
         }
     }
 
-    // Buys an amount of a line.
-    fn buy(&mut self, program: &Program, base: &Base, line: u16, amount: Fixed) {
-        if amount.get() == 0 {
+    // Counts what an amount of a line costs and is worth.
+    fn count(&mut self, program: &Program, base: &Base, line: u16, amount: Fixed) {
+        self.excess = self.excess.with(program.value(line), amount);
+        self.cost = self.cost.with(base.cost(program, line), amount);
+    }
+
+    // Buys a line that isn't basic, at its end.
+    fn buy_at_end(&mut self, program: &Program, base: &Base, line: u16, amount: Fixed) {
+        if amount.is_zero() {
             return;
         }
-        match base.ranges.exact(line) {
-            Some(exact) if !base.is_basic(line) => {
-                self.pay_exactly(program, base, line);
-                self.excess = self.excess.plus(exact.excess);
-                if base.aim.whole {
-                    self.cost = self.cost.plus(Total::of_cents(exact.cost));
-                }
-            }
-            _ => {
-                self.pay(program, line, amount);
-                self.excess = self.excess.with(program.value(line), amount);
-                self.cost = self.cost.with(base.cost(program, line), amount);
-            }
+        let Some(exact) = base.ranges.exact(line) else {
+            self.pay(program, line, amount);
+            self.count(program, base, line, amount);
+            return;
+        };
+        self.pay_exactly(program, base, line);
+        self.excess = self.excess.plus(exact.excess);
+        if base.aim.whole {
+            self.cost = self.cost.plus(Total::of_cents(exact.cost));
         }
+    }
+
+    // Buys an amount of a basic line.
+    fn buy_basic(&mut self, program: &Program, base: &Base, line: u16, amount: Fixed) {
+        self.pay_shared(program, base, line, amount);
+        self.count(program, base, line, amount);
     }
 }
 
@@ -125,7 +140,7 @@ impl Primal {
             excess: Fixed::zero(),
             objective: Total::zero(),
             sums: Sums {
-                rest: vec![in alloc; Total::zero(); dates + 1]?,
+                rest: vec![in alloc; 0i128; dates + 1]?,
                 excess: Total::zero(),
                 cost: Total::zero(),
             },
@@ -173,7 +188,7 @@ impl Primal {
     fn buy_at_end(&mut self, program: &Program, base: &Base, line: u16) {
         let amount = base.end_amount(line);
         put(self.amounts.as_mut_slice(), usize::from(line), amount);
-        self.sums.buy(program, base, line, amount);
+        self.sums.buy_at_end(program, base, line, amount);
     }
 
     // Buys the lines that aren't basic.
@@ -189,7 +204,7 @@ impl Primal {
     fn buy_column(&mut self, program: &Program, base: &Base, line: u16, column: usize) {
         let amount = read(self.columns.as_slice(), column);
         put(self.amounts.as_mut_slice(), usize::from(line), amount);
-        self.sums.buy(program, base, line, amount);
+        self.sums.buy_basic(program, base, line, amount);
     }
 
     // Buys the basic lines.

@@ -5,11 +5,27 @@ use crate::sparse::{Entry, Stop};
 use escrow_desk::NoMemory;
 use std::alloc::Global;
 
+// What a column has in a row.
+#[derive(Clone, Copy)]
+struct Cell {
+    value: Fixed,
+    met: bool,
+}
+
+impl Cell {
+    // Of a row that wasn't met.
+    fn empty() -> Cell {
+        Cell {
+            value: Fixed::zero(),
+            met: false,
+        }
+    }
+}
+
 /// A column by its rows, most of which hold nothing. It remembers which rows it met, so that only those are cleared.
 #[derive(Drop)]
 pub(crate) struct Scatter {
-    values: Vec<Fixed>,
-    met: Vec<bool>,
+    cells: Vec<Cell>,
     rows: Vec<u16>,
     count: usize,
 }
@@ -22,8 +38,7 @@ impl Scatter {
     /// Where memory ran out.
     pub(crate) fn with_room(alloc: Global, rows: usize) -> Result<Scatter, NoMemory> {
         Ok(Scatter {
-            values: vec![in alloc; Fixed::zero(); rows]?,
-            met: vec![in alloc; false; rows]?,
+            cells: vec![in alloc; Cell::empty(); rows]?,
             rows: vec![in alloc; 0; rows]?,
             count: 0,
         })
@@ -40,8 +55,8 @@ impl Scatter {
 
     /// The value of a row; nothing where there is no such row.
     pub(crate) fn get(&self, row: u16) -> Fixed {
-        match self.values.get(usize::from(row)) {
-            Some(value) => *value,
+        match self.cells.get(usize::from(row)) {
+            Some(cell) => cell.value,
             None => Fixed::zero(),
         }
     }
@@ -56,41 +71,30 @@ impl Scatter {
         Ok(())
     }
 
-    // Meets a row.
-    fn meet(&mut self, row: u16) -> Result<(), Stop> {
-        let place = usize::from(row);
-        if place >= self.met.len() {
-            return Err(Stop);
+    // Puts the value of a row, and tells whether it is met for the first time.
+    fn put_value(&mut self, row: u16, value: Fixed) -> Result<bool, Stop> {
+        match self.cells.get_mut(usize::from(row)) {
+            Some(cell) => {
+                let first = !cell.met;
+                *cell = Cell { value, met: true };
+                Ok(first)
+            }
+            None => Err(Stop),
         }
-        if self.met[place] {
-            return Ok(());
-        }
-        self.met[place] = true;
-        self.remember(row)
     }
 
     /// Puts the value of a row. It stops where there is no such row.
     pub(crate) fn put(&mut self, row: u16, value: Fixed) -> Result<(), Stop> {
-        self.meet(row)?;
-        match self.values.get_mut(usize::from(row)) {
-            Some(place) => {
-                *place = value;
-                Ok(())
-            }
-            None => Err(Stop),
+        if self.put_value(row, value)? {
+            self.remember(row)?;
         }
+        Ok(())
     }
 
     /// Adds to the value of a row. It stops where there is no such row.
     pub(crate) fn add(&mut self, row: u16, value: Fixed) -> Result<(), Stop> {
-        self.meet(row)?;
-        match self.values.get_mut(usize::from(row)) {
-            Some(place) => {
-                *place = place.plus(value);
-                Ok(())
-            }
-            None => Err(Stop),
-        }
+        let sum = self.get(row).plus(value);
+        self.put(row, sum)
     }
 
     /// Takes off so many times another column. It stops where there is no such row.
@@ -104,11 +108,8 @@ impl Scatter {
 
     // Forgets a row.
     fn forget(&mut self, row: u16) {
-        if let Some(value) = self.values.get_mut(usize::from(row)) {
-            *value = Fixed::zero();
-        }
-        if let Some(met) = self.met.get_mut(usize::from(row)) {
-            *met = false;
+        if let Some(cell) = self.cells.get_mut(usize::from(row)) {
+            *cell = Cell::empty();
         }
     }
 

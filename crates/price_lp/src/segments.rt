@@ -16,10 +16,11 @@ pub(crate) enum Segment {
     Tail,
 }
 
-/// The run of each date.
+/// The run of each date, and whether another date is in it.
 #[derive(Drop)]
 pub(crate) struct Segments {
     of_date: Vec<Segment>,
+    shared: Vec<bool>,
     free: u16,
 }
 
@@ -37,6 +38,16 @@ fn count_runs(of_date: &mut [Segment], basis: &Basis) -> u16 {
     opened
 }
 
+// Marks the dates that share their run with another one.
+fn mark_shared(shared: &mut [bool], basis: &Basis) {
+    let mut before = false;
+    for date in 0..shared.len() {
+        let after = basis.is_joined(date);
+        shared[date] = before || after;
+        before = after;
+    }
+}
+
 // Turns a run into the tail.
 fn end_with(of_date: &mut [Segment], last: u16) {
     for date in 0..of_date.len() {
@@ -51,6 +62,7 @@ impl Segments {
     pub(crate) fn make(alloc: Global, dates: u16) -> Result<Segments, NoMemory> {
         Ok(Segments {
             of_date: vec![in alloc; Segment::Head; usize::from(dates) + 2]?,
+            shared: vec![in alloc; true; usize::from(dates) + 2]?,
             free: 0,
         })
     }
@@ -64,6 +76,7 @@ impl Segments {
         }
         self.free = opened - 1;
         end_with(self.of_date.as_mut_slice(), self.free);
+        mark_shared(self.shared.as_mut_slice(), basis);
         Ok(())
     }
 
@@ -72,6 +85,14 @@ impl Segments {
         match self.of_date.get(date) {
             Some(segment) => *segment,
             None => Segment::Tail,
+        }
+    }
+
+    /// Whether a date shares its run with another one.
+    pub(crate) fn is_shared(&self, date: usize) -> bool {
+        match self.shared.get(date) {
+            Some(shared) => *shared,
+            None => false,
         }
     }
 

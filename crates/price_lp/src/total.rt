@@ -38,8 +38,8 @@ impl Total {
         Total { value: 0 }
     }
 
-    // The nearest total that is kept.
-    fn clamp(value: i128) -> Total {
+    /// The nearest total that is kept.
+    pub(crate) fn clamp(value: i128) -> Total {
         if value > GREATEST {
             Total { value: GREATEST }
         } else if value < -GREATEST {

@@ -12,4 +12,5 @@ returns c = λ n ledger.
     let plan = c.args.self.now.plan in
     let cost : c.from-2.result ≡ security_cost book plan = omega (arith, c.from-2.ensures, c.get.ensures, ledger.cost, cost_is book plan ledger.limits ledger.permitted) in
     let scale : c.from.result ≡ one = search rules in
-    less_test c.from.result c.from-2.result c.args.self.now.worth one (security_cost book plan) (low_value book n plan) scale cost (plan_worth-low n book plan c.args.self.now.worth ledger.limits ledger.worth)
+    let cost-and-part = search rules in
+    less_test c.from.result c.from-2.result c.args.self.now.worth one (security_cost book plan + security_cost book plan / 10 ^ 8) (low_value book n plan) scale cost (plan_worth-low n book plan c.args.self.now.worth ledger.limits ledger.worth)
