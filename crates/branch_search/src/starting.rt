@@ -1,33 +1,19 @@
 //! How a search starts: the leaf at the root of the tree.
 
-ghost use Rattle.std.specs.Prelude.{◌≡◌, ◌≤◌, IfOk, length, replicate};
-ghost use Rattle.backward_build.specs.PriceCurve.{leaf_of_prices};
+ghost use Rattle.std.specs.Prelude.{◌≡◌, ◌≤◌, IfOk, length};
 ghost use Rattle.dual_bound.specs.Tree.{IsLeaf};
 ghost use Rattle.branch_search.specs.Root.{IsRoot};
 ghost use Rattle.branch_search.specs.Search.{base_leaf as base_leaf_of};
 
 use crate::root_leaf::RootLeaf;
 use backward_build::bootstrap;
-use dual_bound::{Leaf, Prices, Ranges, bound};
+use dual_bound::{Leaf, Ranges, bound};
 use dual_tune::improve;
 use escrow_desk::NoMemory;
 use escrow_units::{GREATEST_INDEX, GREATEST_YIELD, YieldUnits};
 use fixed_powers::{Powers, Side};
 use offer_book::Book;
 use std::alloc::Global;
-
-// The leaf of so many prices of 0.
-fn leaf_of_zeros(alloc: Global, count: u16) -> Result<Leaf, NoMemory>
-    ensures value { IfOk result (λ leaf. leaf ≡ leaf_of_prices (replicate count 0)) }
-    ensures well { IfOk result (IsLeaf count) }
-{
-    let prices = vec![in alloc; 0u64; usize::from(count)]?;
-    Ok(Leaf {
-        whole: true,
-        mu: 0,
-        prices: Prices::new(prices),
-    })
-}
 
 // The leaf of the bootstrapped prices, and where there are none, of 0 for each need date.
 fn base_leaf(alloc: Global, book: &Book) -> Result<Leaf, NoMemory>
@@ -36,7 +22,7 @@ fn base_leaf(alloc: Global, book: &Book) -> Result<Leaf, NoMemory>
 {
     match bootstrap(alloc, book)? {
         Some(leaf) => Ok(leaf),
-        None => leaf_of_zeros(alloc, book.need_count()),
+        None => Leaf::of_zeros(alloc, true, book.need_count()),
     }
 }
 

@@ -4,6 +4,7 @@ pub mod ColumnLinks
 pub mod ColumnMade
 pub mod ColumnSizes
 pub mod Coverage
+pub mod DateFacts
 pub mod DayFacts
 pub mod FormFacts
 pub mod LineBound

@@ -1,7 +1,7 @@
 -- Columns: what each line is in the linear program whose dual the bound is. Made once for a book and the powers of a yield,
 -- they hold each line's coefficients and what each payment day is priced by, so that a leaf is priced without a calendar.
 use Rattle.std.specs.Prelude.{◌≡◌, ℕ, ◌+◌, ◌-◌, ◌*◌, ◌/◌, ◌^◌, ◌<◌, ◌≤◌, ◌==◌, Bool, false, ◌&&◌, not, List, All, length, map, filter, slice_index, slice_index_or, sum_by, ℤ, pos, ◌+ℤ◌, ◌-ℤ◌, ◌*ℤ◌, neg_ℤ, unsigned_abs, Some, None}
-use Rattle.std.specs.List.{AllZip}
+use Rattle.std.specs.List.{AllZip, Contains}
 use Rattle.escrow_units.specs.Flows.{index360_of}
 use Rattle.escrow_units.specs.Interest.{earned_of}
 use Rattle.fixed_powers.specs.DiscountPowers.{low, one}
@@ -19,6 +19,7 @@ use Rattle.dual_bound.specs.LeafBound.{least_side, price_on, signed_sum}
 use Rattle.dual_bound.specs.Tree.{IsLeaf}
 use Rattle.dual_bound.specs.declared.column.Column.{Column}
 use Rattle.dual_bound.specs.declared.column.OtherPayment.{OtherPayment}
+use Rattle.dual_bound.specs.declared.date_days.DateDays.{DateDays}
 use Rattle.dual_bound.specs.declared.day_table.DayTable.{DayTable}
 use Rattle.dual_bound.specs.declared.worth.PricedDay.{PricedDay}
 use Rattle.dual_bound.specs.declared.form.Form.{Form}
@@ -79,6 +80,13 @@ pub record IsDayTable (n : ℕ) (book : BookContents) (table : DayTable) : Type 
 -- days stay where they are
 abbrev pub Extends : List PricedDay → List PricedDay → Type 0
 Extends days more = (length days ≤ length more) × ((place : ℕ) (d : PricedDay) → place < length days → slice_index_or more place d ≡ slice_index_or days place d)
+
+-- the days that each of so many need dates prices: a list for each, of places of days, and a day that one of them prices is in its list
+pub record AreDateDays (dates : ℕ) (days : List PricedDay) (lists : List DateDays) : Type 0 where
+  pub every_date : length lists ≡ dates
+  pub there : All (λ (list : DateDays). All (λ place. place < length days) list.places.items) lists
+  pub listed : (place : ℕ) (d : PricedDay) (e : DateDays) → place < length days → (slice_index_or days place d).need < dates
+      → Contains (slice_index_or lists (slice_index_or days place d).need e).places.items place
 
 -- ---- columns
 -- half a year's interest and nothing else, as most dates pay
@@ -199,4 +207,5 @@ pub record IsTableau (book : BookContents) (tableau : Tableau) : Type 0 where
   pub powers : All (λ priced. priced.power ≤ one) tableau.days.items
   pub columns : AllZip (IsColumn tableau.yield_units.0 book tableau.days.items) book.lines tableau.columns.items
   pub small : All IsSmallColumn tableau.columns.items
+  pub date_days : AreDateDays (length book.needs) tableau.days.items tableau.date_days.items
   pub worths : tableau.worths.items ≡ map (worth_on tableau.leaf) tableau.days.items

@@ -1,5 +1,5 @@
 -- Trees of lower bounds. The form is this project's own.
-use Rattle.std.specs.Prelude.{◌≡◌, ℕ, zero, suc, ◌*◌, ◌≤◌, List, [], ◌∷◌, length, All, AllPairs}
+use Rattle.std.specs.Prelude.{◌≡◌, ℕ, zero, suc, ◌*◌, ◌≤◌, List, [], ◌∷◌, length, All, AllPairs, slice_set}
 use Rattle.dual_bound.specs.declared.prices.TheConstants.{PRICE_SCALE}
 use Rattle.dual_bound.specs.declared.tree.Leaf.{Leaf}
 use Rattle.dual_bound.specs.declared.tree.TreeNode.{TreeNode}
@@ -11,6 +11,10 @@ pub record IsLeaf (dates : ℕ) (leaf : Leaf) : Type 0 where
   pub every_date : length leaf.prices ≡ dates
   pub range : All (λ price. price ≤ 2 * PRICE_SCALE) leaf.prices
   pub falling : AllPairs (λ earlier later. later ≤ earlier) leaf.prices
+
+-- a leaf with another price at a place
+abbrev pub with_price : Leaf → ℕ → ℕ → Leaf
+with_price leaf place price = record { whole = leaf.whole; mu = leaf.mu; prices = slice_set leaf.prices place price }
 
 -- nodes are so many trees in preorder, one after another
 abbrev pub AreTrees : ℕ → List TreeNode → Type 0

@@ -5,7 +5,7 @@ ghost use Rattle.fixed_powers.specs.DiscountPowers.{PowerTable};
 ghost use Rattle.offer_book.specs.declared.line.Line.{Line};
 ghost use Rattle.dual_bound.specs.LeafBound.{bound_of, form_of, least_within};
 ghost use Rattle.dual_bound.specs.Ranges.{HasRoomFor};
-ghost use Rattle.dual_bound.specs.Tree.{IsLeaf};
+ghost use Rattle.dual_bound.specs.Tree.{IsLeaf, with_price};
 
 use crate::form::Form;
 use crate::ranges::{Interval, Ranges};
@@ -63,6 +63,16 @@ impl<'a> Columns<'a> {
         ensures { self.new ≡ record { book = self.old.book; yield_units = self.old.yield_units; leaf = leaf.now } }
     {
         self.tableau.price(self.book, leaf);
+    }
+
+    /// Changes one price of the leaf at which the columns are priced, of a need date counted from 0, so that the leaf keeps its
+    /// limits. Only those payment days are priced whose first need date it is.
+    pub fn price_date(&mut self, place: u16, price: u64)
+        requires place { place < length self.old.book.needs }
+        requires leaf { IsLeaf (length self.old.book.needs) (with_price self.old.leaf place price) }
+        ensures { self.new ≡ record { book = self.old.book; yield_units = self.old.yield_units; leaf = with_price self.old.leaf place price } }
+    {
+        self.tableau.price_date(self.book, place, price);
     }
 
     /// The form of a line, counted from 0, at the leaf that was priced: its slope and slack. What units of the line add by the

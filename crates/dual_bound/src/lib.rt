@@ -5,6 +5,7 @@ mod column;
 mod columns;
 #[cfg(test)]
 mod columns_tests;
+mod date_days;
 mod day_table;
 mod form;
 mod laws;

@@ -7,16 +7,17 @@ ghost use Rattle.offer_book.specs.declared.line.Line.{Line};
 ghost use Rattle.dual_bound.specs.Columns.{IsColumn, IsDayTable, IsSmallColumn, IsTableau, worth_on};
 ghost use Rattle.dual_bound.specs.LeafBound.{bound_of, form_of, least_within, reduced_cost as reduced_cost_of};
 ghost use Rattle.dual_bound.specs.Ranges.{HasRoomFor};
-ghost use Rattle.dual_bound.specs.Tree.{IsLeaf};
+ghost use Rattle.dual_bound.specs.Tree.{IsLeaf, with_price};
 
 use crate::column::Column;
+use crate::date_days::{DateDays, days_by_date};
 use crate::day_table::DayTable;
 use crate::form::Form;
 use crate::leaf_bound::{cost_worth, priced_needs};
-use crate::prices::{PRICE_SCALE, Prices};
+use crate::prices::PRICE_SCALE;
 use crate::ranges::{Interval, Ranges};
 use crate::tree::Leaf;
-use crate::worth::{PricedDay, Worth, price_day, price_days};
+use crate::worth::{PricedDay, Worth, price_day, price_days, price_days_at};
 use escrow_desk::NoMemory;
 use escrow_units::{GREATEST_INDEX, YieldUnits};
 use fixed_powers::{Powers, Side};
@@ -30,6 +31,8 @@ pub(crate) struct Tableau {
     pub yield_units: YieldUnits,
     /// The days on which the lines pay.
     pub days: Vec<PricedDay>,
+    /// The days that each need date prices.
+    pub date_days: Vec<DateDays>,
     /// The columns, in the order of the lines.
     pub columns: Vec<Column>,
     /// The leaf by which the days are priced.
@@ -59,30 +62,6 @@ fn columns_of(
         columns.push(Column::make(alloc, book, powers, table, line)?)?;
     }
     Ok(columns)
-}
-
-// Prices of nothing, one for each need date.
-fn no_prices(alloc: Global, count: u16) -> Result<Vec<u64>, NoMemory>
-    ensures count { IfOk result (λ prices. length prices.items ≡ count) }
-    ensures none { IfOk result (λ prices. All (λ price. price ≡ 0) prices.items) }
-{
-    let mut prices = Vec::new(alloc);
-    for _ in 0..count {
-        prices.push(0)?;
-    }
-    Ok(prices)
-}
-
-// The leaf at which nothing has a weight.
-fn leaf_of_nothing(alloc: Global, count: u16) -> Result<Leaf, NoMemory>
-    ensures { IfOk result (IsLeaf count) }
-{
-    let prices = no_prices(alloc, count)?;
-    Ok(Leaf {
-        whole: false,
-        mu: 0,
-        prices: Prices::new(prices),
-    })
 }
 
 // What a cent on each of some days is worth at a leaf.
@@ -120,13 +99,15 @@ impl Tableau {
         ensures tableau { IfOk result (IsTableau book.now) }
         ensures yield_units { IfOk result (λ tableau. tableau.yield_units.0 ≡ powers.now.yield_units) }
     {
-        let leaf = leaf_of_nothing(alloc, book.need_count())?;
+        let leaf = Leaf::of_zeros(alloc, false, book.need_count())?;
         let mut table = DayTable::new(alloc);
         let columns = columns_of(alloc, book, powers, &mut table)?;
+        let date_days = days_by_date(alloc, book.need_count(), table.days.as_slice())?;
         let worths = worths_of(alloc, &leaf, table.days.as_slice())?;
         Ok(Tableau {
             yield_units: powers.yield_units(),
             days: table.days,
+            date_days,
             columns,
             leaf,
             worths,
@@ -160,6 +141,24 @@ impl Tableau {
         } else {
             self.price_anew(book, leaf);
         }
+    }
+
+    /// Changes the price of a need date, counted from 0, and prices the days of that date.
+    pub(crate) fn price_date(&mut self, book: &Book, place: u16, price: u64)
+        requires place { place < length book.now.needs }
+        requires leaf { IsLeaf (length book.now.needs) (with_price self.old.leaf place price) }
+        requires tableau { IsTableau book.now self.old }
+        ensures tableau { IsTableau book.now self.new }
+        ensures leaf { self.new.leaf ≡ with_price self.old.leaf place price }
+        ensures yield_units { self.new.yield_units.0 ≡ self.old.yield_units.0 }
+    {
+        self.leaf.prices.put(place, price);
+        price_days_at(
+            &self.leaf,
+            self.days.as_slice(),
+            self.date_days[usize::from(place)].places.as_slice(),
+            self.worths.as_mut_slice(),
+        );
     }
 
     /// The form of a line, counted from 0.

@@ -1,6 +1,10 @@
 //! Trees that split the ranges of lines.
+ghost use Rattle.std.specs.Prelude.{◌≡◌, IfOk, replicate};
+ghost use Rattle.dual_bound.specs.Tree.{IsLeaf};
 
 use crate::prices::Prices;
+use escrow_desk::NoMemory;
+use std::alloc::Global;
 
 /// The weights by which the lower bound of a leaf is computed.
 #[derive(Debug, Drop)]
@@ -11,6 +15,25 @@ pub struct Leaf {
     pub mu: u64,
     /// The price of a cent on each need date.
     pub prices: Prices,
+}
+
+impl Leaf {
+    /// A leaf without weight of the limit, whose prices are 0: one for each of so many need dates.
+    ///
+    /// # Errors
+    ///
+    /// Where memory ran out.
+    pub fn of_zeros(alloc: Global, whole: bool, count: u16) -> Result<Leaf, NoMemory>
+        ensures value { IfOk result (λ leaf. leaf ≡ record { whole = whole; mu = 0; prices = replicate count 0 }) }
+        ensures leaf { IfOk result (IsLeaf count) }
+    {
+        let prices = vec![in alloc; 0u64; usize::from(count)]?;
+        Ok(Leaf {
+            whole,
+            mu: 0,
+            prices: Prices::new(prices),
+        })
+    }
 }
 
 /// A node of a tree over ranges of units, in preorder.

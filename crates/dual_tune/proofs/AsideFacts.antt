@@ -17,8 +17,8 @@ use Rattle.offer_book.specs.declared.line.LineKind.TheVariants.{Cash, Market, Se
 use Rattle.dual_bound.specs.LeafBound.{cost_weight, cost_worth, form_at, form_of, least_side, least_within, limit_price, limit_weight, paid_worth, price_on, reduced_cost, signed_sum}
 use Rattle.dual_bound.specs.declared.ranges.Interval.{Interval}
 use Rattle.dual_bound.specs.declared.tree.Leaf.{Leaf}
-use Rattle.dual_tune.specs.Steps.{with_price}
-use Rattle.dual_tune.specs.Sweep.{IsAside, IsElsewhere}
+use Rattle.dual_bound.specs.Tree.{with_price}
+use Rattle.dual_tune.specs.Payers.{IsAside, IsElsewhere}
 
 set-other : (xs : List ℕ) (place other v : ℕ) → ¬ (other ≡ place) → get_or (set xs place v) other 0 ≡ get_or xs other 0
 set-other [] place other v apart = refl

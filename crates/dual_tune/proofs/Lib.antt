@@ -1,2 +1,3 @@
 pub mod AsideFacts
+pub mod PayerFacts
 pub mod SweepFacts

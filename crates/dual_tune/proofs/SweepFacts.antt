@@ -1,6 +1,6 @@
 -- What a price that changes changes.
-use Rattle.std.proofs.Common.{◌≡◌, ◌∙◌, ℕ, zero, suc, ◌+◌, ◌*◌, ◌<◌, ◌≤◌, false, true, All, inl, inr, List, [], ◌∷◌, get_or, set, length, take, sym, ap, refl, arith, ℤ, pos, ◌+ℤ◌, ◌-ℤ◌, ◌≤ℤ◌}
-use Rattle.std.specs.List.{AllPairs, AllZip, zip}
+use Rattle.std.proofs.Common.{◌≡◌, ◌∙◌, ℕ, zero, suc, ◌+◌, ◌-◌, ◌*◌, ◌<◌, ◌≤◌, All, inl, inr, List, [], ◌∷◌, get_or, set, length, take, ap, subst, refl, arith, ℤ, pos, ◌+ℤ◌, ◌-ℤ◌, ◌≤ℤ◌}
+use Rattle.std.specs.List.{AllPairs, Contains, zip}
 use Rattle.std.proofs.lemmas.Int.{ints}
 use Rattle.std.proofs.lemmas.Bool.{cases_lt}
 use Rattle.std.proofs.lemmas.Grind.{get_or-set_at}
@@ -17,13 +17,13 @@ use Rattle.dual_bound.specs.declared.prices.TheConstants.{PRICE_SCALE}
 use Rattle.dual_bound.specs.declared.ranges.Interval.{Interval}
 use Rattle.dual_bound.specs.declared.tree.Leaf.{Leaf}
 use Rattle.dual_bound.proofs.BoundSizes.{bound-more}
-use Rattle.dual_bound.specs.Tree.{IsLeaf}
-use Rattle.dual_tune.specs.Steps.{price_after, price_before, with_price}
-use Rattle.dual_tune.specs.Sweep.{AreLeasts, ArePaidDates, AreReached, lines_worth, stepped}
+use Rattle.dual_bound.proofs.TableauFacts.{some-line}
+use Rattle.dual_bound.specs.Tree.{IsLeaf, with_price}
+use Rattle.dual_tune.specs.Payers.{ArePayers}
+use Rattle.dual_tune.specs.Steps.{price_after, price_before}
+use Rattle.dual_tune.specs.Sweep.{AreReached, lines_worth, stepped}
 use Rattle.dual_tune.specs.declared.sweep.Step.{Step}
 use Rattle.dual_tune.specs.declared.sweep.Step.TheVariants as step
-use Rattle.dual_tune.specs.declared.paid.PaidDates.{PaidDates}
-use Rattle.dual_tune.specs.declared.sweep.LineLeast.{LineLeast}
 use Rattle.dual_tune.proofs.AsideFacts.{least-aside, set-length}
 
 priced-cons : (need : Flow) (needs : List Flow) (own : ℕ) (prices : List ℕ) → priced_needs (need ∷ needs) (own ∷ prices) ≡ need.cents.0 * own + priced_needs needs prices
@@ -80,25 +80,90 @@ bound-changed n book ranges leaf place price d needs lines same few needs_is lin
         → ((pos (COEFFICIENT_SCALE * whole) +ℤ less) +ℤ needs) +ℤ lines ≡ pos (COEFFICIENT_SCALE * now) +ℤ more
     joined needs lines more less whole now a b h k e = omega (arith, ints)
 
-pub zip-get : {A B : Type 0} (R : A → B → Type 0) (xs : List A) (ys : List B) (i : ℕ) (d : A) (e : B) → AllZip R xs ys → i < length xs → R (get_or xs i d) (get_or ys i e)
-zip-get R [] ys i d e h few = absurd (omega arith)
-zip-get R (x ∷ xs) [] i d e h few = absurd h
-zip-get R (x ∷ xs) (y ∷ ys) zero d e h few = h.0
-zip-get R (x ∷ xs) (y ∷ ys) (suc i) d e h few = zip-get R xs ys i d e h.1 (omega arith)
+-- an interval, where none is named
+no-units : Interval
+no-units = record { low = 0; high = 0 }
 
--- a line that doesn't pay for the date adds at the priced leaf what it added
-pub kept-aside : (n : ℕ) (book : BookContents) (ranges : List Interval) (leaf : Leaf) (place price line : ℕ) (paid : List PaidDates) (leasts : List LineLeast)
-    (d : Line) (none : Interval) (e : PaidDates) (f : LineLeast) → length leaf.prices ≡ length book.needs → AllZip (ArePaidDates book) book.lines paid
-    → AreLeasts n book ranges leaf leasts → line < length book.lines → get_or (get_or paid line e).paid place true ≡ false
-    → (get_or leasts line f).least ≡ least_within n book (with_price leaf place price) (get_or book.lines line d) (get_or ranges line none)
-kept-aside n book ranges leaf place price line paid leasts d none e f same are kept few unpaid =
-    kept line d none f few
-    ∙ sym (least-aside n book leaf place price (get_or book.lines line d) (get_or ranges line none) same (zip-get (ArePaidDates book) book.lines paid line d e are few place unpaid))
+-- what the first so many lines add more at one weighing than at another
+abbrev pub grown : (Line × Interval → ℤ) → (Line × Interval → ℤ) → List (Line × Interval) → ℕ → ℤ
+grown f g parts k = signed_sum f (take k parts) -ℤ signed_sum g (take k parts)
+
+-- lines that don't pay for the need add what they added
+pub grown-aside : (n : ℕ) (book : BookContents) (ranges : List Interval) (leaf : Leaf) (place price : ℕ) (payers : List ℕ) (from gap to : ℕ) (change : ℤ)
+    → length leaf.prices ≡ length book.needs → length book.lines ≡ length ranges → ArePayers book (length book.lines) place payers
+    → to ≡ from + gap → to ≤ length book.lines → ((line : ℕ) → from ≤ line → line < to → Contains payers line → ⊥)
+    → change ≡ grown (λ p. least_within n book (with_price leaf place price) p.0 p.1) (λ p. least_within n book leaf p.0 p.1) (zip book.lines ranges) from
+    → change ≡ grown (λ p. least_within n book (with_price leaf place price) p.0 p.1) (λ p. least_within n book leaf p.0 p.1) (zip book.lines ranges) to
+grown-aside n book ranges leaf place price payers from zero to change prices same are at few none so_far =
+    subst (λ k. change ≡ grown (λ p. least_within n book (with_price leaf place price) p.0 p.1) (λ p. least_within n book leaf p.0 p.1) (zip book.lines ranges) k) (omega arith) so_far
+grown-aside n book ranges leaf place price payers from (suc gap) to change prices same are at few none so_far =
+    let line = get_or book.lines from some-line in
+    let interval = get_or ranges from no-units in
+    let aside = are.others from some-line (omega arith) (none from (omega arith) (omega arith)) in
+    let more = change-more (λ p. least_within n book (with_price leaf place price) p.0 p.1) (λ p. least_within n book leaf p.0 p.1) change (pos 0) book.lines ranges from line interval
+    (omega arith) same (get_or_default book.lines from some-line line (omega arith)) (get_or_default ranges from no-units interval (omega arith)) so_far
+    (nothing (least_within n book (with_price leaf place price) line interval) (least_within n book leaf line interval) (least-aside n book leaf place price line interval prices aside)) in
+    grown-aside n book ranges leaf place price payers (from + 1) gap to change prices same are (omega arith) few (λ k ge lt. none k (omega arith) lt) (unchanged change ∙ more)
+  where
+    nothing : (a b : ℤ) → a ≡ b → pos 0 ≡ a -ℤ b
+    nothing a b e = omega (arith, ints)
+
+    unchanged : (a : ℤ) → a ≡ a +ℤ pos 0
+    unchanged a = omega (arith, ints)
+
+-- the next line that pays
+pub grown-more : (n : ℕ) (book : BookContents) (ranges : List Interval) (leaf : Leaf) (place price : ℕ) (payers : List ℕ) (from line : ℕ) (change own : ℤ) (d : Line) (e : Interval)
+    → length leaf.prices ≡ length book.needs → length book.lines ≡ length ranges → ArePayers book (length book.lines) place payers
+    → from ≤ line → line < length book.lines → ((k : ℕ) → from ≤ k → k < line → Contains payers k → ⊥)
+    → change ≡ grown (λ p. least_within n book (with_price leaf place price) p.0 p.1) (λ p. least_within n book leaf p.0 p.1) (zip book.lines ranges) from
+    → own ≡ least_within n book (with_price leaf place price) (get_or book.lines line d) (get_or ranges line e) -ℤ least_within n book leaf (get_or book.lines line d) (get_or ranges line e)
+    → change +ℤ own ≡ grown (λ p. least_within n book (with_price leaf place price) p.0 p.1) (λ p. least_within n book leaf p.0 p.1) (zip book.lines ranges) (line + 1)
+grown-more n book ranges leaf place price payers from line change own d e prices same are to few none so_far own_is =
+    change-more (λ p. least_within n book (with_price leaf place price) p.0 p.1) (λ p. least_within n book leaf p.0 p.1) change own book.lines ranges line (get_or book.lines line d) (get_or ranges line e)
+    few same (get_or_default book.lines line d (get_or book.lines line d) few) (get_or_default ranges line e (get_or ranges line e) (omega (arith, few, same)))
+    (grown-aside n book ranges leaf place price payers from (line - from) line change prices same are (omega arith) (omega arith) none so_far) own_is
+
+-- no line pays between the last one that was looked at and the next one
+pub none-between : (payers : List ℕ) (index from line : ℕ) → AllPairs (λ earlier later. earlier < later) payers → index < length payers
+    → ((k : ℕ) → k < index → get_or payers k 0 < from) → from ≤ line → line < get_or payers index 0 → Contains payers line → ⊥
+none-between payers index from line rising few before ge lt has =
+    let at : get_or payers has.0 0 ≡ line = get_or_default payers has.0 0 line has.1 ∙ has.2 in
+    elim (cases_lt has.0 index) [
+      | inl early ↦ absurd (omega (arith, before has.0 early, at, ge))
+      | inr late ↦
+          elim (cases_lt index has.0) [
+            | inl past ↦ absurd (omega (arith, rising index has.0 0 past has.1, at, lt))
+            | inr to ↦ let same : has.0 ≡ index = omega (arith, late, to) in absurd (omega (arith, ap (λ k. get_or payers k 0) same, at, lt))
+          ]
+    ]
+
+-- nor behind the last one of all
+pub none-behind : (payers : List ℕ) (index from line : ℕ) → length payers ≤ index → ((k : ℕ) → k < index → get_or payers k 0 < from) → from ≤ line → Contains payers line → ⊥
+none-behind payers index from line all before ge has =
+    let at : get_or payers has.0 0 ≡ line = get_or_default payers has.0 0 line has.1 ∙ has.2 in
+    absurd (omega (arith, before has.0 (omega (arith, has.1, all)), at, ge))
+
+pub up-to : (payers : List ℕ) (index : ℕ) → AllPairs (λ earlier later. earlier < later) payers → index < length payers → (k : ℕ) → k < index + 1
+    → get_or payers k 0 < get_or payers index 0 + 1
+up-to payers index rising few k lt =
+    elim (cases_lt k index) [
+      | inl before ↦ omega (arith, rising k index 0 before few)
+      | inr from ↦ let at : k ≡ index = omega (arith, lt, from) in omega (arith, ap (λ j. get_or payers j 0) at)
+    ]
+
+pub behind : (payers : List ℕ) (index : ℕ) → AllPairs (λ earlier later. earlier < later) payers → (k : ℕ) → index + 1 ≤ k → k < length payers
+    → get_or payers index 0 + 1 ≤ get_or payers k 0
+behind payers index rising k from few = omega (arith, rising index k 0 (omega (arith, from)) few)
 
 pub set-back : (xs : List ℕ) (place v : ℕ) → set (set xs place v) place (get_or xs place 0) ≡ xs
 set-back [] place v = refl
 set-back (x ∷ xs) zero v = refl
 set-back (x ∷ xs) (suc place) v = ap (λ ys. x ∷ ys) (set-back xs place v)
+
+-- a leaf's own price is put back
+pub put-back : (leaf : Leaf) (place price own : ℕ) → own ≡ get_or leaf.prices place 0 → with_price (with_price leaf place price) place own ≡ leaf
+put-back leaf place price own is =
+    ap (λ (q : ℕ). with_price (with_price leaf place price) place q) is ∙ (λ i. record { whole = leaf.whole; mu = leaf.mu; prices = set-back leaf.prices place price i })
 
 pub set-at : (xs : List ℕ) (place v : ℕ) → place < length xs → get_or (set xs place v) place 0 ≡ v
 set-at [] place v few = absurd (omega arith)

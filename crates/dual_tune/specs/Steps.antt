@@ -1,8 +1,8 @@
 -- The steps of a leaf, and what it means that a leaf is improved. Both are this project's own.
-use Rattle.std.specs.Prelude.{◌≡◌, ◌⊎◌, ℕ, zero, suc, ◌+◌, ◌*◌, ◌/◌, ◌<◌, List, length, slice_index, slice_index_or, slice_set, ◌≤ℤ◌}
+use Rattle.std.specs.Prelude.{◌≡◌, ◌⊎◌, ℕ, zero, suc, ◌+◌, ◌*◌, ◌/◌, ◌<◌, List, length, slice_index, slice_index_or, ◌≤ℤ◌}
 use Rattle.offer_book.specs.Book.{BookContents}
 use Rattle.dual_bound.specs.LeafBound.{bound_of}
-use Rattle.dual_bound.specs.Tree.{IsLeaf}
+use Rattle.dual_bound.specs.Tree.{IsLeaf, with_price}
 use Rattle.dual_bound.specs.declared.prices.TheConstants.{PRICE_SCALE}
 use Rattle.dual_bound.specs.declared.ranges.Interval.{Interval}
 use Rattle.dual_bound.specs.declared.tree.Leaf.{Leaf}
@@ -15,10 +15,6 @@ price_before prices (suc place) = slice_index prices place
 -- the price after that of a place: 0 after the last
 abbrev pub price_after : List ℕ → ℕ → ℕ
 price_after prices place = slice_index_or prices (place + 1) 0
-
--- a leaf with another price at a place
-abbrev pub with_price : Leaf → ℕ → ℕ → Leaf
-with_price leaf place price = record { whole = leaf.whole; mu = leaf.mu; prices = slice_set leaf.prices place price }
 
 -- a leaf with another weight of the limit
 abbrev pub with_weight : Leaf → ℕ → Leaf

@@ -1,40 +1,20 @@
 -- How steps are priced one by one: a price that changes on one date changes what the needs are worth, and what those lines add that
 -- pay for the need of that date. This project's own.
-use Rattle.std.specs.Prelude.{◌≡◌, ℕ, ◌*◌, ◌^◌, ◌<◌, ◌≤◌, false, true, List, All, length, slice_index_or, ℤ, ◌≤ℤ◌, unsigned_abs}
-use Rattle.std.specs.List.{AllZip, zip}
-use Rattle.escrow_units.specs.declared.security.Flow.{Flow}
+use Rattle.std.specs.Prelude.{◌≡◌, ℕ, ◌*◌, ◌^◌, ◌<◌, ◌≤◌, List, All, length, slice_index_or, ℤ, ◌≤ℤ◌, unsigned_abs}
+use Rattle.std.specs.List.{zip}
 use Rattle.offer_book.specs.Book.{BookContents}
-use Rattle.offer_book.specs.Schedule.{IsScheduleOf}
 use Rattle.offer_book.specs.declared.line.Line.{Line}
-use Rattle.offer_book.specs.declared.schedule.ScheduledPayment.{ScheduledPayment}
-use Rattle.dual_bound.specs.LeafBound.{bound_of, least_within, price_on, signed_sum}
-use Rattle.dual_bound.specs.Tree.{IsLeaf}
+use Rattle.dual_bound.specs.LeafBound.{bound_of, least_within, signed_sum}
+use Rattle.dual_bound.specs.Tree.{IsLeaf, with_price}
 use Rattle.dual_bound.specs.declared.ranges.Interval.{Interval}
 use Rattle.dual_bound.specs.declared.tree.Leaf.{Leaf}
-use Rattle.dual_tune.specs.Steps.{price_after, price_before, with_price, with_weight}
-use Rattle.dual_tune.specs.declared.paid.PaidDates.{PaidDates}
+use Rattle.dual_tune.specs.Payers.{ArePayersByDate}
+use Rattle.dual_tune.specs.Steps.{price_after, price_before, with_weight}
 use Rattle.dual_tune.specs.declared.sweep.Best.{Best}
 use Rattle.dual_tune.specs.declared.sweep.LineLeast.{LineLeast}
 use Rattle.dual_tune.specs.declared.sweep.Step.{Step}
 use Rattle.dual_tune.specs.declared.sweep.Sweep.{Sweep}
 use Rattle.dual_tune.specs.declared.sweep.Step.TheVariants as step
-
--- a day's price is that of the need at a place, whatever the prices are; behind the last need, nothing
-abbrev pub Serves : List Flow → ℤ → ℕ → Type 0
-Serves needs day place = (prices : List ℕ) → length prices ≡ length needs → slice_index_or prices place 0 ≡ price_on needs prices day
-
--- a day's price is that of another place
-abbrev pub IsElsewhere : List Flow → ℕ → ℤ → Type 0
-IsElsewhere needs place day = (other : ℕ) × ¬ (other ≡ place) × Serves needs day other
-
--- a line pays nothing for the need at a place
-abbrev pub IsAside : ℤ → List Flow → ℕ → Line → Type 0
-IsAside settle needs place line =
-    (schedule : List ScheduledPayment) × IsScheduleOf settle line schedule × All (λ payment. IsElsewhere needs place payment.day) schedule
-
--- the dates for which a line pays are marked
-abbrev pub ArePaidDates : BookContents → Line → PaidDates → Type 0
-ArePaidDates book line dates = (place : ℕ) → slice_index_or dates.paid place true ≡ false → IsAside book.settle book.needs place line
 
 -- what each line adds at least at a leaf
 abbrev pub AreLeasts : ℕ → BookContents → List Interval → Leaf → List LineLeast → Type 0
@@ -50,15 +30,15 @@ lines_worth n book ranges leaf = signed_sum (λ p. least_within n book leaf p.0 
 pub record IsSweep (n : ℕ) (book : BookContents) (sweep : Sweep) : Type 0 where
   pub own : sweep.columns.book ≡ book
   pub yield_units : sweep.columns.yield_units ≡ n
-  pub paid : AllZip (ArePaidDates book) book.lines sweep.paid.items
+  pub payers : ArePayersByDate book (length book.lines) sweep.payers.items
   pub places : length sweep.leasts.items ≡ length book.lines
   pub small : All (λ least. unsigned_abs least.least ≤ 71 * 10 ^ 33) sweep.leasts.items
   pub trial : IsLeaf (length book.needs) sweep.trial
 
--- so it is kept of a leaf over ranges
+-- so it is kept of a leaf over ranges, at which the columns are priced
 pub record IsSweepOf (n : ℕ) (book : BookContents) (ranges : List Interval) (leaf : Leaf) (sweep : Sweep) : Type 0 where
   pub kept : IsSweep n book sweep
-  pub given : sweep.trial ≡ leaf
+  pub priced : sweep.columns.leaf ≡ leaf
   pub leasts : AreLeasts n book ranges leaf sweep.leasts.items
 
 -- a leaf after a step

@@ -1,8 +1,8 @@
 //! Better prices for a leaf: the best of the linear program's prices, the given leaf and each of its steps.
 #![tactic(auto)]
 
-mod paid;
 mod parts;
+mod payers;
 mod sweep;
 mod tuner;
 

@@ -9,9 +9,9 @@ ghost use Rattle.dual_tune.specs.Steps.{IsImproved};
 ghost use Rattle.dual_tune.specs.Sweep.{IsPlaced, stepped};
 ghost use Rattle.dual_tune.specs.Tuner.{AreParts};
 
-use crate::paid::paid_by_lines;
+use crate::payers::payers_by_date;
 use crate::sweep::{LineLeast, Step, Sweep, copy_leaf};
-use dual_bound::{Columns, Leaf, Prices, Ranges};
+use dual_bound::{Columns, Leaf, Ranges};
 use escrow_desk::NoMemory;
 use escrow_units::GREATEST_INDEX;
 use fixed_powers::{Powers, Side};
@@ -33,30 +33,6 @@ pub(crate) struct Parts<'a> {
     pub simplex: Simplex,
     /// The leaf that it proposes.
     pub proposal: Leaf,
-}
-
-// Prices of nothing, one for each need date.
-fn no_prices(alloc: Global, count: u16) -> Result<Vec<u64>, NoMemory>
-    ensures count { IfOk result (λ prices. length prices.items ≡ count) }
-    ensures none { IfOk result (λ prices. All (λ price. price ≡ 0) prices.items) }
-{
-    let mut prices = Vec::new(alloc);
-    for _ in 0..count {
-        prices.push(0)?;
-    }
-    Ok(prices)
-}
-
-/// A leaf whose cost counts and whose prices are 0.
-pub(crate) fn leaf_of_nothing(alloc: Global, count: u16) -> Result<Leaf, NoMemory>
-    ensures { IfOk result (IsLeaf count) }
-{
-    let prices = no_prices(alloc, count)?;
-    Ok(Leaf {
-        whole: true,
-        mu: 0,
-        prices: Prices::new(prices),
-    })
 }
 
 // A place for what each line adds.
@@ -127,12 +103,12 @@ impl<'a> Parts<'a> {
         Ok(Parts {
             sweep: Sweep {
                 columns: Columns::make(alloc, book, powers)?,
-                paid: paid_by_lines(alloc, book)?,
+                payers: payers_by_date(alloc, book)?,
                 leasts: no_leasts(alloc, book.line_count())?,
-                trial: leaf_of_nothing(alloc, book.need_count())?,
+                trial: Leaf::of_zeros(alloc, true, book.need_count())?,
             },
             simplex: Simplex::make(alloc, book, powers)?,
-            proposal: leaf_of_nothing(alloc, book.need_count())?,
+            proposal: Leaf::of_zeros(alloc, true, book.need_count())?,
         })
     }
 

@@ -6,12 +6,13 @@ ghost use Rattle.offer_book.specs.Book.{IsBook};
 ghost use Rattle.offer_book.specs.declared.line.Line.{Line};
 ghost use Rattle.dual_bound.specs.LeafBound.{bound_of, least_within};
 ghost use Rattle.dual_bound.specs.Ranges.{HasRoomFor};
-ghost use Rattle.dual_bound.specs.Tree.{IsLeaf};
+ghost use Rattle.dual_bound.specs.Tree.{IsLeaf, with_price};
 ghost use Rattle.dual_bound.specs.declared.ranges.Interval.{Interval as IntervalOf};
-ghost use Rattle.dual_tune.specs.Steps.{IsStep, IsTriedWeight, price_after as price_after_of, price_before as price_before_of, with_price, with_weight};
-ghost use Rattle.dual_tune.specs.Sweep.{AreLeasts, ArePaidDates, IsAside, IsBest, AreReached, IsReached, IsSweep, IsSweepOf, lines_worth};
+ghost use Rattle.dual_tune.specs.Payers.{ArePayers};
+ghost use Rattle.dual_tune.specs.Steps.{IsStep, IsTriedWeight, price_after as price_after_of, price_before as price_before_of, with_weight};
+ghost use Rattle.dual_tune.specs.Sweep.{AreLeasts, IsBest, AreReached, IsReached, IsSweep, IsSweepOf, lines_worth};
 
-use crate::paid::PaidDates;
+use crate::payers::Payers;
 use dual_bound::{Columns, Interval, Leaf, PRICE_SCALE, Ranges};
 use escrow_units::Cents;
 use offer_book::{Book, COEFFICIENT_SCALE};
@@ -48,17 +49,17 @@ pub(crate) struct Best {
     pub bound: i128,
 }
 
-/// What is kept to price the steps of leaves: the columns, for which dates each line pays, what each line adds at the given leaf,
-/// and the leaf that is tried.
+/// What is kept to price the steps of leaves: the columns, which lines pay for each date, what each line adds at the given leaf, and
+/// a leaf with another weight.
 #[derive(Drop)]
 pub(crate) struct Sweep<'a> {
     /// The columns of the book.
     pub columns: Columns<'a>,
-    /// For which need dates each line pays.
-    pub paid: Vec<PaidDates>,
+    /// The lines that pay for each need date.
+    pub payers: Vec<Payers>,
     /// What each line adds at least at the given leaf.
     pub leasts: Vec<LineLeast>,
-    /// The given leaf, or what is tried in its place.
+    /// The given leaf with another weight of the limit.
     pub trial: Leaf,
 }
 
@@ -74,30 +75,16 @@ fn needs_change(cents: Cents, old: u64, new: u64) -> i128
     scaled * i128::from(new) - scaled * i128::from(old)
 }
 
-// What a line adds more at the leaf that is priced than it did: nothing where it doesn't pay for the date.
-fn line_change(
-    columns: &Columns,
-    line: u16,
-    interval: Interval,
-    dates: &PaidDates,
-    place: u16,
-    before: LineLeast,
-) -> i128
+// What a line adds more at the leaf that is priced than it did.
+fn line_change(columns: &Columns, line: u16, interval: Interval, before: LineLeast) -> i128
     requires line { line < length columns.now.book.lines }
     requires ordered { interval.low ≤ interval.high }
     requires high { (d : Line) → interval.high ≤ (slice_index_or columns.now.book.lines line d).most }
-    requires place { place < 480 }
     requires before { unsigned_abs before.least ≤ 71 * 10 ^ 33 }
-    requires aside { (d : Line) → slice_index_or dates.now.paid place true ≡ false
-        → before.least ≡ least_within columns.now.yield_units columns.now.book columns.now.leaf (slice_index_or columns.now.book.lines line d) interval }
     ensures value { (d : Line) → result ≡ least_within columns.now.yield_units columns.now.book columns.now.leaf (slice_index_or columns.now.book.lines line d) interval -ℤ before.least }
     ensures size { unsigned_abs result ≤ 142 * 10 ^ 33 }
 {
-    if dates.paid[usize::from(place)] {
-        columns.least(line, interval) - before.least
-    } else {
-        0
-    }
+    columns.least(line, interval) - before.least
 }
 
 // A bound, with what the needs and the lines add more.
@@ -110,21 +97,23 @@ fn changed(bound: i128, needs: i128, lines: i128) -> i128
     bound + needs + lines
 }
 
-// What the lines add more at the leaf that is priced, where the price at a place is another than that of the given leaf.
+// What the lines add more at the leaf that is priced, where the price at a place is another than that of the given leaf: those that
+// pay for the need there.
 fn lines_change(
     book: &Book,
     columns: &Columns,
     ranges: &Ranges,
     leaf: &Leaf,
-    paid: &[PaidDates],
+    payers: &[u16],
     leasts: &[LineLeast],
     place: u16,
     price: u64,
 ) -> i128
+    requires limits { IsBook book.now }
     requires own { columns.now.book ≡ book.now }
     requires ranges { AllZip HasRoomFor book.now.lines ranges.now }
     requires prices { length leaf.now.prices ≡ length book.now.needs }
-    requires paid { AllZip (ArePaidDates book.now) book.now.lines paid.now }
+    requires payers { ArePayers book.now (length book.now.lines) place payers.now }
     requires places { length leasts.now ≡ length book.now.lines }
     requires small { All (λ least. unsigned_abs least.least ≤ 71 * 10 ^ 33) leasts.now }
     requires leasts { AreLeasts columns.now.yield_units book.now ranges.now leaf.now leasts.now }
@@ -135,9 +124,9 @@ fn lines_change(
 {
     let intervals = ranges.intervals();
     let mut change = 0i128;
-    for line in 0..book.line_count() {
-        let at = usize::from(line);
-        change += line_change(columns, line, intervals[at], &paid[at], place, leasts[at]);
+    for line in payers {
+        let at = usize::from(*line);
+        change += line_change(columns, *line, intervals[at], leasts[at]);
     }
     change
 }
@@ -212,19 +201,18 @@ impl<'a> Sweep<'a> {
         let at = usize::from(place);
         let cents = book.needs()[at].cents;
         let old = leaf.prices.as_slice()[at];
-        self.trial.prices.put(place, price);
-        self.columns.price(&self.trial);
+        self.columns.price_date(place, price);
         let lines = lines_change(
             book,
             &self.columns,
             ranges,
             leaf,
-            self.paid.as_slice(),
+            self.payers[at].lines.as_slice(),
             self.leasts.as_slice(),
             place,
             price,
         );
-        self.trial.prices.put(place, old);
+        self.columns.price_date(place, old);
         changed(bound, needs_change(cents, old, price), lines)
     }
 
@@ -264,9 +252,11 @@ impl<'a> Sweep<'a> {
         requires ranges { AllZip HasRoomFor book.now.lines ranges.now }
         requires given { IsLeaf (length book.now.needs) leaf.now }
         requires mu { mu ≤ PRICE_SCALE }
-        requires kept { IsSweepOf self.old.columns.yield_units book.now ranges.now leaf.now self.old }
+        requires kept { IsSweep self.old.columns.yield_units book.now self.old }
+        requires trial { self.old.trial ≡ leaf.now }
         requires best { IsBest self.old.columns.yield_units book.now ranges.now leaf.now best }
-        ensures kept { IsSweepOf self.old.columns.yield_units book.now ranges.now leaf.now self.new }
+        ensures kept { IsSweep self.old.columns.yield_units book.now self.new }
+        ensures trial { self.new.trial ≡ leaf.now }
         ensures best { IsBest self.old.columns.yield_units book.now ranges.now leaf.now result }
         ensures better { best.bound ≤ℤ result.bound }
         ensures tried { IsReached self.old.columns.yield_units book.now ranges.now result.bound (with_weight leaf.now mu) }
@@ -337,13 +327,14 @@ impl<'a> Sweep<'a> {
     fn try_weights(&mut self, book: &Book, ranges: &Ranges, leaf: &Leaf, best: Best) -> Best
         requires ranges { AllZip HasRoomFor book.now.lines ranges.now }
         requires given { IsLeaf (length book.now.needs) leaf.now }
-        requires kept { IsSweepOf self.old.columns.yield_units book.now ranges.now leaf.now self.old }
+        requires kept { IsSweep self.old.columns.yield_units book.now self.old }
         requires best { IsBest self.old.columns.yield_units book.now ranges.now leaf.now best }
-        ensures kept { IsSweepOf self.old.columns.yield_units book.now ranges.now leaf.now self.new }
+        ensures kept { IsSweep self.old.columns.yield_units book.now self.new }
         ensures best { IsBest self.old.columns.yield_units book.now ranges.now leaf.now result }
         ensures better { best.bound ≤ℤ result.bound }
         ensures tried { (mu : ℕ) → IsTriedWeight mu → IsReached self.old.columns.yield_units book.now ranges.now result.bound (with_weight leaf.now mu) }
     {
+        copy_leaf(book.need_count(), leaf, &mut self.trial);
         let best = self.try_weight(book, ranges, leaf, best, 0);
         let best = self.try_weight(book, ranges, leaf, best, PRICE_SCALE / 2);
         self.try_weight(book, ranges, leaf, best, PRICE_SCALE)
@@ -355,7 +346,6 @@ impl<'a> Sweep<'a> {
         requires kept { IsSweep self.old.columns.yield_units book.now self.old }
         ensures kept { IsSweep self.old.columns.yield_units book.now self.new }
         ensures columns { self.new.columns ≡ self.old.columns }
-        ensures trial { self.new.trial ≡ self.old.trial }
         ensures leasts { AreLeasts self.old.columns.yield_units book.now ranges.now self.old.columns.leaf self.new.leasts.items }
     {
         let intervals = ranges.intervals();
@@ -376,7 +366,6 @@ impl<'a> Sweep<'a> {
         ensures bound { result ≡ bound_of self.old.columns.yield_units book.now ranges.now leaf.now }
         ensures size { unsigned_abs result < 10 ^ 37 }
     {
-        copy_leaf(book.need_count(), leaf, &mut self.trial);
         let bound = self.columns.bound(ranges, leaf);
         self.keep_leasts(book, ranges);
         bound

@@ -7,7 +7,7 @@ ghost use Rattle.dual_bound.specs.Ranges.{HasRoomFor};
 ghost use Rattle.dual_bound.specs.Tree.{IsLeaf};
 ghost use Rattle.dual_tune.specs.Steps.{IsImproved};
 
-use crate::parts::{Parts, leaf_of_nothing};
+use crate::parts::Parts;
 use dual_bound::{Leaf, Ranges};
 use escrow_desk::NoMemory;
 use escrow_units::GREATEST_INDEX;
@@ -92,7 +92,7 @@ pub fn improve(
     ensures { IfOk result (IsImproved powers.now.yield_units book.now ranges.now leaf.now) }
 {
     let mut tuner = Tuner::make(alloc, book, powers)?;
-    let mut improved = leaf_of_nothing(alloc, book.need_count())?;
+    let mut improved = Leaf::of_zeros(alloc, true, book.need_count())?;
     tuner.tune(ranges, leaf, None, &mut improved);
     Ok(improved)
 }

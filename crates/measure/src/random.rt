@@ -2,7 +2,7 @@
 ghost use Rattle.std.specs.Prelude.{◌≡◌, ◌≤◌, length};
 ghost use Rattle.fixed_powers.specs.DiscountPowers.{PowerTable};
 
-use crate::roots::{COLD, WARM, leaf_of_zeros, powers_of, starved};
+use crate::roots::{COLD, WARM, powers_of, starved};
 use dual_bound::{Interval, Leaf};
 use escrow_units::{GREATEST_YIELD, YieldUnits};
 use offer_book::Book;
@@ -172,7 +172,7 @@ pub(crate) fn try_random(
     let Ok(mut simplex) = Simplex::make(rt.alloc(), book, &powers) else {
         return Err(starved());
     };
-    let Ok(mut leaf) = leaf_of_zeros(rt, book.need_count()) else {
+    let Ok(mut leaf) = Leaf::of_zeros(rt.alloc(), true, book.need_count()) else {
         return Err(starved());
     };
     let mut draws = Pcg32::seed_from_u64(1);

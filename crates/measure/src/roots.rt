@@ -6,7 +6,7 @@ ghost use Rattle.dual_bound.specs.Ranges.{HasRoomFor};
 ghost use Rattle.dual_bound.specs.Tree.{IsLeaf};
 
 use backward_build::bootstrap;
-use dual_bound::{Interval, Leaf, PRICE_SCALE, Prices, Ranges, bound};
+use dual_bound::{Interval, Leaf, PRICE_SCALE, Ranges, bound};
 use dual_tune::improve;
 use escrow_desk::NoMemory;
 use escrow_units::{GREATEST_INDEX, GREATEST_YIELD, YieldUnits};
@@ -203,18 +203,6 @@ fn base_leaf(rt: &HostRuntime, book: &Book) -> Result<Leaf, NoMemory>
 {
     match bootstrap(rt.alloc(), book)? {
         Some(leaf) => Ok(leaf),
-        None => leaf_of_zeros(rt, book.need_count()),
+        None => Leaf::of_zeros(rt.alloc(), true, book.need_count()),
     }
-}
-
-/// The leaf of so many prices of 0.
-pub(crate) fn leaf_of_zeros(rt: &HostRuntime, count: u16) -> Result<Leaf, NoMemory>
-    ensures { IfOk result (IsLeaf count) }
-{
-    let prices = vec![in rt.alloc(); 0u64; usize::from(count)]?;
-    Ok(Leaf {
-        whole: true,
-        mu: 0,
-        prices: Prices::new(prices),
-    })
 }

@@ -1,5 +1,5 @@
 -- What a dive keeps.
-use Rattle.std.specs.Prelude.{◌≡◌, ℕ, ◌<◌, List, All, length}
+use Rattle.std.specs.Prelude.{◌≡◌, ℕ, ◌<◌, ◌≤◌, List, All, length}
 use Rattle.offer_book.specs.Book.{BookContents, IsBook}
 use Rattle.plan_finder.specs.declared.dive.Diver.{Diver}
 use Rattle.plan_finder.specs.declared.order.Ranked.{Ranked}
@@ -24,4 +24,6 @@ pub record IsSearch (book : BookContents) (search : Search) : Type 0 where
   pub diver : IsDiver book search.diver
   pub orders : All (λ order. AreLinesOf book order.items) search.orders.items
   pub ends : length search.ends.items ≡ length book.lines
+  pub lines : All (λ line. line < length book.lines) search.lines.items
+  pub few : length search.lines.items ≤ length book.lines
   pub free : length search.free.items ≡ length book.lines

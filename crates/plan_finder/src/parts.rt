@@ -1,5 +1,5 @@
 //! Parts of the lines that are free in a dive near a plan.
-ghost use Rattle.std.specs.Prelude.{◌≡◌, ◌<◌, ◌≤◌, length};
+ghost use Rattle.std.specs.Prelude.{◌≡◌, ◌<◌, ◌≤◌, All, length};
 
 use crate::draw::Draw;
 use cash_table::Plan;
@@ -24,12 +24,13 @@ fn free_window(free: &mut [bool], ends: &[u16], start: u64, dates: u64)
 }
 
 // Frees a number of lines that are drawn.
-fn free_drawn(free: &mut [bool], draw: &mut Draw, count: u64)
-    requires { 0 < length free.old }
+fn free_drawn(free: &mut [bool], draw: &mut Draw, lines: &[u16], count: u64)
+    requires some { 0 < length lines.now }
+    requires there { All (λ line. line < length free.old) lines.now }
 {
     for _ in 0..count {
-        let line = draw.below(free.len() as u64) as usize;
-        free[line] = true;
+        let place = draw.below(lines.len() as u64) as usize;
+        free[usize::from(lines[place])] = true;
     }
 }
 
@@ -46,20 +47,23 @@ fn free_bought(free: &mut [bool], draw: &mut Draw, plan: &Plan, among: u64)
     }
 }
 
-// Frees all lines but about one in so many, which are drawn.
-fn free_all_but(free: &mut [bool], draw: &mut Draw, among: u64)
-    requires { 0 < among }
+// Frees all of some lines but about one in so many, which are drawn.
+fn free_all_but(free: &mut [bool], draw: &mut Draw, lines: &[u16], among: u64)
+    requires among { 0 < among }
+    requires there { All (λ line. line < length free.old) lines.now }
 {
-    for line in 0..free.len() {
-        free[line] = draw.below(among) > 0;
+    for line in lines {
+        free[usize::from(*line)] = draw.below(among) > 0;
     }
 }
 
-/// Frees two in three lines, which are drawn, and opening cash.
-pub(crate) fn free_most(free: &mut [bool], draw: &mut Draw)
-    requires { 0 < length free.old }
+/// Frees two in three of some lines, which are drawn, and opening cash.
+pub(crate) fn free_most(free: &mut [bool], draw: &mut Draw, lines: &[u16])
+    requires some { 0 < length free.old }
+    requires there { All (λ line. line < length free.old) lines.now }
 {
-    free_all_but(free, draw, 3);
+    free_none(free);
+    free_all_but(free, draw, lines, 3);
     free[0] = true;
 }
 
@@ -83,11 +87,21 @@ fn free_two_windows(free: &mut [bool], draw: &mut Draw, ends: &[u16], dates: u64
     free_window(free, ends, draw.below(dates), length);
 }
 
-/// Frees a part of the lines that is drawn, and opening cash: the lines that end within a window; some lines and a third of
-/// those that the plan buys; the lines that end within two narrow windows, and some others; or half of the lines.
-pub(crate) fn free_part(free: &mut [bool], draw: &mut Draw, ends: &[u16], plan: &Plan, dates: u64)
-    requires some { 0 < length free.old }
-    requires few { length free.old ≤ 257 }
+/// Frees a part of the lines that can be bought, which is drawn, and opening cash: the lines that end within a window; some lines
+/// and a third of those that the plan buys; the lines that end within two narrow windows, and some others; or half of the lines.
+pub(crate) fn free_part(
+    free: &mut [bool],
+    draw: &mut Draw,
+    lines: &[u16],
+    ends: &[u16],
+    plan: &Plan,
+    dates: u64,
+)
+    requires some { 0 < length lines.now }
+    requires there { All (λ line. line < length free.old) lines.now }
+    requires few { length lines.now ≤ 257 }
+    requires few_lines { length free.old ≤ 257 }
+    requires first { 0 < length free.old }
     requires ends { length ends.now ≡ length free.old }
     requires plan { length plan.now ≡ length free.old }
     requires dates { 0 < dates }
@@ -95,18 +109,18 @@ pub(crate) fn free_part(free: &mut [bool], draw: &mut Draw, ends: &[u16], plan: 
 {
     free_none(free);
     let choice = draw.below(4);
-    let count = 6 + draw.below(free.len() as u64 / 3 + 1);
+    let count = 6 + draw.below(lines.len() as u64 / 3 + 1);
     match choice {
         0 => free_one_window(free, draw, ends, dates),
         1 => {
-            free_drawn(free, draw, count);
+            free_drawn(free, draw, lines, count);
             free_bought(free, draw, plan, 3);
         }
         2 => {
             free_two_windows(free, draw, ends, dates);
-            free_drawn(free, draw, count / 3);
+            free_drawn(free, draw, lines, count / 3);
         }
-        _ => free_all_but(free, draw, 2),
+        _ => free_all_but(free, draw, lines, 2),
     }
     free[0] = true;
 }

@@ -31,6 +31,8 @@ pub(crate) struct Search {
     pub orders: Vec<Vec<Ranked>>,
     /// The last need date that each line's payments serve, counted from 1.
     pub ends: Vec<u16>,
+    /// The lines that can be bought.
+    pub lines: Vec<u16>,
     /// Which lines are free in a dive near a plan.
     pub free: Vec<bool>,
     /// What is drawn.
@@ -64,6 +66,21 @@ fn orders_of(alloc: Global, book: &Book, ends: &[u16]) -> Result<Vec<Vec<Ranked>
     Ok(orders)
 }
 
+// The lines that can be bought: their most is at least their least purchase.
+fn lines_on_offer(alloc: Global, book: &Book) -> Result<Vec<u16>, NoMemory>
+    ensures there { IfOk result (λ lines. All (λ line. line < length book.now.lines) lines.items) }
+    ensures few { IfOk result (λ lines. length lines.items ≤ length book.now.lines) }
+{
+    let mut lines = Vec::new(alloc);
+    for line in 0..book.line_count() {
+        let own = book.line(line);
+        if own.least <= own.most {
+            lines.push(line)?;
+        }
+    }
+    Ok(lines)
+}
+
 impl Search {
     /// What a search of a book under a limit works with, in units of 10^-10, from 1 to 3,000,000,000.
     ///
@@ -87,6 +104,7 @@ impl Search {
             diver: Diver::make(alloc, book, &powers, earliest)?,
             orders: orders_of(alloc, book, ends.as_slice())?,
             ends,
+            lines: lines_on_offer(alloc, book)?,
             free: vec![in alloc; false; usize::from(book.line_count())]?,
             draw: Draw::from(SEED),
         })
@@ -177,13 +195,16 @@ impl Search {
         ensures { IsSearch book.now self.new }
     {
         let dates = u64::from(book.need_count()).max(1);
-        free_part(
-            self.free.as_mut_slice(),
-            &mut self.draw,
-            self.ends.as_slice(),
-            plan,
-            dates,
-        );
+        if self.lines.len() > 0 {
+            free_part(
+                self.free.as_mut_slice(),
+                &mut self.draw,
+                self.lines.as_slice(),
+                self.ends.as_slice(),
+                plan,
+                dates,
+            );
+        }
     }
 
     /// Draws two in three lines, beside opening cash, to be free in the next dive near a plan.
@@ -191,6 +212,10 @@ impl Search {
         requires { IsSearch book.now self.old }
         ensures { IsSearch book.now self.new }
     {
-        free_most(self.free.as_mut_slice(), &mut self.draw);
+        free_most(
+            self.free.as_mut_slice(),
+            &mut self.draw,
+            self.lines.as_slice(),
+        );
     }
 }

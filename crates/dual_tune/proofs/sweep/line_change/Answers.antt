@@ -3,8 +3,8 @@ use Rattle.std.proofs.lemmas.Int.{ints}
 use Rattle.dual_bound.proofs.Signed.{read-again}
 use Rattle.dual_tune.proofs.sweep.line_change.Goals as goal
 
-pub returns-then-dates-from-clause-value : goal.returns-then-dates-from-clause-value
-returns-then-dates-from-clause-value c =
+pub returns-clause-value : goal.returns-clause-value
+returns-clause-value c =
     λ d.
     let new = read-again c.least.result (omega (arith, c.least.ensures.size)) in
     let old = read-again c.args.before.least (omega (arith, c.requires.before)) in

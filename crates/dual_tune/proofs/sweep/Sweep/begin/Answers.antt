@@ -10,7 +10,7 @@ returns-clause-kept c =
     let leaf = ap (λ (s : ColumnsContents). s.leaf) c.bound-bound.ensures.columns in
     record {
       kept = subst (λ n. IsSweep n c.args.book.now c.keep_leasts.new.self) units c.keep_leasts.ensures.kept;
-      given = c.keep_leasts.ensures.trial ∙ c.copy_leaf.ensures;
+      priced = ap (λ (s : ColumnsContents). s.leaf) c.keep_leasts.ensures.columns ∙ leaf;
       leasts = λ line d e f lt.
           c.keep_leasts.ensures.leasts line d e f lt ∙ (λ i. least_within (units i) c.args.book.now (leaf i) (get_or c.args.book.now.lines line d) (get_or c.args.ranges.now line e));
     }

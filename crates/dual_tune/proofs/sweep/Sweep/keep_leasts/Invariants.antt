@@ -7,7 +7,7 @@ use Rattle.dual_tune.proofs.sweep.Sweep.keep_leasts.Given as goal
 
 abbrev pub invariant-loop-line : goal.invariant-loop-line
 invariant-loop-line l =
-    (l.self.columns ≡ l.fn.self.columns) × (l.self.trial ≡ l.fn.self.trial) × (l.self.paid.items ≡ l.fn.self.paid.items)
+    (l.self.columns ≡ l.fn.self.columns) × (l.self.trial ≡ l.fn.self.trial) × (l.self.payers.items ≡ l.fn.self.payers.items)
     × (length l.self.leasts.items ≡ length l.book.lines)
     × All (λ least. unsigned_abs least.least ≤ 71 * 10 ^ 33) l.self.leasts.items
     × ((line : ℕ) (d : Line) (e : Interval) (f : LineLeast) → line < l.line

@@ -1,8 +1,8 @@
 use Rattle.std.proofs.Common.{◌≡◌, ◌∙◌, length, sym, ap, subst, arith, ◌≤ℤ◌}
 use Rattle.std.proofs.lemmas.Int.{ints}
 use Rattle.dual_bound.specs.LeafBound.{bound_of}
-use Rattle.dual_bound.specs.Tree.{IsLeaf}
-use Rattle.dual_tune.specs.Steps.{price_after, price_before, with_price}
+use Rattle.dual_bound.specs.Tree.{IsLeaf, with_price}
+use Rattle.dual_tune.specs.Steps.{price_after, price_before}
 use Rattle.dual_tune.proofs.SweepFacts.{leaf-after, leaf-before}
 use Rattle.dual_tune.proofs.sweep.Sweep.try_place.Goals as goal
 

@@ -13,7 +13,7 @@ returns-clause-best c =
     let n = c.args.self.now.columns.yield_units in
     let dates = length c.args.book.now.needs in
     let reached = to_z-of_z w128 c.bound-reached.result (record { sfits = c.bound-reached.type_inv }) ∙ c.bound-reached.ensures.value
-    ∙ (λ i. bound_of n (c.requires.kept.kept.own i) c.args.ranges.now (with_weight (c.requires.kept.given i) c.args.mu)) in
+    ∙ (λ i. bound_of n (c.requires.kept.own i) c.args.ranges.now (with_weight (c.requires.trial i) c.args.mu)) in
     elim c.better.ensures.one [
       | inl same ↦ subst (IsBest n c.args.book.now c.args.ranges.now c.args.leaf.now) (sym same) c.requires.best
       | inr same ↦
@@ -30,5 +30,5 @@ pub returns-clause-tried : goal.returns-clause-tried
 returns-clause-tried c =
     let n = c.args.self.now.columns.yield_units in
     let reached = to_z-of_z w128 c.bound-reached.result (record { sfits = c.bound-reached.type_inv }) ∙ c.bound-reached.ensures.value
-    ∙ (λ i. bound_of n (c.requires.kept.kept.own i) c.args.ranges.now (with_weight (c.requires.kept.given i) c.args.mu)) in
+    ∙ (λ i. bound_of n (c.requires.kept.own i) c.args.ranges.now (with_weight (c.requires.trial i) c.args.mu)) in
     omega (arith, ints, reached, c.better.ensures.second)

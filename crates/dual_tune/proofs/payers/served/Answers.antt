@@ -1,6 +1,6 @@
 use Rattle.std.proofs.Common.{arith}
 use Rattle.dual_bound.proofs.DayFacts.{found}
-use Rattle.dual_tune.proofs.paid.served.Goals as goal
+use Rattle.dual_tune.proofs.payers.served.Goals as goal
 
 pub returns : goal.returns
 returns c =

@@ -1,5 +1,0 @@
-use Rattle.std.proofs.Common.{◌≡◌, All, length}
-use Rattle.dual_bound.proofs.tableau.no_prices.Given as goal
-
-abbrev pub invariant-loop : goal.invariant-loop
-invariant-loop l = (length l.prices.items ≡ l.counter) × All (λ price. price ≡ 0) l.prices.items

@@ -1,0 +1,69 @@
+//! The days that each need date prices.
+ghost use Rattle.std.specs.Prelude.{All, ◌≡◌, ◌<◌, ℕ, [], ◌∷◌, ◌++◌, IfOk, OnOk, length, slice_index_or};
+ghost use Rattle.dual_bound.specs.Columns.{AreDateDays};
+ghost use Rattle.dual_bound.specs.declared.date_days.DateDays.{DateDays};
+
+use crate::worth::PricedDay;
+use escrow_desk::NoMemory;
+use std::alloc::Global;
+
+/// The days whose first need date is a given one.
+#[derive(Drop)]
+pub(crate) struct DateDays {
+    /// The places of the days.
+    pub places: Vec<usize>,
+}
+
+impl DateDays {
+    // Puts the place of a day behind the others.
+    fn add(&mut self, place: usize) -> Result<(), NoMemory>
+        ensures { OnOk result (self.new.places.items ≡ self.old.places.items ++ place ∷ []) }
+    {
+        self.places.push(place)?;
+        Ok(())
+    }
+}
+
+// No days, for each of so many need dates.
+fn no_days(alloc: Global, dates: u16) -> Result<Vec<DateDays>, NoMemory>
+    ensures count { IfOk result (λ lists. length lists.items ≡ dates) }
+    ensures empty { IfOk result (λ lists. All (λ (list : DateDays). list.places.items ≡ []) lists.items) }
+{
+    let mut lists = Vec::new(alloc);
+    for _ in 0..dates {
+        lists.push(DateDays {
+            places: Vec::new(alloc),
+        })?;
+    }
+    Ok(lists)
+}
+
+// Puts the place of a day to its need date, where there is one.
+fn list_day(lists: &mut [DateDays], need: usize, place: usize) -> Result<(), NoMemory>
+    ensures own { OnOk result ((e : DateDays) → need < length lists.old → (slice_index_or lists.new need e).places.items ≡ (slice_index_or lists.old need e).places.items ++ place ∷ []) }
+    ensures others { OnOk result ((date : ℕ) (e : DateDays) → ¬ (date ≡ need) → slice_index_or lists.new date e ≡ slice_index_or lists.old date e) }
+{
+    if need >= lists.len() {
+        return Ok(());
+    }
+    lists[need].add(place)
+}
+
+/// The days of each of so many need dates. A day behind the last need date is in no list.
+///
+/// # Errors
+///
+/// Where memory ran out.
+pub(crate) fn days_by_date(
+    alloc: Global,
+    dates: u16,
+    days: &[PricedDay],
+) -> Result<Vec<DateDays>, NoMemory>
+    ensures { IfOk result (λ lists. AreDateDays dates days.now lists.items) }
+{
+    let mut lists = no_days(alloc, dates)?;
+    for place in 0..days.len() {
+        list_day(lists.as_mut_slice(), days[place].need, place)?;
+    }
+    Ok(lists)
+}
