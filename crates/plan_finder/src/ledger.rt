@@ -223,8 +223,7 @@ impl Ledger {
         ensures { (n : ℕ) → IsLedger n book.now self.now
             → IsTrue result ↔ (one * (security_cost book.now self.now.plan + security_cost book.now self.now.plan / 10 ^ 8) < low_value book.now n self.now.plan) }
     {
-        let security_cost = self.cost.0 - self.plan.get(0);
-        let most = security_cost + security_cost / 100_000_000;
-        u128::from(ONE) * u128::from(most) < self.worth
+        let security_cost = u128::from(self.cost.0 - self.plan.get(0));
+        u128::from(ONE) * (security_cost + security_cost / 100_000_000) < self.worth
     }
 }

@@ -1,5 +1,5 @@
 //! Dives, and the exact plans that come of them.
-ghost use Rattle.std.specs.Prelude.{◌≤◌, ◌≡◌, ℕ, All, IfOk, IfSome, OnOk, length};
+ghost use Rattle.std.specs.Prelude.{◌<◌, ◌≤◌, ◌≡◌, ℕ, All, IfOk, IfSome, OnOk, length};
 ghost use Rattle.fixed_powers.specs.DiscountPowers.{PowerTable};
 ghost use Rattle.offer_book.specs.Portfolio.{IsPermitted};
 ghost use Rattle.plan_finder.specs.Dive.{AreLinesOf, IsDiver, IsSearch};
