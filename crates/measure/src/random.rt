@@ -33,6 +33,16 @@ enum Start {
 }
 
 impl Tally {
+    // Of no solve.
+    fn new() -> Tally {
+        Tally {
+            optimal: 0,
+            capped: 0,
+            stopped: 0,
+            again: 0,
+        }
+    }
+
     // With one solve more.
     fn with(self, end: SolveEnd) -> Tally {
         let mut tally = self;
@@ -158,6 +168,23 @@ fn try_one(draws: &mut Pcg32, simplex: &mut Simplex, leaf: &mut Leaf, tally: Tal
     solve(simplex, start, leaf, tally)
 }
 
+// Solves so many programs of a book, with ranges that are drawn.
+fn solve_all(book: &Book, simplex: &mut Simplex, leaf: &mut Leaf, programs: u32) -> Tally
+    requires { length leaf.old.prices ≡ simplex.old.dates }
+{
+    let mut draws = Pcg32::seed_from_u64(1);
+    let mut tally = Tally::new();
+    for program in 0..programs {
+        if program % TOGETHER == 0 {
+            free(book, simplex);
+            draw_aim(&mut draws, simplex);
+        }
+        draw_ranges(&mut draws, book, simplex);
+        tally = try_one(&mut draws, simplex, leaf, tally);
+    }
+    tally
+}
+
 /// Solves so many programs of a book, with ranges that are drawn, and prints how they ended.
 pub(crate) fn try_random(
     rt: &HostRuntime,
@@ -175,26 +202,9 @@ pub(crate) fn try_random(
     let Ok(mut leaf) = Leaf::of_zeros(rt.alloc(), true, book.need_count()) else {
         return Err(starved());
     };
-    let mut draws = Pcg32::seed_from_u64(1);
-    let mut tally = Tally {
-        optimal: 0,
-        capped: 0,
-        stopped: 0,
-        again: 0,
-    };
-    for program in 0..programs {
-        if program % TOGETHER == 0 {
-            free(book, &mut simplex);
-            draw_aim(&mut draws, &mut simplex);
-        }
-        draw_ranges(&mut draws, book, &mut simplex);
-        tally = try_one(&mut draws, &mut simplex, &mut leaf, tally);
-    }
+    let tally = solve_all(book, &mut simplex, &mut leaf, programs);
     println!(rt;
         ", {programs} programs: {} optimal, {} capped, {} stopped, {} again",
-        tally.optimal,
-        tally.capped,
-        tally.stopped,
-        tally.again
+        tally.optimal, tally.capped, tally.stopped, tally.again
     )
 }

@@ -32,9 +32,7 @@ pub(crate) fn product(column: &[Entry], numbers: &[Fixed]) -> i128
 {
     let mut sum = 0i128;
     for entry in column {
-        sum += entry
-            .value
-            .times(read(numbers, usize::from(entry.place)));
+        sum += entry.value.times(read(numbers, usize::from(entry.place)));
     }
     sum
 }

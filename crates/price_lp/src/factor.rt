@@ -396,7 +396,11 @@ impl Factor {
         into: &mut [Fixed],
     ) -> Result<(), Stop> {
         let taken = product(self.upper.column(column), into);
-        put_at(into, usize::from(pivot.row), solved(right, taken, pivot.value)?)
+        put_at(
+            into,
+            usize::from(pivot.row),
+            solved(right, taken, pivot.value)?,
+        )
     }
 
     // Solves the columns as they were made triangular, from the first to the last. As long as the right-hand side is 0, so is what

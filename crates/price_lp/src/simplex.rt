@@ -112,8 +112,7 @@ impl Simplex {
             cost: cost.0,
             excess: Total::of_excess(excess),
         };
-        self.solver
-            .fix(&self.program, line, units, exact, payments);
+        self.solver.fix(&self.program, line, units, exact, payments);
     }
 
     /// Starts from the highest prices that never rise under which no line that matures so far has a negative reduced cost.
