@@ -4,6 +4,8 @@
 mod parts;
 mod payers;
 mod sweep;
+#[cfg(test)]
+mod tests;
 mod tuner;
 
 pub use tuner::{Tuner, improve};
