@@ -64,8 +64,8 @@ impl Base {
         })
     }
 
-    /// The runs and the factor of the basis as it stands.
-    pub(crate) fn refactor(&mut self, program: &Program) -> Result<(), Stop> {
+    /// The runs and the factor of the basis as it stands. It answers how many of the first columns stayed as they were.
+    pub(crate) fn refactor(&mut self, program: &Program) -> Result<usize, Stop> {
         self.segments.refresh(&self.basis)?;
         self.factor.refactor(program, &self.basis, &self.segments)
     }
@@ -96,7 +96,7 @@ impl Base {
 
     /// The row of the multiplier, where it is free.
     pub(crate) fn multiplier_row(&self) -> usize {
-        usize::from(self.segments.free())
+        usize::from(self.segments.multiplier_row())
     }
 
     /// The amount at the end where a line stands that isn't in the basis.

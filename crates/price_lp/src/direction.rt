@@ -1,13 +1,14 @@
 //! How prices move as something leaves the basis.
+ghost use Rattle.std.specs.Prelude.{◌≤◌, ◌^◌, length, unsigned_abs};
 
 use crate::base::Base;
 use crate::basis::{LineState, Multiplier};
-use crate::cells::{put, read};
+use crate::cells::{product, put, read};
 use crate::leaving::Leaving;
 use crate::number::Fixed;
 use crate::program::Program;
 use crate::segments::Segment;
-use crate::sparse::Stop;
+use crate::sparse::{Entry, MOST_ENTRIES, Stop};
 use escrow_desk::NoMemory;
 use std::alloc::Global;
 
@@ -17,6 +18,8 @@ use std::alloc::Global;
 pub(crate) struct Direction {
     // From the day of settlement to the date after the last.
     prices: Vec<Fixed>,
+    // The first date whose price moves; the number of places where there is none.
+    first: usize,
     multiplier: Fixed,
     // The right-hand side of each column.
     right: Vec<Fixed>,
@@ -116,15 +119,30 @@ impl Direction {
         let dates = usize::from(program.dates());
         Ok(Direction {
             prices: vec![in alloc; Fixed::zero(); dates + 2]?,
+            first: 0,
             multiplier: Fixed::zero(),
             right: vec![in alloc; Fixed::zero(); dates + 2]?,
             rows: vec![in alloc; Fixed::zero(); dates + 2]?,
         })
     }
 
-    /// How the prices move, from the day of settlement to the date after the last.
-    pub(crate) fn prices(&self) -> &[Fixed] {
-        self.prices.as_slice()
+    // What payments are worth at the moves of their dates: nothing where the last of them is before the first that moves.
+    fn worth(&self, pays: &[Entry]) -> i128
+        requires { length pays.now ≤ MOST_ENTRIES }
+        ensures { unsigned_abs result ≤ 2 ^ 125 }
+    {
+        match pays.last() {
+            Some(last) if self.first <= usize::from(last.place) => {
+                product(pays, self.prices.as_slice())
+            }
+            _ => 0,
+        }
+    }
+
+    /// How the reduced cost of a line moves.
+    pub(crate) fn rise(&self, program: &Program, line: u16) -> Fixed {
+        let own = self.multiplier.times(program.value(line));
+        Fixed::narrowed(own - self.worth(program.pays(line)))
     }
 
     /// How the price of a date moves.
@@ -146,7 +164,7 @@ impl Direction {
     ) -> Result<(), Stop> {
         self.set_right(program, base, leaving);
         base.factor
-            .solve_transposed(self.right.as_slice(), self.rows.as_mut_slice())?;
+            .solve_transposed(program, self.right.as_slice(), self.rows.as_mut_slice())?;
         self.multiplier = if base.basis.multiplier() == Multiplier::Free {
             read(self.rows.as_slice(), base.multiplier_row())
         } else {
@@ -177,10 +195,14 @@ impl Direction {
 
     // Sets how the price of each date moves.
     fn spread(&mut self, program: &Program, base: &Base, leaving: Leaving) {
-        for date in 0..usize::from(program.dates()) + 2 {
+        self.first = self.prices.len();
+        for date in (0..usize::from(program.dates()) + 2).rev() {
             let run = self.run_move(base, date);
             let price = run.plus(shift_of(base, leaving, date));
             put(self.prices.as_mut_slice(), date, price);
+            if !price.is_zero() {
+                self.first = date;
+            }
         }
     }
 }

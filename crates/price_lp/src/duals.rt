@@ -22,10 +22,12 @@ pub(crate) struct Duals {
     right: Vec<Fixed>,
     // The number of each row.
     rows: Vec<Fixed>,
+    // Whether the numbers are those of the right-hand side, as the columns alone give them.
+    solved: bool,
 }
 
-/// A cost, and what the yield limit adds to it, less what the payments of a line are worth.
-pub(crate) fn reduced_cost(
+// A cost, and what the yield limit adds to it, less what the payments of a line are worth.
+fn reduced_cost(
     program: &Program,
     line: u16,
     cost: Fixed,
@@ -78,6 +80,7 @@ impl Duals {
             reduced: vec![in alloc; Fixed::zero(); usize::from(program.lines())]?,
             right: vec![in alloc; Fixed::zero(); dates + 2]?,
             rows: vec![in alloc; Fixed::zero(); dates + 2]?,
+            solved: false,
         })
     }
 
@@ -111,25 +114,48 @@ impl Duals {
         read(self.reduced.as_slice(), usize::from(line))
     }
 
-    /// The prices and reduced costs of a basis, by its factor. Where it stops, the prices stay as they are.
-    pub(crate) fn refresh(&mut self, program: &Program, base: &Base) -> Result<(), Stop> {
-        self.set_right(program, base);
-        base.factor
-            .solve_transposed(self.right.as_slice(), self.rows.as_mut_slice())?;
+    /// The prices and reduced costs of a basis, by its factor, of which so many first columns are those of the last time. Where it
+    /// stops, the prices stay as they are.
+    pub(crate) fn refresh(
+        &mut self,
+        program: &Program,
+        base: &Base,
+        kept: usize,
+    ) -> Result<(), Stop> {
+        let same = self.set_right(program, base);
+        let first = if self.solved { same.min(kept) } else { 0 };
+        self.solved = false;
+        base.factor.solve_transposed_from(
+            program,
+            first,
+            self.right.as_slice(),
+            self.rows.as_mut_slice(),
+        )?;
+        self.solved = base.factor.is_triangular();
         self.spread(program, base);
         self.reduce(program, base);
         Ok(())
     }
 
-    // Sets the right-hand side of each column.
-    fn set_right(&mut self, program: &Program, base: &Base) {
-        for column in 0..base.factor.count() {
-            let right = match base.line_of(column) {
-                Some(line) => owed(program, base, line),
-                None => Fixed::zero(),
-            };
+    // The right-hand side of a column.
+    fn right_of(program: &Program, base: &Base, column: usize) -> Fixed {
+        match base.line_of(column) {
+            Some(line) => owed(program, base, line),
+            None => Fixed::zero(),
+        }
+    }
+
+    // Sets the right-hand side of each column. How many of the first ones are as they were.
+    fn set_right(&mut self, program: &Program, base: &Base) -> usize {
+        let mut same = base.factor.count();
+        for column in (0..base.factor.count()).rev() {
+            let right = Duals::right_of(program, base, column);
+            if read(self.right.as_slice(), column).get() != right.get() {
+                same = column;
+            }
             put(self.right.as_mut_slice(), column, right);
         }
+        same
     }
 
     // The price of a date by the rows.

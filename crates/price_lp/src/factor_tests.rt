@@ -71,7 +71,11 @@ fn prices_and_amounts_solve_a_basis(rt: HostRuntime) -> Result<(), Fail> {
     assert!(rt; segments.refresh(&basis).is_ok());
     assert!(rt; factor.refactor(&program, &basis, &segments).is_ok());
     let right = [program.cost(1), program.cost(2)];
-    assert!(rt; factor.solve_transposed(&right, &mut solution).is_ok());
+    assert!(rt;
+        factor
+            .solve_transposed(&program, &right, &mut solution)
+            .is_ok()
+    );
     // 1 / 1.019836, and then (1 - 0.02 * 0.980551) / 1.06.
     assert_eq!(rt;
         [solution[0].get(), solution[1].get()],
@@ -79,11 +83,33 @@ fn prices_and_amounts_solve_a_basis(rt: HostRuntime) -> Result<(), Fail> {
     );
     // 10^8 cents on each date.
     let mut right = [Fixed::clamp(102_400_000_000); 2];
-    assert!(rt; factor.solve(&mut right, &mut solution).is_ok());
+    assert!(rt; factor.solve(&program, &mut right, &mut solution).is_ok());
     assert_eq!(rt;
         [solution[0].get(), solution[1].get()],
         [98_513_841_750, 96_603_773_584]
     );
+    Ok(())
+}
+
+#[test]
+fn columns_before_the_first_change_stay(rt: HostRuntime) -> Result<(), Fail> {
+    let program = program_of(rt.alloc())?;
+    let mut basis = basis_of_lines(rt.alloc())?;
+    let mut segments = Segments::make(rt.alloc(), 2)?;
+    let mut factor = Factor::make(rt.alloc(), &program)?;
+    assert!(rt; segments.refresh(&basis).is_ok());
+    assert_eq!(rt; factor.refactor(&program, &basis, &segments).ok(), Some(0));
+    assert_eq!(rt; factor.refactor(&program, &basis, &segments).ok(), Some(2));
+    // The second date joins the first, and its line leaves.
+    basis.put_line(2, LineState::Low);
+    basis.put_link(1, true);
+    assert!(rt; segments.refresh(&basis).is_ok());
+    assert_eq!(rt; factor.refactor(&program, &basis, &segments).ok(), Some(1));
+    // The multiplier gets a row.
+    basis.put_multiplier(Multiplier::Free);
+    basis.put_line(2, LineState::Basic);
+    assert_eq!(rt; factor.refactor(&program, &basis, &segments).ok(), Some(0));
+    assert!(rt; !factor.is_triangular());
     Ok(())
 }
 

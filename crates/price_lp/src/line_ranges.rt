@@ -52,6 +52,8 @@ pub(crate) struct LineRanges {
     // Where the receipts of a line start, and at last where they end. There is one for each entry of a column.
     starts: Vec<usize>,
     receipts: Vec<u64>,
+    // What all fixed lines pay on each date.
+    paid: Vec<Total>,
     // The need days, in order.
     days: Vec<Day>,
 }
@@ -112,6 +114,7 @@ impl LineRanges {
             exact: vec![in alloc; None; usize::from(program.lines())]?,
             starts,
             receipts: vec![in alloc; 0; entries]?,
+            paid: vec![in alloc; Total::zero(); usize::from(program.dates()) + 1]?,
             days: days_of(alloc, book)?,
         })
     }
@@ -152,6 +155,14 @@ impl LineRanges {
         &self.receipts.as_slice()[start..]
     }
 
+    /// What all fixed lines pay on a date, counted from 1; nothing on others.
+    pub(crate) fn paid(&self, date: usize) -> Total {
+        match self.paid.get(date) {
+            Some(paid) => *paid,
+            None => Total::zero(),
+        }
+    }
+
     // Sets a range, and what a fixed line comes to.
     fn put(&mut self, line: u16, range: Range, exact: Option<Exact>) {
         if let Some(place) = self.ranges.get_mut(usize::from(line)) {
@@ -169,6 +180,7 @@ impl LineRanges {
             low: face(interval.low, step),
             high: face(interval.high, step),
         };
+        self.release(program, line);
         self.put(line, range, None);
     }
 
@@ -186,19 +198,35 @@ impl LineRanges {
             low: amount,
             high: amount,
         };
+        self.release(program, line);
         self.put(line, range, Some(exact));
         let entries = program.pays(line);
         let start = self.start(line);
-        self.clear(start, entries.len());
         for payment in payments {
             self.receive(entries, start, payment);
         }
     }
 
-    // Clears so many receipts from a place on.
-    fn clear(&mut self, start: usize, count: usize) {
-        for receipt in self.receipts.iter_mut().skip(start).take(count) {
-            *receipt = 0;
+    // Clears a receipt.
+    fn clear(&mut self, place: usize, date: u16) {
+        let Some(receipt) = self.receipts.get_mut(place) else {
+            return;
+        };
+        if let Some(paid) = self.paid.get_mut(usize::from(date)) {
+            *paid = paid.minus(Total::of_cents(*receipt));
+        }
+        *receipt = 0;
+    }
+
+    // Clears the receipts of a line, if it is fixed.
+    fn release(&mut self, program: &Program, line: u16) {
+        if self.exact(line).is_none() {
+            return;
+        }
+        let mut place = self.start(line);
+        for entry in program.pays(line) {
+            self.clear(place, entry.place);
+            place = place.saturating_add(1);
         }
     }
 
@@ -213,15 +241,18 @@ impl LineRanges {
         let entry = entries.partition_point(|entry| usize::from(entry.place) < date);
         if let Some(found) = entries.get(entry) {
             if usize::from(found.place) == date {
-                self.add(start.saturating_add(entry), payment.cents.0);
+                self.add(start.saturating_add(entry), date, payment.cents.0);
             }
         }
     }
 
-    // Adds to a receipt.
-    fn add(&mut self, place: usize, cents: u64) {
+    // Adds to a receipt of a date.
+    fn add(&mut self, place: usize, date: usize, cents: u64) {
         if let Some(receipt) = self.receipts.get_mut(place) {
             *receipt = receipt.saturating_add(cents);
+        }
+        if let Some(paid) = self.paid.get_mut(date) {
+            *paid = paid.plus(Total::of_cents(cents));
         }
     }
 }

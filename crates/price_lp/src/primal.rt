@@ -6,7 +6,7 @@ use crate::cells::{put, read};
 use crate::number::Fixed;
 use crate::program::Program;
 use crate::segments::Segment;
-use crate::sparse::Stop;
+use crate::sparse::{Entry, Stop, last_date};
 use crate::total::Total;
 use escrow_desk::NoMemory;
 use std::alloc::Global;
@@ -29,9 +29,7 @@ pub(crate) struct Primal {
 // What is still needed on each date, what the lines are worth beyond their cost, and what they cost.
 #[derive(Drop)]
 struct Sums {
-    // With the places of a total. No sum of a permitted case needs more than 128 bits. Another one would wrap: then the amounts are
-    // poor, and no more.
-    rest: Vec<i128>,
+    rest: Vec<Total>,
     excess: Total,
     cost: Total,
 }
@@ -40,47 +38,67 @@ impl Sums {
     // What is still needed on a date; nothing where it isn't there.
     fn rest(&self, date: usize) -> Total {
         match self.rest.get(date) {
-            Some(rest) => Total::clamp(*rest),
+            Some(rest) => *rest,
             None => Total::zero(),
         }
     }
 
-    // Takes what is paid on a date from what is needed.
-    fn take(&mut self, date: u16, paid: i128) {
-        if let Some(rest) = self.rest.get_mut(usize::from(date)) {
-            *rest = rest.wrapping_sub(paid);
+    // Takes what an amount of a line pays on a date from what is needed.
+    fn take(&mut self, entry: Entry, amount: Fixed) {
+        if let Some(rest) = self.rest.get_mut(usize::from(entry.place)) {
+            *rest = rest.without(entry.value, amount);
         }
     }
 
-    // Starts from the needs.
-    fn start(&mut self, program: &Program) {
+    // Needs cents again that were paid on a date.
+    fn give_back(&mut self, date: u16, cents: u64) {
+        if let Some(rest) = self.rest.get_mut(usize::from(date)) {
+            *rest = rest.plus(Total::of_cents(cents));
+        }
+    }
+
+    // Starts from the needs, less what fixed lines pay.
+    fn start(&mut self, program: &Program, base: &Base) {
         self.excess = Total::zero();
         self.cost = Total::zero();
         for date in 0..self.rest.len() {
-            self.rest[date] = Total::of_cents(program.need(date)).wide();
+            let need = Total::of_cents(program.need(date));
+            self.rest[date] = need.minus(base.ranges.paid(date));
         }
     }
 
     // Takes the payments of an amount of a line from what is needed.
     fn pay(&mut self, program: &Program, line: u16, amount: Fixed) {
         for entry in program.pays(line) {
-            self.take(entry.place, entry.value.times(amount));
+            self.take(*entry, amount);
         }
     }
 
     // The same of a basic line, on the dates that share their run: on others nothing is left over, and no cash is carried.
     fn pay_shared(&mut self, program: &Program, base: &Base, line: u16, amount: Fixed) {
-        for entry in program.pays(line) {
-            if base.segments.is_shared(usize::from(entry.place)) {
-                self.take(entry.place, entry.value.times(amount));
+        let pays = program.pays(line);
+        let span = base.segments.shared_span();
+        if last_date(pays) < span.first {
+            return;
+        }
+        for entry in pays {
+            let date = usize::from(entry.place);
+            if span.end <= date {
+                return;
+            }
+            if base.segments.is_shared(date) {
+                self.take(*entry, amount);
             }
         }
     }
 
-    // Takes the exact payments of a fixed line from what is needed.
-    fn pay_exactly(&mut self, program: &Program, base: &Base, line: u16) {
+    // Leaves what a basic line pays to its column, if it is fixed.
+    fn release(&mut self, program: &Program, base: &Base, line: u16) {
+        if base.ranges.exact(line).is_none() {
+            return;
+        }
         for (entry, cents) in program.pays(line).iter().zip(base.ranges.receipts(line)) {
-            self.take(entry.place, Total::of_cents(*cents).wide());
+            self.give_back(entry.place, *cents);
         }
     }
 
@@ -90,7 +108,7 @@ impl Sums {
         self.cost = self.cost.with(base.cost(program, line), amount);
     }
 
-    // Buys a line that isn't basic, at its end.
+    // Buys a line that isn't basic, at its end. What a fixed one pays is taken already.
     fn buy_at_end(&mut self, program: &Program, base: &Base, line: u16, amount: Fixed) {
         if amount.is_zero() {
             return;
@@ -100,7 +118,6 @@ impl Sums {
             self.count(program, base, line, amount);
             return;
         };
-        self.pay_exactly(program, base, line);
         self.excess = self.excess.plus(exact.excess);
         if base.aim.whole {
             self.cost = self.cost.plus(Total::of_cents(exact.cost));
@@ -140,7 +157,7 @@ impl Primal {
             excess: Fixed::zero(),
             objective: Total::zero(),
             sums: Sums {
-                rest: vec![in alloc; 0i128; dates + 1]?,
+                rest: vec![in alloc; Total::zero(); dates + 1]?,
                 excess: Total::zero(),
                 cost: Total::zero(),
             },
@@ -171,11 +188,14 @@ impl Primal {
 
     /// The amounts of a basis, by its factor.
     pub(crate) fn refresh(&mut self, program: &Program, base: &Base) -> Result<(), Stop> {
-        self.sums.start(program);
+        self.sums.start(program, base);
         self.buy_at_ends(program, base);
         self.set_right(program, base);
-        base.factor
-            .solve(self.right.as_mut_slice(), self.columns.as_mut_slice())?;
+        base.factor.solve(
+            program,
+            self.right.as_mut_slice(),
+            self.columns.as_mut_slice(),
+        )?;
         self.buy_basic(program, base);
         self.excess = self.sums.excess.rounded();
         let head = head_rest(base, &self.sums);
@@ -194,7 +214,9 @@ impl Primal {
     // Buys the lines that aren't basic.
     fn buy_at_ends(&mut self, program: &Program, base: &Base) {
         for line in 0..program.lines() {
-            if !base.is_basic(line) {
+            if base.is_basic(line) {
+                self.sums.release(program, base, line);
+            } else {
                 self.buy_at_end(program, base, line);
             }
         }

@@ -7,7 +7,7 @@ ghost use Rattle.fixed_powers.specs.DiscountPowers.{PowerTable, one};
 ghost use Rattle.offer_book.specs.Book.{IsBook};
 
 use crate::number::Fixed;
-use crate::sparse::{Entry, MOST_ENTRIES, Sparse, Stop};
+use crate::sparse::{Entry, MOST_ENTRIES, Sparse, Stop, last_date};
 use cash_table::place_of;
 use escrow_desk::NoMemory;
 use escrow_units::{Day, Flow, GREATEST_INDEX, index360, years_after};
@@ -187,14 +187,6 @@ fn order_of(alloc: Global, pays: &Sparse, lines: u16) -> Result<Vec<u16>, NoMemo
     }
     order.sort_by_key(|line| last_date(pays.column(usize::from(*line))))?;
     Ok(order)
-}
-
-// The last date of a column; 0 where it has none.
-fn last_date(column: &[Entry]) -> u16 {
-    match column {
-        [.., last] => last.place,
-        [] => 0,
-    }
 }
 
 impl Program {

@@ -4,7 +4,7 @@ use crate::base::Base;
 use crate::basis::{LineState, Multiplier};
 use crate::cells::difference;
 use crate::direction::Direction;
-use crate::duals::{Duals, reduced_cost};
+use crate::duals::Duals;
 use crate::leaving::{Leaving, Violation};
 use crate::number::{Fixed, PLACES};
 use crate::program::Program;
@@ -108,13 +108,7 @@ fn line_breakpoint(
     if !may_enter(base, line) {
         return None;
     }
-    let rise = reduced_cost(
-        program,
-        line,
-        Fixed::zero(),
-        direction.multiplier(),
-        direction.prices(),
-    );
+    let rise = direction.rise(program, line);
     breakpoint_at_end(base, line, duals.reduced(line), rise)
 }
 

@@ -91,10 +91,27 @@ impl Scatter {
         Ok(())
     }
 
+    // Adds to the value of a row, and tells whether it is met for the first time.
+    fn add_value(&mut self, row: u16, value: Fixed) -> Result<bool, Stop> {
+        match self.cells.get_mut(usize::from(row)) {
+            Some(cell) => {
+                let first = !cell.met;
+                *cell = Cell {
+                    value: cell.value.plus(value),
+                    met: true,
+                };
+                Ok(first)
+            }
+            None => Err(Stop),
+        }
+    }
+
     /// Adds to the value of a row. It stops where there is no such row.
     pub(crate) fn add(&mut self, row: u16, value: Fixed) -> Result<(), Stop> {
-        let sum = self.get(row).plus(value);
-        self.put(row, sum)
+        if self.add_value(row, value)? {
+            self.remember(row)?;
+        }
+        Ok(())
     }
 
     /// Takes off so many times another column. It stops where there is no such row.

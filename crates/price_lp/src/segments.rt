@@ -16,12 +16,31 @@ pub(crate) enum Segment {
     Tail,
 }
 
+/// Where the dates are that share their run with another one: none before the first, none from the end on.
+#[derive(Clone, Copy)]
+pub(crate) struct SharedSpan {
+    /// The first of them; the number of dates and two where there is none.
+    pub first: usize,
+    /// The date after the last of them; 0 where there is none.
+    pub end: usize,
+}
+
 /// The run of each date, and whether another date is in it.
 #[derive(Drop)]
 pub(crate) struct Segments {
     of_date: Vec<Segment>,
     shared: Vec<bool>,
+    shared_span: SharedSpan,
     free: u16,
+    multiplier: u16,
+}
+
+/// The run of a date in a list with one for each date; the tail for others.
+pub(crate) fn run_of(runs: &[Segment], date: usize) -> Segment {
+    match runs.get(date) {
+        Some(run) => *run,
+        None => Segment::Tail,
+    }
 }
 
 // Puts the run of each date, where all runs but the head are counted from 0. How many there are beside the head.
@@ -38,14 +57,21 @@ fn count_runs(of_date: &mut [Segment], basis: &Basis) -> u16 {
     opened
 }
 
-// Marks the dates that share their run with another one.
-fn mark_shared(shared: &mut [bool], basis: &Basis) {
-    let mut before = false;
-    for date in 0..shared.len() {
-        let after = basis.is_joined(date);
-        shared[date] = before || after;
-        before = after;
+// Marks the dates that share their run with another one, and finds where they are.
+fn mark_shared(shared: &mut [bool], basis: &Basis) -> SharedSpan {
+    let mut span = SharedSpan {
+        first: shared.len(),
+        end: 0,
+    };
+    for date in (0..shared.len()).rev() {
+        let before = date > 0 && basis.is_joined(date - 1);
+        shared[date] = before || basis.is_joined(date);
+        if shared[date] {
+            span.first = date;
+            span.end = span.end.max(date + 1);
+        }
     }
+    span
 }
 
 // Turns a run into the tail.
@@ -63,7 +89,12 @@ impl Segments {
         Ok(Segments {
             of_date: vec![in alloc; Segment::Head; usize::from(dates) + 2]?,
             shared: vec![in alloc; true; usize::from(dates) + 2]?,
+            shared_span: SharedSpan {
+                first: 0,
+                end: usize::from(dates) + 2,
+            },
             free: 0,
+            multiplier: dates.saturating_add(1),
         })
     }
 
@@ -76,16 +107,13 @@ impl Segments {
         }
         self.free = opened - 1;
         end_with(self.of_date.as_mut_slice(), self.free);
-        mark_shared(self.shared.as_mut_slice(), basis);
+        self.shared_span = mark_shared(self.shared.as_mut_slice(), basis);
         Ok(())
     }
 
     /// The run of a date, from 0 to the one after the last; the tail for others.
     pub(crate) fn of(&self, date: usize) -> Segment {
-        match self.of_date.get(date) {
-            Some(segment) => *segment,
-            None => Segment::Tail,
-        }
+        run_of(self.of_date.as_slice(), date)
     }
 
     /// Whether a date shares its run with another one.
@@ -94,6 +122,16 @@ impl Segments {
             Some(shared) => *shared,
             None => false,
         }
+    }
+
+    /// Where the dates are that share their run with another one.
+    pub(crate) fn shared_span(&self) -> SharedSpan {
+        self.shared_span
+    }
+
+    /// The row of the multiplier, behind those of all runs that there can be.
+    pub(crate) fn multiplier_row(&self) -> u16 {
+        self.multiplier
     }
 
     /// How many runs have a price of their own.

@@ -4,7 +4,7 @@ use crate::basis::{Basis, LineState};
 use crate::simplex::{Purpose, Simplex, SolveEnd};
 use case_file::read_case;
 use dual_bound::{Interval, Leaf, Prices};
-use escrow_units::{Cents, GREATEST_INDEX, YieldUnits};
+use escrow_units::{Cents, Day, Flow, GREATEST_INDEX, YieldUnits};
 use fixed_powers::{Powers, Side};
 use std::alloc::Global;
 use std::test::Fail;
@@ -68,6 +68,33 @@ fn a_solve_keeps_to_the_yield_limit(rt: HostRuntime) -> Result<(), Fail> {
     );
     assert_eq!(rt; simplex.solve(100, None), SolveEnd::Optimal);
     assert_eq!(rt; simplex.amount(0), 102_400);
+    Ok(())
+}
+
+#[test]
+fn a_fixed_line_pays_exactly_until_it_is_free(rt: HostRuntime) -> Result<(), Fail> {
+    let mut simplex = simplex_of(rt.alloc())?;
+    let half_a_year = [Flow {
+        day: Day::new(20284),
+        cents: Cents(50_991_781),
+    }];
+    simplex.start_greedily();
+    assert_eq!(rt; simplex.solve(100, None), SolveEnd::Optimal);
+    // 500,000 dollars of a line that is in the basis: it leaves it.
+    simplex.fix(1, 500_000, Cents(50_000_000), &half_a_year, 0);
+    assert_eq!(rt; simplex.solve(100, None), SolveEnd::Optimal);
+    assert!(rt; !simplex.is_basic(1));
+    assert_eq!(rt; simplex.amount(1), 51_200_000_000);
+    assert_eq!(rt; cents_of(&simplex), 284_918_460);
+    simplex.set_range(
+        1,
+        Interval {
+            low: 0,
+            high: 10_000_000,
+        },
+    );
+    assert_eq!(rt; simplex.solve(100, None), SolveEnd::Optimal);
+    assert_eq!(rt; cents_of(&simplex), 285_028_911);
     Ok(())
 }
 

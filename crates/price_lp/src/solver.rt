@@ -81,17 +81,28 @@ impl Solver {
         self.current = Current::Nothing;
     }
 
-    // Another range of a line.
-    fn note_range(&mut self, line: u16) {
-        if self.current == Current::Amounts && !self.base.is_basic(line) {
+    // Another range of a line, after one with a single amount or not. A line with a single amount has no reduced cost.
+    fn note_range(&mut self, line: u16, was_single: bool) {
+        if self.base.is_basic(line) {
+            return;
+        }
+        if was_single && !self.is_single(line) {
+            self.current = Current::Nothing;
+        } else if self.current == Current::Amounts {
             self.current = Current::Prices;
         }
     }
 
+    // Whether a line has a single amount.
+    fn is_single(&self, line: u16) -> bool {
+        self.base.ranges.range(line).is_single()
+    }
+
     /// The range of a line, in units.
     pub(crate) fn set_range(&mut self, program: &Program, line: u16, interval: Interval) {
+        let was_single = self.is_single(line);
         self.base.ranges.set(program, line, interval);
-        self.note_range(line);
+        self.note_range(line, was_single);
     }
 
     /// Fixes a line at a number of units, with what they come to and pay exactly.
@@ -103,8 +114,9 @@ impl Solver {
         exact: Exact,
         payments: &[Flow],
     ) {
+        let was_single = self.is_single(line);
         self.base.ranges.fix(program, line, units, exact, payments);
-        self.note_range(line);
+        self.note_range(line, was_single);
     }
 
     /// Starts greedily.
@@ -139,8 +151,8 @@ impl Solver {
     // The factor and the prices of the basis.
     fn refresh_prices(&mut self, program: &Program) -> Result<(), Stop> {
         if self.current == Current::Nothing {
-            self.base.refactor(program)?;
-            self.duals.refresh(program, &self.base)?;
+            let kept = self.base.refactor(program)?;
+            self.duals.refresh(program, &self.base, kept)?;
             self.current = Current::Prices;
         }
         Ok(())

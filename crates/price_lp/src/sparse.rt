@@ -21,6 +21,14 @@ pub(crate) struct Entry {
     pub value: Fixed,
 }
 
+/// The last date on which a line pays; 0 where there is none.
+pub(crate) fn last_date(pays: &[Entry]) -> usize {
+    match pays.last() {
+        Some(entry) => usize::from(entry.place),
+        None => 0,
+    }
+}
+
 impl Entry {
     // The entry that fills room that isn't used.
     fn empty() -> Entry {
@@ -38,6 +46,8 @@ pub(crate) struct Sparse {
     used: usize,
     ends: Vec<usize>,
     columns: usize,
+    // Where the column that is being made begins.
+    begin: usize,
 }
 
 impl Sparse {
@@ -56,13 +66,15 @@ impl Sparse {
             used: 0,
             ends: vec![in alloc; 0; columns]?,
             columns: 0,
+            begin: 0,
         })
     }
 
-    /// Leaves no column.
-    pub(crate) fn clear(&mut self) {
-        self.used = 0;
-        self.columns = 0;
+    /// Leaves so many columns, the first ones, and no entry of one that is being made.
+    pub(crate) fn truncate(&mut self, columns: usize) {
+        self.columns = self.columns.min(columns);
+        self.begin = self.start(self.columns);
+        self.used = self.begin;
     }
 
     /// How many entries there are in all columns together.
@@ -84,7 +96,7 @@ impl Sparse {
     fn ends_at(&self, place: u16) -> bool
         ensures { IsTrue result → 0 < self.now.used }
     {
-        if self.used <= self.start(self.columns) {
+        if self.used <= self.begin {
             return false;
         }
         match self.entries.get(self.used - 1) {
@@ -118,6 +130,7 @@ impl Sparse {
         }
         self.ends[self.columns] = self.used;
         self.columns += 1;
+        self.begin = self.used;
         Ok(())
     }
 

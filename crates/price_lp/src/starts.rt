@@ -6,7 +6,7 @@ use crate::cells::product;
 use crate::duals::Duals;
 use crate::number::{Fixed, PLACES};
 use crate::program::Program;
-use crate::sparse::{Entry, Stop};
+use crate::sparse::{Stop, last_date};
 use dual_bound::{Leaf, PRICE_SCALE};
 
 // The least that a line pays on its last date, for each cent, to make the price of that date: a half.
@@ -24,14 +24,6 @@ struct Progress {
     price: Fixed,
     // The line that makes the price, where there is one.
     line: Option<u16>,
-}
-
-// The last date on which a line pays; 0 where there is none.
-fn last_date(pays: &[Entry]) -> usize {
-    match pays.last() {
-        Some(entry) => usize::from(entry.place),
-        None => 0,
-    }
 }
 
 // The price of a line's last date at which it has a reduced cost of 0, from the prices of the dates before; None where it pays too

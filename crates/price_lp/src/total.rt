@@ -40,7 +40,7 @@ impl Total {
 
     /// The nearest total that is kept.
     pub(crate) fn clamp(value: i128) -> Total {
-        if value > GREATEST {
+        if value >= GREATEST {
             Total { value: GREATEST }
         } else if value < -GREATEST {
             Total { value: -GREATEST }
