@@ -12,7 +12,7 @@ use escrow_desk::NoMemory;
 use escrow_units::{GREATEST_INDEX, GREATEST_YIELD, YieldUnits};
 use fixed_powers::{Powers, Side};
 use offer_book::{Book, COEFFICIENT_SCALE};
-use price_lp::{Purpose, Simplex};
+use price_lp::{Basis, Purpose, Simplex};
 use std::io;
 use std::io::ErrorKind;
 use std::time::Instant;
@@ -22,9 +22,6 @@ pub(crate) const COLD: u32 = 2_000;
 
 /// The most iterations after a changed range.
 pub(crate) const WARM: u32 = 300;
-
-// How many ranges are changed.
-const MOST_CHANGES: u64 = 60;
 
 /// Want of memory, as a fault.
 pub(crate) fn starved() -> io::Error {
@@ -60,26 +57,48 @@ pub(crate) fn powers_of(rt: &HostRuntime, limit: YieldUnits) -> io::Result<Power
     }
 }
 
-// The least time of three solves from nothing.
-fn time_of_solves(rt: &HostRuntime, simplex: &mut Simplex) -> io::Result<u64> {
-    let mut least = u64::MAX;
-    for _ in 0..3 {
-        let start = Instant::now(rt)?;
-        simplex.start_greedily();
-        simplex.solve(COLD, None);
-        least = least.min(micros_since(rt, start)?);
+// The program of a book for the prices of a leaf.
+fn program_of(rt: &HostRuntime, book: &Book, powers: &Powers) -> io::Result<Simplex>
+    requires side { powers.now.side ≡ Side.Low }
+    requires longest { powers.now.longest ≡ GREATEST_INDEX }
+{
+    let Ok(mut simplex) = Simplex::make(rt.alloc(), book, powers) else {
+        return Err(starved());
+    };
+    simplex.aim(Purpose::Bound, true);
+    Ok(simplex)
+}
+
+// What a solve from nothing takes, of a program that wasn't solved before.
+fn time_of_solve(rt: &HostRuntime, simplex: &mut Simplex) -> io::Result<u64> {
+    let start = Instant::now(rt)?;
+    simplex.start_greedily();
+    simplex.solve(COLD, None);
+    micros_since(rt, start)
+}
+
+// The least time of two more solves from nothing, each of a new program.
+fn least_time(rt: &HostRuntime, book: &Book, powers: &Powers, first: u64) -> io::Result<u64>
+    requires side { powers.now.side ≡ Side.Low }
+    requires longest { powers.now.longest ≡ GREATEST_INDEX }
+{
+    let mut least = first;
+    for _ in 0..2 {
+        let mut simplex = program_of(rt, book, powers)?;
+        least = least.min(time_of_solve(rt, &mut simplex)?);
     }
     Ok(least)
 }
 
-// What a solve takes after a line's range has changed.
+// What a solve takes from a basis after a line's range has changed.
 fn time_of_change(
     rt: &HostRuntime,
     simplex: &mut Simplex,
+    root: &Basis,
     line: u16,
     interval: Interval,
 ) -> io::Result<u64> {
-    simplex.start_greedily();
+    simplex.start_from(root);
     simplex.solve(COLD, None);
     simplex.set_range(line, interval);
     let start = Instant::now(rt)?;
@@ -97,6 +116,7 @@ fn units_below(simplex: &Simplex, line: u16, step: u64) -> u64 {
 fn time_of_split(
     rt: &HostRuntime,
     simplex: &mut Simplex,
+    root: &Basis,
     line: u16,
     units: u64,
     most: u64,
@@ -112,24 +132,34 @@ fn time_of_split(
     let whole = Interval { low: 0, high: most };
     let mut nanos = 0u64;
     for interval in [below, above] {
-        nanos = nanos.saturating_add(time_of_change(rt, simplex, line, interval)?);
+        nanos = nanos.saturating_add(time_of_change(rt, simplex, root, line, interval)?);
         simplex.set_range(line, whole);
     }
+    simplex.start_from(root);
+    simplex.solve(COLD, None);
     Ok(nanos)
 }
 
-// What changed ranges take on average, of the lines that are in the basis: up to an amount, and from one unit more.
+// The basis of the solution.
+fn basis_of(rt: &HostRuntime, simplex: &Simplex) -> io::Result<Basis> {
+    let Ok(mut basis) = Basis::make(rt.alloc(), simplex) else {
+        return Err(starved());
+    };
+    simplex.save(&mut basis);
+    Ok(basis)
+}
+
+// What changed ranges take on average, of each line in the basis: up to its amount, and from one unit more.
 fn measure_changes(rt: &HostRuntime, book: &Book, simplex: &mut Simplex) -> io::Result<()> {
+    let root = basis_of(rt, simplex)?;
     let mut tries = 0u64;
     let mut nanos = 0u64;
     for line in 0..book.line_count() {
         let most = book.line(line).most;
         let units = units_below(simplex, line, book.line(line).step);
-        if simplex.is_basic(line) && units < most && tries < MOST_CHANGES {
-            nanos = nanos.saturating_add(time_of_split(rt, simplex, line, units, most)?);
-            tries += 2;
-            simplex.start_greedily();
-            simplex.solve(COLD, None);
+        if simplex.is_basic(line) && units < most {
+            nanos = nanos.saturating_add(time_of_split(rt, simplex, &root, line, units, most)?);
+            tries = tries.saturating_add(2);
         }
     }
     let mean = nanos.checked_div(tries).unwrap_or(0);
@@ -142,14 +172,10 @@ pub(crate) fn measure_root(rt: &HostRuntime, book: &Book, limit: YieldUnits) -> 
     requires limit_to { limit.0 ≤ GREATEST_YIELD }
 {
     let powers = powers_of(rt, limit)?;
-    let mut simplex = match Simplex::make(rt.alloc(), book, &powers) {
-        Ok(simplex) => simplex,
-        Err(_) => return Err(starved()),
-    };
-    simplex.aim(Purpose::Bound, true);
-    let before = simplex.iterations();
-    let micros = time_of_solves(rt, &mut simplex)?;
-    let iterations = simplex.iterations().saturating_sub(before) / 3;
+    let mut simplex = program_of(rt, book, &powers)?;
+    let first = time_of_solve(rt, &mut simplex)?;
+    let iterations = simplex.iterations();
+    let micros = least_time(rt, book, &powers, first)?;
     println!(rt; ", {iterations} iterations, {micros} us")?;
     measure_changes(rt, book, &mut simplex)
 }

@@ -1,4 +1,4 @@
-use Rattle.measure.proofs.RootFacts.{root-room}
+use Rattle.dual_bound.proofs.RangeFacts.{root-room}
 use Rattle.measure.proofs.roots.improved.Goals as goal
 
 pub improve-requires-clause-ranges : goal.improve-requires-clause-ranges
