@@ -1,12 +1,11 @@
--- The root of a tree: its ranges, and when its one leaf supports a gap.
+-- The root of a tree: when its one leaf supports a gap.
 use Rattle.std.proofs.Common.{◌≡◌, ◌∙◌, ℕ, ◌<◌, ◌≤◌, ◌-◌, List, [], ◌∷◌, length, refl, sym, ap, arith, Some, Bool, true, false, not, pos, ◌-ℤ◌, ℤ, if◌then◌else◌, int_lt}
-use Rattle.std.specs.List.{AllZip}
 use Rattle.std.proofs.lemmas.List.Elements.{All-cons, All-head, All-nil}
 use Rattle.bound_certificate.specs.Certificate.{IsNode}
 use Rattle.case_file.specs.Case.{CaseContents}
 use Rattle.cash_table.specs.Points.{is_within_limit}
 use Rattle.dual_bound.specs.LeafBound.{bound_of}
-use Rattle.dual_bound.specs.Ranges.{HasRoomFor, root_of}
+use Rattle.dual_bound.specs.Ranges.{root_of}
 use Rattle.dual_bound.specs.Tree.{IsLeaf}
 use Rattle.dual_bound.specs.declared.tree.Leaf.{Leaf}
 use Rattle.dual_bound.specs.declared.tree.TreeNode.TheVariants as node
@@ -15,16 +14,10 @@ use Rattle.escrow_check.specs.Reasons.{IsClosed, IsProper, IsSoundTree}
 use Rattle.escrow_units.specs.declared.limits.TheConstants.{AMOUNT_LIMIT}
 use Rattle.offer_book.specs.Book.{IsBook}
 use Rattle.offer_book.specs.Portfolio.{IsPermitted, Meets, cost}
-use Rattle.offer_book.specs.declared.line.Line.{Line}
 use Rattle.branch_search.proofs.PlanBuys.{plan-again, plan-bought, plan-buys_well}
 use Rattle.branch_search.specs.Purchases.{certificate_of}
 use Rattle.branch_search.specs.Root.{IsLeastGap}
 use Rattle.branch_search.specs.Search.{HasNoGap, IsFound}
-
--- each range of the root is within its line's most
-pub root-room : (lines : List Line) → AllZip HasRoomFor lines (root_of lines)
-root-room [] = tt
-root-room (line ∷ lines) = (omega arith, root-room lines)
 
 -- the bound of a leaf at the root
 abbrev pub bound_at_root : CaseContents → Leaf → ℤ

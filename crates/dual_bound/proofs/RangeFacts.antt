@@ -150,6 +150,11 @@ pub root-ordered : (lines : List Line) → All (λ interval. interval.low ≤ in
 root-ordered [] = All-nil (λ (i : Interval). i.low ≤ i.high)
 root-ordered (line ∷ lines) = All-cons (λ (i : Interval). i.low ≤ i.high) (whole_interval line) (root_of lines) (omega arith) (root-ordered lines)
 
+-- each range of the root has room in its line
+pub root-room : (lines : List Line) → AllZip HasRoomFor lines (root_of lines)
+root-room [] = tt
+root-room (line ∷ lines) = (omega arith, root-room lines)
+
 -- tight ranges have room in their lines
 pub tight-room : (lines : List Line) (ranges : List Interval) → AreTight lines ranges → AllZip HasRoomFor lines ranges
 tight-room [] [] tight = tt

@@ -1,4 +1,4 @@
-use Rattle.branch_search.proofs.RootFacts.{root-room}
+use Rattle.dual_bound.proofs.RangeFacts.{root-room}
 use Rattle.branch_search.proofs.starting.root_leaf.Goals as goal
 
 pub improve-requires-clause-ranges : goal.improve-requires-clause-ranges
