@@ -102,6 +102,10 @@ mod tests {
         for (text, day) in days {
             assert_eq!(rt; read_day(text.as_bytes()), Ok(day), "at {text}");
         }
+    }
+
+    #[test]
+    fn refuses_what_is_no_day(rt: HostRuntime) {
         for text in [
             "2025-02-29",
             "2025-02-30",
