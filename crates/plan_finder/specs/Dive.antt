@@ -16,8 +16,8 @@ pub record IsDiver (book : BookContents) (diver : Diver) : Type 0 where
   pub fixed : length diver.fixed.items ≡ length book.lines
   pub order : AreLinesOf book diver.order.items
 
--- what a search works with: a ledger of the book, a dive over its lines, the orders in which lines are trimmed, and what is kept for
--- each line
+-- what a search works with: a ledger of the book, a dive over its lines, the orders in which lines are trimmed, what is kept for each
+-- line, and some lines of the book, at most so many as it has
 pub record IsSearch (book : BookContents) (search : Search) : Type 0 where
   pub yield_units : ℕ
   pub ledger : IsLedger yield_units book search.ledger
