@@ -578,28 +578,6 @@ impl Factor {
         put_at(into, row, solved(right, taken, pivot.value)?)
     }
 
-    // Solves the columns as they were made triangular, from one on to the last. As long as the right-hand side is 0 from the first
-    // one on, so is what comes of it.
-    fn solve_upper(
-        &self,
-        program: &Program,
-        first: usize,
-        right: &[Fixed],
-        into: &mut [Fixed],
-    ) -> Result<(), Stop> {
-        let mut is_met = first > 0;
-        for column in first..self.pivots.len().min(right.len()) {
-            let pivot = self.pivots[column];
-            is_met = is_met || !right[column].is_zero();
-            if is_met {
-                self.solve_column(program, pivot, column, right[column], into)?;
-            } else {
-                put_at(into, usize::from(pivot.row), Fixed::zero())?;
-            }
-        }
-        Ok(())
-    }
-
     // Undoes the eliminations, from the last to the first.
     fn undo_eliminations(&self, into: &mut [Fixed]) {
         for place in (0..self.eliminations.len()).rev() {
@@ -626,7 +604,8 @@ impl Factor {
         self.solve_transposed_from(program, 0, right, into)
     }
 
-    /// The same, where the numbers of the rows of so many first columns are there already, and no elimination changed them.
+    /// The same, where the numbers of the rows of so many first columns are there already, and no elimination changed them. As long
+    /// as the right-hand side is 0 from the first column on, so is what comes of it.
     pub(crate) fn solve_transposed_from(
         &self,
         program: &Program,
@@ -637,7 +616,16 @@ impl Factor {
         if right.len() < self.pivots.len() {
             return Err(Stop);
         }
-        self.solve_upper(program, first, right, into)?;
+        let mut is_met = first > 0;
+        for column in first..self.pivots.len() {
+            let pivot = self.pivots[column];
+            is_met = is_met || !right[column].is_zero();
+            if is_met {
+                self.solve_column(program, pivot, column, right[column], into)?;
+            } else {
+                put_at(into, usize::from(pivot.row), Fixed::zero())?;
+            }
+        }
         self.undo_eliminations(into);
         Ok(())
     }
