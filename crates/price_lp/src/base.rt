@@ -4,7 +4,7 @@ use crate::aim::Aim;
 use crate::basis::{Basis, LineState, Multiplier};
 use crate::factor::Factor;
 use crate::line_ranges::{LineRanges, Range};
-use crate::number::Fixed;
+use crate::number::{Fixed, PLACES};
 use crate::program::Program;
 use crate::segments::Segments;
 use crate::sparse::Stop;
@@ -27,16 +27,21 @@ pub(crate) struct Base {
     pub factor: Factor,
 }
 
-// The reduced cost up to which a line may stand at either end.
-const NOTHING: i64 = 16;
+// The reduced cost up to which a line may stand at either end, where the multiplier is below one.
+const NOTHING: i128 = 16;
+
+/// The reduced cost up to which a line may stand at either end: the greater the multiplier, the less exact are prices.
+pub(crate) fn nothing_by(multiplier: Fixed) -> Fixed {
+    Fixed::clamp(NOTHING + 4 * (multiplier.wide().max(0) >> PLACES))
+}
 
 // Where a line stands by its reduced cost.
-fn standing(state: LineState, reduced: Fixed, range: Range) -> LineState {
+fn standing(state: LineState, reduced: Fixed, nothing: Fixed, range: Range) -> LineState {
     if state == LineState::Basic {
         LineState::Basic
-    } else if reduced.get() < -NOTHING {
+    } else if reduced.get() < -nothing.get() {
         LineState::High
-    } else if NOTHING < reduced.get() || range.is_single() {
+    } else if nothing.get() < reduced.get() || range.is_single() {
         LineState::Low
     } else {
         state
@@ -109,9 +114,10 @@ impl Base {
         }
     }
 
-    /// Puts a line that isn't in the basis at the end that its reduced cost asks for.
-    pub(crate) fn stand(&mut self, line: u16, reduced: Fixed) {
-        let state = standing(self.basis.line(line), reduced, self.ranges.range(line));
+    /// Puts a line that isn't in the basis at the end that its reduced cost asks for; where that is next to nothing, it stays.
+    pub(crate) fn stand(&mut self, line: u16, reduced: Fixed, nothing: Fixed) {
+        let range = self.ranges.range(line);
+        let state = standing(self.basis.line(line), reduced, nothing, range);
         self.basis.put_line(line, state);
     }
 }

@@ -1,7 +1,7 @@
 //! The bounded dual simplex.
 
 use crate::aim::Aim;
-use crate::base::Base;
+use crate::base::{Base, nothing_by};
 use crate::basis::Basis;
 use crate::direction::Direction;
 use crate::duals::Duals;
@@ -142,9 +142,10 @@ impl Solver {
 
     // Puts each line that isn't basic at the end that its reduced cost asks for.
     fn put_lines(&mut self, program: &Program) {
+        let nothing = nothing_by(self.duals.multiplier());
         for line in 0..program.lines() {
-            let reduced: Fixed = self.duals.reduced(line);
-            self.base.stand(line, reduced);
+            let reduced = self.duals.reduced(line);
+            self.base.stand(line, reduced, nothing);
         }
     }
 
