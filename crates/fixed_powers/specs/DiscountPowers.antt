@@ -2,6 +2,7 @@
 -- A yield of n units of 10^-10 discounts a half-year of 180 index days by 200 percent / (200 percent + n).
 use Rattle.std.specs.Prelude.{◌≡◌, ℕ, zero, suc, ◌+◌, ◌*◌, ◌/◌, ◌^◌, ◌<◌, ◌≤◌, Bool, nat_le, List, length, slice_index}
 use Rattle.std.specs.Int.{div_ceil}
+use Rattle.escrow_units.specs.declared.limits.TheConstants.{GREATEST_INDEX}
 use Rattle.escrow_units.specs.PresentValue.{half_year, two_hundred_percent, AtLeastDayFactor, AtMostDayFactor}
 use Rattle.fixed_powers.specs.Searches.{greatest_passing, least_passing}
 use Rattle.fixed_powers.specs.declared.side.Side.{Side}
@@ -95,3 +96,8 @@ IsAtLeastPower n d value = (a b : ℕ) → 0 < b → AtMostDayFactor n a b → o
 abbrev pub LiesOutward : Side → ℕ → ℕ → ℕ → Type 0
 LiesOutward Low n d value = IsAtMostPower n d value
 LiesOutward High n d value = IsAtLeastPower n d value
+
+-- a table of powers rounded down, for each day of 40 years
+pub record IsLowTable (table : PowerTable) : Type 0 where
+  pub side : table.side ≡ Low
+  pub longest : table.longest ≡ GREATEST_INDEX
