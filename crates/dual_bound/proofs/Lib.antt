@@ -14,5 +14,6 @@ pub mod RangeLaws
 pub mod Signed
 pub mod Sizes
 pub mod Soundness
+pub mod SumFacts
 pub mod TableFacts
 pub mod TableauFacts

@@ -8,22 +8,25 @@ use Rattle.std.proofs.lemmas.List.{get_or_past, length-map, take_more}
 use Rattle.std.proofs.lemmas.List.Elements.{All-cons, All-map, All-nil, All-same}
 use Rattle.std.proofs.lemmas.Slice.Zip.{AllZip-long}
 use Rattle.fixed_powers.specs.DiscountPowers.{one}
-use Rattle.offer_book.specs.Book.{BookContents, IsBook, IsLine}
+use Rattle.offer_book.specs.Book.{AreLines, BookContents, IsBook, IsLine}
 use Rattle.offer_book.specs.declared.coefficients.TheConstants.{COEFFICIENT_SCALE}
 use Rattle.offer_book.specs.declared.line.Line.{Line}
 use Rattle.offer_book.specs.declared.line.LineKind.TheVariants.{Cash}
-use Rattle.dual_bound.specs.Columns.{Extends, IsColumn, IsLightWorth, IsOther, IsPlace, IsSmallColumn, IsTableau, is_other, is_regular, worth_between, worth_on}
+use Rattle.dual_bound.specs.Columns.{Extends, IsColumn, IsLightWorth, IsOther, IsPlace, IsRun, IsRunOf, IsSmallColumn, IsTableau, is_other, is_regular, worth_at, worth_between, worth_on, worth_together}
 use Rattle.dual_bound.specs.LeafBound.{bound_of, least_within, priced_needs, signed_sum}
 use Rattle.dual_bound.specs.Tree.{IsLeaf}
 use Rattle.dual_bound.specs.declared.column.Column.{Column}
 use Rattle.dual_bound.specs.declared.column.OtherPayment.{OtherPayment}
 use Rattle.dual_bound.specs.declared.prices.TheConstants.{PRICE_SCALE}
 use Rattle.dual_bound.specs.declared.ranges.Interval.{Interval}
+use Rattle.dual_bound.specs.declared.series.Run.{Run}
 use Rattle.dual_bound.specs.declared.tableau.Tableau.{Tableau}
 use Rattle.dual_bound.specs.declared.tree.Leaf.{Leaf}
 use Rattle.dual_bound.specs.declared.worth.PricedDay.{PricedDay}
+use Rattle.dual_bound.specs.declared.worth.Worth.{Worth}
 use Rattle.dual_bound.proofs.ColumnMade.{column-stays, zip-push, zip-weaker}
 use Rattle.dual_bound.proofs.Soundness.{all-lines}
+use Rattle.dual_bound.proofs.SumFacts.{joined, run-worth, together-light}
 
 zip-get : {A B : Type 0} (R : A → B → Type 0) (xs : List A) (ys : List B) (i : ℕ) (d : A) (e : B) → AllZip R xs ys → i < length xs → R (get_or xs i d) (get_or ys i e)
 zip-get R [] ys i d e h few = absurd (omega arith)
@@ -84,12 +87,80 @@ ready book t place line column limits h few is column_is = record {
     days : length t.worths.items ≡ length t.days.items
     days = ap length h.worths ∙ length-map t.days.items (worth_on t.leaf)
 
+-- the places of columns are those of days
+pub columns-there : (n : ℕ) (book : BookContents) (days : List PricedDay) (lines : List Line) (columns : List Column) → AllZip (IsColumn n book days) lines columns
+    → All (λ (column : Column). All (λ place. place < length days) column.places.items) columns
+columns-there n book days lines columns h =
+    zip-right (IsColumn n book days) (λ (column : Column). All (λ place. place < length days) column.places.items) lines columns
+    (λ line column own.
+    zip-right (IsPlace n book line.kind days) (λ place. place < length days) (filter is_regular own.schedule) column.places.items (λ p k at. at.there) own.places) h
+
+-- days are worth at most 2 each
+pub worths-light : (dates : ℕ) (leaf : Leaf) (days : List PricedDay) (worths : List Worth) → IsLeaf dates leaf → All (λ (priced : PricedDay). priced.power ≤ one) days
+    → worths ≡ map (worth_on leaf) days → All IsLightWorth worths
+worths-light dates leaf days worths well powers is =
+    All-same IsLightWorth worths (map (worth_on leaf) days) is (All-map IsLightWorth (worth_on leaf) days (λ k d lt. light-worth dates leaf (get_or days k d) well (powers k d lt)))
+
+-- a book has at most 257 lines
+pub lines-few : (book : BookContents) → IsBook book → length book.lines ≤ 257
+lines-few book h = few book.lines h.lines
+  where
+    few : (lines : List Line) → AreLines book.settle lines → length lines ≤ 257
+    few [] is = absurd is
+    few (cash ∷ securities) is = omega (arith, is.2)
+
+-- the run of a line, and what it is worth
+pub record IsRunWorth (t : Tableau) (column : Column) (run : Run) : Type 0 where
+  pub to : run.to < length t.series.sums.items
+  pub from : run.from < length t.series.sums.items
+  pub worth : worth_at t.series.sums.items run.to ≡ joined (worth_at t.series.sums.items run.from) (worth_together t.worths.items column.places.items)
+  pub light : (worth_together t.worths.items column.places.items).above + (worth_together t.worths.items column.places.items).below ≤ 84 * (2 * PRICE_SCALE)
+
+pub runs-long : (book : BookContents) (t : Tableau) → IsTableau book t → length t.series.runs.items ≡ length book.lines
+runs-long book t h =
+    AllZip-long (IsRunOf t.series.stops.items) t.columns.items t.series.runs.items h.series.runs
+    ∙ AllZip-long (IsColumn t.yield_units.0 book t.days.items) book.lines t.columns.items h.columns
+
+pub run-of : (book : BookContents) (t : Tableau) (place : ℕ) (d : Column) (run : Run) → IsTableau book t → place < length book.lines → run ≡ get_or t.series.runs.items place run
+    → IsRunWorth t (get_or t.columns.items place d) run
+run-of book t place d run h few is = record {
+  to = omega (arith, own.there, h.sums.every);
+  from = omega (arith, own.there, own.long, h.sums.every);
+  worth = run-worth t.worths.items t.series.stops.items t.series.sums.items column.places.items run h.sums own;
+  light = omega (
+    arith,
+    together-light t.worths.items column.places.items (worths-light (length book.needs) t.leaf t.days.items t.worths.items h.leaf h.powers h.worths)
+        (λ k e lt. omega (arith, columns-there t.yield_units.0 book t.days.items book.lines t.columns.items h.columns place d there k e lt, ap length h.worths, length-map t.days.items (worth_on t.leaf))),
+    (h.small place d there).few,
+  );
+}
+  where
+    column : Column
+    column = get_or t.columns.items place d
+
+    there : place < length t.columns.items
+    there = omega (arith, few, AllZip-long (IsColumn t.yield_units.0 book t.days.items) book.lines t.columns.items h.columns)
+
+    own : IsRun t.series.stops.items column.places.items run
+    own =
+        subst (IsRun t.series.stops.items column.places.items) (sym is)
+        (zip-get (IsRunOf t.series.stops.items) t.columns.items t.series.runs.items place d run h.series.runs there)
+
 pub columns-long : (book : BookContents) (t : Tableau) → IsTableau book t → length t.columns.items ≡ length book.lines
 columns-long book t h = AllZip-long (IsColumn t.yield_units.0 book t.days.items) book.lines t.columns.items h.columns
 
 -- a line, where none is named
 pub some-line : Line
 some-line = record { kind = Cash; step = 1; least = 1; most = 0 }
+
+-- an element of a list that reaches so far
+one-of : {A : Type 0} (xs : List A) (i : ℕ) → i < length xs → A
+one-of [] i few = absurd (omega arith)
+one-of (x ∷ xs) i few = x
+
+-- a line's column, where none is named
+pub some-column : (book : BookContents) (t : Tableau) (place : ℕ) → IsTableau book t → place < length book.lines → Column
+some-column book t place h few = one-of t.columns.items place (omega (arith, few, columns-long book t h))
 
 -- columns, one more
 pub columns-more : (n : ℕ) (book : BookContents) (days more : List PricedDay) (lines : List Line) (i : ℕ) (line : Line) (columns : List Column) (column : Column) → i < length lines

@@ -1,6 +1,6 @@
 -- Columns: what each line is in the linear program whose dual the bound is. Made once for a book and the powers of a yield,
 -- they hold each line's coefficients and what each payment day is priced by, so that a leaf is priced without a calendar.
-use Rattle.std.specs.Prelude.{◌≡◌, ℕ, ◌+◌, ◌-◌, ◌*◌, ◌/◌, ◌^◌, ◌<◌, ◌≤◌, ◌==◌, Bool, false, ◌&&◌, not, List, All, length, map, filter, slice_index, slice_index_or, sum_by, ℤ, pos, ◌+ℤ◌, ◌-ℤ◌, ◌*ℤ◌, neg_ℤ, unsigned_abs, Some, None}
+use Rattle.std.specs.Prelude.{◌≡◌, ℕ, zero, suc, ◌+◌, ◌-◌, ◌*◌, ◌/◌, ◌^◌, ◌<◌, ◌≤◌, ◌==◌, Bool, false, ◌&&◌, not, List, All, length, map, filter, slice_index, slice_index_or, sum_by, ℤ, pos, ◌+ℤ◌, ◌-ℤ◌, ◌*ℤ◌, neg_ℤ, unsigned_abs, Some, None}
 use Rattle.std.specs.List.{AllZip, Contains}
 use Rattle.escrow_units.specs.Flows.{index360_of}
 use Rattle.escrow_units.specs.Interest.{earned_of}
@@ -21,6 +21,10 @@ use Rattle.dual_bound.specs.declared.column.Column.{Column}
 use Rattle.dual_bound.specs.declared.column.OtherPayment.{OtherPayment}
 use Rattle.dual_bound.specs.declared.date_days.DateDays.{DateDays}
 use Rattle.dual_bound.specs.declared.day_table.DayTable.{DayTable}
+use Rattle.dual_bound.specs.declared.series.Run.{Run}
+use Rattle.dual_bound.specs.declared.series.Series.{Series}
+use Rattle.dual_bound.specs.declared.series.Stop.{Stop}
+use Rattle.dual_bound.specs.declared.series.Stop.TheVariants.{Day, Start}
 use Rattle.dual_bound.specs.declared.worth.PricedDay.{PricedDay}
 use Rattle.dual_bound.specs.declared.form.Form.{Form}
 use Rattle.dual_bound.specs.declared.prices.TheConstants.{PRICE_SCALE}
@@ -77,9 +81,9 @@ pub record IsDayTable (n : ℕ) (book : BookContents) (table : DayTable) : Type 
   pub known : (after place : ℕ) (d : PricedDay) → slice_index_or table.places.items after None ≡ Some place
       → (place < length table.days.items) × IsPricedDay book (book.settle +ℤ pos after) (low n (index360_of book.settle (book.settle +ℤ pos after))) (slice_index_or table.days.items place d)
 
--- days stay where they are
-abbrev pub Extends : List PricedDay → List PricedDay → Type 0
-Extends days more = (length days ≤ length more) × ((place : ℕ) (d : PricedDay) → place < length days → slice_index_or more place d ≡ slice_index_or days place d)
+-- what is there stays where it is
+abbrev pub Extends : {X : Type 0} → List X → List X → Type 0
+Extends {X} days more = (length days ≤ length more) × ((place : ℕ) (d : X) → place < length days → slice_index_or more place d ≡ slice_index_or days place d)
 
 -- the days that each of so many need dates prices: a list for each, of places of days, and a day that one of them prices is in its list
 pub record AreDateDays (dates : ℕ) (days : List PricedDay) (lists : List DateDays) : Type 0 where
@@ -199,8 +203,60 @@ column_paid rate amount worths column =
 abbrev pub column_reduced : ℤ → ℕ → ℕ → ℕ → List Worth → Column → ℤ
 column_reduced own rate cost amount worths column = pos COEFFICIENT_SCALE *ℤ (own *ℤ pos cost -ℤ column_paid rate amount worths column)
 
+-- ---- series: days on which lines pay regularly, one behind another
+-- a stop is the start of a series, or one of so many days
+abbrev pub IsStopWithin : ℕ → Stop → Type 0
+IsStopWithin days Start = Unit {0}
+IsStopWithin days (Day place) = place < days
+
+-- a run: days stand at the stops behind one, up to another
+pub record IsRun (stops : List Stop) (places : List ℕ) (run : Run) : Type 0 where
+  pub long : run.from + length places ≡ run.to
+  pub there : run.to < length stops
+  pub days : (k d : ℕ) (s : Stop) → k < length places → slice_index_or stops (run.from + 1 + k) s ≡ Day (slice_index_or places k d)
+
+-- the run of a line has its regular days
+abbrev pub IsRunOf : List Stop → Column → Run → Type 0
+IsRunOf stops column run = IsRun stops column.places.items run
+
+-- what prices a stop: its day; and nothing, the start of a series
+abbrev pub stop_day : ℕ → List PricedDay → Stop → PricedDay
+stop_day dates days Start = record { need = dates; power = 0 }
+stop_day dates days (Day place) = slice_index_or days place (record { need = dates; power = 0 })
+
+-- the sum at a stop: a series starts at nothing, and a day adds to the sum before it what a cent on it is worth
+abbrev pub sum_after : List Worth → Worth → Stop → Worth
+sum_after worths before Start = record { above = 0; below = 0 }
+sum_after worths before (Day place) = record { above = before.above + (worth_at worths place).above; below = before.below + (worth_at worths place).below }
+
+-- the sum before a stop: nothing before the first
+abbrev pub sum_before : List Worth → ℕ → Worth
+sum_before sums zero = record { above = 0; below = 0 }
+sum_before sums (suc stop) = worth_at sums stop
+
+abbrev pub IsSummed : List Worth → List Stop → List Worth → ℕ → Type 0
+IsSummed worths stops sums stop = (s : Stop) → worth_at sums stop ≡ sum_after worths (sum_before sums stop) (slice_index_or stops stop s)
+
+-- sums are those of the worths of days, up to each stop
+pub record AreSums (worths : List Worth) (stops : List Stop) (sums : List Worth) : Type 0 where
+  pub every : length sums ≡ length stops
+  pub summed : (stop : ℕ) → stop < length stops → IsSummed worths stops sums stop
+
+-- sums with room for one more worth
+abbrev pub AreSmallSums : List Worth → Type 0
+AreSmallSums sums = (stop : ℕ) → stop < length sums → (worth_at sums stop).above + (worth_at sums stop).below ≤ (stop + 1) * (2 * PRICE_SCALE)
+
+-- series are laid out for columns: each line's regular days are a run, and each need date knows the stops that it prices
+pub record IsLaid (dates : ℕ) (days : List PricedDay) (columns : List Column) (series : Series) : Type 0 where
+  pub few : length series.stops.items ≤ 65_535
+  pub there : All (IsStopWithin (length days)) series.stops.items
+  pub runs : AllZip (IsRunOf series.stops.items) columns series.runs.items
+  pub date_stops : AreDateDays dates (map (stop_day dates days) series.stops.items) series.date_stops.items
+  pub every_stop : length series.sums.items ≡ length series.stops.items
+
 -- ---- the whole
--- a tableau is that of a book: it has a column for each line, and its days are priced at its leaf
+-- a tableau is that of a book: it has a column for each line, its days are priced at its leaf, and their worths are summed up
+-- along series
 pub record IsTableau (book : BookContents) (tableau : Tableau) : Type 0 where
   pub limits : IsBook book
   pub leaf : IsLeaf (length book.needs) tableau.leaf
@@ -209,3 +265,5 @@ pub record IsTableau (book : BookContents) (tableau : Tableau) : Type 0 where
   pub small : All IsSmallColumn tableau.columns.items
   pub date_days : AreDateDays (length book.needs) tableau.days.items tableau.date_days.items
   pub worths : tableau.worths.items ≡ map (worth_on tableau.leaf) tableau.days.items
+  pub series : IsLaid (length book.needs) tableau.days.items tableau.columns.items tableau.series
+  pub sums : AreSums tableau.worths.items tableau.series.stops.items tableau.series.sums.items

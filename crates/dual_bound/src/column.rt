@@ -1,23 +1,24 @@
 //! A line as a column of the linear program.
-ghost use Rattle.std.specs.Prelude.{All, ◌≡◌, ◌+◌, ◌*◌, ◌^◌, ◌<◌, ◌≤◌, ◌+ℤ◌, ◌-ℤ◌, ◌*ℤ◌, ℕ, ℤ, [], ◌∷◌, ◌++◌, cond, IfOk, OnOk, length, pos, unsigned_abs};
+ghost use Rattle.std.specs.Prelude.{All, List, ◌≡◌, ◌+◌, ◌*◌, ◌^◌, ◌<◌, ◌≤◌, ◌+ℤ◌, ◌-ℤ◌, ◌*ℤ◌, ℕ, ℤ, [], ◌∷◌, ◌++◌, cond, IfOk, OnOk, length, pos, unsigned_abs};
 ghost use Rattle.escrow_units.specs.Interest.{earned_of};
 ghost use Rattle.escrow_units.specs.SlgsTerms.{IsSettlement};
-ghost use Rattle.fixed_powers.specs.DiscountPowers.{PowerTable};
+ghost use Rattle.fixed_powers.specs.DiscountPowers.{IsLowTable, PowerTable};
 ghost use Rattle.offer_book.specs.Book.{BookContents, IsBook, IsLine};
 ghost use Rattle.offer_book.specs.Coefficients.{cost_coefficients};
 ghost use Rattle.offer_book.specs.Portfolio.{line_cost, par};
 ghost use Rattle.offer_book.specs.Schedule.{flow_by, kind_accrued, kind_rate, pay_by};
 ghost use Rattle.slgs_interest.specs.PaymentLaws.{IsShort};
-ghost use Rattle.dual_bound.specs.Columns.{Extends, HasHead, IsColumn, IsDayTable, IsLightWorth, IsSmallColumn, IsSmallOther, IsSmallPay, KeepsHead, column_form, column_paid, column_reduced, form_plus, is_other, is_regular as is_regular_of, other_by, other_forms, others_paid as others_paid_of, regular_form as regular_form_of, regular_on, signed_worth, worth_at};
+ghost use Rattle.dual_bound.specs.Columns.{Extends, HasHead, IsColumn, IsDayTable, IsLightWorth, IsSmallColumn, IsSmallOther, IsSmallPay, KeepsHead, column_form, column_paid, column_reduced, form_plus, is_other, is_regular as is_regular_of, other_by, other_forms, others_paid as others_paid_of, regular_form as regular_form_of, regular_on, signed_worth, worth_at, worth_together};
+ghost use Rattle.dual_bound.specs.declared.worth.Worth.{Worth as WorthOf};
 
 use crate::day_table::DayTable;
 use crate::form::Form;
 use crate::leaf_bound::{scaled_difference, weighed};
 use crate::prices::PRICE_SCALE;
-use crate::worth::{Worth, worth_together};
+use crate::worth::Worth;
 use escrow_desk::NoMemory;
-use escrow_units::{Accrual, Cents, Day, GREATEST_INDEX, GREATEST_RATE, Rate, earned};
-use fixed_powers::{Powers, Side};
+use escrow_units::{Accrual, Cents, Day, GREATEST_RATE, Rate, earned};
+use fixed_powers::Powers;
 use offer_book::{Book, Line, PayCoefficients, ScheduledPayment};
 use std::alloc::Global;
 
@@ -211,8 +212,7 @@ impl Column {
         line: &Line,
     ) -> Result<Column, NoMemory>
         requires limits { IsBook book.now }
-        requires side { powers.now.side ≡ Side.Low }
-        requires longest { powers.now.longest ≡ GREATEST_INDEX }
+        requires powers { IsLowTable powers.now }
         requires line { IsLine book.now.settle line.now }
         requires few { length table.old.days.items + 84 ≤ 65_535 }
         requires table { IsDayTable powers.now.yield_units book.now table.old }
@@ -231,19 +231,17 @@ impl Column {
         Ok(column)
     }
 
-    // The form of the regular payments.
-    fn regular_form(&self, worths: &[Worth]) -> Form
+    // The form of the regular payments, by what their days are worth together.
+    fn regular_form(&self, regular: Worth) -> Form
         requires small { IsSmallColumn self.now }
-        requires there { All (λ place. place < length worths.now) self.now.places.items }
-        requires light { All IsLightWorth worths.now }
-        ensures value { result ≡ regular_form_of worths.now self.now }
+        requires light { regular.above + regular.below ≤ 84 * (2 * PRICE_SCALE) }
+        ensures value { (worths : List WorthOf) → regular ≡ worth_together worths self.now.places.items → result ≡ regular_form_of worths self.now }
         ensures slope { unsigned_abs result.slope ≤ 2 * 10 ^ 32 }
         ensures slack { result.slack ≤ 2 * 10 ^ 23 }
     {
-        let worth = worth_together(worths, self.places.as_slice());
         Form {
-            slope: least_together(self.regular.low, self.regular.high, worth),
-            slack: slack_together(self.regular.slack, worth),
+            slope: least_together(self.regular.low, self.regular.high, regular),
+            slack: slack_together(self.regular.slack, regular),
         }
     }
 
@@ -264,17 +262,18 @@ impl Column {
         form
     }
 
-    /// The form of the line, where a cent that it costs counts so much.
-    pub(crate) fn form(&self, own: i128, worths: &[Worth]) -> Form
+    /// The form of the line, where a cent that it costs counts so much, and its regular days are worth so much together.
+    pub(crate) fn form(&self, own: i128, regular: Worth, worths: &[Worth]) -> Form
         requires small { IsSmallColumn self.now }
         requires own { unsigned_abs own ≤ PRICE_SCALE }
-        requires there { All (λ place. place < length worths.now) self.now.places.items }
+        requires regular { regular ≡ worth_together worths.now self.now.places.items }
+        requires together { regular.above + regular.below ≤ 84 * (2 * PRICE_SCALE) }
         requires others_there { All (λ other. other.place < length worths.now) self.now.others.items }
         requires light { All IsLightWorth worths.now }
         ensures { result ≡ column_form own worths.now self.now }
     {
         let costs = Form::of_amount(own, self.cost_low, self.cost_high, self.cost_slack);
-        self.with_others(costs.plus(self.regular_form(worths)), worths)
+        self.with_others(costs.plus(self.regular_form(regular)), worths)
     }
 
     // What an amount at a rate pays by the other payments, weighed.
@@ -296,34 +295,46 @@ impl Column {
     }
 
     // What an amount at a rate pays, weighed.
-    fn paid(&self, rate: Rate, amount: Cents, worths: &[Worth]) -> i128
+    fn paid(&self, rate: Rate, amount: Cents, regular: Worth, worths: &[Worth]) -> i128
         requires small { IsSmallColumn self.now }
         requires rate { rate.0 ≤ GREATEST_RATE }
         requires amount { amount.0 ≤ 10 ^ 13 }
-        requires there { All (λ place. place < length worths.now) self.now.places.items }
+        requires regular { regular ≡ worth_together worths.now self.now.places.items }
+        requires together { regular.above + regular.below ≤ 84 * (2 * PRICE_SCALE) }
         requires others_there { All (λ other. other.place < length worths.now) self.now.others.items }
         requires light { All IsLightWorth worths.now }
         ensures value { result ≡ column_paid rate.0 amount.0 worths.now self.now }
         ensures size { unsigned_abs result ≤ 10 ^ 28 }
     {
-        let worth = worth_together(worths, self.places.as_slice());
-        let regular = weighed_together(worth.signed(), regular_cents(rate, amount));
-        paid_in_all(regular, self.others_paid(rate, amount, worths))
+        let paid = weighed_together(regular.signed(), regular_cents(rate, amount));
+        paid_in_all(paid, self.others_paid(rate, amount, worths))
     }
 
-    /// The reduced cost of units of the line, scaled, where a cent that it costs counts so much: exactly.
-    pub(crate) fn reduced_cost(&self, line: &Line, own: i128, worths: &[Worth], units: u64) -> i128
+    /// The reduced cost of units of the line, scaled, where a cent that it costs counts so much, and its regular days are worth so
+    /// much together: exactly.
+    pub(crate) fn reduced_cost(
+        &self,
+        line: &Line,
+        own: i128,
+        regular: Worth,
+        worths: &[Worth],
+        units: u64,
+    ) -> i128
         requires small { IsSmallColumn self.now }
         requires line { (settle : ℤ) × IsLine settle line.now }
         requires units { units ≤ line.now.most }
         requires accrued { self.now.accrued ≡ kind_accrued line.now.kind }
         requires own { unsigned_abs own ≤ PRICE_SCALE }
-        requires there { All (λ place. place < length worths.now) self.now.places.items }
+        requires regular { regular ≡ worth_together worths.now self.now.places.items }
+        requires together { regular.above + regular.below ≤ 84 * (2 * PRICE_SCALE) }
         requires others_there { All (λ other. other.place < length worths.now) self.now.others.items }
         requires light { All IsLightWorth worths.now }
         ensures { result ≡ column_reduced own (kind_rate line.now.kind) (line_cost line.now units) (par line.now units) worths.now self.now }
     {
         let cost = weighed(own, line.cost_by(self.accrued, units));
-        scaled_difference(cost, self.paid(line.rate(), line.par(units), worths))
+        scaled_difference(
+            cost,
+            self.paid(line.rate(), line.par(units), regular, worths),
+        )
     }
 }

@@ -1,7 +1,7 @@
 //! The linear program of a book, by its columns.
 ghost use Rattle.std.specs.Prelude.{◌≡◌, ◌*◌, ◌^◌, ◌<◌, ◌≤◌, ℕ, IfOk, length, slice_index_or, slice_set, unsigned_abs};
 ghost use Rattle.std.specs.List.{AllZip};
-ghost use Rattle.fixed_powers.specs.DiscountPowers.{PowerTable};
+ghost use Rattle.fixed_powers.specs.DiscountPowers.{IsLowTable, PowerTable};
 ghost use Rattle.offer_book.specs.declared.line.Line.{Line};
 ghost use Rattle.dual_bound.specs.LeafBound.{bound_of, form_of, least_within};
 ghost use Rattle.dual_bound.specs.Ranges.{HasRoomFor};
@@ -12,8 +12,7 @@ use crate::ranges::{Interval, Ranges};
 use crate::tableau::Tableau;
 use crate::tree::Leaf;
 use escrow_desk::NoMemory;
-use escrow_units::GREATEST_INDEX;
-use fixed_powers::{Powers, Side};
+use fixed_powers::Powers;
 use offer_book::Book;
 use std::alloc::Global;
 use std::marker::Model;
@@ -47,8 +46,7 @@ impl<'a> Columns<'a> {
     ///
     /// Where memory ran out.
     pub fn make(alloc: Global, book: &'a Book, powers: &Powers) -> Result<Columns<'a>, NoMemory>
-        requires side { powers.now.side ≡ Side.Low }
-        requires longest { powers.now.longest ≡ GREATEST_INDEX }
+        requires powers { IsLowTable powers.now }
         ensures book { IfOk result (λ columns. columns.book ≡ book.now) }
         ensures yield_units { IfOk result (λ columns. columns.yield_units ≡ powers.now.yield_units) }
     {

@@ -3,7 +3,7 @@ ghost use Rattle.std.specs.Prelude.{◌≡◌, ◌==◌, ◌+◌, ◌^◌, ◌<�
 ghost use Rattle.escrow_units.specs.Calendar.{years_after_of};
 ghost use Rattle.escrow_units.specs.Flows.{Rise, index360_of};
 ghost use Rattle.escrow_units.specs.SlgsTerms.{IsSettlement};
-ghost use Rattle.fixed_powers.specs.DiscountPowers.{PowerTable, low, one};
+ghost use Rattle.fixed_powers.specs.DiscountPowers.{IsLowTable, PowerTable, low, one};
 ghost use Rattle.offer_book.specs.Book.{BookContents, IsBook};
 ghost use Rattle.dual_bound.specs.Columns.{Extends, IsDayTable, IsPlace, IsPricedDay, kind_power};
 ghost use Rattle.dual_bound.specs.LeafBound.{price_on};
@@ -11,8 +11,8 @@ ghost use Rattle.dual_bound.specs.declared.worth.PricedDay.{PricedDay};
 
 use crate::worth::PricedDay;
 use escrow_desk::NoMemory;
-use escrow_units::{Day, Flow, GREATEST_INDEX, index360};
-use fixed_powers::{Powers, Side};
+use escrow_units::{Day, Flow, index360};
+use fixed_powers::Powers;
 use offer_book::{Book, LineKind, ScheduledPayment};
 use std::alloc::Global;
 
@@ -67,8 +67,7 @@ fn cash_day(book: &Book, day: Day) -> PricedDay
 // A day as securities are priced.
 fn security_day(book: &Book, powers: &Powers, day: Day) -> PricedDay
     requires limits { IsBook book.now }
-    requires side { powers.now.side ≡ Side.Low }
-    requires longest { powers.now.longest ≡ GREATEST_INDEX }
+    requires powers { IsLowTable powers.now }
     requires from { book.now.settle ≤ℤ day }
     requires to { day ≤ℤ years_after_of book.now.settle 40 }
     ensures value { IsPricedDay book.now day (low powers.now.yield_units (index360_of book.now.settle day)) result }
@@ -131,8 +130,7 @@ impl DayTable {
     // The place of a day on which a security pays, which is put into the table where it isn't there yet.
     fn security_place(&mut self, book: &Book, powers: &Powers, day: Day) -> Result<u16, NoMemory>
         requires limits { IsBook book.now }
-        requires side { powers.now.side ≡ Side.Low }
-        requires longest { powers.now.longest ≡ GREATEST_INDEX }
+        requires powers { IsLowTable powers.now }
         requires from { book.now.settle ≤ℤ day }
         requires to { day ≤ℤ years_after_of book.now.settle 40 }
         requires few { length self.old.days.items < 65_535 }
@@ -174,8 +172,7 @@ impl DayTable {
         payment: &ScheduledPayment,
     ) -> Result<u16, NoMemory>
         requires limits { IsBook book.now }
-        requires side { powers.now.side ≡ Side.Low }
-        requires longest { powers.now.longest ≡ GREATEST_INDEX }
+        requires powers { IsLowTable powers.now }
         requires from { book.now.settle ≤ℤ payment.now.day }
         requires to { payment.now.day ≤ℤ years_after_of book.now.settle 40 }
         requires few { length self.old.days.items < 65_535 }

@@ -4,7 +4,7 @@ ghost use Rattle.std.specs.Prelude.{All, ◌≡◌, ◌*◌, ◌^◌, ◌<◌, �
 ghost use Rattle.escrow_units.specs.Calendar.{years_after_of};
 ghost use Rattle.escrow_units.specs.Flows.{total};
 ghost use Rattle.escrow_units.specs.SlgsTerms.{IsSettlement};
-ghost use Rattle.fixed_powers.specs.DiscountPowers.{PowerTable};
+ghost use Rattle.fixed_powers.specs.DiscountPowers.{IsLowTable, PowerTable};
 ghost use Rattle.offer_book.specs.Book.{BookContents, IsBook, IsLine};
 ghost use Rattle.dual_bound.specs.LeafBound.{bound_of, cost_weight as cost_weight_of, cost_worth as cost_worth_of, form_of, least_within, limit_price as limit_price_of, limit_weight as limit_weight_of, paid_worth as paid_worth_of, priced_needs as priced_needs_of, price_on as price_on_date, reduced_cost as reduced_cost_of};
 ghost use Rattle.dual_bound.specs.Ranges.{HasRoomFor};
@@ -14,8 +14,8 @@ use crate::form::Form;
 use crate::prices::PRICE_SCALE;
 use crate::ranges::{Interval, Ranges};
 use crate::tree::Leaf;
-use escrow_units::{AMOUNT_LIMIT, Cents, Day, Flow, GREATEST_INDEX, index360};
-use fixed_powers::{ONE, Powers, Side};
+use escrow_units::{AMOUNT_LIMIT, Cents, Day, Flow, index360};
+use fixed_powers::{ONE, Powers};
 use offer_book::{Book, COEFFICIENT_SCALE, Line, LineKind};
 
 /// The price of a day: that of the first need date on or after it, and 0 where there is none.
@@ -59,8 +59,7 @@ pub(crate) fn cost_worth(leaf: &Leaf, kind: LineKind) -> i128
 
 // What the limit takes from a cent that is paid on a day, by the powers of a yield.
 fn limit_price(settle: Day, powers: &Powers, weight: u64, day: Day) -> u64
-    requires side { powers.now.side ≡ Side.Low }
-    requires longest { powers.now.longest ≡ GREATEST_INDEX }
+    requires powers { IsLowTable powers.now }
     requires weight { weight ≤ PRICE_SCALE }
     requires from { settle ≤ℤ day }
     requires to { day ≤ℤ years_after_of settle 40 }
@@ -73,8 +72,7 @@ fn limit_price(settle: Day, powers: &Powers, weight: u64, day: Day) -> u64
 // What a cent that a line of some kind pays on a day is worth, in units of 1 / PRICE_SCALE.
 fn paid_worth(book: &Book, powers: &Powers, leaf: &Leaf, kind: LineKind, day: Day) -> i128
     requires leaf { IsLeaf (length book.now.needs) leaf.now }
-    requires side { powers.now.side ≡ Side.Low }
-    requires longest { powers.now.longest ≡ GREATEST_INDEX }
+    requires powers { IsLowTable powers.now }
     requires from { book.now.settle ≤ℤ day }
     requires to { day ≤ℤ years_after_of book.now.settle 40 }
     ensures value { result ≡ paid_worth_of powers.now.yield_units book.now leaf.now kind day }
@@ -90,8 +88,7 @@ fn paid_worth(book: &Book, powers: &Powers, leaf: &Leaf, kind: LineKind, day: Da
 fn form(book: &Book, powers: &Powers, leaf: &Leaf, line: &Line) -> Form
     requires limits { IsBook book.now }
     requires leaf { IsLeaf (length book.now.needs) leaf.now }
-    requires side { powers.now.side ≡ Side.Low }
-    requires longest { powers.now.longest ≡ GREATEST_INDEX }
+    requires powers { IsLowTable powers.now }
     requires line { IsLine book.now.settle line.now }
     ensures { result ≡ form_of powers.now.yield_units book.now leaf.now line.now }
 {
@@ -133,8 +130,7 @@ pub(crate) fn scaled_difference(cost: i128, paid: i128) -> i128
 fn reduced_cost(book: &Book, powers: &Powers, leaf: &Leaf, line: &Line, units: u64) -> i128
     requires limits { IsBook book.now }
     requires leaf { IsLeaf (length book.now.needs) leaf.now }
-    requires side { powers.now.side ≡ Side.Low }
-    requires longest { powers.now.longest ≡ GREATEST_INDEX }
+    requires powers { IsLowTable powers.now }
     requires line { IsLine book.now.settle line.now }
     requires units { units ≤ line.now.most }
     ensures { result ≡ reduced_cost_of powers.now.yield_units book.now leaf.now line.now units }
@@ -152,8 +148,7 @@ fn reduced_cost(book: &Book, powers: &Powers, leaf: &Leaf, line: &Line, units: u
 fn least(book: &Book, powers: &Powers, leaf: &Leaf, line: &Line, interval: Interval) -> i128
     requires limits { IsBook book.now }
     requires leaf { IsLeaf (length book.now.needs) leaf.now }
-    requires side { powers.now.side ≡ Side.Low }
-    requires longest { powers.now.longest ≡ GREATEST_INDEX }
+    requires powers { IsLowTable powers.now }
     requires line { IsLine book.now.settle line.now }
     requires ordered { interval.low ≤ interval.high }
     requires high { interval.high ≤ line.now.most }
@@ -163,13 +158,7 @@ fn least(book: &Book, powers: &Powers, leaf: &Leaf, line: &Line, interval: Inter
     if interval.low == interval.high {
         return reduced_cost(book, powers, leaf, line, interval.low);
     }
-    let form = form(book, powers, leaf, line);
-    let at_high = form.at(interval.high);
-    if interval.low == 0 {
-        0i128.min(form.at(line.least).min(at_high))
-    } else {
-        form.at(interval.low).min(at_high)
-    }
+    form(book, powers, leaf, line).least_within(line, interval)
 }
 
 /// What the needs are worth at a leaf's prices.
@@ -198,8 +187,7 @@ pub(crate) fn priced_needs(needs: &[Flow], prices: &[u64]) -> u128
 #[tactic(auto, unfolding(crate::specs::LeafBound::bound_of))]
 pub fn bound(book: &Book, powers: &Powers, ranges: &Ranges, leaf: &Leaf) -> i128
     requires leaf { IsLeaf (length book.now.needs) leaf.now }
-    requires side { powers.now.side ≡ Side.Low }
-    requires longest { powers.now.longest ≡ GREATEST_INDEX }
+    requires powers { IsLowTable powers.now }
     requires ranges { AllZip HasRoomFor book.now.lines ranges.now }
     ensures value { result ≡ bound_of powers.now.yield_units book.now ranges.now leaf.now }
     ensures size { unsigned_abs result < 10 ^ 37 }

@@ -12,6 +12,8 @@ mod laws;
 mod leaf_bound;
 mod prices;
 mod ranges;
+mod series;
+mod sums;
 mod tableau;
 #[cfg(test)]
 mod tests;

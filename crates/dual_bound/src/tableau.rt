@@ -1,10 +1,11 @@
 //! The columns of all lines of a book, with their days priced at a leaf.
 ghost use Rattle.std.specs.Prelude.{All, ◌≡◌, ◌≢◌, ◌+◌, ◌*◌, ◌^◌, ◌<◌, ◌≤◌, ◌+ℤ◌, ◌-ℤ◌, ℕ, IfOk, OnOk, length, map, slice_index_or, slice_set, unsigned_abs};
 ghost use Rattle.std.specs.List.{AllZip};
-ghost use Rattle.fixed_powers.specs.DiscountPowers.{PowerTable, one};
+ghost use Rattle.fixed_powers.specs.DiscountPowers.{IsLowTable, PowerTable, one};
 ghost use Rattle.offer_book.specs.Book.{IsBook};
 ghost use Rattle.offer_book.specs.declared.line.Line.{Line};
-ghost use Rattle.dual_bound.specs.Columns.{IsColumn, IsDayTable, IsSmallColumn, IsTableau, worth_on};
+ghost use Rattle.dual_bound.specs.Columns.{IsColumn, IsDayTable, IsSmallColumn, IsTableau, worth_on, worth_together};
+ghost use Rattle.dual_bound.specs.declared.column.Column.{Column as ColumnOf};
 ghost use Rattle.dual_bound.specs.LeafBound.{bound_of, form_of, least_within, reduced_cost as reduced_cost_of};
 ghost use Rattle.dual_bound.specs.Ranges.{HasRoomFor};
 ghost use Rattle.dual_bound.specs.Tree.{IsLeaf, with_price};
@@ -16,11 +17,13 @@ use crate::form::Form;
 use crate::leaf_bound::{cost_worth, priced_needs};
 use crate::prices::PRICE_SCALE;
 use crate::ranges::{Interval, Ranges};
+use crate::series::Series;
+use crate::sums::{mend_at, sum_up};
 use crate::tree::Leaf;
 use crate::worth::{PricedDay, Worth, price_day, price_days, price_days_at};
 use escrow_desk::NoMemory;
-use escrow_units::{GREATEST_INDEX, YieldUnits};
-use fixed_powers::{Powers, Side};
+use escrow_units::YieldUnits;
+use fixed_powers::Powers;
 use offer_book::{Book, COEFFICIENT_SCALE};
 use std::alloc::Global;
 
@@ -39,6 +42,8 @@ pub(crate) struct Tableau {
     pub leaf: Leaf,
     /// What a cent on each day is worth.
     pub worths: Vec<Worth>,
+    /// The series of the columns, with sums of worths along each.
+    pub series: Series,
 }
 
 // The columns of a book's lines, whose days are put into a table.
@@ -49,8 +54,7 @@ fn columns_of(
     table: &mut DayTable,
 ) -> Result<Vec<Column>, NoMemory>
     requires limits { IsBook book.now }
-    requires side { powers.now.side ≡ Side.Low }
-    requires longest { powers.now.longest ≡ GREATEST_INDEX }
+    requires powers { IsLowTable powers.now }
     requires empty { length table.old.days.items ≡ 0 }
     requires table { IsDayTable powers.now.yield_units book.now table.old }
     ensures table { OnOk result (IsDayTable powers.now.yield_units book.now table.new) }
@@ -94,8 +98,7 @@ impl Tableau {
     ///
     /// Where memory ran out.
     pub(crate) fn make(alloc: Global, book: &Book, powers: &Powers) -> Result<Tableau, NoMemory>
-        requires side { powers.now.side ≡ Side.Low }
-        requires longest { powers.now.longest ≡ GREATEST_INDEX }
+        requires powers { IsLowTable powers.now }
         ensures tableau { IfOk result (IsTableau book.now) }
         ensures yield_units { IfOk result (λ tableau. tableau.yield_units.0 ≡ powers.now.yield_units) }
     {
@@ -104,6 +107,13 @@ impl Tableau {
         let columns = columns_of(alloc, book, powers, &mut table)?;
         let date_days = days_by_date(alloc, book.need_count(), table.days.as_slice())?;
         let worths = worths_of(alloc, &leaf, table.days.as_slice())?;
+        let series = Series::make(
+            alloc,
+            book.need_count(),
+            table.days.as_slice(),
+            columns.as_slice(),
+            worths.as_slice(),
+        )?;
         Ok(Tableau {
             yield_units: powers.yield_units(),
             days: table.days,
@@ -111,6 +121,7 @@ impl Tableau {
             columns,
             leaf,
             worths,
+            series,
         })
     }
 
@@ -123,6 +134,11 @@ impl Tableau {
         ensures yield_units { self.new.yield_units.0 ≡ self.old.yield_units.0 }
     {
         price_days(leaf, self.days.as_slice(), self.worths.as_mut_slice());
+        sum_up(
+            self.series.stops.as_slice(),
+            self.worths.as_slice(),
+            self.series.sums.as_mut_slice(),
+        );
         self.leaf.whole = leaf.whole;
         self.leaf.mu = leaf.mu;
         self.leaf.prices.copy(&leaf.prices);
@@ -159,6 +175,23 @@ impl Tableau {
             self.date_days[usize::from(place)].places.as_slice(),
             self.worths.as_mut_slice(),
         );
+        mend_at(
+            self.series.stops.as_slice(),
+            self.worths.as_slice(),
+            self.series.sums.as_mut_slice(),
+            self.series.date_stops[usize::from(place)].places.as_slice(),
+        );
+    }
+
+    // What a cent on each regular day of a line is worth, together: a difference of two sums.
+    fn regular_worth(&self, book: &Book, line: u16) -> Worth
+        requires tableau { IsTableau book.now self.now }
+        requires line { line < length book.now.lines }
+        ensures value { (d : ColumnOf) → result ≡ worth_together self.now.worths.items (slice_index_or self.now.columns.items line d).places.items }
+        ensures light { result.above + result.below ≤ 84 * (2 * PRICE_SCALE) }
+    {
+        let run = self.series.runs[usize::from(line)];
+        self.series.sums[run.to].minus(self.series.sums[run.from])
     }
 
     /// The form of a line, counted from 0.
@@ -170,6 +203,7 @@ impl Tableau {
         let column = &self.columns[usize::from(line)];
         column.form(
             cost_worth(&self.leaf, book.line(line).kind),
+            self.regular_worth(book, line),
             self.worths.as_slice(),
         )
     }
@@ -186,6 +220,7 @@ impl Tableau {
         column.reduced_cost(
             own,
             cost_worth(&self.leaf, own.kind),
+            self.regular_worth(book, line),
             self.worths.as_slice(),
             units,
         )

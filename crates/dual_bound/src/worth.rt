@@ -2,7 +2,7 @@
 ghost use Rattle.std.specs.Prelude.{All, ◌≡◌, ◌⊎◌, ◌+◌, ◌*◌, ◌/◌, ◌^◌, ◌<◌, ◌≤◌, ℕ, length, map, slice_index, slice_index_or, unsigned_abs};
 ghost use Rattle.std.specs.List.{AllZip, Contains};
 ghost use Rattle.fixed_powers.specs.DiscountPowers.{one};
-ghost use Rattle.dual_bound.specs.Columns.{IsLightWorth, signed_worth, worth_at, worth_between as worth_between_of, worth_on, worth_together as worth_together_of};
+ghost use Rattle.dual_bound.specs.Columns.{signed_worth, worth_between as worth_between_of, worth_on};
 ghost use Rattle.dual_bound.specs.Tree.{IsLeaf};
 ghost use Rattle.dual_bound.specs.declared.worth.PricedDay.{PricedDay as PricedDayOf};
 ghost use Rattle.dual_bound.specs.declared.worth.Worth.{Worth as WorthOf};
@@ -37,8 +37,8 @@ impl Worth {
         i128::from(self.above) - i128::from(self.below)
     }
 
-    // Two worths together.
-    fn plus(self, other: Worth) -> Worth
+    /// Two worths together.
+    pub(crate) fn plus(self, other: Worth) -> Worth
         requires above { self.above + other.above < 2 ^ 64 }
         requires below { self.below + other.below < 2 ^ 64 }
         ensures { result ≡ record { above = self.above + other.above; below = self.below + other.below } }
@@ -46,6 +46,19 @@ impl Worth {
         Worth {
             above: self.above + other.above,
             below: self.below + other.below,
+        }
+    }
+
+    /// What is left of a worth without another that is part of it.
+    pub(crate) fn minus(self, other: Worth) -> Worth
+        requires above { other.above ≤ self.above }
+        requires below { other.below ≤ self.below }
+        ensures above { result.above + other.above ≡ self.above }
+        ensures below { result.below + other.below ≡ self.below }
+    {
+        Worth {
+            above: self.above - other.above,
+            below: self.below - other.below,
         }
     }
 }
@@ -117,19 +130,4 @@ pub(crate) fn price_days_at(leaf: &Leaf, days: &[PricedDay], places: &[usize], w
     for place in places {
         worths[*place] = price_day(leaf, days[*place]);
     }
-}
-
-/// What a cent on each of some days is worth, together: at most 84 days.
-pub(crate) fn worth_together(worths: &[Worth], places: &[u16]) -> Worth
-    requires few { length places.now ≤ 84 }
-    requires there { All (λ place. place < length worths.now) places.now }
-    requires light { All IsLightWorth worths.now }
-    ensures value { result ≡ worth_together_of worths.now places.now }
-    ensures light { result.above + result.below ≤ 84 * (2 * PRICE_SCALE) }
-{
-    let mut together = Worth { above: 0, below: 0 };
-    for place in places {
-        together = together.plus(worths[usize::from(*place)]);
-    }
-    together
 }

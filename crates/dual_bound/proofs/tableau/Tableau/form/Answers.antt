@@ -1,6 +1,6 @@
 use Rattle.std.proofs.Common.{◌∙◌, ◌<◌, All, get_or, length, sym, ap, subst, arith}
 use Rattle.std.proofs.lemmas.List.{get_or_default}
-use Rattle.dual_bound.specs.Columns.{IsLightWorth, column_form}
+use Rattle.dual_bound.specs.Columns.{IsLightWorth, column_form, worth_together}
 use Rattle.dual_bound.specs.LeafBound.{form_of}
 use Rattle.dual_bound.specs.declared.column.OtherPayment.{OtherPayment}
 use Rattle.dual_bound.specs.declared.worth.Worth.{Worth}
@@ -18,11 +18,10 @@ form-requires-clause-small c =
     (ready c.args.book.now c.args.self.now c.args.line c.line.result.now c.index-column.result.now c.requires.tableau.limits c.requires.tableau c.requires.line c.line.ensures
     (c.index-column.ensures ∙ ap (λ k. get_or c.args.self.now.columns.items k c.index-column.result.now) c.from.ensures)).small
 
-pub form-requires-clause-there : goal.form-requires-clause-there
-form-requires-clause-there c =
-    subst (λ (ws : List Worth). All (λ (place : ℕ). place < length ws) c.index-column.result.now.places.items) (sym c.as_slice.ensures.value)
-    (ready c.args.book.now c.args.self.now c.args.line c.line.result.now c.index-column.result.now c.requires.tableau.limits c.requires.tableau c.requires.line c.line.ensures
-    (c.index-column.ensures ∙ ap (λ k. get_or c.args.self.now.columns.items k c.index-column.result.now) c.from.ensures)).there
+pub form-requires-clause-regular : goal.form-requires-clause-regular
+form-requires-clause-regular c =
+    c.regular_worth.ensures.value c.index-column.result.now
+    ∙ (λ i. worth_together (sym c.as_slice.ensures.value i) (sym (c.index-column.ensures ∙ ap (λ k. get_or c.args.self.now.columns.items k c.index-column.result.now) c.from.ensures) i).places.items)
 
 pub form-requires-clause-others_there : goal.form-requires-clause-others_there
 form-requires-clause-others_there c =

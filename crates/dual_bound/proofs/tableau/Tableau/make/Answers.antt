@@ -1,4 +1,31 @@
+use Rattle.std.proofs.Common.{◌<◌, ◌≤◌, All, length, sym, ap, subst, arith}
+use Rattle.std.proofs.lemmas.Slice.Zip.{AllZip-long}
+use Rattle.fixed_powers.specs.DiscountPowers.{one}
+use Rattle.dual_bound.specs.Columns.{IsColumn, IsLightWorth}
+use Rattle.dual_bound.specs.declared.column.Column.{Column}
+use Rattle.dual_bound.proofs.TableauFacts.{columns-there, lines-few, worths-light}
 use Rattle.dual_bound.proofs.tableau.Tableau.make.Goals as goal
 
 pub columns_of-requires-clause-table : goal.columns_of-requires-clause-table
 columns_of-requires-clause-table c = c.new-table.ensures.table c.args.powers.now.yield_units c.args.book.now
+
+pub make-requires-clause-lines : goal.make-requires-clause-lines
+make-requires-clause-lines c =
+    omega (
+      arith,
+      lines-few c.args.book.now c.need_count.ensures.limits,
+      AllZip-long (IsColumn c.args.powers.now.yield_units c.args.book.now c.columns_of.new.table.days.items) c.args.book.now.lines c.in_ok-columns.columns.items c.in_ok-columns.ensures.columns,
+      ap length c.as_slice-4.ensures.value,
+    )
+
+pub make-requires-clause-there : goal.make-requires-clause-there
+make-requires-clause-there c =
+    subst (λ days. All (λ (column : Column). All (λ place. place < length days) column.places.items) c.as_slice-4.result.now) (sym c.as_slice-3.ensures.value)
+    (subst (All (λ (column : Column). All (λ place. place < length c.columns_of.new.table.days.items) column.places.items)) (sym c.as_slice-4.ensures.value)
+    (columns-there c.args.powers.now.yield_units c.args.book.now c.columns_of.new.table.days.items c.args.book.now.lines c.in_ok-columns.columns.items c.in_ok-columns.ensures.columns))
+
+pub make-requires-clause-light : goal.make-requires-clause-light
+make-requires-clause-light c =
+    subst (All IsLightWorth) (sym c.as_slice-5.ensures.value)
+    (worths-light c.need_count.result c.in_ok-leaf.leaf c.as_slice-2.result.now c.in_ok-worths.worths.items c.in_ok-leaf.ensures.leaf
+    (subst (All (λ priced. priced.power ≤ one)) (sym c.as_slice-2.ensures.value) c.in_ok-columns.ensures.table.powers) c.in_ok-worths.ensures)

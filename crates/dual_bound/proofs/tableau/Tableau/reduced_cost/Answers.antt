@@ -4,7 +4,7 @@ use Rattle.offer_book.specs.Portfolio.{line_cost, par}
 use Rattle.offer_book.specs.Schedule.{kind_rate}
 use Rattle.std.proofs.Common.{◌∙◌, ◌<◌, All, get_or, length, sym, ap, subst, arith}
 use Rattle.std.proofs.lemmas.List.{get_or_default}
-use Rattle.dual_bound.specs.Columns.{IsLightWorth, column_reduced}
+use Rattle.dual_bound.specs.Columns.{IsLightWorth, column_reduced, worth_together}
 use Rattle.dual_bound.specs.LeafBound.{reduced_cost}
 use Rattle.dual_bound.specs.declared.column.OtherPayment.{OtherPayment}
 use Rattle.dual_bound.specs.declared.worth.Worth.{Worth}
@@ -22,11 +22,10 @@ reduced_cost-requires-clause-small c =
     (ready c.args.book.now c.args.self.now c.args.line c.line-own.result.now c.index-column.result.now c.requires.tableau.limits c.requires.tableau c.requires.line c.line-own.ensures
     (c.index-column.ensures ∙ ap (λ k. get_or c.args.self.now.columns.items k c.index-column.result.now) c.from.ensures)).small
 
-pub reduced_cost-requires-clause-there : goal.reduced_cost-requires-clause-there
-reduced_cost-requires-clause-there c =
-    subst (λ (ws : List Worth). All (λ (place : ℕ). place < length ws) c.index-column.result.now.places.items) (sym c.as_slice.ensures.value)
-    (ready c.args.book.now c.args.self.now c.args.line c.line-own.result.now c.index-column.result.now c.requires.tableau.limits c.requires.tableau c.requires.line c.line-own.ensures
-    (c.index-column.ensures ∙ ap (λ k. get_or c.args.self.now.columns.items k c.index-column.result.now) c.from.ensures)).there
+pub reduced_cost-requires-clause-regular : goal.reduced_cost-requires-clause-regular
+reduced_cost-requires-clause-regular c =
+    c.regular_worth.ensures.value c.index-column.result.now
+    ∙ (λ i. worth_together (sym c.as_slice.ensures.value i) (sym (c.index-column.ensures ∙ ap (λ k. get_or c.args.self.now.columns.items k c.index-column.result.now) c.from.ensures) i).places.items)
 
 pub reduced_cost-requires-clause-others_there : goal.reduced_cost-requires-clause-others_there
 reduced_cost-requires-clause-others_there c =
