@@ -1,4 +1,4 @@
-use Rattle.std.proofs.Common.{◌∙◌, ◌⊎◌, get_or, inl, inr, arith}
+use Rattle.std.proofs.Common.{◌∙◌, inl, inr, arith}
 use Rattle.std.proofs.lemmas.List.{get_or_default}
 use Rattle.dual_bound.proofs.SumFacts.{ahead-more}
 use Rattle.dual_bound.proofs.sums.mend_at.Goals as goal

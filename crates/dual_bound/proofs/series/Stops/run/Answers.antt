@@ -1,4 +1,4 @@
-use Rattle.std.proofs.Common.{◌≡◌, ◌++◌, ◌∷◌, All, Err, IfOk, List, Ok, OnOk, Result, length, map, sym, subst, ℕ, ◌+◌, ◌<◌}
+use Rattle.std.proofs.Common.{◌≡◌, ◌++◌, ◌∷◌, All, Err, IfOk, List, Ok, OnOk, Result, length, map, sym, subst, ℕ, ◌+◌}
 use Rattle.dual_bound.specs.Columns.{IsRun, IsStopWithin}
 use Rattle.dual_bound.specs.declared.series.Run.{Run}
 use Rattle.dual_bound.specs.declared.series.Stop.{Stop}

@@ -1,4 +1,4 @@
-use Rattle.std.proofs.Common.{◌∙◌, ◌+◌, All, take, sym, subst, arith, ◌<◌, ℕ}
+use Rattle.std.proofs.Common.{◌+◌, All, take, sym, subst, arith, ◌<◌}
 use Rattle.std.specs.List.{AllZip}
 use Rattle.dual_bound.specs.Columns.{IsRun, IsRunOf}
 use Rattle.dual_bound.specs.declared.column.Column.{Column}

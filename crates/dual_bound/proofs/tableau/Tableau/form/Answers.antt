@@ -4,7 +4,7 @@ use Rattle.dual_bound.specs.Columns.{IsLightWorth, column_form, worth_together}
 use Rattle.dual_bound.specs.LeafBound.{form_of}
 use Rattle.dual_bound.specs.declared.column.OtherPayment.{OtherPayment}
 use Rattle.dual_bound.specs.declared.worth.Worth.{Worth}
-use Rattle.std.proofs.Common.{ℕ, List}
+use Rattle.std.proofs.Common.{List}
 use Rattle.dual_bound.proofs.ColumnLinks.{column-form}
 use Rattle.dual_bound.proofs.Signed.{read-again}
 use Rattle.dual_bound.proofs.TableauFacts.{columns-long, ready}

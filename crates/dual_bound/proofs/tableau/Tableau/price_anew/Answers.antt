@@ -1,6 +1,5 @@
-use Rattle.std.proofs.Common.{◌≡◌, ◌∙◌, ◌≤◌, All, drop, length, map, ap, subst, arith}
-use Rattle.fixed_powers.specs.DiscountPowers.{one}
-use Rattle.dual_bound.specs.Columns.{IsLightWorth, worth_on}
+use Rattle.std.proofs.Common.{◌≡◌, ◌∙◌, drop, length, map, ap, arith}
+use Rattle.dual_bound.specs.Columns.{worth_on}
 use Rattle.dual_bound.proofs.SumFacts.{written}
 use Rattle.dual_bound.proofs.TableauFacts.{worths-light}
 use Rattle.dual_bound.proofs.tableau.Tableau.price_anew.Goals as goal

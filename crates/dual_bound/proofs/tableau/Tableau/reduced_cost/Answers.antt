@@ -8,7 +8,7 @@ use Rattle.dual_bound.specs.Columns.{IsLightWorth, column_reduced, worth_togethe
 use Rattle.dual_bound.specs.LeafBound.{reduced_cost}
 use Rattle.dual_bound.specs.declared.column.OtherPayment.{OtherPayment}
 use Rattle.dual_bound.specs.declared.worth.Worth.{Worth}
-use Rattle.std.proofs.Common.{ℕ, List}
+use Rattle.std.proofs.Common.{List}
 use Rattle.dual_bound.proofs.ColumnLinks.{column-reduced}
 use Rattle.dual_bound.proofs.Signed.{read-again}
 use Rattle.dual_bound.proofs.TableauFacts.{columns-long, ready}

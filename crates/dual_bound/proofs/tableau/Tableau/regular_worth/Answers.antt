@@ -1,7 +1,5 @@
-use Rattle.std.proofs.Common.{◌≡◌, ◌∙◌, get_or, sym, ap, arith}
+use Rattle.std.proofs.Common.{◌∙◌, get_or, ap, arith}
 use Rattle.std.proofs.lemmas.List.{get_or_default}
-use Rattle.dual_bound.specs.Columns.{worth_at}
-use Rattle.dual_bound.specs.declared.column.Column.{Column}
 use Rattle.dual_bound.specs.declared.worth.Worth.{Worth}
 use Rattle.dual_bound.proofs.SumFacts.{same-worth}
 use Rattle.dual_bound.proofs.TableauFacts.{run-of, runs-long, some-column}
