@@ -79,5 +79,5 @@ first-more piece more some fits =
     piece-more piece 1 more (omega (arith, some)) fits
     ∙ ap (λ (bytes : List ℕ). bytes ++ take more (take (length piece - 1) (drop 1 piece))) (take-suc piece 0 0 some)
 
-pub line-more : (byte : ℕ) (digits : List ℕ) → byte ≢ 10 → All Digit digits → All (λ b. b ≢ 10) (byte ∷ digits)
-line-more byte digits other all = All-cons (λ b. b ≢ 10) byte digits other (no-feeds digits all)
+pub line-more : (byte : ℕ) (bytes : List ℕ) → byte ≢ 10 → All (λ b. b ≢ 10) bytes → All (λ b. b ≢ 10) (byte ∷ bytes)
+line-more byte bytes other all = All-cons (λ b. b ≢ 10) byte bytes other all

@@ -15,3 +15,4 @@ pub mod ScanFacts
 pub mod WordFacts
 pub mod SayFacts
 pub mod StepFacts
+pub mod PriceFacts

@@ -15,7 +15,7 @@ use Rattle.bound_certificate.specs.Scan.{after_word, is_leaf, longer, name_of, n
 use Rattle.bound_certificate.proofs.LineFacts.{plain-word, take_word, whole-read}
 
 -- behind the first word
-later : (d : Due) (scan : Scan) → 1 ≤ scan.words →
+pub later : (d : Due) (scan : Scan) → 1 ≤ scan.words →
     after_word d scan ≡ record (with_value_of d scan.name scan) { word = word.Empty; words = one_more scan.words }
 later d scan h =
     let some : (scan.words == 0) ≡ false = grind (arith, h) in

@@ -114,7 +114,7 @@ number-found d place [] n h = absurd (cc)
 number-found d place (byte ∷ bytes) n h = number-begun d place byte bytes n (name_starting d place byte) h
 
 -- what writes a number is read as it
-one_digit : (d : Due) (place n : ℕ) → 1 ≤ place → n < 10 → begun d place (48 + n) ≡ word.Number n
+pub one_digit : (d : Due) (place n : ℕ) → 1 ≤ place → n < 10 → begun d place (48 + n) ≡ word.Number n
 one_digit d place n h low =
     let digit : (nat_lt 0 place && is_ascii_digit (48 + n)) ≡ true = grind (arith, h, low) in
     let same : 48 + n - 48 ≡ n = omega arith in

@@ -1,7 +1,8 @@
 -- A line of a certificate as it is read, byte by byte.
-use Rattle.std.specs.Prelude.{◌≡◌, ℕ, ◌+◌, ◌-◌, ◌*◌, ◌≤◌, Bool, true, false, ◌==◌, ◌&&◌, ◌||◌, not, nat_lt, nat_le, if◌then◌else◌, List, All, length, take, slice_index, slice_set, Option, Some, None}
+use Rattle.std.specs.Prelude.{◌≡◌, ℕ, ◌+◌, ◌-◌, ◌*◌, ◌≤◌, ◌<◌, Bool, true, false, ◌==◌, ◌&&◌, ◌||◌, not, nat_lt, nat_le, if◌then◌else◌, List, All, length, take, slice_index, slice_set, Option, Some, None}
 use Rattle.std.specs.Char.{is_ascii_digit}
 use Rattle.std.specs.List.{fold}
+use Rattle.dual_bound.specs.declared.prices.TheConstants.{PRICE_SCALE}
 use Rattle.dual_bound.specs.declared.tree.Leaf.{Leaf}
 use Rattle.bound_certificate.specs.declared.due.Due.{Due}
 use Rattle.bound_certificate.specs.declared.due.Due.TheVariants as due
@@ -136,6 +137,11 @@ after_byte d scan byte =
     if (byte == 32) && not (is_title d) then after_word d scan
     else record scan { word = longer d scan.words scan.word byte }
 
+-- a node is due
+abbrev pub is_node : Due → Bool
+is_node (due.Node left trees) = true
+is_node other = false
+
 -- nothing yet of a line
 abbrev pub new_scan : Leaf → Scan
 new_scan leaf = record {
@@ -213,3 +219,23 @@ pub record MakeNumber (scan : Scan) (piece : List ℕ) (digits : Digits) : Type 
   pub some : 1 ≤ digits.number
   pub all : All (λ byte. is_ascii_digit byte ≡ true) (take digits.count piece)
   pub word : (d : Due) → fold (longer d scan.words) scan.word (take digits.count piece) ≡ word.Number digits.number
+
+-- bytes at the front of a piece are a number, as a word behind the first of a line
+pub record IsFirstNumber (piece : List ℕ) (digits : Digits) : Type 0 where
+  pub within : digits.count ≤ length piece
+  pub all : All (λ byte. is_ascii_digit byte ≡ true) (take digits.count piece)
+  pub word : (d : Due) (words : ℕ) → 1 ≤ words → fold (longer d words) word.Empty (take digits.count piece) ≡ word.Number digits.number
+
+-- a number in the range of a price, and the space behind it
+pub record IsFirstPrice (piece : List ℕ) (digits : Digits) : Type 0 where
+  pub number : IsFirstNumber piece digits
+  pub behind : digits.count < length piece
+  pub space : slice_index piece digits.count ≡ 32
+  pub range : digits.number ≤ 2 * PRICE_SCALE
+
+-- of a leaf's line the words before the prices have ended, and the next one begins
+pub record IsAtPrice (d : Due) (scan : Scan) : Type 0 where
+  pub node : is_node d ≡ true
+  pub name : scan.name ≡ Some name.Leaf
+  pub words : 3 ≤ scan.words
+  pub word : scan.word ≡ word.Empty

@@ -74,8 +74,8 @@ impl Reading {
         Ok(item)
     }
 
-    // Bytes at the front of a piece that end no line, one at least, and then the digits by which a number gets longer; how many
-    // they are.
+    // Bytes at the front of a piece that end no line, one at least, and then the prices of a leaf or the digits by which a number
+    // gets longer; how many they are.
     fn take(&mut self, piece: &[u8]) -> usize
         requires reading { IsReading self.old }
         requires going { self.old.fault ≡ None }
@@ -91,7 +91,7 @@ impl Reading {
         ensures due { self.new.due ≡ self.old.due }
     {
         self.scan.take(self.due, piece[0]);
-        1 + self.scan.take_digits(&piece[1..])
+        1 + self.scan.take_more(self.due, &piece[1..])
     }
 
     /// The next piece.

@@ -1,17 +1,19 @@
 //! A line, byte by byte.
-ghost use Rattle.std.specs.Prelude.{◌≡◌, ◌≤◌, All, IfSome, Some, length, take, true};
+ghost use Rattle.std.specs.Prelude.{◌≡◌, ◌≢◌, ◌||◌, ◌≤◌, ℕ, All, IfSome, Some, length, take, true};
 ghost use Rattle.std.specs.Char.{is_ascii_digit};
 ghost use Rattle.std.specs.List.{fold};
 ghost use Rattle.bound_certificate.specs.declared.due.Due.{Due as DueOf};
+ghost use Rattle.bound_certificate.specs.declared.scan.Word.{Word as WordOf};
+ghost use Rattle.bound_certificate.specs.declared.scan.Word.TheVariants as word_of;
 ghost use Rattle.bound_certificate.specs.Due.{is_in, range_at as range_at_of};
-ghost use Rattle.bound_certificate.specs.Scan.{IsFirstDigit, IsScan, MakeNumber, after_byte, after_word, begun as begun_of, fault_of, is_disordered as is_disordered_of, item_of, kept_leaf, leaf_with, longer as longer_of, longer_name as longer_name_of, longer_number as longer_number_of, name_of, new_scan, number_of, with_number, with_value};
+ghost use Rattle.bound_certificate.specs.Scan.{IsAtPrice, IsFirstDigit, IsFirstNumber, IsFirstPrice, IsScan, MakeNumber, after_byte, after_word, begun as begun_of, fault_of, is_disordered as is_disordered_of, item_of, kept_leaf, leaf_with, longer as longer_of, longer_name as longer_name_of, longer_number as longer_number_of, name_of, new_scan, number_of, with_number, with_value};
 
 use crate::certificate::Buy;
 use crate::due::{Due, Name, name_starting, range_at};
 use crate::fault::FaultKind;
 use crate::item::Item;
 use crate::limits::{GREATEST_GAP, MOST_DATES, MOST_WORDS};
-use dual_bound::Leaf;
+use dual_bound::{Leaf, PRICE_SCALE};
 
 /// What has come of a word.
 #[derive(Clone, Copy, Debug, PartialEq, Eq)]
@@ -122,6 +124,59 @@ fn first_digit(piece: &[u8]) -> Option<Digits>
     })
 }
 
+// The digits at the front of a piece, from some on: so long as the number can't come above `GREATEST_GAP`.
+fn more_digits(piece: &[u8], begun: Digits) -> Digits
+    requires within { begun.count ≤ length piece.now }
+    requires some { 1 ≤ begun.number }
+    ensures within { result.count ≤ length piece.now }
+    ensures some { 1 ≤ result.number }
+    ensures digits { All (λ byte. is_ascii_digit byte ≡ true) (take begun.count piece.now) → All (λ byte. is_ascii_digit byte ≡ true) (take result.count piece.now) }
+    ensures word { (d : DueOf) (words : ℕ) (word : WordOf) → fold (longer_of d words) word (take begun.count piece.now) ≡ word_of.Number begun.number
+        → fold (longer_of d words) word (take result.count piece.now) ≡ word_of.Number result.number }
+{
+    let Digits {
+        mut number,
+        count: mut place,
+    } = begun;
+    while place < piece.len() && piece[place].is_ascii_digit() && number < GREATEST_GAP / 10 {
+        number = 10 * number + u64::from(piece[place] - b'0');
+        place += 1;
+    }
+    Digits {
+        number,
+        count: place,
+    }
+}
+
+// The digits of the number at the front of a piece, behind which more of them may stand where it isn't 0.
+fn first_number(piece: &[u8]) -> Option<Digits>
+    ensures { IfSome result (IsFirstNumber piece.now) }
+{
+    match first_digit(piece) {
+        Some(begun) => Some(more_digits(piece, begun)),
+        None if !piece.is_empty() && piece[0] == b'0' => Some(Digits {
+            number: 0,
+            count: 1,
+        }),
+        None => None,
+    }
+}
+
+// The price at the front of a piece, where a space stands behind it.
+fn first_price(piece: &[u8]) -> Option<Digits>
+    ensures { IfSome result (IsFirstPrice piece.now) }
+{
+    let digits = first_number(piece)?;
+    if digits.count < piece.len()
+        && piece[digits.count] == b' '
+        && digits.number <= 2 * PRICE_SCALE
+    {
+        Some(digits)
+    } else {
+        None
+    }
+}
+
 /// What has come of a line.
 #[derive(Debug, Drop)]
 pub(crate) struct Scan {
@@ -211,7 +266,7 @@ impl Scan {
 
     /// Takes the digits at the front of a piece by which a number begins or gets longer, and says how many. It takes none that might
     /// bring the number above `GREATEST_GAP`: those come one by one.
-    pub(crate) fn take_digits(&mut self, piece: &[u8]) -> usize
+    fn take_digits(&mut self, piece: &[u8]) -> usize
         requires { IsScan self.old }
         ensures within { result ≤ length piece.now }
         ensures digits { All (λ byte. is_ascii_digit byte ≡ true) (take result piece.now) }
@@ -221,16 +276,67 @@ impl Scan {
         let Some(begun) = self.begun_number(piece) else {
             return 0;
         };
-        let Digits {
-            mut number,
-            count: mut place,
-        } = begun;
-        while place < piece.len() && piece[place].is_ascii_digit() && number < GREATEST_GAP / 10 {
-            number = 10 * number + u64::from(piece[place] - b'0');
-            place += 1;
+        let digits = more_digits(piece, begun);
+        self.word = Word::Number(digits.number);
+        digits.count
+    }
+
+    // Whether the prices of a leaf are read, and the next one begins.
+    fn is_at_price(&self, due: Due) -> bool
+        ensures { result ≡ true → IsAtPrice due self.now }
+    {
+        matches!(due, Due::Node { .. })
+            && self.name == Some(Name::Leaf)
+            && self.words >= 3
+            && self.word == Word::Empty
+    }
+
+    // Takes the prices of a leaf at the front of a piece that end there, each with the space behind it, and says how many bytes
+    // they are. What may be at fault in a way that a price isn't, comes byte by byte.
+    fn take_prices(&mut self, due: Due, piece: &[u8]) -> usize
+        requires kept { IsScan self.old }
+        requires leaf { IsAtPrice due self.old }
+        ensures within { result ≤ length piece.now }
+        ensures no_feed { All (λ byte. byte ≢ 10) (take result piece.now) }
+        ensures value { self.new ≡ fold (after_byte due) self.old (take result piece.now) }
+        ensures kept { IsScan self.new }
+    {
+        let dates = self.leaf.prices.as_slice().len() as u16;
+        let mut place = 0;
+        let mut words = self.words;
+        let mut last = self.last;
+        let mut disordered = self.disordered;
+        while words < 3 + dates {
+            let Some(price) = first_price(&piece[place..]) else {
+                break;
+            };
+            self.leaf.prices.put(words - 3, price.number);
+            let above = is_disordered(due, Name::Leaf, words, last, price.number);
+            disordered = either(disordered, above);
+            last = price.number;
+            words += 1;
+            place += price.count + 1;
         }
-        self.word = Word::Number(number);
+        self.words = words;
+        self.last = last;
+        self.disordered = disordered;
         place
+    }
+
+    /// Takes bytes at the front of a piece that end no line: the prices of a leaf, or the digits by which a number begins or gets
+    /// longer; and says how many.
+    pub(crate) fn take_more(&mut self, due: Due, piece: &[u8]) -> usize
+        requires { IsScan self.old }
+        ensures within { result ≤ length piece.now }
+        ensures no_feed { All (λ byte. byte ≢ 10) (take result piece.now) }
+        ensures value { self.new ≡ fold (after_byte due) self.old (take result piece.now) }
+        ensures kept { IsScan self.new }
+    {
+        if self.is_at_price(due) {
+            self.take_prices(due, piece)
+        } else {
+            self.take_digits(piece)
+        }
     }
 
     /// The word ends.
@@ -367,6 +473,13 @@ impl Scan {
             self.leaf.mu = self.second;
         }
     }
+}
+
+// Whether one of two things holds.
+fn either(first: bool, second: bool) -> bool
+    ensures { result ≡ first || second }
+{
+    first || second
 }
 
 // Whether a number at a place of its line isn't above that of the line before, or is a price above the one before.

@@ -12,17 +12,17 @@ pub returns-clause-value : goal.returns-clause-value
 returns-clause-value c =
     let old : Reading = c.args.self.now in
     let piece : List ℕ = c.args.piece.now in
-    let digits : List ℕ = take c.take_digits.result (take (length piece - 1) (drop 1 piece)) in
-    let bytes : take (1 + c.take_digits.result) piece ≡ get_or piece 0 0 ∷ digits = first-more piece c.take_digits.result c.requires.some c.take_digits.ensures.within in
+    let bytes_behind : List ℕ = take c.take_more.result (take (length piece - 1) (drop 1 piece)) in
+    let bytes : take (1 + c.take_more.result) piece ≡ get_or piece 0 0 ∷ bytes_behind = first-more piece c.take_more.result c.requires.some c.take_more.ensures.within in
     ap (λ (s : Scan). record old { scan = s })
-    (c.take_digits.ensures.value old.due ∙ ap (λ (s : Scan). fold (line.after_byte old.due) s digits) c.take.ensures.value)
-    ∙ sym (within-line (get_or piece 0 0 ∷ digits) old c.requires.going c.requires.due (line-more (get_or piece 0 0) digits c.requires.no_feed c.take_digits.ensures.digits))
+    (c.take_more.ensures.value ∙ ap (λ (s : Scan). fold (line.after_byte old.due) s bytes_behind) c.take.ensures.value)
+    ∙ sym (within-line (get_or piece 0 0 ∷ bytes_behind) old c.requires.going c.requires.due (line-more (get_or piece 0 0) bytes_behind c.requires.no_feed c.take_more.ensures.no_feed))
     ∙ ap (λ (bs : List ℕ). after_bytes old bs) (sym bytes)
 
 pub returns-clause-no_feed : goal.returns-clause-no_feed
 returns-clause-no_feed c =
     let piece : List ℕ = c.args.piece.now in
-    let digits : List ℕ = take c.take_digits.result (take (length piece - 1) (drop 1 piece)) in
-    let bytes : take (1 + c.take_digits.result) piece ≡ get_or piece 0 0 ∷ digits = first-more piece c.take_digits.result c.requires.some c.take_digits.ensures.within in
+    let bytes_behind : List ℕ = take c.take_more.result (take (length piece - 1) (drop 1 piece)) in
+    let bytes : take (1 + c.take_more.result) piece ≡ get_or piece 0 0 ∷ bytes_behind = first-more piece c.take_more.result c.requires.some c.take_more.ensures.within in
     let P : List ℕ → Type 0 = λ bs. All (λ byte. byte ≢ 10) bs in
-    subst P (sym bytes) (line-more (get_or piece 0 0) digits c.requires.no_feed c.take_digits.ensures.digits)
+    subst P (sym bytes) (line-more (get_or piece 0 0) bytes_behind c.requires.no_feed c.take_more.ensures.no_feed)
