@@ -1,4 +1,4 @@
-//! The yield interval, by bisection over present values.
+//! The yield interval, by a search over present values.
 
 ghost use Rattle.std.specs.Prelude.{◌≡◌, false, ◌+◌, ◌*◌, ◌<◌, ◌≤◌, ◌^◌, IfOk};
 ghost use Rattle.escrow_units.specs.PresentValue.{last_index};
@@ -55,6 +55,49 @@ fn is_no_dearer(
     Ok(value <= ONE as u128 * cost.0 as u128)
 }
 
+// A yield that was tried, with what the flows are worth at it, or about that.
+#[derive(Clone, Copy)]
+struct Tried {
+    n: u64,
+    value: u128,
+}
+
+// Where a line through two tried yields meets the worth that is wanted, roughly. It shows where to try next, and nothing rests
+// on it.
+fn meeting(first: Tried, second: Tried, wanted: u128) -> u64 {
+    let (low, high) = if first.n < second.n {
+        (first, second)
+    } else {
+        (second, first)
+    };
+    let width = u128::from(high.n.saturating_sub(low.n));
+    let fall = low.value.saturating_sub(high.value) >> 30;
+    if fall == 0 {
+        return low.n;
+    }
+    let beyond = (low.value.abs_diff(wanted) >> 30).saturating_mul(width) / fall;
+    let step = beyond.min(u128::from(MOST.0)) as u64;
+    if low.value >= wanted {
+        low.n.saturating_add(step)
+    } else {
+        low.n.saturating_sub(step)
+    }
+}
+
+// The yield to try next, above one and up to another: by the last two that were tried, and halfway once that was done sixteen
+// times.
+fn next_try(tries: u32, previous: Tried, last: Tried, wanted: u128, worth: u64, most: u64) -> u64
+    requires { worth < most }
+    ensures above { worth < result }
+    ensures within { result ≤ most }
+{
+    if tries < 16 {
+        meeting(previous, last, wanted).max(worth + 1).min(most)
+    } else {
+        most - (most - worth) / 2
+    }
+}
+
 // The greatest yield at which the flows are worth the cost: from 0 to just below 30 percent.
 fn lower_end(alloc: Global, flows: &Timeline, cost: Cents) -> Result<YieldUnits, NoMemory>
     requires cents { total_cents flows.now + cost.0 ≤ FLOWS_LIMIT }
@@ -63,11 +106,25 @@ fn lower_end(alloc: Global, flows: &Timeline, cost: Cents) -> Result<YieldUnits,
     ensures { IfOk result (λ lo. IsLowerEnd flows.now cost.0 lo.0) }
 {
     // Present values fall with the yield, so the flows are worth the cost at each yield up to the greatest.
+    let wanted = ONE as u128 * cost.0 as u128;
+    let mut previous = Tried {
+        n: MOST.0,
+        value: 0,
+    };
+    let mut last = Tried {
+        n: 0,
+        value: flows.about_total(),
+    };
+    let mut tries = 0u32;
     let mut worth = 0;
     let mut most = MOST.0 - 1;
     while worth < most {
-        let middle = most - (most - worth) / 2;
-        if is_worth(alloc, flows, cost, YieldUnits(middle))? {
+        let middle = next_try(tries, previous, last, wanted, worth, most);
+        let value = flows.present_value(alloc, YieldUnits(middle), Side::Low)?;
+        previous = last;
+        last = Tried { n: middle, value };
+        tries = tries.saturating_add(1);
+        if wanted <= value {
             worth = middle;
         } else {
             most = middle - 1;
@@ -121,8 +178,8 @@ fn answer_of_covered(alloc: Global, flows: &Timeline, cost: Cents) -> Result<Yie
 /// The yield of flows for a cost, as an interval of at most two units.
 ///
 /// The flows fall from settlement to 40 years after it, in any order and with as many on a day as there are. They and
-/// the cost come to at most 10^15 cents together. A yield is tried by one table of powers, up to the last flow: at most
-/// 33 yields for the lower end, and two for the upper. It takes memory for the flows and one table.
+/// the cost come to at most 10^15 cents together. A yield is tried by one table of powers, up to the last flow: about ten
+/// yields for the lower end, 50 at most, and two for the upper. It takes memory for the flows and one table.
 ///
 /// # Errors
 ///

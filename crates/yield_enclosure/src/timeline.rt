@@ -85,6 +85,15 @@ impl Timeline {
         Ok(Timeline { amounts, longest })
     }
 
+    // What all amounts come to, roughly, in units of 2^-62 of a cent.
+    pub(crate) fn about_total(&self) -> u128 {
+        let mut total = 0u128;
+        for amount in &self.amounts {
+            total = total.saturating_add(u128::from(amount.cents.0) << 62);
+        }
+        total
+    }
+
     // The present value at a yield, rounded to a side, in units of 2^-62 of a cent.
     pub(crate) fn present_value(
         &self,

@@ -9,8 +9,8 @@ abbrev pub invariant-loop-worth : goal.invariant-loop-worth
 invariant-loop-worth l = record {
   order : l.worth ≤ l.most;
   within : l.most < 3_000_000_000;
-  worth : one * l.cost.0 ≤ present_value Low l.worth l.flows;
-  greatest : (n : ℕ) → one * l.cost.0 ≤ present_value Low n l.flows → n ≤ l.most;
+  worth : one * l.fn.cost.0 ≤ present_value Low l.worth l.flows;
+  greatest : (n : ℕ) → one * l.fn.cost.0 ≤ present_value Low n l.flows → n ≤ l.most;
 }
 
 abbrev pub decreases-loop-worth : goal.decreases-loop-worth
