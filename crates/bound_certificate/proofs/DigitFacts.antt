@@ -1,19 +1,18 @@
 -- Digits by which a number gets longer.
-use Rattle.std.proofs.Common.{◌≡◌, ◌≢◌, ◌∙◌, ℕ, ◌+◌, ◌-◌, ◌*◌, ◌/◌, ◌<◌, ◌≤◌, Bool, true, false, ◌==◌, ◌&&◌, not, nat_le, if◌then◌else◌, List, [], ◌∷◌, ◌++◌, All, length, take, drop, get_or, refl, sym, subst, ap, arith, add-one, length-drop}
+use Rattle.std.proofs.Common.{◌≡◌, ◌≢◌, ◌∙◌, ℕ, ◌+◌, ◌-◌, ◌*◌, ◌/◌, ◌<◌, ◌≤◌, Bool, true, false, ◌==◌, ◌&&◌, not, nat_le, if◌then◌else◌, List, [], ◌∷◌, ◌++◌, All, length, take, drop, get_or, refl, sym, ap, arith, add-one, length-drop}
 use Rattle.std.specs.List.{fold}
 use Rattle.std.specs.Char.{is_ascii_digit}
 use Rattle.std.proofs.Math.Seq.{take-add, take-suc}
 use Rattle.std.proofs.lemmas.List.{take_all}
-use Rattle.std.proofs.lemmas.List.Elements.{All-cons, All-head, All-more, All-tail}
+use Rattle.std.proofs.lemmas.List.Elements.{All-cons, All-head, All-tail}
 use Rattle.std.proofs.lemmas.List.Sums.{fold-append}
 use Rattle.bound_certificate.specs.declared.due.Due.{Due}
-use Rattle.bound_certificate.specs.declared.scan.Digits.{Digits}
 use Rattle.bound_certificate.specs.declared.scan.Scan.{Scan}
 use Rattle.bound_certificate.specs.declared.scan.Word.{Word}
 use Rattle.bound_certificate.specs.declared.scan.Word.TheVariants as word
 use Rattle.bound_certificate.specs.declared.limits.TheConstants.{GREATEST_GAP}
 use Rattle.bound_certificate.specs.Due.{is_title}
-use Rattle.bound_certificate.specs.Scan.{AreFourDigits, AreMoreDigits, after_byte, after_word, longer}
+use Rattle.bound_certificate.specs.Scan.{after_byte, after_word, longer}
 
 abbrev pub Digit : ℕ → Type 0
 Digit byte = is_ascii_digit byte ≡ true
@@ -59,41 +58,6 @@ digits-more d words number w piece place inside some low digit so_far =
     ∙ fold-append (longer d words) w (take place piece) (get_or piece place 0 ∷ [])
     ∙ ap (λ (v : Word). longer d words v (get_or piece place 0)) so_far
     ∙ one_digit d words number (get_or piece place 0) some low digit
-
--- a digit more of those by which a number gets longer
-pub one-digit-more : (piece : List ℕ) (begun digits : Digits) (number count : ℕ) → number ≡ 10 * digits.number + (get_or piece digits.count 0 - 48) → digits.count + 1 ≡ count
-    → digits.count < length piece → digits.number < GREATEST_GAP / 10 → Digit (get_or piece digits.count 0) → AreMoreDigits piece begun digits
-    → AreMoreDigits piece begun (record { number = number; count = count })
-one-digit-more piece begun digits number count is at inside low digit h =
-    subst (λ (n : ℕ). AreMoreDigits piece begun (record { number = number; count = n })) at (record {
-      within = omega (arith, inside);
-      some = omega (arith, is, h.some);
-      all = λ all. All-more Digit piece digits.count 0 inside (h.all all) digit;
-      word = λ d words w start.
-          digits-more d words digits.number w piece digits.count inside h.some low digit (h.word d words w start) ∙ ap (λ (n : ℕ). word.Number n) (sym is);
-    })
-
--- four digits more
-pub four-digits-more : (piece : List ℕ) (begun digits : Digits) (four : ℕ) → digits.number < GREATEST_GAP / 100_000 → AreFourDigits piece digits.count four → AreMoreDigits piece begun digits
-    → AreMoreDigits piece begun (record { number = 10_000 * digits.number + four; count = digits.count + 4 })
-four-digits-more piece begun digits four low h so_far =
-    one-digit-more piece begun third (10_000 * digits.number + four) (digits.count + 4) (omega (arith, h.number)) (omega arith) (omega (arith, h.within))
-    (omega (arith, low, small digits.count h.first, small (digits.count + 1) h.second, small (digits.count + 2) h.third)) h.fourth
-    (one-digit-more piece begun second third.number (digits.count + 3) refl (omega arith) (omega (arith, h.within)) (omega (arith, low, small digits.count h.first, small (digits.count + 1) h.second)) h.third
-    (one-digit-more piece begun first second.number (digits.count + 2) refl (omega arith) (omega (arith, h.within)) (omega (arith, low, small digits.count h.first)) h.second
-    (one-digit-more piece begun digits first.number (digits.count + 1) refl refl (omega (arith, h.within)) (omega (arith, low)) h.first so_far)))
-  where
-    small : (place : ℕ) → Digit (get_or piece place 0) → get_or piece place 0 - 48 ≤ 9
-    small place digit = let most : get_or piece place 0 ≤ 57 = grind (arith, digit) in omega (arith, most)
-
-    first : Digits
-    first = record { number = 10 * digits.number + (get_or piece digits.count 0 - 48); count = digits.count + 1 }
-
-    second : Digits
-    second = record { number = 10 * first.number + (get_or piece (digits.count + 1) 0 - 48); count = digits.count + 2 }
-
-    third : Digits
-    third = record { number = 10 * second.number + (get_or piece (digits.count + 2) 0 - 48); count = digits.count + 3 }
 
 -- more bytes of a piece
 pub piece-more : (piece : List ℕ) (place more : ℕ) → place ≤ length piece → more ≤ length (take (length piece - place) (drop place piece)) →

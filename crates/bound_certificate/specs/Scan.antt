@@ -213,24 +213,6 @@ pub record IsFirstDigit (piece : List ℕ) (digits : Digits) : Type 0 where
   pub some : 1 ≤ digits.number
   pub count : digits.count ≡ 1
 
--- four digits at a place of a piece
-pub record AreFourDigits (piece : List ℕ) (place four : ℕ) : Type 0 where
-  pub within : place + 4 ≤ length piece
-  pub first : is_ascii_digit (slice_index piece place) ≡ true
-  pub second : is_ascii_digit (slice_index piece (place + 1)) ≡ true
-  pub third : is_ascii_digit (slice_index piece (place + 2)) ≡ true
-  pub fourth : is_ascii_digit (slice_index piece (place + 3)) ≡ true
-  pub number : four
-      ≡ 1_000 * (slice_index piece place - 48) + 100 * (slice_index piece (place + 1) - 48) + (10 * (slice_index piece (place + 2) - 48) + (slice_index piece (place + 3) - 48))
-
--- digits at the front of a piece, of which some begin a number, make it longer
-pub record AreMoreDigits (piece : List ℕ) (begun digits : Digits) : Type 0 where
-  pub within : digits.count ≤ length piece
-  pub some : 1 ≤ digits.number
-  pub all : All (λ byte. is_ascii_digit byte ≡ true) (take begun.count piece) → All (λ byte. is_ascii_digit byte ≡ true) (take digits.count piece)
-  pub word : (d : Due) (words : ℕ) (w : Word) → fold (longer d words) w (take begun.count piece) ≡ word.Number begun.number
-      → fold (longer d words) w (take digits.count piece) ≡ word.Number digits.number
-
 -- digits at the front of a piece make a word a number above 0
 pub record MakeNumber (scan : Scan) (piece : List ℕ) (digits : Digits) : Type 0 where
   pub within : digits.count ≤ length piece

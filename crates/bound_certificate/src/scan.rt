@@ -1,10 +1,12 @@
 //! A line, byte by byte.
-ghost use Rattle.std.specs.Prelude.{◌≡◌, ◌≢◌, ◌-◌, ◌||◌, ◌≤◌, ℕ, All, IfSome, Some, length, take, true};
+ghost use Rattle.std.specs.Prelude.{◌≡◌, ◌≢◌, ◌||◌, ◌≤◌, ℕ, All, IfSome, Some, length, take, true};
 ghost use Rattle.std.specs.Char.{is_ascii_digit};
 ghost use Rattle.std.specs.List.{fold};
 ghost use Rattle.bound_certificate.specs.declared.due.Due.{Due as DueOf};
+ghost use Rattle.bound_certificate.specs.declared.scan.Word.{Word as WordOf};
+ghost use Rattle.bound_certificate.specs.declared.scan.Word.TheVariants as word_of;
 ghost use Rattle.bound_certificate.specs.Due.{is_in, range_at as range_at_of};
-ghost use Rattle.bound_certificate.specs.Scan.{AreFourDigits, AreMoreDigits, IsAtPrice, IsFirstDigit, IsFirstNumber, IsFirstPrice, IsScan, MakeNumber, after_byte, after_word, begun as begun_of, fault_of, is_disordered as is_disordered_of, item_of, kept_leaf, leaf_with, longer as longer_of, longer_name as longer_name_of, longer_number as longer_number_of, name_of, new_scan, number_of, with_number, with_value};
+ghost use Rattle.bound_certificate.specs.Scan.{IsAtPrice, IsFirstDigit, IsFirstNumber, IsFirstPrice, IsScan, MakeNumber, after_byte, after_word, begun as begun_of, fault_of, is_disordered as is_disordered_of, item_of, kept_leaf, leaf_with, longer as longer_of, longer_name as longer_name_of, longer_number as longer_number_of, name_of, new_scan, number_of, with_number, with_value};
 
 use crate::certificate::Buy;
 use crate::due::{Due, Name, name_starting, range_at};
@@ -122,68 +124,22 @@ fn first_digit(piece: &[u8]) -> Option<Digits>
     })
 }
 
-// The value of a digit.
-fn digit_value(byte: u8) -> u64
-    requires { is_ascii_digit byte ≡ true }
-    ensures { result ≡ byte - 48 }
-{
-    u64::from(byte - b'0')
-}
-
-// The number that four digits at a place of a piece are.
-fn four_digits(piece: &[u8], place: usize) -> Option<u64>
-    requires { place ≤ length piece.now }
-    ensures { IfSome result (AreFourDigits piece.now place) }
-{
-    if piece.len() - place < 4
-        || !piece[place].is_ascii_digit()
-        || !piece[place + 1].is_ascii_digit()
-        || !piece[place + 2].is_ascii_digit()
-        || !piece[place + 3].is_ascii_digit()
-    {
-        return None;
-    }
-    let thousands = 1_000 * digit_value(piece[place]);
-    let hundreds = 100 * digit_value(piece[place + 1]);
-    let tens = 10 * digit_value(piece[place + 2]);
-    Some(thousands + hundreds + (tens + digit_value(piece[place + 3])))
-}
-
-// The digits at the front of a piece, from some on, four at once: so long as the number can't come near `GREATEST_GAP`.
-fn more_fours(piece: &[u8], begun: Digits) -> Digits
+// The digits at the front of a piece, from some on: so long as the number can't come above `GREATEST_GAP`.
+fn more_digits(piece: &[u8], begun: Digits) -> Digits
     requires within { begun.count ≤ length piece.now }
     requires some { 1 ≤ begun.number }
-    ensures { AreMoreDigits piece.now begun result }
+    ensures within { result.count ≤ length piece.now }
+    ensures some { 1 ≤ result.number }
+    ensures digits { All (λ byte. is_ascii_digit byte ≡ true) (take begun.count piece.now) → All (λ byte. is_ascii_digit byte ≡ true) (take result.count piece.now) }
+    ensures word { (d : DueOf) (words : ℕ) (word : WordOf) → fold (longer_of d words) word (take begun.count piece.now) ≡ word_of.Number begun.number
+        → fold (longer_of d words) word (take result.count piece.now) ≡ word_of.Number result.number }
 {
     let Digits {
         mut number,
         count: mut place,
     } = begun;
-    while number < GREATEST_GAP / 100_000 {
-        let Some(four) = four_digits(piece, place) else {
-            break;
-        };
-        number = 10_000 * number + four;
-        place += 4;
-    }
-    Digits {
-        number,
-        count: place,
-    }
-}
-
-// The digits at the front of a piece, from some on: so long as the number can't come above `GREATEST_GAP`.
-fn more_digits(piece: &[u8], begun: Digits) -> Digits
-    requires within { begun.count ≤ length piece.now }
-    requires some { 1 ≤ begun.number }
-    ensures { AreMoreDigits piece.now begun result }
-{
-    let Digits {
-        mut number,
-        count: mut place,
-    } = more_fours(piece, begun);
     while place < piece.len() && piece[place].is_ascii_digit() && number < GREATEST_GAP / 10 {
-        number = 10 * number + digit_value(piece[place]);
+        number = 10 * number + u64::from(piece[place] - b'0');
         place += 1;
     }
     Digits {
