@@ -1,11 +1,13 @@
 //! Worked figures of solves. They come from another program.
 
-use crate::basis::{Basis, LineState};
-use crate::simplex::{Purpose, Simplex, SolveEnd};
-use case_file::read_case;
-use dual_bound::{Interval, Leaf, Prices};
+use crate::aim::Purpose;
+use crate::line_ranges::Holding;
+use crate::simplex::{Simplex, SolveEnd};
+use case_file::{Case, read_case};
+use dual_bound::{Interval, Leaf};
 use escrow_units::{Cents, Day, Flow, GREATEST_INDEX, YieldUnits};
 use fixed_powers::{Powers, Side};
+use sparse_basis::LineState;
 use std::alloc::Global;
 use std::test::Fail;
 
@@ -16,21 +18,23 @@ const RATES: &[u8] =
     b"terms,1000,1\nrate,2025-02-14,2027-01-15,4.00\noffer,2025-07-15,max,,10000000\noffer,2025-07-15,3.00,,10000000\noffer,2027-01-15,max,,10000000\noffer,2027-01-15,3.00,,10000000\n";
 
 // Opening cash, and for each need date two lines, of 4 and of 3 percent.
-fn simplex_of(alloc: Global) -> Result<Simplex, Fail> {
-    let powers = Powers::make(alloc, YieldUnits(350_100_000), Side::Low, GREATEST_INDEX)?;
+fn case_of(alloc: Global) -> Result<Case, Fail> {
     match read_case(alloc, ISSUE, RATES, b"") {
-        Ok(case) => Ok(Simplex::make(alloc, &case.book, &powers)?),
+        Ok(case) => Ok(case),
         Err(_) => Err(Fail::new("no case")),
     }
 }
 
-// The leaf that a solution proposes.
-fn leaf_of(alloc: Global, simplex: &Simplex) -> Result<Leaf, Fail> {
-    let mut leaf = Leaf {
-        whole: true,
-        mu: 0,
-        prices: Prices::new(vec![in alloc; 0; usize::from(simplex.dates())]?),
-    };
+fn simplex_of<'a>(alloc: Global, case: &'a Case) -> Result<Simplex<'a>, Fail> {
+    let powers = Powers::make(alloc, YieldUnits(350_100_000), Side::Low, GREATEST_INDEX)?;
+    Ok(Simplex::make(alloc, &case.book, &powers)?)
+}
+
+// The leaf that a solution proposes, over two need dates.
+fn leaf_of(alloc: Global, simplex: &Simplex) -> Result<Leaf, Fail>
+    requires { simplex.now.dates ≡ 2 }
+{
+    let mut leaf = Leaf::of_zeros(alloc, true, 2)?;
     simplex.propose(&mut leaf);
     Ok(leaf)
 }
