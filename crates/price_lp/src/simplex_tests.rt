@@ -1,5 +1,7 @@
 //! Worked figures of solves. They come from another program.
 
+ghost use Rattle.std.specs.Prelude.{◌≡◌};
+
 use crate::aim::Purpose;
 use crate::line_ranges::Holding;
 use crate::simplex::{Simplex, SolveEnd};
@@ -46,7 +48,8 @@ fn cents_of(simplex: &Simplex) -> i128 {
 
 #[test]
 fn a_solve_keeps_to_the_yield_limit(rt: HostRuntime) -> Result<(), Fail> {
-    let mut simplex = simplex_of(rt.alloc())?;
+    let case = case_of(rt.alloc())?;
+    let mut simplex = simplex_of(rt.alloc(), &case)?;
     simplex.start_greedily();
     assert_eq!(rt; simplex.solve(100, None), SolveEnd::Optimal);
     assert_eq!(rt; simplex.iterations(), 1);
@@ -77,7 +80,8 @@ fn a_solve_keeps_to_the_yield_limit(rt: HostRuntime) -> Result<(), Fail> {
 
 #[test]
 fn a_fixed_line_pays_exactly_until_it_is_free(rt: HostRuntime) -> Result<(), Fail> {
-    let mut simplex = simplex_of(rt.alloc())?;
+    let case = case_of(rt.alloc())?;
+    let mut simplex = simplex_of(rt.alloc(), &case)?;
     let half_a_year = [Flow {
         day: Day::new(20284),
         cents: Cents(50_991_781),
@@ -85,7 +89,13 @@ fn a_fixed_line_pays_exactly_until_it_is_free(rt: HostRuntime) -> Result<(), Fai
     simplex.start_greedily();
     assert_eq!(rt; simplex.solve(100, None), SolveEnd::Optimal);
     // 500,000 dollars of a line that is in the basis: it leaves it.
-    simplex.fix(1, 500_000, Cents(50_000_000), &half_a_year, 0);
+    let holding = Holding {
+        units: 500_000,
+        cost: Cents(50_000_000),
+        payments: &half_a_year,
+        excess: 0,
+    };
+    simplex.fix(1, &holding);
     assert_eq!(rt; simplex.solve(100, None), SolveEnd::Optimal);
     assert!(rt; !simplex.is_basic(1));
     assert_eq!(rt; simplex.amount(1), 51_200_000_000);
@@ -104,8 +114,9 @@ fn a_fixed_line_pays_exactly_until_it_is_free(rt: HostRuntime) -> Result<(), Fai
 
 #[test]
 fn a_solve_starts_from_a_leaf_or_a_basis(rt: HostRuntime) -> Result<(), Fail> {
-    let mut simplex = simplex_of(rt.alloc())?;
-    let mut basis = Basis::make(rt.alloc(), &simplex)?;
+    let case = case_of(rt.alloc())?;
+    let mut simplex = simplex_of(rt.alloc(), &case)?;
+    let mut basis = simplex.new_basis(rt.alloc())?;
     assert_eq!(rt; simplex.solve(100, None), SolveEnd::Optimal);
     let leaf = leaf_of(rt.alloc(), &simplex)?;
     let solved = simplex.iterations();
@@ -119,7 +130,13 @@ fn a_solve_starts_from_a_leaf_or_a_basis(rt: HostRuntime) -> Result<(), Fail> {
     assert_eq!(rt; simplex.solve(100, Some(285_028_910)), SolveEnd::AtLimit);
     simplex.set_range(4, Interval { low: 0, high: 1000 });
     simplex.start_from(&basis);
-    simplex.fix(0, 0, Cents(0), &[], 0);
+    let nothing = Holding {
+        units: 0,
+        cost: Cents(0),
+        payments: &[],
+        excess: 0,
+    };
+    simplex.fix(0, &nothing);
     assert_eq!(rt; simplex.solve(100, None), SolveEnd::Optimal);
     // More columns than runs of dates.
     basis.put_line(2, LineState::Basic);
