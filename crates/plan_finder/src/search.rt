@@ -139,9 +139,11 @@ impl<'a> Search<'a> {
     // How much work it was to make a plan exact: a rise weighs two purchases of each line, and a try one and the dates.
     fn work_of(&self, done: Exactness) -> u64 {
         let sweep = self.diver.simplex.sweep();
-        let purchase = PAYMENT_WORK * (sweep / (self.ends.len() as u64).max(1));
-        let rises = u64::from(done.rises).saturating_mul(2 * PAYMENT_WORK.saturating_mul(sweep));
-        rises.saturating_add(u64::from(done.tries).saturating_mul(purchase + DATES_WORK))
+        let purchase = PAYMENT_WORK.saturating_mul(sweep / (self.ends.len() as u64).max(1));
+        let rise = (2 * PAYMENT_WORK).saturating_mul(sweep);
+        let rises = u64::from(done.rises).saturating_mul(rise);
+        let tries = u64::from(done.tries).saturating_mul(purchase.saturating_add(DATES_WORK));
+        rises.saturating_add(tries)
     }
 
     // Dives from the solution at hand, makes the plan exact, and offers it.
