@@ -16,13 +16,8 @@ use escrow_desk::NoMemory;
 use escrow_units::GREATEST_INDEX;
 use fixed_powers::{Powers, Side};
 use offer_book::Book;
-use price_lp::{Purpose, Simplex, SolveEnd};
+use price_lp::{COLD_ITERATIONS, Purpose, Simplex, SolveEnd, WARM_ITERATIONS};
 use std::alloc::Global;
-
-// The most iterations from a leaf, and from nothing.
-const WARM_ITERATIONS: u32 = 300;
-
-const COLD_ITERATIONS: u32 = 2_000;
 
 /// The parts of a tuner.
 #[derive(Drop)]
@@ -30,7 +25,7 @@ pub(crate) struct Parts<'a> {
     /// The steps, priced one by one.
     pub sweep: Sweep<'a>,
     /// The linear program.
-    pub simplex: Simplex,
+    pub simplex: Simplex<'a>,
     /// The leaf that it proposes.
     pub proposal: Leaf,
 }

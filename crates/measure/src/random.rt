@@ -2,11 +2,11 @@
 ghost use Rattle.std.specs.Prelude.{◌≡◌, ◌≤◌, length};
 ghost use Rattle.fixed_powers.specs.DiscountPowers.{PowerTable};
 
-use crate::roots::{COLD, WARM, powers_of, starved};
+use crate::roots::{powers_of, starved};
 use dual_bound::{Interval, Leaf};
 use escrow_units::{GREATEST_YIELD, YieldUnits};
 use offer_book::Book;
-use price_lp::{Purpose, Simplex, SolveEnd};
+use price_lp::{COLD_ITERATIONS, Purpose, Simplex, SolveEnd, WARM_ITERATIONS};
 use rand::RngExt;
 use rand_core::SeedableRng;
 use rand_pcg::Pcg32;
@@ -147,14 +147,16 @@ fn solve(simplex: &mut Simplex, start: Start, leaf: &Leaf, tally: Tally) -> Tall
 {
     go(start, simplex, leaf);
     if start == Start::Nothing {
-        return tally.with(simplex.solve(COLD, None));
+        return tally.with(simplex.solve(COLD_ITERATIONS, None));
     }
-    let end = simplex.solve(WARM, None);
+    let end = simplex.solve(WARM_ITERATIONS, None);
     if end == SolveEnd::Optimal {
         return tally.with(end);
     }
     simplex.start_greedily();
-    tally.with_again().with(simplex.solve(COLD, None))
+    tally
+        .with_again()
+        .with(simplex.solve(COLD_ITERATIONS, None))
 }
 
 // Solves a program from where it stands, from its own leaf or from nothing.

@@ -1,7 +1,7 @@
 //! Prices at the root.
 ghost use Rattle.std.specs.Prelude.{◌≡◌, ◌≤◌, ◌^◌, IfOk, length};
 ghost use Rattle.std.specs.List.{AllZip};
-ghost use Rattle.fixed_powers.specs.DiscountPowers.{PowerTable};
+ghost use Rattle.fixed_powers.specs.DiscountPowers.{IsLowTable, PowerTable};
 ghost use Rattle.dual_bound.specs.Ranges.{HasRoomFor};
 ghost use Rattle.dual_bound.specs.Tree.{IsLeaf};
 
@@ -12,16 +12,10 @@ use escrow_desk::NoMemory;
 use escrow_units::{GREATEST_INDEX, GREATEST_YIELD, YieldUnits};
 use fixed_powers::{Powers, Side};
 use offer_book::{Book, COEFFICIENT_SCALE};
-use price_lp::{Basis, Purpose, Simplex};
+use price_lp::{Basis, COLD_ITERATIONS, Purpose, Simplex, WARM_ITERATIONS};
 use std::io;
 use std::io::ErrorKind;
 use std::time::Instant;
-
-/// The most iterations from nothing.
-pub(crate) const COLD: u32 = 2_000;
-
-/// The most iterations after a changed range.
-pub(crate) const WARM: u32 = 300;
 
 /// Want of memory, as a fault.
 pub(crate) fn starved() -> io::Error {
@@ -43,8 +37,7 @@ pub(crate) fn micros_since(rt: &HostRuntime, start: Instant) -> io::Result<u64> 
 pub(crate) fn powers_of(rt: &HostRuntime, limit: YieldUnits) -> io::Result<Powers>
     requires limit_from { 1 ≤ limit.0 }
     requires limit_to { limit.0 ≤ GREATEST_YIELD }
-    ensures side { IfOk result (λ powers. powers.side ≡ Side.Low) }
-    ensures longest { IfOk result (λ powers. powers.longest ≡ GREATEST_INDEX) }
+    ensures { IfOk result IsLowTable }
 {
     match Powers::make(
         rt.alloc(),
@@ -58,9 +51,8 @@ pub(crate) fn powers_of(rt: &HostRuntime, limit: YieldUnits) -> io::Result<Power
 }
 
 // The program of a book for the prices of a leaf.
-fn program_of(rt: &HostRuntime, book: &Book, powers: &Powers) -> io::Result<Simplex>
-    requires side { powers.now.side ≡ Side.Low }
-    requires longest { powers.now.longest ≡ GREATEST_INDEX }
+fn program_of<'a>(rt: &HostRuntime, book: &'a Book, powers: &Powers) -> io::Result<Simplex<'a>>
+    requires powers { IsLowTable powers.now }
 {
     let Ok(mut simplex) = Simplex::make(rt.alloc(), book, powers) else {
         return Err(starved());
@@ -73,14 +65,13 @@ fn program_of(rt: &HostRuntime, book: &Book, powers: &Powers) -> io::Result<Simp
 fn time_of_solve(rt: &HostRuntime, simplex: &mut Simplex) -> io::Result<u64> {
     let start = Instant::now(rt)?;
     simplex.start_greedily();
-    simplex.solve(COLD, None);
+    simplex.solve(COLD_ITERATIONS, None);
     micros_since(rt, start)
 }
 
 // The least time of two more solves from nothing, each of a new program.
 fn least_time(rt: &HostRuntime, book: &Book, powers: &Powers, first: u64) -> io::Result<u64>
-    requires side { powers.now.side ≡ Side.Low }
-    requires longest { powers.now.longest ≡ GREATEST_INDEX }
+    requires powers { IsLowTable powers.now }
 {
     let mut least = first;
     for _ in 0..2 {
@@ -99,10 +90,10 @@ fn time_of_change(
     interval: Interval,
 ) -> io::Result<u64> {
     simplex.start_from(root);
-    simplex.solve(COLD, None);
+    simplex.solve(COLD_ITERATIONS, None);
     simplex.set_range(line, interval);
     let start = Instant::now(rt)?;
-    simplex.solve(WARM, None);
+    simplex.solve(WARM_ITERATIONS, None);
     nanos_since(rt, start)
 }
 
@@ -136,13 +127,13 @@ fn time_of_split(
         simplex.set_range(line, whole);
     }
     simplex.start_from(root);
-    simplex.solve(COLD, None);
+    simplex.solve(COLD_ITERATIONS, None);
     Ok(nanos)
 }
 
 // The basis of the solution.
 fn basis_of(rt: &HostRuntime, simplex: &Simplex) -> io::Result<Basis> {
-    let Ok(mut basis) = Basis::make(rt.alloc(), simplex) else {
+    let Ok(mut basis) = simplex.new_basis(rt.alloc()) else {
         return Err(starved());
     };
     simplex.save(&mut basis);
@@ -213,8 +204,7 @@ fn bound_at_root(
 
 // The bound of the base leaf, improved over the ranges of the root, in cents.
 fn improved(rt: &HostRuntime, book: &Book, powers: &Powers) -> Result<i128, NoMemory>
-    requires side { powers.now.side ≡ Side.Low }
-    requires longest { powers.now.longest ≡ GREATEST_INDEX }
+    requires powers { IsLowTable powers.now }
 {
     let ranges = Ranges::root(rt.alloc(), book)?;
     let base = base_leaf(rt, book)?;

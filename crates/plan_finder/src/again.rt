@@ -23,7 +23,7 @@ const SPREAD: u32 = 7_919;
 /// When a search ends.
 #[derive(Clone, Copy, Debug, PartialEq, Eq)]
 pub(crate) struct Stop {
-    /// Once so many linear programs were solved.
+    /// Once so much work is done: so many times all columns of the program. Each dive is more than one.
     pub effort: u32,
     /// Once a plan costs at most this.
     pub target: Cents,
@@ -32,10 +32,8 @@ pub(crate) struct Stop {
 // Whether a search ends.
 fn is_done(search: &Search, stop: &Stop, best: &Option<Proposal>) -> bool {
     match best {
-        Some(proposal) => {
-            proposal.cost.0 <= stop.target.0 || stop.effort <= search.diver.programs
-        }
-        None => stop.effort <= search.diver.programs,
+        Some(proposal) => proposal.cost.0 <= stop.target.0 || search.is_spent(),
+        None => search.is_spent(),
     }
 }
 

@@ -15,6 +15,15 @@ use escrow_units::{Cents, YieldUnits};
 use offer_book::Book;
 use std::alloc::Global;
 
+/// How much was done to make a plan exact.
+#[derive(Clone, Copy)]
+pub(crate) struct Exactness {
+    /// How often a line was raised to mend it.
+    pub rises: u32,
+    /// How many numbers of units of a line were tried to trim it.
+    pub tries: u32,
+}
+
 /// Whether a plan at a cost is cheaper than the best one, if there is any.
 pub(crate) fn is_cheaper(cost: Cents, best: &Option<Proposal>) -> bool {
     match best {
@@ -68,7 +77,7 @@ fn restore(book: &Book, ledger: &mut Ledger, plan: &Plan)
 }
 
 /// Makes the ledger's plan exact: it is mended once, and then trimmed in each of some orders. Each plan that comes of it is
-/// offered.
+/// offered. It answers how much was done.
 ///
 /// # Errors
 ///
@@ -80,22 +89,23 @@ pub(crate) fn finish(
     orders: &[Vec<Ranked>],
     ledger: &mut Ledger,
     best: &mut Option<Proposal>,
-) -> Result<(), NoMemory>
+) -> Result<Exactness, NoMemory>
     requires ledger { (n : ℕ) × IsLedger n book.now ledger.old }
     requires orders { All (λ order. All (λ ranked. ranked.line < length book.now.lines) order.items) orders.now }
     requires best { IfSome best.old (IsProposal limit.0 book.now) }
     ensures ledger { OnOk result ((n : ℕ) → IsLedger n book.now ledger.old → IsLedger n book.now ledger.new) }
     ensures best { OnOk result (IfSome best.new (IsProposal limit.0 book.now)) }
 {
-    mend(book, ledger);
+    let rises = mend(book, ledger);
+    let mut tries = 0u32;
     if ledger.first_short(book).is_some() {
-        return Ok(());
+        return Ok(Exactness { rises, tries });
     }
     let mended = ledger.plan.copy(alloc)?;
     for order in orders {
         restore(book, ledger, &mended);
-        trim(book, ledger, order.as_slice());
+        tries = tries.saturating_add(trim(book, ledger, order.as_slice()));
         offer(alloc, book, limit, ledger, best)?;
     }
-    Ok(())
+    Ok(Exactness { rises, tries })
 }

@@ -3,7 +3,7 @@
 //! What is fixed counts exactly from then on, so that the rounding of a late line comes back as exact receipts in all earlier
 //! balances, which the next linear program corrects.
 ghost use Rattle.std.specs.Prelude.{◌≡◌, ℕ, ◌<◌, ◌≤◌, All, IfOk, IfSome, length, slice_index_or};
-ghost use Rattle.fixed_powers.specs.DiscountPowers.{PowerTable};
+ghost use Rattle.fixed_powers.specs.DiscountPowers.{IsLowTable, PowerTable};
 ghost use Rattle.offer_book.specs.Portfolio.{IsPermitted, IsPermittedUnits};
 ghost use Rattle.offer_book.specs.declared.line.Line.{Line};
 ghost use Rattle.plan_finder.specs.Dive.{AreLinesOf, IsDiver};
@@ -17,17 +17,19 @@ use crate::terms::Purchase;
 use cash_table::Plan;
 use dual_bound::Interval;
 use escrow_desk::NoMemory;
-use escrow_units::GREATEST_INDEX;
-use fixed_powers::{Powers, Side};
+use fixed_powers::Powers;
 use offer_book::{Book, Line};
-use price_lp::{Basis, Purpose, Simplex, SolveEnd};
+use price_lp::{Basis, Holding, Purpose, Simplex, SolveEnd};
 use std::alloc::Global;
 
-/// The most iterations of a solve from a basis near by.
+// The most iterations of a solve from a basis near by.
 const WARM_ITERATIONS: u32 = 200;
 
-/// The most iterations of a solve from the start.
+// The most iterations of a solve from the start.
 const COLD_ITERATIONS: u32 = 600;
+
+/// How much work a payment is that is worked out exactly, in units of the program's work.
+pub(crate) const PAYMENT_WORK: u64 = 8;
 
 /// In which turn lines are fixed.
 #[derive(Clone, Copy, Debug, PartialEq, Eq)]
@@ -48,9 +50,9 @@ enum Turn {
 
 /// The linear program of a dive, and what is fixed of it.
 #[derive(Drop)]
-pub(crate) struct Diver {
+pub(crate) struct Diver<'a> {
     /// The linear program.
-    pub simplex: Simplex,
+    pub simplex: Simplex<'a>,
     /// The basis before a line is fixed.
     pub start: Basis,
     /// The basis with the line fixed below.
@@ -59,8 +61,8 @@ pub(crate) struct Diver {
     pub fixed: Vec<Option<u64>>,
     /// The lines in the order of their ends.
     pub order: Vec<Ranked>,
-    /// How many linear programs were solved, up to the type's end.
-    pub programs: u32,
+    /// How much work it was to fix lines, in units of the program's work, up to the type's end.
+    pub fixing: u64,
 }
 
 // The turn of a line that isn't fixed, by the amount of it, in units of 2^-10 of a cent.
@@ -86,7 +88,7 @@ fn excess_of(line: u16, bought: &Purchase) -> i128 {
         .saturating_sub(cost)
 }
 
-impl Diver {
+impl<'a> Diver<'a> {
     /// A dive over the lines of a book, which are given in the order of their ends, against the limit of the powers.
     ///
     /// # Errors
@@ -94,25 +96,29 @@ impl Diver {
     /// Where memory ran out.
     pub(crate) fn make(
         alloc: Global,
-        book: &Book,
+        book: &'a Book,
         powers: &Powers,
         order: Vec<Ranked>,
-    ) -> Result<Diver, NoMemory>
-        requires side { powers.now.side ≡ Side.Low }
-        requires longest { powers.now.longest ≡ GREATEST_INDEX }
+    ) -> Result<Diver<'a>, NoMemory>
+        requires powers { IsLowTable powers.now }
         requires order { AreLinesOf book.now order.items }
         ensures { IfOk result (IsDiver book.now) }
     {
         let mut simplex = Simplex::make(alloc, book, powers)?;
         simplex.aim(Purpose::Plan, true);
         Ok(Diver {
-            start: Basis::make(alloc, &simplex)?,
-            below: Basis::make(alloc, &simplex)?,
+            start: simplex.new_basis(alloc)?,
+            below: simplex.new_basis(alloc)?,
             simplex,
             fixed: vec![in alloc; None; usize::from(book.line_count())]?,
             order,
-            programs: 0,
+            fixing: 0,
         })
+    }
+
+    /// How much work was done, in units of the program's work, up to the type's end.
+    pub(crate) fn work(&self) -> u64 {
+        self.simplex.work().saturating_add(self.fixing)
     }
 
     // Whether a line can be fixed next.
@@ -181,10 +187,20 @@ impl Diver {
         requires permitted { (d : Line) → IsPermittedUnits (slice_index_or book.now.lines line d) units }
         ensures { IsDiver book.now self.new }
     {
+        if self.fixed[usize::from(line)] == Some(units) {
+            return;
+        }
         let bought = ledger.purchase(book, line, units);
-        let excess = excess_of(line, &bought);
-        self.simplex.fix(line, units, bought.cost, bought.payments.as_slice(), excess);
+        let holding = Holding {
+            units,
+            cost: bought.cost,
+            payments: bought.payments.as_slice(),
+            excess: excess_of(line, &bought),
+        };
+        self.simplex.fix(line, &holding);
         self.fixed[usize::from(line)] = Some(units);
+        let work = PAYMENT_WORK * bought.payments.len() as u64;
+        self.fixing = self.fixing.saturating_add(work);
     }
 
     // Solves one linear program more, and gives its objective: the greatest number where there is no solution.
@@ -192,7 +208,6 @@ impl Diver {
         requires { IsDiver book.now self.old }
         ensures { IsDiver book.now self.new }
     {
-        self.programs = self.programs.saturating_add(1);
         match self.simplex.solve(iterations, None) {
             SolveEnd::Stopped => i128::MAX,
             SolveEnd::Optimal | SolveEnd::AtLimit | SolveEnd::Capped => self.simplex.objective(),
@@ -216,10 +231,9 @@ impl Diver {
         self.fix(book, ledger, line, choice.above);
         let above = self.solve(book, WARM_ITERATIONS);
         if below <= above {
-            // The program that was solved before, so that it doesn't count again.
             self.fix(book, ledger, line, choice.below);
             self.simplex.start_from(&self.below);
-            self.simplex.solve(WARM_ITERATIONS, None);
+            self.solve(book, WARM_ITERATIONS);
         }
     }
 
@@ -233,15 +247,17 @@ impl Diver {
         next_to(book.line(line), self.simplex.amount(line))
     }
 
-    // Fixes a line at a permitted number of units next to its amount.
-    fn decide(&mut self, book: &Book, ledger: &Ledger, line: u16)
+    // Fixes a line at a permitted number of units next to its amount: at the one below where the work is spent.
+    fn decide(&mut self, book: &Book, ledger: &Ledger, line: u16, most_work: u64)
         requires diver { IsDiver book.now self.old }
         requires ledger { (n : ℕ) × IsLedger n book.now ledger.now }
         requires line { line < length book.now.lines }
         ensures { IsDiver book.now self.new }
     {
         let choice = self.neighbours(book, line);
-        if choice.exact || choice.below == choice.above {
+        if most_work <= self.work() {
+            self.fix(book, ledger, line, choice.below);
+        } else if choice.exact || choice.below == choice.above {
             self.fix(book, ledger, line, choice.below);
             self.solve(book, WARM_ITERATIONS);
         } else {
@@ -249,15 +265,22 @@ impl Diver {
         }
     }
 
-    /// Fixes one open line after the other until none is left: at most every line once.
-    pub(crate) fn descend(&mut self, book: &Book, ledger: &Ledger, sequence: Sequence)
+    /// Fixes one open line after the other until none is left: at most every line once. Once so much work is spent, no program is
+    /// solved any more.
+    pub(crate) fn descend(
+        &mut self,
+        book: &Book,
+        ledger: &Ledger,
+        sequence: Sequence,
+        most_work: u64,
+    )
         requires diver { IsDiver book.now self.old }
         requires ledger { (n : ℕ) × IsLedger n book.now ledger.now }
         ensures { IsDiver book.now self.new }
     {
         for _turn in 0..book.line_count() {
             match self.next_line(book, sequence) {
-                Some(line) => self.decide(book, ledger, line),
+                Some(line) => self.decide(book, ledger, line, most_work),
                 None => return,
             }
         }
@@ -269,6 +292,9 @@ impl Diver {
         requires line { line < length book.now.lines }
         ensures { IsDiver book.now self.new }
     {
+        if self.fixed[usize::from(line)].is_none() {
+            return;
+        }
         let whole = Interval {
             low: 0,
             high: book.line(line).most,

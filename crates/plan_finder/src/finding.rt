@@ -39,7 +39,7 @@ fn dive_until_found(
     ensures best { OnOk result (IfSome best.new (IsProposal limit.0 book.now)) }
 {
     for number in 1..MORE_DIVES + 1 {
-        if best.is_some() {
+        if best.is_some() || search.is_spent() {
             return Ok(());
         }
         search.dive_whole(alloc, book, limit, Sequence::Drawn(number), best)?;
@@ -69,8 +69,11 @@ fn find_by_dives(
 }
 
 /// Looks for a cheap plan that is permitted, meets the needs and is within the limit, in units of 10^-10, from 1 to
-/// 3,000,000,000. It solves about as many linear programs as the effort says, at least those of one dive, and stops as soon as a
-/// plan costs at most the target, in cents. The same input gives the same plan.
+/// 3,000,000,000. It goes on until so much work is done as the effort says, at least that of one dive, or a plan costs at most
+/// the target, in cents.
+///
+/// The effort is in sweeps: as much work as to go once through each column of the linear program. It is the same on every machine,
+/// and so the same input gives the same plan.
 ///
 /// None says nothing but that no plan was found.
 ///
@@ -89,6 +92,7 @@ pub fn find(
     ensures { IfOk result (λ proposal. IfSome proposal (IsProposal limit.0 book.now)) }
 {
     let mut search = Search::make(alloc, book, limit)?;
+    search.allow(book, effort);
     if book.need_count() == 0 {
         let mut best = None;
         offer(alloc, book, limit, &search.ledger, &mut best)?;

@@ -2,7 +2,7 @@
 ghost use Rattle.std.specs.Prelude.{◌≡◌, ℕ, ◌+◌, ◌-◌, ◌*◌, ◌/◌, ◌^◌, ◌<◌, ◌≤◌, ◌↔◌, All, IfOk, IfNone, IfSome, IsTrue, length, replicate, slice_index, slice_index_or, slice_set};
 ghost use Rattle.escrow_units.specs.Flows.{Rise, total};
 ghost use Rattle.escrow_units.specs.declared.security.Flow.{Flow};
-ghost use Rattle.fixed_powers.specs.DiscountPowers.{PowerTable, one};
+ghost use Rattle.fixed_powers.specs.DiscountPowers.{IsLowTable, PowerTable, one};
 ghost use Rattle.offer_book.specs.Portfolio.{IsPermitted, IsPermittedUnits, Meets, line_payments, payments, security_cost};
 ghost use Rattle.offer_book.specs.declared.line.Line.{Line};
 ghost use Rattle.cash_table.specs.Points.{low_value};
@@ -14,8 +14,8 @@ use crate::terms::{LineTerms, Purchase};
 use backward_build::run_up;
 use cash_table::{Plan, add_receipts};
 use escrow_desk::NoMemory;
-use escrow_units::{Cents, Flow, GREATEST_INDEX, MOST_NEED_DATES};
-use fixed_powers::{ONE, Powers, Side};
+use escrow_units::{Cents, Flow, MOST_NEED_DATES};
+use fixed_powers::{ONE, Powers};
 use offer_book::Book;
 use std::alloc::Global;
 
@@ -76,8 +76,7 @@ fn exchange(received: &mut [u64], before: &[u64], after: &[u64], dates: usize)
 
 // The terms of the lines of a book.
 fn terms_of(alloc: Global, book: &Book, powers: &Powers) -> Result<Vec<LineTerms>, NoMemory>
-    requires side { powers.now.side ≡ Side.Low }
-    requires longest { powers.now.longest ≡ GREATEST_INDEX }
+    requires powers { IsLowTable powers.now }
     ensures { IfOk result (λ terms. AreTerms powers.now.yield_units book.now terms.items) }
 {
     let settle = book.settle();
@@ -107,8 +106,7 @@ impl Ledger {
     ///
     /// Where memory ran out.
     pub(crate) fn make(alloc: Global, book: &Book, powers: &Powers) -> Result<Ledger, NoMemory>
-        requires side { powers.now.side ≡ Side.Low }
-        requires longest { powers.now.longest ≡ GREATEST_INDEX }
+        requires powers { IsLowTable powers.now }
         ensures { IfOk result (IsLedger powers.now.yield_units book.now) }
     {
         let terms = terms_of(alloc, book, powers)?;

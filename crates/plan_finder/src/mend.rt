@@ -167,15 +167,17 @@ fn next_rise(book: &Book, ledger: &Ledger) -> Option<Rise>
 }
 
 /// Raises lines while the plan is short, each time the one that covers the first shortage at the least cost: at most four times
-/// for each line, and 64 times.
-pub(crate) fn mend(book: &Book, ledger: &mut Ledger)
+/// for each line, and 64 times. It answers how often.
+pub(crate) fn mend(book: &Book, ledger: &mut Ledger) -> u32
     requires ledger { (n : ℕ) × IsLedger n book.now ledger.old }
     ensures ledger { (n : ℕ) → IsLedger n book.now ledger.old → IsLedger n book.now ledger.new }
 {
-    for _round in 0..4 * u32::from(book.line_count()) + 64 {
+    let most = 4 * u32::from(book.line_count()) + 64;
+    for round in 0..most {
         match next_rise(book, ledger) {
             Some(rise) => ledger.put(book, rise.line, rise.units),
-            None => return,
+            None => return round,
         }
     }
+    most
 }

@@ -6,8 +6,8 @@ ghost use Rattle.plan_finder.specs.Dive.{AreLinesOf, IsDiver, IsSearch};
 ghost use Rattle.plan_finder.specs.Ledger.{IsLedger};
 ghost use Rattle.plan_finder.specs.Proposal.{IsProposal};
 
-use crate::best::finish;
-use crate::dive::{Diver, Sequence};
+use crate::best::{Exactness, finish};
+use crate::dive::{Diver, PAYMENT_WORK, Sequence};
 use crate::draw::Draw;
 use crate::finding::Proposal;
 use crate::ledger::Ledger;
@@ -22,11 +22,11 @@ use std::alloc::Global;
 
 /// What a search works with. All its memory is taken when it is made, but for plans and for the exact test of the limit.
 #[derive(Drop)]
-pub(crate) struct Search {
+pub(crate) struct Search<'a> {
     /// The exact book of the plan at hand.
     pub ledger: Ledger,
     /// The linear program.
-    pub diver: Diver,
+    pub diver: Diver<'a>,
     /// The orders in which lines are trimmed.
     pub orders: Vec<Vec<Ranked>>,
     /// The last need date that each line's payments serve, counted from 1.
@@ -37,7 +37,14 @@ pub(crate) struct Search {
     pub free: Vec<bool>,
     /// What is drawn.
     pub draw: Draw,
+    /// How much work it was to make plans exact, in units of the program's work, up to the type's end.
+    pub finishing: u64,
+    /// How much work may be done in all.
+    pub most_work: u64,
 }
+
+// How much work a try is beside the purchase, in units of the program's work: running up what is paid by each need date.
+const DATES_WORK: u64 = 500;
 
 // From what number draws start.
 const SEED: u64 = 1;
@@ -81,7 +88,7 @@ fn lines_on_offer(alloc: Global, book: &Book) -> Result<Vec<u16>, NoMemory>
     Ok(lines)
 }
 
-impl Search {
+impl<'a> Search<'a> {
     /// What a search of a book under a limit works with, in units of 10^-10, from 1 to 3,000,000,000.
     ///
     /// Present values are taken one unit below the limit and rounded down: what is worth at most its cost there is within the
@@ -90,7 +97,11 @@ impl Search {
     /// # Errors
     ///
     /// Where memory ran out.
-    pub(crate) fn make(alloc: Global, book: &Book, limit: YieldUnits) -> Result<Search, NoMemory>
+    pub(crate) fn make(
+        alloc: Global,
+        book: &'a Book,
+        limit: YieldUnits,
+    ) -> Result<Search<'a>, NoMemory>
         requires limit_from { 1 ≤ limit.0 }
         requires limit_to { limit.0 ≤ GREATEST_YIELD }
         ensures { IfOk result (IsSearch book.now) }
@@ -107,7 +118,32 @@ impl Search {
             lines: lines_on_offer(alloc, book)?,
             free: vec![in alloc; false; usize::from(book.line_count())]?,
             draw: Draw::from(SEED),
+            finishing: 0,
+            most_work: 0,
         })
+    }
+
+    /// Allows so much work in all: so many times the columns of the program.
+    pub(crate) fn allow(&mut self, book: &Book, sweeps: u32)
+        requires { IsSearch book.now self.old }
+        ensures { IsSearch book.now self.new }
+    {
+        self.most_work = u64::from(sweeps).saturating_mul(self.diver.simplex.sweep());
+    }
+
+    /// Whether all work is done that may be.
+    pub(crate) fn is_spent(&self) -> bool {
+        self.most_work <= self.diver.work().saturating_add(self.finishing)
+    }
+
+    // How much work it was to make a plan exact: a rise weighs two purchases of each line, and a try one and the dates.
+    fn work_of(&self, done: Exactness) -> u64 {
+        let sweep = self.diver.simplex.sweep();
+        let purchase = PAYMENT_WORK.saturating_mul(sweep / (self.ends.len() as u64).max(1));
+        let rise = (2 * PAYMENT_WORK).saturating_mul(sweep);
+        let rises = u64::from(done.rises).saturating_mul(rise);
+        let tries = u64::from(done.tries).saturating_mul(purchase.saturating_add(DATES_WORK));
+        rises.saturating_add(tries)
     }
 
     // Dives from the solution at hand, makes the plan exact, and offers it.
@@ -124,16 +160,20 @@ impl Search {
         ensures search { OnOk result (IsSearch book.now self.new) }
         ensures best { OnOk result (IfSome best.new (IsProposal limit.0 book.now)) }
     {
-        self.diver.descend(book, &self.ledger, sequence);
+        let most_work = self.most_work.saturating_sub(self.finishing);
+        self.diver.descend(book, &self.ledger, sequence, most_work);
         self.diver.surface(book, &mut self.ledger);
-        finish(
+        let done = finish(
             alloc,
             book,
             limit,
             self.orders.as_slice(),
             &mut self.ledger,
             best,
-        )
+        )?;
+        let work = self.work_of(done);
+        self.finishing = self.finishing.saturating_add(work);
+        Ok(())
     }
 
     /// Dives over all lines.

@@ -3,7 +3,7 @@ ghost use Rattle.std.specs.Prelude.{All, ◌≡◌, ◌*◌, ◌^◌, ◌<◌, �
 ghost use Rattle.std.specs.List.{zip};
 ghost use Rattle.escrow_units.specs.Calendar.{years_after_of};
 ghost use Rattle.escrow_units.specs.SlgsTerms.{IsSettlement};
-ghost use Rattle.fixed_powers.specs.DiscountPowers.{PowerTable, one};
+ghost use Rattle.fixed_powers.specs.DiscountPowers.{IsLowTable, PowerTable, one};
 ghost use Rattle.offer_book.specs.Book.{IsLine};
 ghost use Rattle.offer_book.specs.Portfolio.{line_payments};
 ghost use Rattle.offer_book.specs.Schedule.{flow_by};
@@ -13,8 +13,8 @@ ghost use Rattle.plan_finder.specs.Ledger.{IsPurchase, IsTerms};
 
 use arrayvec::ArrayVec;
 use escrow_desk::NoMemory;
-use escrow_units::{Accrual, Cents, Day, Flow, GREATEST_INDEX, GREATEST_RATE, Rate, index360};
-use fixed_powers::{Powers, Side};
+use escrow_units::{Accrual, Cents, Day, Flow, GREATEST_RATE, Rate, index360};
+use fixed_powers::Powers;
 use offer_book::{Line, LineKind, ScheduledPayment};
 use std::alloc::Global;
 
@@ -42,8 +42,7 @@ pub(crate) struct Purchase {
 
 // The discount factor of a day on which a kind of line pays.
 fn power_on(settle: Day, powers: &Powers, kind: LineKind, day: Day) -> u64
-    requires side { powers.now.side ≡ Side.Low }
-    requires longest { powers.now.longest ≡ GREATEST_INDEX }
+    requires powers { IsLowTable powers.now }
     requires from { settle ≤ℤ day }
     requires to { day ≤ℤ years_after_of settle 40 }
     ensures value { result ≡ kind_power powers.now.yield_units settle kind day }
@@ -63,8 +62,7 @@ fn powers_of(
     line: &Line,
     schedule: &[ScheduledPayment],
 ) -> Result<Vec<u64>, NoMemory>
-    requires side { powers.now.side ≡ Side.Low }
-    requires longest { powers.now.longest ≡ GREATEST_INDEX }
+    requires powers { IsLowTable powers.now }
     requires within { All (λ payment. (settle ≤ℤ payment.day) × (payment.day ≤ℤ years_after_of settle 40)) schedule.now }
     ensures value { IfOk result (λ factors. factors.items ≡ map (λ payment. kind_power powers.now.yield_units settle line.now.kind payment.day) schedule.now) }
     ensures small { IfOk result (λ factors. All (λ power. power ≤ one) factors.items) }
@@ -142,8 +140,7 @@ impl LineTerms {
     ) -> Result<LineTerms, NoMemory>
         requires settlement { IsSettlement settle }
         requires line { IsLine settle line.now }
-        requires side { powers.now.side ≡ Side.Low }
-        requires longest { powers.now.longest ≡ GREATEST_INDEX }
+        requires powers { IsLowTable powers.now }
         ensures { IfOk result (IsTerms powers.now.yield_units settle line.now) }
     {
         let schedule = line.schedule(settle);

@@ -114,8 +114,13 @@ fn fewest(book: &Book, ledger: &Ledger, duty: &Duty, units: u64) -> u64
     }
 }
 
-// Takes a line down as far as the needs allow.
-fn trim_line(book: &Book, ledger: &mut Ledger, line: u16)
+// How many numbers of units were tried to take a line down by so many.
+fn tries_of(taken: u64) -> u32 {
+    2 * (64 - taken.leading_zeros()) + 2
+}
+
+// Takes a line down as far as the needs allow. It answers how many numbers of units were tried.
+fn trim_line(book: &Book, ledger: &mut Ledger, line: u16) -> u32
     requires ledger { (n : ℕ) × IsLedger n book.now ledger.old }
     requires line { line < length book.now.lines }
     requires meets { Meets book.now ledger.old.plan }
@@ -129,20 +134,23 @@ fn trim_line(book: &Book, ledger: &mut Ledger, line: u16)
     };
     let fewest = fewest(book, ledger, &duty, units);
     ledger.change(book, line, fewest);
+    tries_of(units.saturating_sub(fewest))
 }
 
 /// Takes each line of a plan that meets the needs down as far as the needs allow, in an order. What one gives back only
-/// tightens the others, so that once is enough.
-pub(crate) fn trim(book: &Book, ledger: &mut Ledger, order: &[Ranked])
+/// tightens the others, so that once is enough. It answers how many numbers of units of a line were tried.
+pub(crate) fn trim(book: &Book, ledger: &mut Ledger, order: &[Ranked]) -> u32
     requires ledger { (n : ℕ) × IsLedger n book.now ledger.old }
     requires meets { Meets book.now ledger.old.plan }
     requires order { All (λ ranked. ranked.line < length book.now.lines) order.now }
     ensures ledger { (n : ℕ) → IsLedger n book.now ledger.old → IsLedger n book.now ledger.new }
     ensures meets { Meets book.now ledger.new.plan }
 {
+    let mut tries = 0u32;
     for ranked in order {
         if ledger.units(ranked.line) > 0 {
-            trim_line(book, ledger, ranked.line);
+            tries = tries.saturating_add(trim_line(book, ledger, ranked.line));
         }
     }
+    tries
 }

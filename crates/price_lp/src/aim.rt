@@ -1,8 +1,15 @@
 //! What a solve is for.
 
-use crate::number::{Fixed, PLACES};
-use crate::program::Program;
-use crate::simplex::Purpose;
+use sparse_basis::Price;
+
+/// What prices are for. It decides how far they and the multiplier of the yield limit may go.
+#[derive(Clone, Copy, Debug, PartialEq, Eq)]
+pub enum Purpose {
+    /// The prices of a leaf: up to 2, and a multiplier up to 1.
+    Bound,
+    /// Plans: prices up to 256 and a multiplier up to 16,000, so that a plan pays dearly for what it lacks.
+    Plan,
+}
 
 /// How far prices and the multiplier may go, and whether the cost counts.
 #[derive(Clone, Copy)]
@@ -11,14 +18,9 @@ pub(crate) struct Aim {
     /// Whether the cost counts.
     pub whole: bool,
     /// The greatest price.
-    pub price: Fixed,
+    pub price: Price,
     /// The greatest multiplier.
-    pub multiplier: Fixed,
-}
-
-// A whole number.
-fn whole_number(number: u16) -> Fixed {
-    Fixed::clamp(i128::from(number) << PLACES)
+    pub multiplier: Price,
 }
 
 // The greatest price, as a whole number.
@@ -43,8 +45,8 @@ impl Aim {
         Aim {
             purpose,
             whole,
-            price: whole_number(greatest_price(purpose)),
-            multiplier: whole_number(greatest_multiplier(purpose)),
+            price: Price::whole(greatest_price(purpose)),
+            multiplier: Price::whole(greatest_multiplier(purpose)),
         }
     }
 
@@ -56,14 +58,5 @@ impl Aim {
     /// The greatest multiplier, as a whole number.
     pub(crate) fn greatest_multiplier(self) -> u16 {
         greatest_multiplier(self.purpose)
-    }
-
-    /// What a cent of a line costs, where the cost counts.
-    pub(crate) fn cost(self, program: &Program, line: u16) -> Fixed {
-        if self.whole {
-            program.cost(line)
-        } else {
-            Fixed::zero()
-        }
     }
 }

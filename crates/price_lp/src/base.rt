@@ -1,123 +1,177 @@
-//! Where a solve stands.
+//! The linear program of a book, and where a solve of it stands.
+ghost use Rattle.std.specs.Prelude.{◌≤◌, length};
+ghost use Rattle.fixed_powers.specs.DiscountPowers.{IsLowTable, PowerTable};
 
 use crate::aim::Aim;
-use crate::basis::{Basis, LineState, Multiplier};
-use crate::factor::Factor;
-use crate::line_ranges::{LineRanges, Range};
-use crate::number::{Fixed, PLACES};
+use crate::duals::Duals;
+use crate::line_ranges::{Holding, LineRanges, Range};
 use crate::program::Program;
-use crate::segments::Segments;
-use crate::sparse::Stop;
+use dual_bound::Interval;
 use escrow_desk::NoMemory;
+use fixed_powers::Powers;
 use offer_book::Book;
+use sparse_basis::{
+    Amount, Entry, FactoredBasis, LineState, MOST_ENTRIES, Multiplier, PRICE_PLACES, Price,
+    Segment, price_at,
+};
 use std::alloc::Global;
 
-/// A basis with all that is read beside it: what the solve is for, the ranges of the lines, the runs of dates and the factor.
+/// The program, what a solve of it is for, the ranges of the lines, and the basis with its factor.
 #[derive(Drop)]
-pub(crate) struct Base {
+pub(crate) struct Base<'a> {
+    book: &'a Book,
     /// What the solve is for.
     pub aim: Aim,
     /// The ranges of the lines.
-    pub ranges: LineRanges,
-    /// Where lines, links and the multiplier stand.
-    pub basis: Basis,
-    /// The runs of joined dates.
-    pub segments: Segments,
-    /// The factor of the basis.
-    pub factor: Factor,
+    pub ranges: LineRanges<'a>,
+    /// The columns, the basis and the factor.
+    pub factored: FactoredBasis,
+    costs: Vec<Price>,
 }
 
-// The reduced cost up to which a line may stand at either end, where the multiplier is below one.
-const NOTHING: i128 = 16;
+// The reduced cost up to which a line may stand at either end, where the multiplier is below one, in units of 2^-40.
+const DUAL_TOLERANCE: i128 = 16;
 
-/// The reduced cost up to which a line may stand at either end: the greater the multiplier, the less exact are prices.
-pub(crate) fn nothing_by(multiplier: Fixed) -> Fixed {
-    Fixed::clamp(NOTHING + 4 * (multiplier.wide().max(0) >> PLACES))
+// The dual tolerance: the reduced cost up to which a line may stand at either end. The greater the multiplier, the less exact are
+// prices.
+fn dual_tolerance(multiplier: Price) -> Price {
+    Price::clamp(DUAL_TOLERANCE + 4 * (multiplier.wide().max(0) >> PRICE_PLACES))
 }
 
 // Where a line stands by its reduced cost.
-fn standing(state: LineState, reduced: Fixed, nothing: Fixed, range: Range) -> LineState {
+fn standing(state: LineState, reduced_cost: Price, tolerance: Price, range: Range) -> LineState {
     if state == LineState::Basic {
         LineState::Basic
-    } else if reduced.get() < -nothing.get() {
+    } else if reduced_cost.get() < -tolerance.get() {
         LineState::High
-    } else if nothing.get() < reduced.get() || range.is_single() {
+    } else if tolerance.get() < reduced_cost.get() || range.is_single() {
         LineState::Low
     } else {
         state
     }
 }
 
-impl Base {
-    /// The first base of a program.
+impl<'a> Base<'a> {
+    /// The first base of a book, at the yield of powers.
     ///
     /// # Errors
     ///
     /// Where memory ran out.
     pub(crate) fn make(
         alloc: Global,
-        program: &Program,
-        book: &Book,
+        book: &'a Book,
+        powers: &Powers,
         aim: Aim,
-    ) -> Result<Base, NoMemory> {
+    ) -> Result<Base<'a>, NoMemory>
+        requires { IsLowTable powers.now }
+    {
+        let program = Program::make(alloc, book, powers)?;
         Ok(Base {
+            book,
             aim,
-            ranges: LineRanges::make(alloc, program, book)?,
-            basis: Basis::with_room(alloc, program.lines(), program.dates())?,
-            segments: Segments::make(alloc, program.dates())?,
-            factor: Factor::make(alloc, program)?,
+            ranges: LineRanges::make(alloc, book, &program.matrix)?,
+            factored: FactoredBasis::make(alloc, program.matrix)?,
+            costs: program.costs,
         })
     }
 
-    /// The runs and the factor of the basis as it stands. It answers how many of the first columns stayed as they were.
-    pub(crate) fn refactor(&mut self, program: &Program) -> Result<usize, Stop> {
-        self.segments.refresh(&self.basis)?;
-        self.factor.refactor(program, &self.basis, &self.segments)
+    /// How many need dates there are, counted from 1.
+    pub(crate) fn dates(&self) -> u16 {
+        self.factored.matrix.dates()
     }
 
-    /// Makes the basis regular; a free multiplier goes to the end that is named if it has to go.
-    pub(crate) fn repair(&mut self, program: &Program, nearer: Multiplier) -> Result<(), Stop> {
-        self.factor
-            .repair(program, &mut self.basis, &mut self.segments, nearer)
+    /// How many lines there are, counted from 0.
+    pub(crate) fn lines(&self) -> u16 {
+        self.factored.matrix.lines()
     }
 
-    /// The cost of a line, where the cost counts.
-    pub(crate) fn cost(&self, program: &Program, line: u16) -> Fixed {
-        self.aim.cost(program, line)
-    }
-
-    /// The line of a column of the factor.
-    pub(crate) fn line_of(&self, column: usize) -> Option<u16> {
-        match self.factor.pivot(column) {
-            Some(pivot) => Some(pivot.line),
-            None => None,
+    /// What is needed on a date, counted from 1, in cents; nothing on other dates.
+    pub(crate) fn need(&self, date: usize) -> u64 {
+        if date == 0 {
+            return 0;
+        }
+        match self.book.needs().get(date - 1) {
+            Some(need) => need.cents.0,
+            None => 0,
         }
     }
 
-    /// Whether a line is in the basis.
-    pub(crate) fn is_basic(&self, line: u16) -> bool {
-        self.basis.line(line) == LineState::Basic
+    /// What a cent of a line pays on each date, counted from 1: an entry a date, in order.
+    pub(crate) fn pays(&self, line: u16) -> &[Entry]
+        ensures few { length result.now ≤ MOST_ENTRIES }
+    {
+        self.factored.matrix.pays(line)
     }
 
-    /// The row of the multiplier, where it is free.
-    pub(crate) fn multiplier_row(&self) -> usize {
-        usize::from(self.segments.multiplier_row())
+    /// What a cent of a line is worth at the yield of the limit, less what it costs; 0 for opening cash.
+    pub(crate) fn value(&self, line: u16) -> Price {
+        self.factored.matrix.value(line)
+    }
+
+    /// What a cent of a line costs, perturbed, where the cost counts.
+    pub(crate) fn cost(&self, line: u16) -> Price {
+        if self.aim.whole {
+            price_at(self.costs.as_slice(), usize::from(line))
+        } else {
+            Price::zero()
+        }
+    }
+
+    /// The run of a date, from the day of settlement, 0, to the date after the last.
+    pub(crate) fn run_of(&self, date: usize) -> Segment {
+        self.factored.segments.of(date)
+    }
+
+    /// Where the multiplier stands.
+    pub(crate) fn multiplier(&self) -> Multiplier {
+        self.factored.basis.multiplier()
+    }
+
+    /// Whether a link is joined.
+    pub(crate) fn is_joined(&self, link: usize) -> bool {
+        self.factored.basis.is_joined(link)
+    }
+
+    /// Whether a line isn't basic, and can be bought in more than one amount.
+    pub(crate) fn may_enter(&self, line: u16) -> bool {
+        !self.factored.is_basic(line) && !self.ranges.is_single(line)
     }
 
     /// The amount at the end where a line stands that isn't in the basis.
-    pub(crate) fn end_amount(&self, line: u16) -> Fixed {
+    pub(crate) fn end_amount(&self, line: u16) -> Amount {
         let range = self.ranges.range(line);
-        if self.basis.line(line) == LineState::High {
+        if self.factored.basis.line(line) == LineState::High {
             range.high
         } else {
             range.low
         }
     }
 
-    /// Puts a line that isn't in the basis at the end that its reduced cost asks for; where that is next to nothing, it stays.
-    pub(crate) fn stand(&mut self, line: u16, reduced: Fixed, nothing: Fixed) {
+    /// The range of a line, in units. It isn't fixed any longer.
+    pub(crate) fn set_range(&mut self, line: u16, interval: Interval) {
+        let pays = self.factored.matrix.pays(line);
+        self.ranges.set(line, interval, pays);
+    }
+
+    /// Fixes a line at a number of units.
+    pub(crate) fn fix(&mut self, line: u16, holding: &Holding) {
+        let pays = self.factored.matrix.pays(line);
+        self.ranges.fix(line, holding, pays);
+    }
+
+    // Puts a line that isn't in the basis at the end that its reduced cost asks for; where that is within the tolerance, it stays.
+    fn stand(&mut self, line: u16, reduced_cost: Price, tolerance: Price) {
         let range = self.ranges.range(line);
-        let state = standing(self.basis.line(line), reduced, nothing, range);
-        self.basis.put_line(line, state);
+        let basis = &mut self.factored.basis;
+        let state = standing(basis.line(line), reduced_cost, tolerance, range);
+        basis.put_line(line, state);
+    }
+
+    /// Puts each line that isn't in the basis at the end that its reduced cost asks for.
+    pub(crate) fn put_lines(&mut self, duals: &Duals) {
+        let tolerance = dual_tolerance(duals.multiplier());
+        for line in 0..self.lines() {
+            self.stand(line, duals.reduced_cost(line), tolerance);
+        }
     }
 }

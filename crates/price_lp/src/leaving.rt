@@ -1,11 +1,8 @@
 //! What leaves the basis.
 
 use crate::base::Base;
-use crate::basis::{LineState, Multiplier};
-use crate::cells::difference;
-use crate::number::Fixed;
 use crate::primal::Primal;
-use crate::program::Program;
+use sparse_basis::{Amount, LineState, Multiplier};
 
 /// What leaves the basis, since it is beyond an end.
 #[derive(Clone, Copy)]
@@ -24,22 +21,22 @@ pub(crate) struct Violation {
     /// What leaves.
     pub leaving: Leaving,
     /// How far it is beyond its end.
-    pub amount: Fixed,
+    pub amount: Amount,
 }
 
-// The violation that passes for none: a quarter of a cent.
-const NOTHING: i64 = 1 << 8;
+// The primal tolerance: the greatest violation that passes for none, a quarter of a cent in units of 2^-10.
+const PRIMAL_TOLERANCE: i64 = 1 << 8;
 
 // How far the worst violation so far is beyond its end.
 fn size_of(worst: &Option<Violation>) -> i64 {
     match worst {
         Some(violation) => violation.amount.get(),
-        None => NOTHING,
+        None => PRIMAL_TOLERANCE,
     }
 }
 
 // The worse of a violation and another, the earlier of equal ones.
-fn worse(worst: Option<Violation>, leaving: Leaving, amount: Fixed) -> Option<Violation> {
+fn worse(worst: Option<Violation>, leaving: Leaving, amount: Amount) -> Option<Violation> {
     if size_of(&worst) < amount.get() {
         Some(Violation { leaving, amount })
     } else {
@@ -47,68 +44,60 @@ fn worse(worst: Option<Violation>, leaving: Leaving, amount: Fixed) -> Option<Vi
     }
 }
 
-// With a basic line.
-fn with_line(
-    worst: Option<Violation>,
-    base: &Base,
-    primal: &Primal,
-    line: u16,
-) -> Option<Violation> {
-    let range = base.ranges.range(line);
-    let amount = primal.amount(line);
-    let lacking = difference(range.low, amount);
-    let beyond = difference(amount, range.high);
-    let worst = worse(worst, Leaving::Line(line, LineState::Low), lacking);
-    worse(worst, Leaving::Line(line, LineState::High), beyond)
-}
-
-// Among the basic lines.
-fn worst_line(base: &Base, primal: &Primal) -> Option<Violation> {
-    let mut worst = None;
-    for column in 0..base.factor.count() {
-        if let Some(line) = base.line_of(column) {
-            worst = with_line(worst, base, primal, line);
-        }
+impl<'a> Base<'a> {
+    // With a basic line.
+    fn worse_of_line(
+        &self,
+        worst: Option<Violation>,
+        line: u16,
+        amount: Amount,
+    ) -> Option<Violation> {
+        let range = self.ranges.range(line);
+        let lacking = range.low.minus(amount);
+        let beyond = amount.minus(range.high);
+        let worst = worse(worst, Leaving::Line(line, LineState::Low), lacking);
+        worse(worst, Leaving::Line(line, LineState::High), beyond)
     }
-    worst
-}
 
-// With the joined links.
-fn with_links(
-    program: &Program,
-    base: &Base,
-    primal: &Primal,
-    before: Option<Violation>,
-) -> Option<Violation> {
-    let mut worst = before;
-    for link in 0..=program.dates() {
-        let place = usize::from(link);
-        if base.basis.is_joined(place) {
-            let lacking = primal.carried(place).negated();
-            worst = worse(worst, Leaving::Link(link), lacking);
+    // Among the basic lines.
+    fn worst_line(&self, primal: &Primal) -> Option<Violation> {
+        let mut worst = None;
+        for column in 0..self.factored.count() {
+            if let Some(line) = self.factored.line_of(column) {
+                worst = self.worse_of_line(worst, line, primal.amount(line));
+            }
         }
+        worst
     }
-    worst
-}
 
-// With the multiplier.
-fn with_multiplier(base: &Base, primal: &Primal, worst: Option<Violation>) -> Option<Violation> {
-    let from = base.basis.multiplier();
-    let amount = match from {
-        Multiplier::Zero => primal.excess(),
-        Multiplier::Top => primal.excess().negated(),
-        Multiplier::Free => Fixed::zero(),
-    };
-    worse(worst, Leaving::Multiplier(from), amount)
-}
+    // With the joined links.
+    fn worse_of_links(&self, primal: &Primal, before: Option<Violation>) -> Option<Violation> {
+        let mut worst = before;
+        for link in 0..=self.dates() {
+            let place = usize::from(link);
+            if self.is_joined(place) {
+                let lacking = primal.carried(place).negated();
+                worst = worse(worst, Leaving::Link(link), lacking);
+            }
+        }
+        worst
+    }
 
-/// The greatest violation of more than a quarter of a cent; None where the basis is optimal.
-pub(crate) fn greatest_violation(
-    program: &Program,
-    base: &Base,
-    primal: &Primal,
-) -> Option<Violation> {
-    let worst = worst_line(base, primal);
-    let worst = with_links(program, base, primal, worst);
-    with_multiplier(base, primal, worst)
+    // With the multiplier.
+    fn worse_of_multiplier(&self, excess: Amount, worst: Option<Violation>) -> Option<Violation> {
+        let from = self.multiplier();
+        let amount = match from {
+            Multiplier::Zero => excess,
+            Multiplier::Top => excess.negated(),
+            Multiplier::Free => Amount::zero(),
+        };
+        worse(worst, Leaving::Multiplier(from), amount)
+    }
+
+    /// The greatest violation of more than the primal tolerance; None where the basis is optimal.
+    pub(crate) fn greatest_violation(&self, primal: &Primal) -> Option<Violation> {
+        let worst = self.worst_line(primal);
+        let worst = self.worse_of_links(primal, worst);
+        self.worse_of_multiplier(primal.excess(), worst)
+    }
 }

@@ -7,30 +7,22 @@
 
 mod aim;
 mod base;
-mod basis;
-mod cells;
 mod direction;
 mod duals;
-mod factor;
-#[cfg(test)]
-mod factor_tests;
 mod leaving;
 mod line_ranges;
-mod number;
 mod pivoting;
 mod primal;
 mod program;
 mod proposing;
 mod ratio;
-mod scatter;
-mod segments;
 mod simplex;
 #[cfg(test)]
 mod simplex_tests;
-mod solver;
-mod sparse;
 mod starts;
-mod total;
+mod sums;
 
-pub use basis::Basis;
-pub use simplex::{Purpose, Simplex, SolveEnd};
+pub use aim::Purpose;
+pub use line_ranges::Holding;
+pub use simplex::{COLD_ITERATIONS, Simplex, SolveEnd, WARM_ITERATIONS};
+pub use sparse_basis::Basis;

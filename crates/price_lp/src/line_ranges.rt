@@ -1,40 +1,39 @@
 //! How much of each line may be bought.
 ghost use Rattle.std.specs.Prelude.{◌≡◌, ◌+◌, ◌*◌, ◌^◌, ◌<◌, ◌≤◌, unsigned_abs};
 
-use crate::number::{AMOUNT_PLACES, Fixed};
-use crate::program::Program;
-use crate::sparse::Entry;
-use crate::total::Total;
+use crate::program::proper_step;
+use cash_table::place_of;
 use dual_bound::Interval;
 use escrow_desk::NoMemory;
-use escrow_units::{Day, Flow};
+use escrow_units::{Cents, Flow};
 use offer_book::Book;
+use sparse_basis::{AMOUNT_PLACES, Amount, Entry, Matrix, Total, put, read};
 use std::alloc::Global;
 
-/// The range of a line, in units of 2^-10 of a cent of face.
+/// The range of a line.
 #[derive(Clone, Copy)]
 pub(crate) struct Range {
-    /// The least amount.
-    pub low: Fixed,
-    /// The greatest amount.
-    pub high: Fixed,
+    /// The least amount of face.
+    pub low: Amount,
+    /// The greatest amount of face.
+    pub high: Amount,
 }
 
-impl Range {
-    /// Whether there is no choice.
-    pub(crate) fn is_single(self) -> bool {
-        self.low.get() == self.high.get()
-    }
+/// What a number of units of a line comes to exactly.
+#[derive(Clone, Copy)]
+pub struct Holding<'a> {
+    /// The units.
+    pub units: u64,
+    /// What they cost.
+    pub cost: Cents,
+    /// What they pay, in order of date.
+    pub payments: &'a [Flow],
+    /// What they pay is worth so much at the yield of the limit, less what they cost, in units of 2^-62 of a cent: 0 for opening
+    /// cash.
+    pub excess: i128,
 }
 
-// Units of a line, as an amount.
-fn face(units: u64, step: u64) -> Fixed
-    requires { step ≤ 10 ^ 8 }
-{
-    Fixed::clamp(i128::from(units) * i128::from(step) << AMOUNT_PLACES)
-}
-
-/// What a fixed line comes to exactly.
+/// What a fixed line costs and is worth exactly.
 #[derive(Clone, Copy)]
 pub(crate) struct Exact {
     /// What it costs, in cents.
@@ -45,7 +44,8 @@ pub(crate) struct Exact {
 
 /// The ranges of all lines, and what fixed lines cost and pay exactly. All its memory is taken when it is made.
 #[derive(Drop)]
-pub(crate) struct LineRanges {
+pub(crate) struct LineRanges<'a> {
+    book: &'a Book,
     ranges: Vec<Range>,
     // Of a fixed line what it costs, and what it is worth beyond that.
     exact: Vec<Option<Exact>>,
@@ -54,96 +54,104 @@ pub(crate) struct LineRanges {
     receipts: Vec<u64>,
     // What all fixed lines pay on each date.
     paid: Vec<Total>,
-    // The need days, in order.
-    days: Vec<Day>,
+}
+
+impl Range {
+    // From so many units to so many.
+    fn of(interval: Interval, step: u64) -> Range {
+        Range {
+            low: face(interval.low, step),
+            high: face(interval.high, step),
+        }
+    }
+
+    // Of nothing.
+    fn empty() -> Range {
+        Range {
+            low: Amount::zero(),
+            high: Amount::zero(),
+        }
+    }
+
+    /// Whether there is no choice.
+    pub(crate) fn is_single(self) -> bool {
+        self.low.get() == self.high.get()
+    }
+}
+
+// Units of a line with a step, as an amount of face.
+fn face(units: u64, step: u64) -> Amount {
+    Amount::clamp(i128::from(units) * i128::from(proper_step(step)) << AMOUNT_PLACES)
 }
 
 // Where the receipts of each line start.
-fn starts_of(alloc: Global, program: &Program) -> Result<Vec<usize>, NoMemory> {
+fn starts_of(alloc: Global, matrix: &Matrix) -> Result<Vec<usize>, NoMemory> {
     let mut starts = Vec::new(alloc);
     let mut start: usize = 0;
-    for line in 0..program.lines() {
+    for line in 0..matrix.lines() {
         starts.push(start)?;
-        start = start.saturating_add(program.pays(line).len());
+        start = start.saturating_add(matrix.pays(line).len());
     }
     starts.push(start)?;
     Ok(starts)
 }
 
-// The need days of a book.
-fn days_of(alloc: Global, book: &Book) -> Result<Vec<Day>, NoMemory> {
-    let mut days = Vec::new(alloc);
-    for need in book.needs() {
-        days.push(need.day)?;
-    }
-    Ok(days)
-}
-
 // Every amount of each line of a book.
-fn whole_ranges(alloc: Global, program: &Program, book: &Book) -> Result<Vec<Range>, NoMemory> {
+fn whole_ranges(alloc: Global, book: &Book) -> Result<Vec<Range>, NoMemory> {
     let mut ranges = Vec::new(alloc);
-    let mut place: u16 = 0;
     for line in book.lines() {
-        ranges.push(Range {
-            low: Fixed::zero(),
-            high: face(line.most, program.step(place)),
-        })?;
-        place = place.saturating_add(1);
+        let whole = Interval {
+            low: 0,
+            high: line.most,
+        };
+        ranges.push(Range::of(whole, line.step))?;
     }
     Ok(ranges)
 }
 
-impl LineRanges {
-    /// Every amount of each line of a book.
+impl<'a> LineRanges<'a> {
+    /// Every amount of each line of a book, whose columns are given.
     ///
     /// # Errors
     ///
     /// Where memory ran out.
     pub(crate) fn make(
         alloc: Global,
-        program: &Program,
-        book: &Book,
-    ) -> Result<LineRanges, NoMemory> {
-        let starts = starts_of(alloc, program)?;
-        let entries = match starts.last() {
-            Some(end) => *end,
-            None => 0,
-        };
+        book: &'a Book,
+        matrix: &Matrix,
+    ) -> Result<LineRanges<'a>, NoMemory> {
         Ok(LineRanges {
-            ranges: whole_ranges(alloc, program, book)?,
-            exact: vec![in alloc; None; usize::from(program.lines())]?,
-            starts,
-            receipts: vec![in alloc; 0; entries]?,
-            paid: vec![in alloc; Total::zero(); usize::from(program.dates()) + 1]?,
-            days: days_of(alloc, book)?,
+            book,
+            ranges: whole_ranges(alloc, book)?,
+            exact: vec![in alloc; None; usize::from(book.line_count())]?,
+            starts: starts_of(alloc, matrix)?,
+            receipts: vec![in alloc; 0; matrix.entry_count()]?,
+            paid: vec![in alloc; Total::zero(); usize::from(book.need_count()) + 1]?,
         })
     }
 
     /// The range of a line; nothing where it isn't there.
     pub(crate) fn range(&self, line: u16) -> Range {
-        match self.ranges.get(usize::from(line)) {
-            Some(range) => *range,
-            None => Range {
-                low: Fixed::zero(),
-                high: Fixed::zero(),
-            },
-        }
+        read(self.ranges.as_slice(), usize::from(line), Range::empty())
+    }
+
+    /// Whether a line has a single amount.
+    pub(crate) fn is_single(&self, line: u16) -> bool {
+        self.range(line).is_single()
     }
 
     /// What a fixed line comes to; None where it isn't fixed.
     pub(crate) fn exact(&self, line: u16) -> Option<Exact> {
-        match self.exact.get(usize::from(line)) {
-            Some(exact) => *exact,
-            None => None,
-        }
+        read(self.exact.as_slice(), usize::from(line), None)
     }
 
     // Where the receipts of a line start; beyond all where it isn't there.
     fn start(&self, line: u16) -> usize {
-        match self.starts.get(usize::from(line)) {
-            Some(start) => *start,
-            None => self.receipts.len(),
-        }
+        read(
+            self.starts.as_slice(),
+            usize::from(line),
+            self.receipts.len(),
+        )
     }
 
     /// What a fixed line pays, in cents: a number for each entry of its column, in order; those of the lines after it follow.
@@ -157,89 +165,72 @@ impl LineRanges {
 
     /// What all fixed lines pay on a date, counted from 1; nothing on others.
     pub(crate) fn paid(&self, date: usize) -> Total {
-        match self.paid.get(date) {
-            Some(paid) => *paid,
-            None => Total::zero(),
+        read(self.paid.as_slice(), date, Total::zero())
+    }
+
+    // Units of a line as a range.
+    fn range_of(&self, line: u16, interval: Interval) -> Range {
+        match self.book.lines().get(usize::from(line)) {
+            Some(line) => Range::of(interval, line.step),
+            None => Range::empty(),
         }
     }
 
-    // Sets a range, and what a fixed line comes to.
-    fn put(&mut self, line: u16, range: Range, exact: Option<Exact>) {
-        if let Some(place) = self.ranges.get_mut(usize::from(line)) {
-            *place = range;
-        }
-        if let Some(place) = self.exact.get_mut(usize::from(line)) {
-            *place = exact;
-        }
+    // Sets a range, and what a fixed line comes to; what it paid before is cleared.
+    fn put(&mut self, line: u16, interval: Interval, exact: Option<Exact>, pays: &[Entry]) {
+        let range = self.range_of(line, interval);
+        self.clear_receipts(line, pays);
+        put(self.ranges.as_mut_slice(), usize::from(line), range);
+        put(self.exact.as_mut_slice(), usize::from(line), exact);
     }
 
-    /// Sets the range of a line, in units. It isn't fixed any longer.
-    pub(crate) fn set(&mut self, program: &Program, line: u16, interval: Interval) {
-        let step = program.step(line);
-        let range = Range {
-            low: face(interval.low, step),
-            high: face(interval.high, step),
+    /// Sets the range of a line, whose column is given, in units. It isn't fixed any longer.
+    pub(crate) fn set(&mut self, line: u16, interval: Interval, pays: &[Entry]) {
+        self.put(line, interval, None, pays);
+    }
+
+    /// Fixes a line, whose column is given, at a number of units.
+    pub(crate) fn fix(&mut self, line: u16, holding: &Holding, pays: &[Entry]) {
+        let single = Interval {
+            low: holding.units,
+            high: holding.units,
         };
-        self.release(program, line);
-        self.put(line, range, None);
-    }
-
-    /// Fixes a line at a number of units, with what they cost and pay exactly, and what that is worth beyond the cost.
-    pub(crate) fn fix(
-        &mut self,
-        program: &Program,
-        line: u16,
-        units: u64,
-        exact: Exact,
-        payments: &[Flow],
-    ) {
-        let amount = face(units, program.step(line));
-        let range = Range {
-            low: amount,
-            high: amount,
+        let exact = Exact {
+            cost: holding.cost.0,
+            excess: Total::of_excess(holding.excess),
         };
-        self.release(program, line);
-        self.put(line, range, Some(exact));
-        let entries = program.pays(line);
+        self.put(line, single, Some(exact), pays);
         let start = self.start(line);
-        for payment in payments {
-            self.receive(entries, start, payment);
+        for payment in holding.payments {
+            self.receive(pays, start, payment);
         }
     }
 
     // Clears a receipt.
     fn clear(&mut self, place: usize, date: u16) {
-        let Some(receipt) = self.receipts.get_mut(place) else {
-            return;
-        };
-        if let Some(paid) = self.paid.get_mut(usize::from(date)) {
-            *paid = paid.minus(Total::of_cents(*receipt));
-        }
-        *receipt = 0;
+        let cents = read(self.receipts.as_slice(), place, 0);
+        let paid = self.paid(usize::from(date)).minus(Total::of_cents(cents));
+        put(self.paid.as_mut_slice(), usize::from(date), paid);
+        put(self.receipts.as_mut_slice(), place, 0);
     }
 
     // Clears the receipts of a line, if it is fixed.
-    fn release(&mut self, program: &Program, line: u16) {
+    fn clear_receipts(&mut self, line: u16, pays: &[Entry]) {
         if self.exact(line).is_none() {
             return;
         }
         let mut place = self.start(line);
-        for entry in program.pays(line) {
+        for entry in pays {
             self.clear(place, entry.place);
             place = place.saturating_add(1);
         }
     }
 
     // Adds a payment to the receipts of a line; one after the last date is left out.
-    fn receive(&mut self, entries: &[Entry], start: usize, payment: &Flow) {
-        let day = payment.day;
-        let date = self
-            .days
-            .as_slice()
-            .partition_point(|need| *need < day)
-            .saturating_add(1);
-        let entry = entries.partition_point(|entry| usize::from(entry.place) < date);
-        if let Some(found) = entries.get(entry) {
+    fn receive(&mut self, pays: &[Entry], start: usize, payment: &Flow) {
+        let date = place_of(self.book.needs(), payment.day).saturating_add(1);
+        let entry = pays.partition_point(|entry| usize::from(entry.place) < date);
+        if let Some(found) = pays.get(entry) {
             if usize::from(found.place) == date {
                 self.add(start.saturating_add(entry), date, payment.cents.0);
             }
@@ -251,8 +242,7 @@ impl LineRanges {
         if let Some(receipt) = self.receipts.get_mut(place) {
             *receipt = receipt.saturating_add(cents);
         }
-        if let Some(paid) = self.paid.get_mut(date) {
-            *paid = paid.plus(Total::of_cents(cents));
-        }
+        let paid = self.paid(date).plus(Total::of_cents(cents));
+        put(self.paid.as_mut_slice(), date, paid);
     }
 }

@@ -1,9 +1,8 @@
 //! The step from a basis to the next.
 
-use crate::basis::{Basis, LineState, Multiplier};
 use crate::leaving::Leaving;
 use crate::ratio::{Breakpoints, Entering};
-use crate::sparse::Stop;
+use sparse_basis::{Basis, LineState, Multiplier, Stop};
 
 // Puts a line at its other end.
 fn flip(basis: &mut Basis, line: u16) {

@@ -3,14 +3,14 @@ ghost use Rattle.std.specs.Prelude.{All, AllPairs, ◌≡◌, ◌*◌, ◌≤◌
 ghost use Rattle.dual_bound.specs.declared.prices.TheConstants.{PRICE_SCALE};
 
 use crate::duals::Duals;
-use crate::number::{Fixed, PLACES};
 use dual_bound::{PRICE_SCALE, Prices};
+use sparse_basis::{PRICE_PLACES, Price};
 
 // A number in units of a leaf, rounded down, from 0 to a greatest number.
-fn proposed(number: Fixed, greatest: u64) -> u64
+fn proposed(number: Price, greatest: u64) -> u64
     ensures { result ≤ greatest }
 {
-    let scaled = number.wide() * i128::from(PRICE_SCALE) >> PLACES;
+    let scaled = number.wide() * i128::from(PRICE_SCALE) >> PRICE_PLACES;
     if scaled < 0 {
         return 0;
     }
@@ -20,8 +20,8 @@ fn proposed(number: Fixed, greatest: u64) -> u64
     }
 }
 
-/// The weight of the yield limit that a leaf may have.
-pub(crate) fn proposed_multiplier(multiplier: Fixed) -> u64
+/// The multiplier of the yield limit that a leaf may have.
+pub(crate) fn proposed_multiplier(multiplier: Price) -> u64
     ensures { result ≤ PRICE_SCALE }
 {
     proposed(multiplier, PRICE_SCALE)

@@ -1,15 +1,11 @@
-//! The ratio test: how far prices move, and what enters the basis.
+//! The bound-flipping ratio test: how far prices move, which lines flip to their other ends on the way, and what enters the basis.
 
 use crate::base::Base;
-use crate::basis::{LineState, Multiplier};
-use crate::cells::difference;
 use crate::direction::Direction;
 use crate::duals::Duals;
 use crate::leaving::{Leaving, Violation};
-use crate::number::{Fixed, PLACES};
-use crate::program::Program;
-use crate::total::Total;
 use escrow_desk::NoMemory;
+use sparse_basis::{Amount, LineState, PRICE_PLACES, Price, Total};
 use std::alloc::Global;
 
 /// What can enter the basis. In the order in which one of equal breakpoints is taken.
@@ -31,10 +27,10 @@ struct Breakpoint {
     // How far the move has gone by then, in units of 2^-40.
     at: i128,
     // How much of the distance each unit of the move takes.
-    rate: Fixed,
+    rate: Price,
     entering: Entering,
     // By how much the line's amount changes if it goes to its other end in place of entering; None if it can't.
-    width: Option<Fixed>,
+    width: Option<Amount>,
 }
 
 /// The breakpoints of a move, in room that is taken once.
@@ -44,17 +40,17 @@ pub(crate) struct Breakpoints {
     used: usize,
 }
 
-// The greatest rate that passes for none.
-const NO_RATE: i64 = 1 << 20;
+// The pivot tolerance of the ratio test: the greatest rate that passes for none, in units of 2^-40.
+const RATE_TOLERANCE: i64 = 1 << 20;
 
 // A breakpoint, if the move goes towards it.
 fn breakpoint_at(
-    distance: Fixed,
-    rate: Fixed,
+    distance: Price,
+    rate: Price,
     entering: Entering,
-    width: Option<Fixed>,
+    width: Option<Amount>,
 ) -> Option<Breakpoint> {
-    if rate.get() <= NO_RATE {
+    if rate.get() <= RATE_TOLERANCE {
         return None;
     }
     let left = if distance.get() < 0 {
@@ -63,7 +59,7 @@ fn breakpoint_at(
         distance.wide()
     };
     Some(Breakpoint {
-        at: (left << PLACES) / rate.wide(),
+        at: (left << PRICE_PLACES) / rate.wide(),
         rate,
         entering,
         width,
@@ -81,73 +77,67 @@ fn comes_before(one: &Breakpoint, other: &Breakpoint) -> bool {
     one.entering < other.entering
 }
 
-// Whether a line isn't basic, and can be bought in more than one amount.
-fn may_enter(base: &Base, line: u16) -> bool {
-    !base.is_basic(line) && !base.ranges.range(line).is_single()
-}
-
-// The breakpoint of a line at an end, by how its reduced cost rises.
-fn breakpoint_at_end(base: &Base, line: u16, reduced: Fixed, rise: Fixed) -> Option<Breakpoint> {
-    let range = base.ranges.range(line);
-    let width = Some(difference(range.high, range.low));
-    if base.basis.line(line) == LineState::High {
-        breakpoint_at(reduced.negated(), rise, Entering::Line(line), width)
-    } else {
-        breakpoint_at(reduced, rise.negated(), Entering::Line(line), width)
-    }
-}
-
-// The breakpoint of a line.
-fn line_breakpoint(
-    program: &Program,
-    base: &Base,
-    duals: &Duals,
-    direction: &Direction,
-    line: u16,
-) -> Option<Breakpoint> {
-    if !may_enter(base, line) {
-        return None;
-    }
-    let rise = direction.rise(program, line);
-    breakpoint_at_end(base, line, duals.reduced(line), rise)
-}
-
-// The breakpoint of an open link.
-fn link_breakpoint(
-    base: &Base,
-    duals: &Duals,
-    direction: &Direction,
-    link: u16,
-) -> Option<Breakpoint> {
-    let place = usize::from(link);
-    if base.basis.is_joined(place) {
-        return None;
-    }
-    let step = difference(duals.price(place), duals.price(place + 1));
-    let rate = difference(direction.price(place + 1), direction.price(place));
-    breakpoint_at(step, rate, Entering::Link(link), None)
-}
-
-// The breakpoint of the multiplier, if it moves.
-fn multiplier_breakpoint(
-    base: &Base,
-    duals: &Duals,
-    direction: &Direction,
+// What the breakpoints of a move come from.
+#[derive(Clone, Copy)]
+struct Move<'m, 'b> {
+    base: &'m Base<'b>,
+    duals: &'m Duals,
+    direction: &'m Direction,
     leaving: Leaving,
-) -> Option<Breakpoint> {
-    let leaves = match leaving {
-        Leaving::Multiplier(_) => true,
-        _ => false,
-    };
-    if base.basis.multiplier() != Multiplier::Free && !leaves {
-        return None;
+}
+
+impl<'m, 'b> Move<'m, 'b> {
+    // The breakpoint of a line.
+    fn line_breakpoint(self, line: u16) -> Option<Breakpoint> {
+        if !self.base.may_enter(line) {
+            return None;
+        }
+        let range = self.base.ranges.range(line);
+        let width = Some(range.high.minus(range.low));
+        let rise = self.direction.rise(self.base, line);
+        let reduced_cost = self.duals.reduced_cost(line);
+        if self.base.factored.basis.line(line) == LineState::High {
+            breakpoint_at(reduced_cost.negated(), rise, Entering::Line(line), width)
+        } else {
+            breakpoint_at(reduced_cost, rise.negated(), Entering::Line(line), width)
+        }
     }
-    let rise = direction.multiplier();
-    if rise.get() < 0 {
-        breakpoint_at(duals.multiplier(), rise.negated(), Entering::Zero, None)
-    } else {
-        let left = difference(base.aim.multiplier, duals.multiplier());
-        breakpoint_at(left, rise, Entering::Top, None)
+
+    // The breakpoint of an open link.
+    fn link_breakpoint(self, link: u16) -> Option<Breakpoint> {
+        let place = usize::from(link);
+        if self.base.is_joined(place) {
+            return None;
+        }
+        let step = self.duals.price(place).minus(self.duals.price(place + 1));
+        let rate = self
+            .direction
+            .price(place + 1)
+            .minus(self.direction.price(place));
+        breakpoint_at(step, rate, Entering::Link(link), None)
+    }
+
+    // Whether the multiplier moves.
+    fn moves_multiplier(self) -> bool {
+        match self.leaving {
+            Leaving::Multiplier(_) => true,
+            _ => self.base.factored.is_free(),
+        }
+    }
+
+    // The breakpoint of the multiplier, if it moves.
+    fn multiplier_breakpoint(self) -> Option<Breakpoint> {
+        if !self.moves_multiplier() {
+            return None;
+        }
+        let rise = self.direction.multiplier();
+        let multiplier = self.duals.multiplier();
+        if rise.get() < 0 {
+            breakpoint_at(multiplier, rise.negated(), Entering::Zero, None)
+        } else {
+            let left = self.base.aim.multiplier.minus(multiplier);
+            breakpoint_at(left, rise, Entering::Top, None)
+        }
     }
 }
 
@@ -157,11 +147,11 @@ impl Breakpoints {
     /// # Errors
     ///
     /// Where memory ran out.
-    pub(crate) fn make(alloc: Global, program: &Program) -> Result<Breakpoints, NoMemory> {
-        let room = usize::from(program.lines()) + usize::from(program.dates()) + 2;
+    pub(crate) fn make(alloc: Global, base: &Base) -> Result<Breakpoints, NoMemory> {
+        let room = usize::from(base.lines()) + usize::from(base.dates()) + 2;
         let nothing = Breakpoint {
             at: 0,
-            rate: Fixed::zero(),
+            rate: Price::zero(),
             entering: Entering::Zero,
             width: None,
         };
@@ -182,33 +172,32 @@ impl Breakpoints {
         }
     }
 
-    /// The breakpoints of a move.
+    /// The breakpoints of the move in a direction, as something leaves the basis.
     pub(crate) fn gather(
         &mut self,
-        program: &Program,
         base: &Base,
         duals: &Duals,
         direction: &Direction,
         leaving: Leaving,
     ) {
+        let along = Move {
+            base,
+            duals,
+            direction,
+            leaving,
+        };
         self.used = 0;
-        for line in 0..program.lines() {
-            self.push(line_breakpoint(program, base, duals, direction, line));
+        for line in 0..base.lines() {
+            self.push(along.line_breakpoint(line));
         }
-        self.gather_links(program, base, duals, direction);
-        self.push(multiplier_breakpoint(base, duals, direction, leaving));
+        self.gather_links(along);
+        self.push(along.multiplier_breakpoint());
     }
 
     // Those of the links.
-    fn gather_links(
-        &mut self,
-        program: &Program,
-        base: &Base,
-        duals: &Duals,
-        direction: &Direction,
-    ) {
-        for link in 0..=program.dates() {
-            self.push(link_breakpoint(base, duals, direction, link));
+    fn gather_links(&mut self, along: Move) {
+        for link in 0..=along.base.dates() {
+            self.push(along.link_breakpoint(link));
         }
     }
 
@@ -262,5 +251,10 @@ impl Breakpoints {
             Some(breakpoint) => Some(breakpoint.entering),
             None => None,
         }
+    }
+
+    /// How much work it was to pass so many breakpoints: a unit for each that was compared.
+    pub(crate) fn passing_work(&self, passed: usize) -> usize {
+        passed.saturating_add(1).saturating_mul(self.used)
     }
 }

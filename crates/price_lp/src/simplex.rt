@@ -1,32 +1,31 @@
-//! The linear program of a book, and its solution.
+//! The linear program of a book, and its solution: the bounded dual simplex.
 ghost use Rattle.std.specs.Prelude.{◌≡◌, length, IfOk};
-ghost use Rattle.fixed_powers.specs.DiscountPowers.{PowerTable};
+ghost use Rattle.fixed_powers.specs.DiscountPowers.{IsLowTable, PowerTable};
 ghost use Rattle.dual_bound.specs.Tree.{IsLeaf};
 
-use crate::aim::Aim;
-use crate::basis::Basis;
-use crate::line_ranges::Exact;
-use crate::number::AMOUNT_PLACES;
-use crate::program::Program;
+use crate::aim::{Aim, Purpose};
+use crate::base::Base;
+use crate::direction::Direction;
+use crate::duals::Duals;
+use crate::leaving::Violation;
+use crate::line_ranges::Holding;
+use crate::pivoting::pivot;
+use crate::primal::Primal;
 use crate::proposing::{propose_prices, proposed_multiplier};
-use crate::solver::Solver;
-use crate::total::Total;
+use crate::ratio::Breakpoints;
 use dual_bound::{Interval, Leaf};
 use escrow_desk::NoMemory;
-use escrow_units::{Cents, Flow, GREATEST_INDEX};
-use fixed_powers::{Powers, Side};
+use fixed_powers::Powers;
 use offer_book::Book;
+use sparse_basis::{AMOUNT_PLACES, Basis, Stop, TOTAL_PLACES};
 use std::alloc::Global;
 use std::marker::Model;
 
-/// What prices are for. It decides how far they and the multiplier of the yield limit may go.
-#[derive(Clone, Copy, Debug, PartialEq, Eq)]
-pub enum Purpose {
-    /// The prices of a leaf: up to 2, and a multiplier up to 1.
-    Bound,
-    /// Plans: prices up to 256 and a multiplier up to 16,000, so that a plan pays dearly for what it lacks.
-    Plan,
-}
+/// The most iterations of a solve from nothing: of thousands of programs that were drawn none took more.
+pub const COLD_ITERATIONS: u32 = 2_000;
+
+/// The most iterations of a solve that starts near by; where that doesn't come to an end, one from nothing is to follow.
+pub const WARM_ITERATIONS: u32 = 300;
 
 /// How a solve ended.
 #[derive(Clone, Copy, Debug, PartialEq, Eq)]
@@ -41,85 +40,123 @@ pub enum SolveEnd {
     Stopped,
 }
 
+// How much of what is kept is that of the basis as it stands. What is, isn't made again.
+#[derive(Clone, Copy, PartialEq, Eq)]
+enum Current {
+    // Nothing.
+    Nothing,
+    // The factor and the prices: other ranges leave them.
+    Prices,
+    // The amounts too: another range of a basic line leaves them.
+    Amounts,
+}
+
 /// The linear relaxation of a book at a yield, with the ranges of its lines, and the solution that was last found. All its
 /// memory is taken when it is made.
 #[derive(Drop)]
-pub struct Simplex {
-    program: Program,
-    solver: Solver,
+pub struct Simplex<'a> {
+    // What contracts see: how many need dates and lines there are.
+    dates: u16,
+    lines: u16,
+    base: Base<'a>,
+    duals: Duals,
+    primal: Primal,
+    direction: Direction,
+    breakpoints: Breakpoints,
+    current: Current,
+    iterations: u64,
+    work: u64,
 }
 
-impl Model for Simplex {
+impl<'a> Model for Simplex<'a> {
     ghost use Rattle.price_lp.specs.Program.{ProgramSize};
 
     ghost Value = { ProgramSize };
 
-    ghost view = { λ s. record { dates = s.program.dates; lines = s.program.lines } };
+    ghost view = { λ s. record { dates = s.dates; lines = s.lines } };
 }
 
-impl Simplex {
+// Whether an objective is at least so many cents.
+fn reaches(objective: i128, limit: Option<u64>) -> bool {
+    match limit {
+        Some(cents) => i128::from(cents) << TOTAL_PLACES <= objective,
+        None => false,
+    }
+}
+
+impl<'a> Simplex<'a> {
     /// The program of a book at the yield of powers of the low side, of 0 to 14,400 index days. Each line's range is every
     /// number of its units, the cost counts, and the prices are those of a leaf.
     ///
     /// # Errors
     ///
     /// Where memory ran out.
-    pub fn make(alloc: Global, book: &Book, powers: &Powers) -> Result<Simplex, NoMemory>
-        requires side { powers.now.side ≡ Side.Low }
-        requires longest { powers.now.longest ≡ GREATEST_INDEX }
+    pub fn make(alloc: Global, book: &'a Book, powers: &Powers) -> Result<Simplex<'a>, NoMemory>
+        requires { IsLowTable powers.now }
         ensures { IfOk result (λ simplex. simplex ≡ record { dates = length book.now.needs; lines = length book.now.lines }) }
     {
-        let program = Program::make(alloc, book, powers)?;
-        let solver = Solver::make(alloc, &program, book)?;
-        Ok(Simplex { program, solver })
-    }
-
-    /// How many need dates there are.
-    pub(crate) fn dates(&self) -> u16
-        ensures { result ≡ self.now.dates }
-    {
-        self.program.dates()
-    }
-
-    /// How many lines there are.
-    pub(crate) fn lines(&self) -> u16
-        ensures { result ≡ self.now.lines }
-    {
-        self.program.lines()
+        let base = Base::make(alloc, book, powers, Aim::new(Purpose::Bound, true))?;
+        Ok(Simplex {
+            dates: book.need_count(),
+            lines: book.line_count(),
+            duals: Duals::make(alloc, &base)?,
+            primal: Primal::make(alloc, &base)?,
+            direction: Direction::make(alloc, &base)?,
+            breakpoints: Breakpoints::make(alloc, &base)?,
+            base,
+            current: Current::Nothing,
+            iterations: 0,
+            work: 0,
+        })
     }
 
     /// Says what the prices are for, and whether the cost counts. The next solve has to start anew.
     pub fn aim(&mut self, purpose: Purpose, whole: bool)
         ensures { self.new ≡ self.old }
     {
-        self.solver.aim(Aim::new(purpose, whole));
+        self.base.aim = Aim::new(purpose, whole);
+        self.current = Current::Nothing;
+    }
+
+    // Another range of a line, after one with a single amount or not. A line with a single amount has no reduced cost.
+    fn note_range(&mut self, line: u16, was_single: bool)
+        ensures { self.new ≡ self.old }
+    {
+        if self.base.factored.is_basic(line) {
+            return;
+        }
+        if was_single && !self.base.ranges.is_single(line) {
+            self.current = Current::Nothing;
+        } else if self.current == Current::Amounts {
+            self.current = Current::Prices;
+        }
     }
 
     /// The range of a line, counted from 0, in units; it isn't fixed any longer. A line that isn't there is passed over.
     pub fn set_range(&mut self, line: u16, interval: Interval)
         ensures { self.new ≡ self.old }
     {
-        self.solver.set_range(&self.program, line, interval);
+        let was_single = self.base.ranges.is_single(line);
+        self.base.set_range(line, interval);
+        self.note_range(line, was_single);
     }
 
-    /// Fixes a line, counted from 0, at a number of units, with what they cost and pay exactly: the line's payments in order; and
-    /// the excess, what these are worth at the yield of the limit less what they cost, in units of 2^-62 of a cent, which is 0 for
-    /// opening cash. A line that isn't there is passed over.
-    pub fn fix(&mut self, line: u16, units: u64, cost: Cents, payments: &[Flow], excess: i128)
+    /// Fixes a line, counted from 0, at a number of units, with what they come to exactly. A line that isn't there is passed over.
+    pub fn fix(&mut self, line: u16, holding: &Holding)
         ensures { self.new ≡ self.old }
     {
-        let exact = Exact {
-            cost: cost.0,
-            excess: Total::of_excess(excess),
-        };
-        self.solver.fix(&self.program, line, units, exact, payments);
+        let was_single = self.base.ranges.is_single(line);
+        self.base.fix(line, holding);
+        self.note_range(line, was_single);
     }
 
     /// Starts from the highest prices that never rise under which no line that matures so far has a negative reduced cost.
     pub fn start_greedily(&mut self)
         ensures { self.new ≡ self.old }
     {
-        self.solver.start_greedily(&self.program);
+        self.base.start_greedily(&mut self.duals);
+        self.current = Current::Nothing;
+        self.count_sweep();
     }
 
     /// Starts from a leaf's prices alone: dates of equal prices are joined, and lines with a reduced cost near 0 are basic. Where
@@ -127,46 +164,165 @@ impl Simplex {
     pub fn start_at(&mut self, leaf: &Leaf)
         ensures { self.new ≡ self.old }
     {
-        self.solver.start_at(&self.program, leaf);
+        let started = self.base.start_at(&mut self.duals, leaf);
+        self.current = Current::Nothing;
+        self.count_sweep();
+        if started.is_err() {
+            self.start_greedily();
+        }
     }
 
     /// Starts from a basis that was saved.
     pub fn start_from(&mut self, basis: &Basis)
         ensures { self.new ≡ self.old }
     {
-        self.solver.start_from(basis);
+        self.base.factored.basis.copy(basis);
+        self.current = Current::Nothing;
     }
 
     /// Saves the basis.
     pub fn save(&self, basis: &mut Basis) {
-        basis.copy(&self.solver.base.basis);
+        basis.copy(&self.base.factored.basis);
+    }
+
+    /// Room to save a basis in.
+    ///
+    /// # Errors
+    ///
+    /// Where memory ran out.
+    pub fn new_basis(&self, alloc: Global) -> Result<Basis, NoMemory> {
+        Basis::with_room(alloc, self.lines, self.dates)
+    }
+
+    // Counts so much work more.
+    fn count_work(&mut self, work: usize)
+        ensures { self.new ≡ self.old }
+    {
+        self.work = self.work.saturating_add(work as u64);
+    }
+
+    // Counts that all columns, lines and dates were gone through once.
+    fn count_sweep(&mut self)
+        ensures { self.new ≡ self.old }
+    {
+        let sweep = self.sweep();
+        self.work = self.work.saturating_add(sweep);
+    }
+
+    // The factor and the prices of the basis.
+    fn refresh_prices(&mut self) -> Result<(), Stop>
+        ensures { self.new ≡ self.old }
+    {
+        if self.current == Current::Nothing {
+            self.count_sweep();
+            let kept = self.base.factored.refactor()?;
+            let factoring = self.base.factored.factoring_work(kept);
+            let solving = self.base.factored.solving_work();
+            self.count_work(factoring.saturating_add(solving));
+            self.duals.refresh(&self.base, kept)?;
+            self.current = Current::Prices;
+        }
+        Ok(())
+    }
+
+    // The factor, the prices and the amounts of the basis.
+    fn refresh(&mut self) -> Result<(), Stop>
+        ensures { self.new ≡ self.old }
+    {
+        self.refresh_prices()?;
+        if self.current == Current::Prices {
+            self.count_sweep();
+            let solving = self.base.factored.solving_work();
+            self.count_work(solving);
+            self.base.put_lines(&self.duals);
+            self.primal.refresh(&self.base)?;
+            self.current = Current::Amounts;
+        }
+        Ok(())
+    }
+
+    // Goes to the next basis, without a violation.
+    fn leave(&mut self, violation: Violation) -> Result<(), Stop>
+        ensures { self.new ≡ self.old }
+    {
+        let leaving = violation.leaving;
+        self.count_sweep();
+        let solving = self.base.factored.solving_work();
+        self.count_work(solving);
+        self.direction.refresh(&self.base, leaving)?;
+        self.breakpoints
+            .gather(&self.base, &self.duals, &self.direction, leaving);
+        let passed = self.breakpoints.pass(violation).ok_or(Stop)?;
+        let passing = self.breakpoints.passing_work(passed);
+        self.count_work(passing);
+        self.current = Current::Nothing;
+        let basis = &mut self.base.factored.basis;
+        pivot(basis, &self.breakpoints, passed, leaving)
+    }
+
+    // An iteration; where the solve ends with it, how.
+    fn iterate(&mut self, limit: Option<u64>) -> Result<Option<SolveEnd>, Stop>
+        ensures { self.new ≡ self.old }
+    {
+        self.refresh()?;
+        if reaches(self.primal.objective().wide(), limit) {
+            return Ok(Some(SolveEnd::AtLimit));
+        }
+        let Some(violation) = self.base.greatest_violation(&self.primal) else {
+            return Ok(Some(SolveEnd::Optimal));
+        };
+        self.leave(violation)?;
+        self.iterations = self.iterations.saturating_add(1);
+        Ok(None)
     }
 
     /// Improves the solution by at most so many iterations, or until the objective, in cents, is at least a limit.
     pub fn solve(&mut self, iterations: u32, limit: Option<u64>) -> SolveEnd
         ensures { self.new ≡ self.old }
     {
-        self.solver.solve(&self.program, iterations, limit)
+        for _ in 0..iterations {
+            match self.iterate(limit) {
+                Ok(None) => {}
+                Ok(Some(end)) => return end,
+                Err(Stop) => return SolveEnd::Stopped,
+            }
+        }
+        SolveEnd::Capped
     }
 
     /// The objective of the solution, in units of 2^-40 of a cent: what it costs, and what it pays for what it lacks.
     pub fn objective(&self) -> i128 {
-        self.solver.primal.objective().wide() >> AMOUNT_PLACES
+        self.primal.objective().wide() >> AMOUNT_PLACES
     }
 
     /// Whether a line, counted from 0, is in the basis: its amount may be anything within its range.
     pub fn is_basic(&self, line: u16) -> bool {
-        self.solver.base.is_basic(line)
+        self.base.factored.is_basic(line)
     }
 
     /// How much of a line, counted from 0, the solution buys at par, in units of 2^-10 of a cent.
     pub fn amount(&self, line: u16) -> i64 {
-        self.solver.primal.amount(line).get()
+        self.primal.amount(line).get()
     }
 
     /// How many iterations all solves took together, counted up to the type's end.
     pub fn iterations(&self) -> u64 {
-        self.solver.iterations
+        self.iterations
+    }
+
+    /// How much work all solves took together, counted up to the type's end: a unit for each entry of a column that was gone through,
+    /// each line, each date and each elimination. An iteration takes three sweeps, and more where the basis is large. It is the same
+    /// on every machine.
+    pub fn work(&self) -> u64 {
+        self.work
+    }
+
+    /// How much work a sweep is: to go once through all columns, lines and dates.
+    pub fn sweep(&self) -> u64 {
+        let entries = self.base.factored.matrix.entry_count() as u64;
+        entries
+            .saturating_add(u64::from(self.lines))
+            .saturating_add(u64::from(self.dates))
     }
 
     /// Puts the prices and the multiplier into a leaf that has a price for each need date, so that it keeps its limits. Whether
@@ -176,7 +332,7 @@ impl Simplex {
         ensures well_formed { IsLeaf self.now.dates leaf.new }
         ensures whole { leaf.new.whole ≡ leaf.old.whole }
     {
-        leaf.mu = proposed_multiplier(self.solver.duals.multiplier());
-        propose_prices(&self.solver.duals, self.program.dates(), &mut leaf.prices);
+        leaf.mu = proposed_multiplier(self.duals.multiplier());
+        propose_prices(&self.duals, self.dates, &mut leaf.prices);
     }
 }

@@ -1,11 +1,15 @@
 //! Worked figures of solves. They come from another program.
 
-use crate::basis::{Basis, LineState};
-use crate::simplex::{Purpose, Simplex, SolveEnd};
-use case_file::read_case;
-use dual_bound::{Interval, Leaf, Prices};
+ghost use Rattle.std.specs.Prelude.{◌≡◌};
+
+use crate::aim::Purpose;
+use crate::line_ranges::Holding;
+use crate::simplex::{Simplex, SolveEnd};
+use case_file::{Case, read_case};
+use dual_bound::{Interval, Leaf};
 use escrow_units::{Cents, Day, Flow, GREATEST_INDEX, YieldUnits};
 use fixed_powers::{Powers, Side};
+use sparse_basis::LineState;
 use std::alloc::Global;
 use std::test::Fail;
 
@@ -16,21 +20,23 @@ const RATES: &[u8] =
     b"terms,1000,1\nrate,2025-02-14,2027-01-15,4.00\noffer,2025-07-15,max,,10000000\noffer,2025-07-15,3.00,,10000000\noffer,2027-01-15,max,,10000000\noffer,2027-01-15,3.00,,10000000\n";
 
 // Opening cash, and for each need date two lines, of 4 and of 3 percent.
-fn simplex_of(alloc: Global) -> Result<Simplex, Fail> {
-    let powers = Powers::make(alloc, YieldUnits(350_100_000), Side::Low, GREATEST_INDEX)?;
+fn case_of(alloc: Global) -> Result<Case, Fail> {
     match read_case(alloc, ISSUE, RATES, b"") {
-        Ok(case) => Ok(Simplex::make(alloc, &case.book, &powers)?),
+        Ok(case) => Ok(case),
         Err(_) => Err(Fail::new("no case")),
     }
 }
 
-// The leaf that a solution proposes.
-fn leaf_of(alloc: Global, simplex: &Simplex) -> Result<Leaf, Fail> {
-    let mut leaf = Leaf {
-        whole: true,
-        mu: 0,
-        prices: Prices::new(vec![in alloc; 0; usize::from(simplex.dates())]?),
-    };
+fn simplex_of<'a>(alloc: Global, case: &'a Case) -> Result<Simplex<'a>, Fail> {
+    let powers = Powers::make(alloc, YieldUnits(350_100_000), Side::Low, GREATEST_INDEX)?;
+    Ok(Simplex::make(alloc, &case.book, &powers)?)
+}
+
+// The leaf that a solution proposes, over two need dates.
+fn leaf_of(alloc: Global, simplex: &Simplex) -> Result<Leaf, Fail>
+    requires { simplex.now.dates ≡ 2 }
+{
+    let mut leaf = Leaf::of_zeros(alloc, true, 2)?;
     simplex.propose(&mut leaf);
     Ok(leaf)
 }
@@ -42,7 +48,8 @@ fn cents_of(simplex: &Simplex) -> i128 {
 
 #[test]
 fn a_solve_keeps_to_the_yield_limit(rt: HostRuntime) -> Result<(), Fail> {
-    let mut simplex = simplex_of(rt.alloc())?;
+    let case = case_of(rt.alloc())?;
+    let mut simplex = simplex_of(rt.alloc(), &case)?;
     simplex.start_greedily();
     assert_eq!(rt; simplex.solve(100, None), SolveEnd::Optimal);
     assert_eq!(rt; simplex.iterations(), 1);
@@ -73,7 +80,8 @@ fn a_solve_keeps_to_the_yield_limit(rt: HostRuntime) -> Result<(), Fail> {
 
 #[test]
 fn a_fixed_line_pays_exactly_until_it_is_free(rt: HostRuntime) -> Result<(), Fail> {
-    let mut simplex = simplex_of(rt.alloc())?;
+    let case = case_of(rt.alloc())?;
+    let mut simplex = simplex_of(rt.alloc(), &case)?;
     let half_a_year = [Flow {
         day: Day::new(20284),
         cents: Cents(50_991_781),
@@ -81,7 +89,13 @@ fn a_fixed_line_pays_exactly_until_it_is_free(rt: HostRuntime) -> Result<(), Fai
     simplex.start_greedily();
     assert_eq!(rt; simplex.solve(100, None), SolveEnd::Optimal);
     // 500,000 dollars of a line that is in the basis: it leaves it.
-    simplex.fix(1, 500_000, Cents(50_000_000), &half_a_year, 0);
+    let holding = Holding {
+        units: 500_000,
+        cost: Cents(50_000_000),
+        payments: &half_a_year,
+        excess: 0,
+    };
+    simplex.fix(1, &holding);
     assert_eq!(rt; simplex.solve(100, None), SolveEnd::Optimal);
     assert!(rt; !simplex.is_basic(1));
     assert_eq!(rt; simplex.amount(1), 51_200_000_000);
@@ -100,8 +114,9 @@ fn a_fixed_line_pays_exactly_until_it_is_free(rt: HostRuntime) -> Result<(), Fai
 
 #[test]
 fn a_solve_starts_from_a_leaf_or_a_basis(rt: HostRuntime) -> Result<(), Fail> {
-    let mut simplex = simplex_of(rt.alloc())?;
-    let mut basis = Basis::make(rt.alloc(), &simplex)?;
+    let case = case_of(rt.alloc())?;
+    let mut simplex = simplex_of(rt.alloc(), &case)?;
+    let mut basis = simplex.new_basis(rt.alloc())?;
     assert_eq!(rt; simplex.solve(100, None), SolveEnd::Optimal);
     let leaf = leaf_of(rt.alloc(), &simplex)?;
     let solved = simplex.iterations();
@@ -115,7 +130,13 @@ fn a_solve_starts_from_a_leaf_or_a_basis(rt: HostRuntime) -> Result<(), Fail> {
     assert_eq!(rt; simplex.solve(100, Some(285_028_910)), SolveEnd::AtLimit);
     simplex.set_range(4, Interval { low: 0, high: 1000 });
     simplex.start_from(&basis);
-    simplex.fix(0, 0, Cents(0), &[], 0);
+    let nothing = Holding {
+        units: 0,
+        cost: Cents(0),
+        payments: &[],
+        excess: 0,
+    };
+    simplex.fix(0, &nothing);
     assert_eq!(rt; simplex.solve(100, None), SolveEnd::Optimal);
     // More columns than runs of dates.
     basis.put_line(2, LineState::Basic);

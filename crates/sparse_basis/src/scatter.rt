@@ -1,6 +1,6 @@
 //! A column that is being made triangular.
 
-use crate::number::Fixed;
+use crate::number::Price;
 use crate::sparse::{Entry, Stop};
 use escrow_desk::NoMemory;
 use std::alloc::Global;
@@ -8,7 +8,7 @@ use std::alloc::Global;
 // What a column has in a row.
 #[derive(Clone, Copy)]
 struct Cell {
-    value: Fixed,
+    value: Price,
     met: bool,
 }
 
@@ -16,7 +16,7 @@ impl Cell {
     // Of a row that wasn't met.
     fn empty() -> Cell {
         Cell {
-            value: Fixed::zero(),
+            value: Price::zero(),
             met: false,
         }
     }
@@ -54,10 +54,10 @@ impl Scatter {
     }
 
     /// The value of a row; nothing where there is no such row.
-    pub(crate) fn get(&self, row: u16) -> Fixed {
+    pub(crate) fn get(&self, row: u16) -> Price {
         match self.cells.get(usize::from(row)) {
             Some(cell) => cell.value,
-            None => Fixed::zero(),
+            None => Price::zero(),
         }
     }
 
@@ -72,7 +72,7 @@ impl Scatter {
     }
 
     // Puts the value of a row, and tells whether it is met for the first time.
-    fn put_value(&mut self, row: u16, value: Fixed) -> Result<bool, Stop> {
+    fn put_value(&mut self, row: u16, value: Price) -> Result<bool, Stop> {
         match self.cells.get_mut(usize::from(row)) {
             Some(cell) => {
                 let first = !cell.met;
@@ -84,7 +84,7 @@ impl Scatter {
     }
 
     /// Puts the value of a row. It stops where there is no such row.
-    pub(crate) fn put(&mut self, row: u16, value: Fixed) -> Result<(), Stop> {
+    pub(crate) fn put(&mut self, row: u16, value: Price) -> Result<(), Stop> {
         if self.put_value(row, value)? {
             self.remember(row)?;
         }
@@ -92,7 +92,7 @@ impl Scatter {
     }
 
     // Adds to the value of a row, and tells whether it is met for the first time.
-    fn add_value(&mut self, row: u16, value: Fixed) -> Result<bool, Stop> {
+    fn add_value(&mut self, row: u16, value: Price) -> Result<bool, Stop> {
         match self.cells.get_mut(usize::from(row)) {
             Some(cell) => {
                 let first = !cell.met;
@@ -107,7 +107,7 @@ impl Scatter {
     }
 
     /// Adds to the value of a row. It stops where there is no such row.
-    pub(crate) fn add(&mut self, row: u16, value: Fixed) -> Result<(), Stop> {
+    pub(crate) fn add(&mut self, row: u16, value: Price) -> Result<(), Stop> {
         if self.add_value(row, value)? {
             self.remember(row)?;
         }
@@ -115,7 +115,7 @@ impl Scatter {
     }
 
     /// Takes off so many times another column. It stops where there is no such row.
-    pub(crate) fn subtract(&mut self, column: &[Entry], times: Fixed) -> Result<(), Stop> {
+    pub(crate) fn subtract(&mut self, column: &[Entry], times: Price) -> Result<(), Stop> {
         for entry in column {
             let rest = self.get(entry.place).less_product(entry.value, times);
             self.put(entry.place, rest)?;

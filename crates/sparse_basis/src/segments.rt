@@ -1,13 +1,14 @@
 //! Runs of dates with the same price.
 
 use crate::basis::Basis;
+use crate::cells::read;
 use crate::sparse::Stop;
 use escrow_desk::NoMemory;
 use std::alloc::Global;
 
 /// The run of joined dates that a date belongs to.
 #[derive(Clone, Copy, PartialEq, Eq)]
-pub(crate) enum Segment {
+pub enum Segment {
     /// The run with the day of settlement, whose price is the greatest.
     Head,
     /// A run with a price of its own, counted from 0.
@@ -18,7 +19,7 @@ pub(crate) enum Segment {
 
 /// Where the dates are that share their run with another one: none before the first, none from the end on.
 #[derive(Clone, Copy)]
-pub(crate) struct SharedSpan {
+pub struct SharedSpan {
     /// The first of them; the number of dates and two where there is none.
     pub first: usize,
     /// The date after the last of them; 0 where there is none.
@@ -27,7 +28,7 @@ pub(crate) struct SharedSpan {
 
 /// The run of each date, and whether another date is in it.
 #[derive(Drop)]
-pub(crate) struct Segments {
+pub struct Segments {
     of_date: Vec<Segment>,
     shared: Vec<bool>,
     shared_span: SharedSpan,
@@ -37,10 +38,7 @@ pub(crate) struct Segments {
 
 /// The run of a date in a list with one for each date; the tail for others.
 pub(crate) fn run_of(runs: &[Segment], date: usize) -> Segment {
-    match runs.get(date) {
-        Some(run) => *run,
-        None => Segment::Tail,
-    }
+    read(runs, date, Segment::Tail)
 }
 
 // Puts the run of each date, where all runs but the head are counted from 0. How many there are beside the head.
@@ -85,7 +83,11 @@ fn end_with(of_date: &mut [Segment], last: u16) {
 
 impl Segments {
     /// Room for so many dates, and the two before and after them.
-    pub(crate) fn make(alloc: Global, dates: u16) -> Result<Segments, NoMemory> {
+    ///
+    /// # Errors
+    ///
+    /// Where memory ran out.
+    pub fn make(alloc: Global, dates: u16) -> Result<Segments, NoMemory> {
         Ok(Segments {
             of_date: vec![in alloc; Segment::Head; usize::from(dates) + 2]?,
             shared: vec![in alloc; true; usize::from(dates) + 2]?,
@@ -99,7 +101,7 @@ impl Segments {
     }
 
     /// The runs of a basis. It stops where no link is open.
-    pub(crate) fn refresh(&mut self, basis: &Basis) -> Result<(), Stop> {
+    pub fn refresh(&mut self, basis: &Basis) -> Result<(), Stop> {
         self.free = 0;
         let opened = count_runs(self.of_date.as_mut_slice(), basis);
         if opened == 0 {
@@ -112,30 +114,27 @@ impl Segments {
     }
 
     /// The run of a date, from 0 to the one after the last; the tail for others.
-    pub(crate) fn of(&self, date: usize) -> Segment {
+    pub fn of(&self, date: usize) -> Segment {
         run_of(self.of_date.as_slice(), date)
     }
 
     /// Whether a date shares its run with another one.
-    pub(crate) fn is_shared(&self, date: usize) -> bool {
-        match self.shared.get(date) {
-            Some(shared) => *shared,
-            None => false,
-        }
+    pub fn is_shared(&self, date: usize) -> bool {
+        read(self.shared.as_slice(), date, false)
     }
 
     /// Where the dates are that share their run with another one.
-    pub(crate) fn shared_span(&self) -> SharedSpan {
+    pub fn shared_span(&self) -> SharedSpan {
         self.shared_span
     }
 
     /// The row of the multiplier, behind those of all runs that there can be.
-    pub(crate) fn multiplier_row(&self) -> u16 {
+    pub fn multiplier_row(&self) -> u16 {
         self.multiplier
     }
 
     /// How many runs have a price of their own.
-    pub(crate) fn free(&self) -> u16 {
+    pub fn free(&self) -> u16 {
         self.free
     }
 }

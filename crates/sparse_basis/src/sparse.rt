@@ -1,32 +1,24 @@
 //! Columns of a sparse matrix.
 ghost use Rattle.std.specs.Prelude.{◌<◌, ◌≤◌, IsTrue, length};
 
-use crate::number::Fixed;
+use crate::number::Price;
 use escrow_desk::NoMemory;
 use std::alloc::Global;
 
 /// The most entries that a column has: more than there are need dates.
-pub(crate) const MOST_ENTRIES: usize = 512;
+pub const MOST_ENTRIES: usize = 512;
 
 /// A solve can't go on: the basis isn't as it should be, or the room for a factor is used up.
 #[derive(Clone, Copy)]
-pub(crate) struct Stop;
+pub struct Stop;
 
 /// An entry of a column.
 #[derive(Clone, Copy)]
-pub(crate) struct Entry {
+pub struct Entry {
     /// Its row, or its date.
     pub place: u16,
     /// Its value.
-    pub value: Fixed,
-}
-
-/// The last date on which a line pays; 0 where there is none.
-pub(crate) fn last_date(pays: &[Entry]) -> usize {
-    match pays.last() {
-        Some(entry) => usize::from(entry.place),
-        None => 0,
-    }
+    pub value: Price,
 }
 
 impl Entry {
@@ -34,7 +26,7 @@ impl Entry {
     fn empty() -> Entry {
         Entry {
             place: 0,
-            value: Fixed::zero(),
+            value: Price::zero(),
         }
     }
 }
@@ -106,7 +98,7 @@ impl Sparse {
     }
 
     // Adds to the last entry.
-    fn add_to_last(&mut self, value: Fixed)
+    fn add_to_last(&mut self, value: Price)
         requires { 0 < self.old.used }
     {
         if let Some(last) = self.entries.get_mut(self.used - 1) {

@@ -1,8 +1,11 @@
-//! Sums of products.
+//! Sums of what amounts cost, pay or are worth.
 ghost use Rattle.std.specs.Prelude.{◌≡◌, ◌+◌, ◌*◌, ◌^◌, ◌<◌, ◌≤◌, unsigned_abs};
 
-use crate::number::{AMOUNT_PLACES, Fixed, PLACES};
+use crate::number::{AMOUNT_PLACES, Amount, PRICE_PLACES, Price};
 use std::marker::Model;
+
+/// How many binary places a total has, in cents.
+pub const TOTAL_PLACES: u32 = PRICE_PLACES + AMOUNT_PLACES;
 
 // How many binary places an excess has, in cents.
 const EXCESS_PLACES: u32 = 62;
@@ -13,10 +16,10 @@ const GREATEST: i128 = 1 << 120;
 // The greatest total on both sides that is multiplied as it stands.
 const GREATEST_FACTOR: i128 = 1 << 104;
 
-/// A sum of products of two numbers of the program: twice as many places as a price, or as many as a coefficient and an amount
-/// have together. What would be beyond 2^120 is clamped, which no sum of a permitted case comes near to.
+/// A sum of products of a price and an amount, in units of 2^-50 of a cent. What would be beyond 2^120 is clamped, which no sum of
+/// a permitted case comes near to.
 #[derive(Clone, Copy)]
-pub(crate) struct Total {
+pub struct Total {
     value: i128,
 }
 
@@ -34,12 +37,12 @@ impl Model for Total {
 
 impl Total {
     /// Nothing.
-    pub(crate) fn zero() -> Total {
+    pub fn zero() -> Total {
         Total { value: 0 }
     }
 
     /// The nearest total that is kept.
-    pub(crate) fn clamp(value: i128) -> Total {
+    pub fn clamp(value: i128) -> Total {
         if value >= GREATEST {
             Total { value: GREATEST }
         } else if value < -GREATEST {
@@ -49,43 +52,43 @@ impl Total {
         }
     }
 
-    /// A number, times one.
-    pub(crate) fn of(number: Fixed) -> Total {
-        Total::clamp(number.wide() << PLACES)
+    /// An amount, times one.
+    pub fn of(amount: Amount) -> Total {
+        Total::clamp(amount.wide() << PRICE_PLACES)
     }
 
-    /// An amount in cents, times one.
-    pub(crate) fn of_cents(cents: u64) -> Total {
-        Total::clamp(i128::from(cents) << (PLACES + AMOUNT_PLACES))
+    /// Cents, times one.
+    pub fn of_cents(cents: u64) -> Total {
+        Total::clamp(i128::from(cents) << TOTAL_PLACES)
     }
 
     /// An excess in units of 2^-62 of a cent.
-    pub(crate) fn of_excess(excess: i128) -> Total {
-        Total::clamp(excess >> (EXCESS_PLACES - PLACES - AMOUNT_PLACES))
+    pub fn of_excess(excess: i128) -> Total {
+        Total::clamp(excess >> (EXCESS_PLACES - TOTAL_PLACES))
     }
 
-    /// With a product more.
-    pub(crate) fn with(self, one: Fixed, other: Fixed) -> Total {
-        Total::clamp(self.value + one.times(other))
+    /// With what an amount comes to at a price.
+    pub fn with(self, price: Price, amount: Amount) -> Total {
+        Total::clamp(self.value + price.times_amount(amount))
     }
 
-    /// With a product less.
-    pub(crate) fn without(self, one: Fixed, other: Fixed) -> Total {
-        Total::clamp(self.value - one.times(other))
+    /// Without what an amount comes to at a price.
+    pub fn without(self, price: Price, amount: Amount) -> Total {
+        Total::clamp(self.value - price.times_amount(amount))
     }
 
     /// With another total.
-    pub(crate) fn plus(self, other: Total) -> Total {
+    pub fn plus(self, other: Total) -> Total {
         Total::clamp(self.value + other.value)
     }
 
     /// Without another total.
-    pub(crate) fn minus(self, other: Total) -> Total {
+    pub fn minus(self, other: Total) -> Total {
         Total::clamp(self.value - other.value)
     }
 
     /// So many times.
-    pub(crate) fn times(self, factor: u16) -> Total {
+    pub fn times(self, factor: u16) -> Total {
         if self.value > GREATEST_FACTOR {
             Total { value: GREATEST }
         } else if self.value < -GREATEST_FACTOR {
@@ -95,18 +98,18 @@ impl Total {
         }
     }
 
-    /// The total as a number of as many places as a price or an amount has, rounded down.
-    pub(crate) fn rounded(self) -> Fixed {
-        Fixed::clamp(self.value >> PLACES)
+    /// The total as an amount, rounded down.
+    pub fn rounded(self) -> Amount {
+        Amount::clamp(self.value >> PRICE_PLACES)
     }
 
     /// Whether it is more than nothing.
-    pub(crate) fn is_positive(self) -> bool {
+    pub fn is_positive(self) -> bool {
         0 < self.value
     }
 
-    /// The total, with all its places.
-    pub(crate) fn wide(self) -> i128
+    /// The total, in units of 2^-50 of a cent.
+    pub fn wide(self) -> i128
         ensures value { result ≡ self }
         ensures size { unsigned_abs result ≤ 2 ^ 120 }
     {

@@ -1,5 +1,5 @@
 use Rattle.std.proofs.Common.{◌*◌, ◌≤◌, ◌^◌, unsigned_abs}
-use Rattle.price_lp.proofs.cells.product_in_runs.Given as goal
+use Rattle.sparse_basis.proofs.cells.product.Given as goal
 
 abbrev pub invariant-loop-entry : goal.invariant-loop-entry
 invariant-loop-entry l = unsigned_abs l.sum ≤ l.entry-index * 2 ^ 116
