@@ -11,19 +11,22 @@ from .case_files import CERT, ISSUE, PRICES, RATES
 from .explaining.answers import Run, explain_run
 from .explaining.case_reading import CaseRead, read_whole_case
 from .explaining.cautions import Cautions, totals
-from .inputs import is_same_file, read_case, write_file
+from .inputs import REPORT, beside, is_same_file, read_case, write_file
 from .issue_text import GREATEST_ALLOWANCE, with_allowance
 from .program import Answer, CaseBytes, Folder
 from .report import Report, cents_of, read_report
 from .speaking import Stop, Words, put_out, tell
 
 WHAT = """\
-The best plan that the search finds and its gap, whatever `allowance` the issue has: CERT is written, the report said on
-standard output, and on standard error the `allowance` row with which `check` says yes to the issue as it stands.
+The best plan that the search finds and its gap, whatever `allowance` the issue has: CERT is written, and beside it the report,
+which is said on standard output too (certificate.txt has certificate.report.txt); on standard error stands the `allowance`
+row with which `check` says yes to the issue as it stands.
 Where the search says that there is none, its answer and its exit status are `structure`'s."""
 
 # How many searches are made at most to bring the gap down.
 MOST_SEARCHES = 12
+# A gap of so many cents is left as it is.
+SMALL_GAP = 100
 
 
 @dataclass(frozen=True)
@@ -77,8 +80,8 @@ class Search:
     def _halve(self) -> None:
         """A search that says no more than that it found nothing is asked again and again, for half of what is open."""
         refused = 0
-        while self.searches < MOST_SEARCHES and self.best.gap > refused + 1 and self.best.gap * 20 > refused * 21:
-            asked = self.best.gap // 8 if refused == 0 and self.searches < 6 else (self.best.gap + refused) // 2
+        while self.searches < MOST_SEARCHES and self.best.gap > max(SMALL_GAP, refused * 21 // 20):
+            asked = self.best.gap // 8 if refused == 0 else (self.best.gap + refused) // 2
             if self.allow(money(asked)).status != program.DONE:
                 refused = asked
 
@@ -106,7 +109,7 @@ def run(arguments: list[str]) -> int:
         answer = search.allow(GREATEST_ALLOWANCE)
         if answer.status != program.DONE:
             return _nothing_found(answer, names, case, folder)
-        if not chosen.once and search.best.gap > 0:
+        if not chosen.once and search.best.gap > SMALL_GAP:
             search.lower_gap()
         return _keep(search.best, names, case, read, folder)
 
@@ -128,11 +131,13 @@ def _keep(plan: Plan, names: dict, case: CaseBytes, read: CaseRead, folder: Fold
     if folder.check(tried, plan.certificate).status != program.DONE:
         raise Stop("`check` doesn't accept what `structure` wrote; nothing is kept")
     as_it_stands = folder.check(case, plan.certificate)
+    report = beside(names[CERT], REPORT)
     write_file(names[CERT], plan.certificate)
+    write_file(report, plan.said)
     put_out(plan.said)
     summary = plan.report.summary
-    tell("the plan costs %s, and no rival costs less by more than %s; %s is written" % (
-        money_for_people(summary.cost), money_for_people(plan.gap), names[CERT]))
+    tell("the plan costs %s, and no rival costs less by more than %s; %s and %s are written" % (
+        money_for_people(summary.cost), money_for_people(plan.gap), names[CERT], report))
     allowed = read.issue.amounts.get("allowance") if read.issue else None
     if as_it_stands.status == program.DONE:
         tell("`check` says yes to it with %s as it stands; enough is the row: %s" % (names[ISSUE], row))

@@ -8,6 +8,9 @@ from pathlib import Path
 from .program import CaseBytes
 from .speaking import Stop
 
+# Beside certificate.txt stands certificate.report.txt.
+REPORT = ".report.txt"
+
 
 def why_unreadable(path: str, fault: OSError) -> str:
     """Why a file can't be read, in words of its own."""
