@@ -5,13 +5,13 @@ from __future__ import annotations
 import re
 from datetime import date
 
-GREATEST_CENTS = 10 ** 13
-GREATEST_DOLLARS = 10 ** 9
-GREATEST_TERM = 10 ** 6
+GREATEST_CENTS = 10**13
+GREATEST_DOLLARS = 10**9
+GREATEST_TERM = 10**6
 GREATEST_RATE = 30_000
 GREATEST_YIELD = 2_999_000_000
-LEAST_PRICE = 10 * 10 ** 8
-MOST_PRICE = 300 * 10 ** 8
+LEAST_PRICE = 10 * 10**8
+MOST_PRICE = 300 * 10**8
 THIRTY_SECOND = 3_125_000
 EIGHTH_OF_IT = 390_625
 
@@ -39,7 +39,7 @@ def _decimal(text: str, whole_digits: int, decimals: int) -> int:
     match = re.fullmatch(pattern, text)
     if match is None:
         raise FieldFault(BAD_NUMBER)
-    return int(match.group(1)) * 10 ** decimals + int((match.group(2) or "").ljust(decimals, "0"))
+    return int(match.group(1)) * 10**decimals + int((match.group(2) or "").ljust(decimals, "0"))
 
 
 def _at_most(value: int, greatest: int) -> int:
@@ -86,7 +86,7 @@ def read_price(text: str) -> int:
         price = _decimal(text, 3, 8)
     else:
         eighths = 4 if match.group(3) == "+" else int(match.group(3) or 0)
-        price = int(match.group(1)) * 10 ** 8 + int(match.group(2)) * THIRTY_SECOND + eighths * EIGHTH_OF_IT
+        price = int(match.group(1)) * 10**8 + int(match.group(2)) * THIRTY_SECOND + eighths * EIGHTH_OF_IT
     if not LEAST_PRICE <= price <= MOST_PRICE:
         raise FieldFault(PRICE_RANGE)
     return price
@@ -138,7 +138,7 @@ def short_rate(thousandths: int) -> str:
 
 def yield_text(units: int) -> str:
     """A yield in units of 10^-8 percent as the program says it: 4.12000000."""
-    return "%d.%08d" % divmod(units, 10 ** 8)
+    return "%d.%08d" % divmod(units, 10**8)
 
 
 def price_text(units: int) -> str:

@@ -26,7 +26,7 @@ Where the search says that there is none, its answer and its exit status are `st
 # How many searches are made at most to bring the gap down.
 MOST_SEARCHES = 12
 # A gap of so many cents is left as it is.
-SMALL_GAP = 100
+SMALL_GAP = 1000
 
 
 @dataclass(frozen=True)
@@ -63,11 +63,15 @@ class Search:
 
     def lower_gap(self) -> None:
         """Searches with less allowance than the gap, as long as that brings it down."""
-        answer = self.allow("0.00")
-        if answer.status == program.BUDGET_SPENT:
-            self._allow_what_is_open(answer)
-        elif answer.status == program.UNBUILT:
-            self._halve()
+        refused = 0
+        while self.searches < MOST_SEARCHES and self.best.gap > max(SMALL_GAP, refused * 21 // 20):
+            asked = max(self.best.gap // 8, SMALL_GAP) if refused == 0 else (self.best.gap + refused) // 2
+            answer = self.allow(money(asked))
+            if answer.status == program.BUDGET_SPENT:
+                self._allow_what_is_open(answer)
+                return
+            if answer.status != program.DONE:
+                refused = asked
 
     def _allow_what_is_open(self, answer: Answer) -> None:
         """A search that spent its budget says its bound and its best plan: what lies between is enough."""
@@ -77,18 +81,15 @@ class Search:
             if gap < self.best.gap:
                 self.allow(money(gap))
 
-    def _halve(self) -> None:
-        """A search that says no more than that it found nothing is asked again and again, for half of what is open."""
-        refused = 0
-        while self.searches < MOST_SEARCHES and self.best.gap > max(SMALL_GAP, refused * 21 // 20):
-            asked = self.best.gap // 8 if refused == 0 else (self.best.gap + refused) // 2
-            if self.allow(money(asked)).status != program.DONE:
-                refused = asked
-
 
 def words() -> Words:
     parser = Words("best", WHAT)
-    for name, what in (("ISSUE", "issue file"), ("RATES", "rate file"), ("PRICES", "price file"), ("CERT", "certificate to write")):
+    for name, what in (
+        ("ISSUE", "issue file"),
+        ("RATES", "rate file"),
+        ("PRICES", "price file"),
+        ("CERT", "certificate to write"),
+    ):
         parser.add_argument(name.lower(), metavar=name, help=what)
     parser.add_argument("--once", action="store_true", help="one search, and none to bring its gap down")
     return parser
@@ -136,8 +137,10 @@ def _keep(plan: Plan, names: dict, case: CaseBytes, read: CaseRead, folder: Fold
     write_file(report, plan.said)
     put_out(plan.said)
     summary = plan.report.summary
-    tell("the plan costs %s, and no rival costs less by more than %s; %s and %s are written" % (
-        money_for_people(summary.cost), money_for_people(plan.gap), names[CERT], report))
+    tell(
+        "the plan costs %s, and no rival costs less by more than %s; %s and %s are written"
+        % (money_for_people(summary.cost), money_for_people(plan.gap), names[CERT], report)
+    )
     allowed = read.issue.amounts.get("allowance") if read.issue else None
     if as_it_stands.status == program.DONE:
         tell("`check` says yes to it with %s as it stands; enough is the row: %s" % (names[ISSUE], row))

@@ -23,8 +23,14 @@ TERM_YEARS = 40
 class Refusal(Exception):
     """A file that isn't one, by the program's name for the fault, with the record and the field where it is."""
 
-    def __init__(self, file: str, name: str, record: Optional[Record] = None, place: Optional[int] = None,
-                 earlier: Optional[Record] = None):
+    def __init__(
+        self,
+        file: str,
+        name: str,
+        record: Optional[Record] = None,
+        place: Optional[int] = None,
+        earlier: Optional[Record] = None,
+    ):
         super().__init__(file, name)
         self.file = file
         self.name = name
@@ -172,7 +178,9 @@ class RowReader:
 
     def terms(self) -> Terms:
         self.width(3)
-        minimum, step = (self.read(place, lambda text: amounts.read_dollars(text, amounts.GREATEST_TERM)) for place in (1, 2))
+        minimum, step = (
+            self.read(place, lambda text: amounts.read_dollars(text, amounts.GREATEST_TERM)) for place in (1, 2)
+        )
         if minimum % step != 0:
             raise self.refuse("OutOfRange", 1)
         return Terms(minimum, step)
@@ -295,7 +303,9 @@ def read_issue_rows(data: bytes) -> Issue:
     if records[0].word != "settle":
         raise first.refuse("Missing", 0)
     issue = Issue(_read_settlement(first))
-    return _reading(issue, lambda: [_add_issue_row(RowReader(ISSUE, record), issue, records[0]) for record in records[1:]])
+    return _reading(
+        issue, lambda: [_add_issue_row(RowReader(ISSUE, record), issue, records[0]) for record in records[1:]]
+    )
 
 
 def complete(issue: Issue) -> None:
@@ -348,8 +358,13 @@ def _read_asked_rate(text: str) -> Optional[int]:
 
 def _read_offer(row: RowReader, terms: Terms) -> Offer:
     row.width(5)
-    return Offer(row.record, row.day(1), row.read(2, _read_asked_rate), row.day(3) if row.record.fields[3] else None,
-                 row.cap(4, terms))
+    return Offer(
+        row.record,
+        row.day(1),
+        row.read(2, _read_asked_rate),
+        row.day(3) if row.record.fields[3] else None,
+        row.cap(4, terms),
+    )
 
 
 def _add_rates_row(row: RowReader, rates: Rates, index: _RangeIndex, first: Record) -> None:
@@ -373,13 +388,20 @@ def _add_rates_row(row: RowReader, rates: Rates, index: _RangeIndex, first: Reco
 def read_rates(data: bytes) -> Rates:
     records, terms = _terms_first(RATES, data)
     rates, index = Rates(terms), _RangeIndex()
-    return _reading(rates, lambda: [_add_rates_row(RowReader(RATES, record), rates, index, records[0]) for record in records[1:]])
+    return _reading(
+        rates, lambda: [_add_rates_row(RowReader(RATES, record), rates, index, records[0]) for record in records[1:]]
+    )
 
 
 def _read_note(row: RowReader, terms: Terms, settlement: date) -> Note:
     row.width(5)
-    note = Note(row.record, row.day(1, years_after(settlement, TERM_YEARS)), row.read(2, amounts.read_rate),
-                row.read(3, amounts.read_price), row.cap(4, terms))
+    note = Note(
+        row.record,
+        row.day(1, years_after(settlement, TERM_YEARS)),
+        row.read(2, amounts.read_rate),
+        row.read(3, amounts.read_price),
+        row.cap(4, terms),
+    )
     if note.maturity <= settlement or index_from(settlement, note.maturity) == 0:
         raise row.refuse("Matured", 1)
     return note
@@ -397,7 +419,10 @@ def _add_prices_row(row: RowReader, prices: Prices, settlement: date, first: Rec
 def read_prices(data: bytes, settlement: date) -> Prices:
     records, terms = _terms_first(PRICES, data)
     prices = Prices(terms)
-    return _reading(prices, lambda: [_add_prices_row(RowReader(PRICES, record), prices, settlement, records[0]) for record in records[1:]])
+    return _reading(
+        prices,
+        lambda: [_add_prices_row(RowReader(PRICES, record), prices, settlement, records[0]) for record in records[1:]],
+    )
 
 
 def least_days(rate: int) -> int:

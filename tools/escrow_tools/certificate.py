@@ -29,7 +29,7 @@ def read_certificate(data: bytes) -> Optional[Certificate]:
         if lines[0] != "escrow-certificate 1" or words[1][0] != "portfolio":
             return None
         count = 0 if words[1][1] == "none" else int(words[1][1])
-        purchases = [Purchase(int(line), int(units)) for _, line, units in words[2:2 + count]]
+        purchases = [Purchase(int(line), int(units)) for _, line, units in words[2 : 2 + count]]
         gap, nodes = words[2 + count], words[3 + count]
         if gap[0] != "gap" or nodes[0] != "nodes":
             return None

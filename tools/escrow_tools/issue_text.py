@@ -30,7 +30,7 @@ def _is_amount(text: str) -> bool:
 
 def _with_line(data: bytes, line: int, text: bytes) -> bytes:
     mark = BYTE_ORDER_MARK if data.startswith(BYTE_ORDER_MARK) else b""
-    pieces = re.split(b"(\r\n|\n|\r)", data[len(mark):])
+    pieces = re.split(b"(\r\n|\n|\r)", data[len(mark) :])
     pieces[2 * line - 2] = text
     return mark + b"".join(pieces)
 

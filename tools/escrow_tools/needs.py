@@ -13,7 +13,7 @@ from .days import day_index, series_after, series_date_up_to
 
 HALF_YEAR = 200_000
 DAYS_360 = 36_000_000
-PRICE_UNITS = 10 ** 10
+PRICE_UNITS = 10**10
 
 
 @dataclass(frozen=True)

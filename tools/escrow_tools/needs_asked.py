@@ -39,15 +39,22 @@ def asked_needs(series: Series) -> dict[date, int]:
     with program.folder() as folder:
         answer = folder.structure(case)
     if answer.status != program.DONE:
-        reasons = {"NeedsTooLarge": "all its needs together come to more than 100,000,000,000.00",
-                   "TooManyDates": "it has %s, and 480 may be" % counted(len(needs_by_day(series.issue)), "need date")}
+        reasons = {
+            "NeedsTooLarge": "all its needs together come to more than 100,000,000,000.00",
+            "TooManyDates": "it has %s, and 480 may be" % counted(len(needs_by_day(series.issue)), "need date"),
+        }
         said = answer.lines[0] if answer.lines else "nothing"
-        raise Stop("%s: the program answers `%s`" % (series.name, said),
-                   reasons.get(said.rsplit(" ", 1)[-1], "its needs can't be had so"), status=answer.status)
+        raise Stop(
+            "%s: the program answers `%s`" % (series.name, said),
+            reasons.get(said.rsplit(" ", 1)[-1], "its needs can't be had so"),
+            status=answer.status,
+        )
     needs = {row.day: row.needs for row in read_report(answer.lines).balances if row.needs}
     own = needs_by_day(series.issue)
     for day in sorted(set(needs) | set(own)):
         if needs.get(day, 0) != own.get(day, 0):
-            raise Stop("%s: on %s the program needs %s, and what is worked out beside it is %s; nothing is made of it"
-                       % (series.name, day, money(needs.get(day, 0)), money(own.get(day, 0))))
+            raise Stop(
+                "%s: on %s the program needs %s, and what is worked out beside it is %s; nothing is made of it"
+                % (series.name, day, money(needs.get(day, 0)), money(own.get(day, 0)))
+            )
     return needs

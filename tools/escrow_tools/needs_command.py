@@ -21,12 +21,20 @@ part of a series and the part that isn't, are a file each. The figures are the p
 
 def words() -> Words:
     parser = Words("needs", WHAT)
-    parser.add_argument("issues", nargs="+", metavar="ISSUE", help="issue file: `settle`, `call`, `bond` and `need` rows are enough")
+    parser.add_argument(
+        "issues", nargs="+", metavar="ISSUE", help="issue file: `settle`, `call`, `bond` and `need` rows are enough"
+    )
     kinds = parser.add_mutually_exclusive_group()
-    kinds.add_argument("--by-bond", action="store_true",
-                       help="each payment of each bond instead, with principal, interest and premium apart, as CSV")
-    kinds.add_argument("--issue", action="store_true",
-                       help="one whole issue file of them all: `settle`, the needs, and the further rows of the files")
+    kinds.add_argument(
+        "--by-bond",
+        action="store_true",
+        help="each payment of each bond instead, with principal, interest and premium apart, as CSV",
+    )
+    kinds.add_argument(
+        "--issue",
+        action="store_true",
+        help="one whole issue file of them all: `settle`, the needs, and the further rows of the files",
+    )
     return parser
 
 
@@ -50,8 +58,11 @@ def _try_settlements(files: list[Series]) -> None:
     first = files[0]
     for series in files[1:]:
         if series.issue.settlement != first.issue.settlement:
-            raise Stop("%s settles on %s, and %s on %s" % (first.name, first.issue.settlement, series.name, series.issue.settlement),
-                       "write the same `settle` row in both")
+            raise Stop(
+                "%s settles on %s, and %s on %s"
+                % (first.name, first.issue.settlement, series.name, series.issue.settlement),
+                "write the same `settle` row in both",
+            )
 
 
 def _whole_issue(files: list[Series], needs: list[str]) -> list[str]:
@@ -63,8 +74,10 @@ def _whole_issue(files: list[Series], needs: list[str]) -> list[str]:
             if record.word in amounts_rows():
                 text = ",".join(record.fields)
                 if record.word in said and said[record.word] != series.name:
-                    raise Stop("%s and %s both have a `%s` row: leave it in one of them"
-                               % (said[record.word], series.name, record.word))
+                    raise Stop(
+                        "%s and %s both have a `%s` row: leave it in one of them"
+                        % (said[record.word], series.name, record.word)
+                    )
                 said[record.word] = series.name
                 rows.append(text)
     return rows
@@ -84,7 +97,11 @@ def _by_bond(files: list[Series]) -> str:
         for bond in issue.bonds:
             head = [series.name, bond.record.number, bond.maturity, amounts.rate_text(bond.coupon)]
             for paid in joined(bond_payments(bond, issue.settlement, issue.call)):
-                rows.writerow(head + [paid.day] + [money(part) for part in (paid.principal, paid.interest, paid.premium, paid.total)])
+                rows.writerow(
+                    head
+                    + [paid.day]
+                    + [money(part) for part in (paid.principal, paid.interest, paid.premium, paid.total)]
+                )
         for need in issue.needs:
             rows.writerow([series.name, need.record.number, "", "", need.day, "", "", "", money(need.cents)])
     return text.getvalue()
@@ -97,9 +114,15 @@ def _totals(files: list[Series], needs: dict[date, int]) -> list[str]:
         paid = [payment for bond in issue.bonds for payment in bond_payments(bond, issue.settlement, issue.call)]
         called = sum(is_called(bond, issue.call) for bond in issue.bonds)
         parts = [sum(getattr(payment, part) for payment in paid) for part in ("principal", "interest", "premium")]
-        lines.append("%s: %s%s; principal %s, interest %s, premium %s; %s" % (
-            series.name, counted(len(issue.bonds), "bond"),
-            ", %d called on %s" % (called, issue.call.day) if issue.call else "",
-            *(money_for_people(part) for part in parts), counted(len(issue.needs), "direct need")))
+        lines.append(
+            "%s: %s%s; principal %s, interest %s, premium %s; %s"
+            % (
+                series.name,
+                counted(len(issue.bonds), "bond"),
+                ", %d called on %s" % (called, issue.call.day) if issue.call else "",
+                *(money_for_people(part) for part in parts),
+                counted(len(issue.needs), "direct need"),
+            )
+        )
     lines.append("%s, %s together" % (counted(len(needs), "need date"), money_for_people(sum(needs.values()))))
     return lines

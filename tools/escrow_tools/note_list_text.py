@@ -21,11 +21,28 @@ HEADS = {
     "kind": ("security type", "type", "security", "instrument", "asset class"),
     "description": ("description", "security description", "name", "issue", "security name"),
 }
-PRICE_HEADS = ("ask", "asked", "ask price", "asked price", "offer", "offer price", "price", "clean price", "buy", "end of day", "close",
-               "last", "mid", "bid", "sell")
+PRICE_HEADS = (
+    "ask",
+    "asked",
+    "ask price",
+    "asked price",
+    "offer",
+    "offer price",
+    "price",
+    "clean price",
+    "buy",
+    "end of day",
+    "close",
+    "last",
+    "mid",
+    "bid",
+    "sell",
+)
 ASKED = ("ask", "asked", "ask price", "asked price", "offer", "offer price")
 NOT_NOTES = ("bill", "tips", "frn", "float", "strip", "inflation")
-DESCRIBED = re.compile(r"(?i)\b(?:T|UST|US TREASURY(?: N/B)?|TREASURY(?: NOTE| BOND)?)\s+(\d+(?:\.\d+)?(?:[ -]\d/\d+)?%?)\s+(\S+)\s*$")
+DESCRIBED = re.compile(
+    r"(?i)\b(?:T|UST|US TREASURY(?: N/B)?|TREASURY(?: NOTE| BOND)?)\s+(\d+(?:\.\d+)?(?:[ -]\d/\d+)?%?)\s+(\S+)\s*$"
+)
 
 
 @dataclass(frozen=True)
@@ -81,8 +98,10 @@ class Columns:
         if len(sold) == 1 or len(found) == 1:
             return (sold or found)[0]
         if found:
-            raise Stop("the list has several prices, %s: say by --price which of them you pay, that is, at which notes are sold to you"
-                       % ", ".join("`%s`" % self.heads[place] for place in found))
+            raise Stop(
+                "the list has several prices, %s: say by --price which of them you pay, that is, at which notes are sold to you"
+                % ", ".join("`%s`" % self.heads[place] for place in found)
+            )
         return None
 
     def cell(self, row: list[str], what: str) -> str:
@@ -115,8 +134,10 @@ def _quote_kind(texts: list[str], asked: Optional[str]) -> str:
         pass
     if all(re.fullmatch(r"\d{1,3}\.(0\d|[12]\d|3[01])[0-7+]?", text) for text in pointed) and pointed:
         example = pointed[0]
-        raise Stop("prices such as %s may be decimals, or a point before 32nds (%s): say which by --quote decimal or --quote 32nds"
-                   % (example, example.replace(".", "-", 1)))
+        raise Stop(
+            "prices such as %s may be decimals, or a point before 32nds (%s): say which by --quote decimal or --quote 32nds"
+            % (example, example.replace(".", "-", 1))
+        )
     return "decimal"
 
 
@@ -163,7 +184,7 @@ def read_note_list(data: bytes, price_column: Optional[str], quote: Optional[str
         raise Stop("the list is a spreadsheet file: save the sheet as CSV")
     rows = _rows(data)
     place, columns = _columns(rows, price_column)
-    body = [(line, row) for line, row in rows[place + 1:] if columns.cell(row, "price")]
+    body = [(line, row) for line, row in rows[place + 1 :] if columns.cell(row, "price")]
     kind = _quote_kind([columns.cell(row, "price") for _, row in body if not _is_other(columns, row)], quote)
     found = NoteList([], [], columns.heads[columns.price])
     for line, row in body:
@@ -178,10 +199,20 @@ def _listed(line: int, row: list[str], columns: Columns, kind: str) -> Listed:
     coupon, maturity = _described(columns, row)
     quoted = columns.cell(row, "price")
     try:
-        return Listed(line, _read(maturity, read_day, mend_date), _read(coupon, read_rate, mend_rate), _price(quoted, kind), quoted,
-                      columns.cell(row, "cusip"), columns.cell(row, "description"))
+        return Listed(
+            line,
+            _read(maturity, read_day, mend_date),
+            _read(coupon, read_rate, mend_rate),
+            _price(quoted, kind),
+            quoted,
+            columns.cell(row, "cusip"),
+            columns.cell(row, "description"),
+        )
     except FieldFault:
-        raise Stop("line %d of the list: maturity `%s`, coupon `%s`, price `%s` can't be read" % (line, maturity, coupon, quoted)) from None
+        raise Stop(
+            "line %d of the list: maturity `%s`, coupon `%s`, price `%s` can't be read"
+            % (line, maturity, coupon, quoted)
+        ) from None
 
 
 def note_row(note: Listed, cap: int) -> str:

@@ -36,14 +36,28 @@ accept. Each figure is the program's own, or is worked out and tried against it.
 
 def words() -> Words:
     parser = Words("page", WHAT)
-    for name, what in (("ISSUE", "issue file"), ("RATES", "rate file"), ("PRICES", "price file"), ("CERT", "certificate")):
+    for name, what in (
+        ("ISSUE", "issue file"),
+        ("RATES", "rate file"),
+        ("PRICES", "price file"),
+        ("CERT", "certificate"),
+    ):
         parser.add_argument(name.lower(), metavar=name, help=what)
     parser.add_argument("--title", default="Refunding escrow", help="what stands at the head: the issuer and the bonds")
-    parser.add_argument("--series", metavar="FILE", action="append", default=[],
-                        help="an issue file of a series of which ISSUE has the needs alone (by `needs --issue`); once for each")
+    parser.add_argument(
+        "--series",
+        metavar="FILE",
+        action="append",
+        default=[],
+        help="an issue file of a series of which ISSUE has the needs alone (by `needs --issue`); once for each",
+    )
     parser.add_argument("--report", metavar="FILE", help="the report to try, where it isn't kept beside CERT")
-    parser.add_argument("--table-day", metavar="DATE", help="the day of the rate table, where no RATES%s says it" % COMMENTS)
-    parser.add_argument("--csv", metavar="DIR", help="write each table into this folder as well, as CSV with a heading row")
+    parser.add_argument(
+        "--table-day", metavar="DATE", help="the day of the rate table, where no RATES%s says it" % COMMENTS
+    )
+    parser.add_argument(
+        "--csv", metavar="DIR", help="write each table into this folder as well, as CSV with a heading row"
+    )
     return parser
 
 
@@ -64,8 +78,11 @@ class Maker:
         answer = folder.check(self.files, self.certificate)
         if answer.status != program.DONE:
             said = answer.lines[0] if answer.lines else answer.complained.decode("ascii", "replace").strip()
-            raise Stop("`check` says `%s`; no page is made" % said,
-                       *explain_run(Run(["check"], answer.status, answer.lines, self.names, self.data())), status=answer.status)
+            raise Stop(
+                "`check` says `%s`; no page is made" % said,
+                *explain_run(Run(["check"], answer.status, answer.lines, self.names, self.data())),
+                status=answer.status,
+            )
         return answer
 
     def series(self) -> list[Series]:
@@ -89,8 +106,10 @@ class Maker:
         line = first_difference(text, report_text(report))
         if line is not None:
             wanted = (report_text(report).split("\n") + [""] * line)[line - 1]
-            raise Stop("%s isn't the report of these purchases: line %d is `%s`, and the program's is `%s`; nothing is made"
-                       % (kept, line, (text.split("\n") + [""] * line)[line - 1], wanted))
+            raise Stop(
+                "%s isn't the report of these purchases: line %d is `%s`, and the program's is `%s`; nothing is made"
+                % (kept, line, (text.split("\n") + [""] * line)[line - 1], wanted)
+            )
 
     def figures(self) -> Figures:
         case = read_whole_case(self.files.issue, self.files.rates, self.files.prices)
@@ -121,7 +140,10 @@ def cusips(prices: str, figures: Figures) -> dict:
     for row in rows[1:]:
         values = dict(zip(rows[0], row))
         note = next((one for one in figures.case.prices.notes if str(one.record.number) == values.get("row")), None)
-        if note is not None and (str(note.maturity), rate_text(note.coupon)) == (values.get("maturity"), values.get("coupon")):
+        if note is not None and (str(note.maturity), rate_text(note.coupon)) == (
+            values.get("maturity"),
+            values.get("coupon"),
+        ):
             said[note.record.number] = values.get("cusip", "")
     return said
 
@@ -149,15 +171,28 @@ def _files(maker: Maker) -> list[tuple]:
     rows.append(("program", path.name, _digest(path.read_bytes())))
     built_from = path.parent / "built_from"
     if built_from.is_file():
-        rows.append(("program's sources", "one digest of all files that are proved and built", built_from.read_text().split()[0]))
+        rows.append(
+            (
+                "program's sources",
+                "one digest of all files that are proved and built",
+                built_from.read_text().split()[0],
+            )
+        )
     return rows
 
 
 def verdict(summary: Optional[Summary]) -> tuple[str, str]:
     if summary is None:
-        return ("check says: yes none", "No permitted purchases meet the needs within the yield limit; the certificate proves it.")
-    return ("check says: yes", "The purchases below pay every need in time, cost %s, and keep to the yield limit of %s percent; no rival costs "
-            "less by more than %s." % (money_for_people(summary.cost), yield_text(summary.limit), money_for_people(summary.gap)))
+        return (
+            "check says: yes none",
+            "No permitted purchases meet the needs within the yield limit; the certificate proves it.",
+        )
+    return (
+        "check says: yes",
+        "The purchases below pay every need in time, cost %s, and keep to the yield limit of %s percent; no rival costs "
+        "less by more than %s."
+        % (money_for_people(summary.cost), yield_text(summary.limit), money_for_people(summary.gap)),
+    )
 
 
 def run(arguments: list[str]) -> int:
@@ -166,13 +201,25 @@ def run(arguments: list[str]) -> int:
     figures = maker.figures()
     tables = tables_of(figures, cusips(chosen.prices, figures))
     facts = summary_rows(figures) + [("Day of the rate table", table_day(chosen, figures))]
-    page = Page(chosen.title, *verdict(figures.summary), facts, _files(maker), tables, meaning(),
-                picture(figures.report.balances) if figures.report else "")
+    page = Page(
+        chosen.title,
+        *verdict(figures.summary),
+        facts,
+        _files(maker),
+        tables,
+        meaning(),
+        picture(figures.report.balances) if figures.report else "",
+    )
     if chosen.csv:
         _write_tables(chosen.csv, tables)
     put_out(page_html(page).encode())
-    tell("the page has %d tables; %s" % (len(tables), "they are in %s as well" % chosen.csv if chosen.csv else
-                                        "--csv DIR writes them for a spreadsheet"))
+    tell(
+        "the page has %d tables; %s"
+        % (
+            len(tables),
+            "they are in %s as well" % chosen.csv if chosen.csv else "--csv DIR writes them for a spreadsheet",
+        )
+    )
     return program.DONE
 
 

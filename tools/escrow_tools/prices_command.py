@@ -29,11 +29,21 @@ def words() -> Words:
     parser = Words("prices", WHAT)
     parser.add_argument("issue", metavar="ISSUE", help="issue file")
     parser.add_argument("list", metavar="LIST", help="the list of notes")
-    parser.add_argument("-o", "--output", metavar="PRICES", help="write this file, and beside it PRICES%s with the CUSIPs; else "
-                        "standard output" % COMMENTS)
-    parser.add_argument("--price", metavar="COLUMN", help="the column of the price that is paid, where there are several")
-    parser.add_argument("--quote", choices=("decimal", "32nds"), help="what 99.30 means: 99.30 percent, or 99 and 30/32")
-    parser.add_argument("--terms", metavar="MINIMUM,STEP", default="1000,1000", help="least purchase and step in dollars (1000,1000)")
+    parser.add_argument(
+        "-o",
+        "--output",
+        metavar="PRICES",
+        help="write this file, and beside it PRICES%s with the CUSIPs; else " "standard output" % COMMENTS,
+    )
+    parser.add_argument(
+        "--price", metavar="COLUMN", help="the column of the price that is paid, where there are several"
+    )
+    parser.add_argument(
+        "--quote", choices=("decimal", "32nds"), help="what 99.30 means: 99.30 percent, or 99 and 30/32"
+    )
+    parser.add_argument(
+        "--terms", metavar="MINIMUM,STEP", default="1000,1000", help="least purchase and step in dollars (1000,1000)"
+    )
     parser.add_argument("--rates", metavar="RATES", help="rate file, whose offers count to the limit of 256 lines")
     parser.add_argument("--lines", metavar="COUNT", type=int, help="at most so many notes")
     return parser
@@ -46,7 +56,9 @@ def _limit(chosen) -> int:
         try:
             offers = len(read_rates(data).offers)
         except Refusal as refusal:
-            raise Stop(*explain_refusal(refusal, {RATES: chosen.rates}, {RATES: data}), status=program.REFUSED) from None
+            raise Stop(
+                *explain_refusal(refusal, {RATES: chosen.rates}, {RATES: data}), status=program.REFUSED
+            ) from None
     return limit_beside(offers, chosen.lines)
 
 
@@ -65,8 +77,10 @@ def _usable(found: NoteList, settlement: date, last: date) -> list[Listed]:
 
 def _least_idle(notes: list[Listed], needs: list[date], limit: int) -> list[Listed]:
     """The notes whose principal waits least for a need, up to a limit, in order of maturity."""
+
     def waits(note: Listed) -> int:
         return (needs[bisect_left(needs, note.maturity)] - note.maturity).days
+
     kept = sorted(notes, key=lambda note: (waits(note), note.maturity))[:limit]
     return sorted(kept, key=lambda note: (note.maturity, note.coupon, note.line))
 
@@ -76,8 +90,19 @@ def _comments(notes: list[Listed], source: str) -> str:
     rows = csv.writer(text, lineterminator="\n")
     rows.writerow(["row", "maturity", "coupon", "price", "cusip", "quoted", "list", "line", "description"])
     for number, note in enumerate(notes, 2):
-        rows.writerow([number, note.maturity, rate_text(note.coupon), price_text(note.price), note.cusip, note.quoted, source, note.line,
-                       note.description])
+        rows.writerow(
+            [
+                number,
+                note.maturity,
+                rate_text(note.coupon),
+                price_text(note.price),
+                note.cusip,
+                note.quoted,
+                source,
+                note.line,
+                note.description,
+            ]
+        )
     return text.getvalue()
 
 
@@ -91,7 +116,9 @@ def run(arguments: list[str]) -> int:
     found = read_note_list(read_file(chosen.list), chosen.price, chosen.quote)
     usable = _usable(found, series.issue.settlement, max(needs))
     notes = _least_idle(usable, sorted(needs), _limit(chosen))
-    rows = ["terms,%d,%d" % (terms.minimum, terms.step)] + [note_row(note, cap_of(note.maturity, needs, terms)) for note in notes]
+    rows = ["terms,%d,%d" % (terms.minimum, terms.step)] + [
+        note_row(note, cap_of(note.maturity, needs, terms)) for note in notes
+    ]
     text = "".join(row + "\n" for row in rows) if notes else ""
     if chosen.output:
         write_file(chosen.output, text.encode())
@@ -108,13 +135,20 @@ def _said(chosen, found: NoteList, notes: list[Listed], left_out: int) -> list[s
         places = [line for line, reason in found.skipped if reason == why]
         lines.append("%s passed over, the first in line %d: %s" % (counted(len(places), "row"), places[0], why))
     if left_out:
-        lines.append("%s left out to keep to the limit of lines: those that wait longest for a need" % counted(left_out, "note"))
+        lines.append(
+            "%s left out to keep to the limit of lines: those that wait longest for a need" % counted(left_out, "note")
+        )
     twice = _twice(notes)
     if twice is not None:
-        lines.append("caution: line %d of the list has the maturity and the coupon of a note before it: is it the same note?" % twice.line)
+        lines.append(
+            "caution: line %d of the list has the maturity and the coupon of a note before it: is it the same note?"
+            % twice.line
+        )
     weekend = next((note for note in notes if is_weekend(note.maturity)), None)
     if weekend is not None:
-        lines.append("the note that matures on %s does so on a weekend: business days aren't looked at" % weekend.maturity)
+        lines.append(
+            "the note that matures on %s does so on a weekend: business days aren't looked at" % weekend.maturity
+        )
     if any(note.cusip for note in notes) and not chosen.output:
         lines.append("the CUSIPs aren't kept: -o FILE writes them beside FILE")
     return lines

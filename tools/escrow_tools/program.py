@@ -39,8 +39,9 @@ def program_path() -> str:
 
 
 def run(words: list[str], standard_error=subprocess.PIPE) -> Answer:
-    done = subprocess.run([program_path()] + words, stdin=subprocess.DEVNULL, stdout=subprocess.PIPE, stderr=standard_error,
-                          check=False)
+    done = subprocess.run(
+        [program_path()] + words, stdin=subprocess.DEVNULL, stdout=subprocess.PIPE, stderr=standard_error, check=False
+    )
     return Answer(done.returncode, done.stdout, done.stderr or b"")
 
 

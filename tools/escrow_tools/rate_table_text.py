@@ -13,8 +13,22 @@ from .explaining.mending import mend_date, mend_table_rate
 from .amounts import read_hundredths, short_rate
 from .speaking import Stop
 
-UNITS = {"d": "days", "day": "days", "m": "months", "mo": "months", "mos": "months", "mon": "months", "month": "months",
-         "y": "years", "yr": "years", "yrs": "years", "year": "years", "w": "weeks", "wk": "weeks", "week": "weeks"}
+UNITS = {
+    "d": "days",
+    "day": "days",
+    "m": "months",
+    "mo": "months",
+    "mos": "months",
+    "mon": "months",
+    "month": "months",
+    "y": "years",
+    "yr": "years",
+    "yrs": "years",
+    "year": "years",
+    "w": "weeks",
+    "wk": "weeks",
+    "week": "weeks",
+}
 PART = re.compile(r"(\d+)\s*[- ]?\s*([a-z]+)\.?")
 RANGE_WORDS = re.compile(r"\s+(?:to|through|thru|until)\s+|\s*[\u2013\u2014]\s*")
 
@@ -92,15 +106,26 @@ class _TableReader:
         self.unit: Optional[str] = None
 
     def heading(self, cells: list[str]) -> None:
-        units = [next((UNITS[word.rstrip("s")] for word in re.findall("[a-z]+", cell.lower()) if word.rstrip("s") in
-                       ("day", "month", "year")), None) for cell in cells]
+        units = [
+            next(
+                (
+                    UNITS[word.rstrip("s")]
+                    for word in re.findall("[a-z]+", cell.lower())
+                    if word.rstrip("s") in ("day", "month", "year")
+                ),
+                None,
+            )
+            for cell in cells
+        ]
         if any(units[:-1]):
             self.columns = units
             self.unit = next(unit for unit in units if unit)
 
     def dated(self, text: str) -> bool:
         """Whether a line says the table's day; it is kept."""
-        match = re.search(r"(?i)(?:date|day|effective|as of|rates for|published)\W*(?:on|for|of)?\W*([\w/., -]*\d[\w/., -]*)", text)
+        match = re.search(
+            r"(?i)(?:date|day|effective|as of|rates for|published)\W*(?:on|for|of)?\W*([\w/., -]*\d[\w/., -]*)", text
+        )
         mended = mend_date(re.sub(r"[,;\s]+$", "", match.group(1))) if match else None
         if mended is None or mended.text is None:
             return False
@@ -128,8 +153,10 @@ class _TableReader:
             self.rows.append(TableRow(line, lengths[0], lengths[1], _rate(cells[-1], line, text)))
         elif not self.dated(text):
             if self.rows and any(letter.isdigit() for letter in text):
-                raise Stop("line %d of the table: %s" % (line, text.strip()),
-                           "a line is a length and a rate: `3 months,3.95`, `1 year 6 months 4.02`, `1-06,4.02`, `90 days,3.90`")
+                raise Stop(
+                    "line %d of the table: %s" % (line, text.strip()),
+                    "a line is a length and a rate: `3 months,3.95`, `1 year 6 months 4.02`, `1-06,4.02`, `90 days,3.90`",
+                )
             self.heading(cells)
 
 
@@ -138,8 +165,9 @@ def _rate(cell: str, line: int, text: str) -> int:
         return read_hundredths(cell.rstrip("% "))
     except Exception:
         mended = mend_table_rate(cell)
-        raise Stop("line %d of the table: %s" % (line, text.strip()),
-                   "the rate `%s` isn't one: %s" % (cell, mended.why)) from None
+        raise Stop(
+            "line %d of the table: %s" % (line, text.strip()), "the rate `%s` isn't one: %s" % (cell, mended.why)
+        ) from None
 
 
 def read_table(data: bytes, unit: Optional[str]) -> PublishedTable:
@@ -174,8 +202,11 @@ class DatedTable:
             if before is not None and point.first <= before.last:
                 if (point.first, point.last, point.rate) == (before.first, before.last, before.rate):
                     continue
-                raise Stop("line %d of the table gives %s percent from %s on, and a line before %s percent up to %s: a day has one "
-                           "greatest rate" % (row.line, short_rate(point.rate), point.first, short_rate(before.rate), before.last))
+                raise Stop(
+                    "line %d of the table gives %s percent from %s on, and a line before %s percent up to %s: a day has one "
+                    "greatest rate"
+                    % (row.line, short_rate(point.rate), point.first, short_rate(before.rate), before.last)
+                )
             self.points.append(point)
         self.between = between
 
@@ -192,7 +223,11 @@ class DatedTable:
         for place, point in enumerate(self.points):
             if place and self.points[place - 1].last < days_after(point.first, -1):
                 before = self.points[place - 1]
-                pieces.append(DatedRate(days_after(before.last, 1), days_after(point.first, -1), self._rate_between(before, point)))
+                pieces.append(
+                    DatedRate(
+                        days_after(before.last, 1), days_after(point.first, -1), self._rate_between(before, point)
+                    )
+                )
             pieces.append(point)
         joined: list[DatedRate] = []
         for piece in pieces:

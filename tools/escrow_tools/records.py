@@ -96,6 +96,6 @@ def _quoted_records(text: str) -> list[Record]:
 def records_of(data: bytes) -> list[Record]:
     """All records of a file, as the program reads them: blank lines and a byte order mark are passed over."""
     if data.startswith(BYTE_ORDER_MARK):
-        data = data[len(BYTE_ORDER_MARK):]
+        data = data[len(BYTE_ORDER_MARK) :]
     text = data.decode("utf-8", "replace")
     return _quoted_records(text) if '"' in text else _plain_records(text)

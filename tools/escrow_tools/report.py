@@ -77,7 +77,7 @@ def _units(text: str, decimals: int) -> int:
     whole, point, rest = text.partition(".")
     if not (point and whole.isdigit() and rest.isdigit() and len(rest) == decimals):
         raise BadReport("%r isn't a number with %d decimals" % (text, decimals))
-    return int(whole) * 10 ** decimals + int(rest)
+    return int(whole) * 10**decimals + int(rest)
 
 
 def cents_of(text: str) -> int:
@@ -138,8 +138,8 @@ def read_report(lines: list[str]) -> Report:
     bought = [_read_bought(line.split(" ")) for line in lines[2:place]]
     if not lines[place].startswith("cash "):
         raise BadReport("`cash` doesn't follow the purchases")
-    summary = read_summary(lines[place + 1:place + 5])
+    summary = read_summary(lines[place + 1 : place + 5])
     report = Report(_day(lines[1].split(" ")[1]), cents_of(lines[place].split(" ")[1]), summary, bought)
-    for line in lines[place + 5:-1]:
+    for line in lines[place + 5 : -1]:
         _read_row(report, line.split(" "))
     return report

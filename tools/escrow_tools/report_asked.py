@@ -53,11 +53,22 @@ def forced_case(case: CaseRead, held: Holdings) -> Asked:
             offers.append(_offer_row(case.rates.offers[number - 1], dollars))
         else:
             notes.append(_note_row(case.prices.notes[number - 1 - len(case.rates.offers)], dollars))
-    issue = ["settle,%s" % case.issue.settlement, "restricted,29.99", "allowance," + GREATEST_ALLOWANCE, "cash," + money(held.cash)]
+    issue = [
+        "settle,%s" % case.issue.settlement,
+        "restricted,29.99",
+        "allowance," + GREATEST_ALLOWANCE,
+        "cash," + money(held.cash),
+    ]
     issue += ["need,%s,%s" % (day, money(cents)) for day, cents in sorted(held.receipts.items()) if cents]
     ranges = [",".join(one.record.fields) for one in case.rates.ranges]
-    return Asked(CaseBytes(("\n".join(issue) + "\n").encode(), _file(case.rates.terms, ranges, offers),
-                           _file(case.prices.terms, [], notes)), lines)
+    return Asked(
+        CaseBytes(
+            ("\n".join(issue) + "\n").encode(),
+            _file(case.rates.terms, ranges, offers),
+            _file(case.prices.terms, [], notes),
+        ),
+        lines,
+    )
 
 
 def _balances(case: CaseRead, receipts: dict) -> list[Balance]:
@@ -75,7 +86,11 @@ def asked_report(folder: Folder, case: CaseRead, certificate: Certificate, summa
     asked = forced_case(case, held)
     answer = folder.structure(asked.case)
     report = read_report(answer.lines) if answer.status == program.DONE else None
-    if report is None or {asked.lines[one.line - 1]: one.face for one in report.bought} != held.faces or report.cash != held.cash:
+    if (
+        report is None
+        or {asked.lines[one.line - 1]: one.face for one in report.bought} != held.faces
+        or report.cash != held.cash
+    ):
         raise Stop("the program doesn't report these purchases as they are worked out here; nothing is made of them")
     report.bought = [replace(one, line=asked.lines[one.line - 1]) for one in report.bought]
     report.paid = [replace(one, line=asked.lines[one.line - 1]) for one in report.paid]
@@ -83,10 +98,14 @@ def asked_report(folder: Folder, case: CaseRead, certificate: Certificate, summa
     for paid in report.paid:
         receipts[paid.day] = receipts.get(paid.day, 0) + paid.cents
     report.balances = _balances(case, receipts)
-    report.idle = [Idle(one.day, after.day, one.left) for one, after in zip(report.balances, report.balances[1:]) if one.left > 0]
+    report.idle = [
+        Idle(one.day, after.day, one.left) for one, after in zip(report.balances, report.balances[1:]) if one.left > 0
+    ]
     if (report.summary.cost, report.summary.yields) != (summary.cost, summary.yields):
-        raise Stop("the program's report and `check` differ on these purchases: %s and %s; nothing is made of them"
-                   % (money(report.summary.cost), money(summary.cost)))
+        raise Stop(
+            "the program's report and `check` differ on these purchases: %s and %s; nothing is made of them"
+            % (money(report.summary.cost), money(summary.cost))
+        )
     report.summary = summary
     return report
 
@@ -95,17 +114,27 @@ def report_text(report: Report) -> str:
     """A report as the program writes it, line by line."""
     idle = {one.day: one for one in report.idle}
     lines = ["escrow report", "settlement %s" % report.settlement]
-    lines += ["buy %d %s %s %s %s %s" % (one.line, one.kind, one.maturity, rate_text(one.rate), money(one.face), money(one.cost))
-              for one in report.bought]
+    lines += [
+        "buy %d %s %s %s %s %s"
+        % (one.line, one.kind, one.maturity, rate_text(one.rate), money(one.face), money(one.cost))
+        for one in report.bought
+    ]
     summary = report.summary
-    lines += ["cash " + money(report.cash), "cost " + money(summary.cost), "yield " + summary.yields, "limit " + yield_text(summary.limit),
-              "gap " + money(summary.gap)]
+    lines += [
+        "cash " + money(report.cash),
+        "cost " + money(summary.cost),
+        "yield " + summary.yields,
+        "limit " + yield_text(summary.limit),
+        "gap " + money(summary.gap),
+    ]
     lines += ["pay %d %s %s" % (one.line, one.day, money(one.cents)) for one in report.paid]
     for one in report.balances:
         lines.append("date %s %s %s %s" % (one.day, money(one.receipts), money(one.needs), money(one.left)))
         if one.day in idle:
             lines.append("idle %s %s %s" % (one.day, idle[one.day].until, money(one.left)))
-    lines += ["proof %s %s %s %s" % (one.day, money(one.cents), money(one.low), money(one.high)) for one in report.proved]
+    lines += [
+        "proof %s %s %s %s" % (one.day, money(one.cents), money(one.low), money(one.high)) for one in report.proved
+    ]
     return "\n".join(lines + ["end"]) + "\n"
 
 

@@ -13,7 +13,7 @@ from .yields import IndexedFlow
 
 YEAR_RATE = 100_000
 HALF_RATE = 200_000
-PRICE_UNITS = 10 ** 10
+PRICE_UNITS = 10**10
 
 
 @dataclass(frozen=True)

@@ -38,5 +38,10 @@ class Words(argparse.ArgumentParser):
     """The words of one of the tools; faulty ones end with status 2, as the program's own do."""
 
     def __init__(self, name: str, what: str, **further):
-        super().__init__(prog="./escrow " + name, description=what, allow_abbrev=False,
-                         formatter_class=argparse.RawDescriptionHelpFormatter, **further)
+        super().__init__(
+            prog="./escrow " + name,
+            description=what,
+            allow_abbrev=False,
+            formatter_class=argparse.RawDescriptionHelpFormatter,
+            **further,
+        )

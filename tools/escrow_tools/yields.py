@@ -6,8 +6,8 @@ from dataclasses import dataclass
 from functools import lru_cache
 from typing import Optional
 
-ONE = 2 ** 62
-TWO_HUNDRED_PERCENT = 2 * 10 ** 10
+ONE = 2**62
+TWO_HUNDRED_PERCENT = 2 * 10**10
 GREATEST_YIELD = 3_000_000_000
 HALF_YEAR = 180
 # What a yield may be above the restricted yield: one thousandth of a percentage point.
@@ -125,5 +125,12 @@ class Proof:
 def proof_of(flows: list[IndexedFlow], ends: Interval) -> list[Proof]:
     last = _last(flows)
     low, high = Powers(ends.low, last, False), Powers(ends.high, last, True)
-    return [Proof(flow.index, flow.cents, flow.cents * low.values[flow.index] >> 62,
-                  -(-flow.cents * high.values[flow.index] >> 62)) for flow in flows]
+    return [
+        Proof(
+            flow.index,
+            flow.cents,
+            flow.cents * low.values[flow.index] >> 62,
+            -(-flow.cents * high.values[flow.index] >> 62),
+        )
+        for flow in flows
+    ]

@@ -27,6 +27,7 @@ def case(issue=ISSUE, rates=RATES, prices="", certificate=CERTIFICATE) -> Callab
     def set_up(test) -> None:
         test.write_case(issue, rates, prices)
         test.write("certificate.txt", certificate)
+
     return set_up
 
 
@@ -34,6 +35,7 @@ def without(name: str) -> Callable:
     def set_up(test) -> None:
         case()(test)
         (test.folder / name).unlink()
+
     return set_up
 
 
@@ -41,6 +43,7 @@ def folder_at(name: str) -> Callable:
     def set_up(test) -> None:
         without(name)(test)
         (test.folder / name).mkdir()
+
     return set_up
 
 
@@ -56,6 +59,7 @@ HIGH_CERT = "escrow-certificate 1\nportfolio 1\nbuy 1 1000\ngap 0\nnodes 1\nl 1 
 COARSE = "settle,2025-01-15\nneed,2025-04-15,5050.00\nrestricted,4.00\n"
 COARSE_CERT = CERTIFICATE.replace("buy 1 50", "buy 1 51").replace("gap 0", "gap 5000")
 
+# fmt: off
 ANSWERED = (
     Answered("caps that are too small", case(rates=NOT_ENOUGH), STRUCTURE, "infeasible 2025-04-15",
              ("2,000.00 is short", "1 line matures", "caps", "certificate.txt is from an earlier run")),

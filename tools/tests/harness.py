@@ -28,7 +28,15 @@ class Ran:
 
 
 def _run(words, folder, **further) -> Ran:
-    done = subprocess.run(words, cwd=folder, stdin=subprocess.DEVNULL, stdout=subprocess.PIPE, stderr=subprocess.PIPE, check=False, **further)
+    done = subprocess.run(
+        words,
+        cwd=folder,
+        stdin=subprocess.DEVNULL,
+        stdout=subprocess.PIPE,
+        stderr=subprocess.PIPE,
+        check=False,
+        **further,
+    )
     return Ran(done.returncode, done.stdout, done.stderr.decode("utf-8", "replace"))
 
 

@@ -65,6 +65,7 @@ def _bytes(text: str) -> bytes:
     return text.encode()
 
 
+# fmt: off
 NEED = "need,2025-04-15,5000.00"
 BOND = "bond,2035-01-15,100000.00,4.000"
 SETTLE = "settle,2025-01-15"

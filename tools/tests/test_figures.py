@@ -21,22 +21,43 @@ from escrow_tools.securities import indexed
 from escrow_tools.yields import Interval, interval, proof_of
 
 DRAWS = 12
-SETTLEMENTS = (date(2026, 1, 15), date(2024, 2, 28), date(2024, 2, 29), date(2025, 12, 31), date(2027, 8, 30), date(2096, 11, 30))
+SETTLEMENTS = (
+    date(2026, 1, 15),
+    date(2024, 2, 28),
+    date(2024, 2, 29),
+    date(2025, 12, 31),
+    date(2027, 8, 30),
+    date(2096, 11, 30),
+)
 
 
 def drawn_day(draw: random.Random, settlement: date, least: int, years: int) -> date:
     """A day after settlement; many are months' ends."""
     day = settlement + timedelta(days=draw.randrange(least, 365 * years))
-    return day.replace(day=1) - timedelta(days=1) if draw.random() < 0.4 and day.replace(day=1) - settlement > timedelta(days=least) else day
+    return (
+        day.replace(day=1) - timedelta(days=1)
+        if draw.random() < 0.4 and day.replace(day=1) - settlement > timedelta(days=least)
+        else day
+    )
 
 
 def drawn_issue(draw: random.Random, settlement: date) -> str:
     rows = ["settle,%s" % settlement]
     if draw.random() < 0.7:
-        rows.append("call,%s,%s" % (drawn_day(draw, settlement, 40, 12), draw.choice(("100", "101", "102.375", "100-126"))))
+        rows.append(
+            "call,%s,%s" % (drawn_day(draw, settlement, 40, 12), draw.choice(("100", "101", "102.375", "100-126")))
+        )
     for _ in range(draw.randrange(1, 7)):
-        rows.append("bond,%s,%d.%02d,%d.%03d" % (drawn_day(draw, settlement, 1, 25), draw.randrange(1, 9_000_000), draw.randrange(100),
-                                                 draw.randrange(8), draw.randrange(1000)))
+        rows.append(
+            "bond,%s,%d.%02d,%d.%03d"
+            % (
+                drawn_day(draw, settlement, 1, 25),
+                draw.randrange(1, 9_000_000),
+                draw.randrange(100),
+                draw.randrange(8),
+                draw.randrange(1000),
+            )
+        )
     for _ in range(draw.randrange(3)):
         rows.append("need,%s,%d.5" % (drawn_day(draw, settlement, 0, 5), draw.randrange(1, 100_000)))
     return "\n".join(rows) + "\nrestricted,29.99\n"
@@ -46,18 +67,36 @@ def drawn_rates(draw: random.Random, settlement: date) -> str:
     rows = ["terms,1000,%d" % draw.choice((1, 100, 1000)), "rate,%s,2199-12-31,6.50" % settlement]
     for _ in range(draw.randrange(1, 9)):
         maturity = drawn_day(draw, settlement, 31, draw.choice((1, 2, 9, 38)))
-        rows.append("offer,%s,%s,,%d" % (maturity, draw.choice(("max", "0.00", "%d.%02d" % (draw.randrange(6), draw.randrange(100)))),
-                                         draw.randrange(5, 60_000) * 1000))
+        rows.append(
+            "offer,%s,%s,,%d"
+            % (
+                maturity,
+                draw.choice(("max", "0.00", "%d.%02d" % (draw.randrange(6), draw.randrange(100)))),
+                draw.randrange(5, 60_000) * 1000,
+            )
+        )
     return "\n".join(rows) + "\n"
 
 
 def drawn_prices(draw: random.Random, settlement: date) -> str:
     rows = ["terms,1000,%d" % draw.choice((100, 1000))]
     for _ in range(draw.randrange(1, 7)):
-        price = draw.choice(("%d-%02d%s" % (draw.randrange(90, 110), draw.randrange(32), draw.choice(("", "+", "3"))),
-                             "%d.%06d" % (draw.randrange(90, 110), draw.randrange(1_000_000))))
-        rows.append("note,%s,%d.%03d,%s,%d" % (drawn_day(draw, settlement, 3, 29), draw.randrange(7), draw.randrange(0, 1000, 125), price,
-                                               draw.randrange(5, 9_000) * 1000))
+        price = draw.choice(
+            (
+                "%d-%02d%s" % (draw.randrange(90, 110), draw.randrange(32), draw.choice(("", "+", "3"))),
+                "%d.%06d" % (draw.randrange(90, 110), draw.randrange(1_000_000)),
+            )
+        )
+        rows.append(
+            "note,%s,%d.%03d,%s,%d"
+            % (
+                drawn_day(draw, settlement, 3, 29),
+                draw.randrange(7),
+                draw.randrange(0, 1000, 125),
+                price,
+                draw.randrange(5, 9_000) * 1000,
+            )
+        )
     return "\n".join(rows) + "\n"
 
 
@@ -79,7 +118,9 @@ class FiguresTest(FolderTest):
         case = read_whole_case(issue.encode(), rates.encode(), prices.encode())
         self.assertIsNone(case.refusal, case.refusal)
         chosen = sorted(draw.sample(case.lines, draw.randrange(1, len(case.lines) + 1)), key=lambda line: line.number)
-        purchases = [Purchase(line.number, draw.choice((line.most // line.step, line.least // line.step))) for line in chosen]
+        purchases = [
+            Purchase(line.number, draw.choice((line.most // line.step, line.least // line.step))) for line in chosen
+        ]
         held = holdings_of(case, Certificate(purchases, 0, 1))
         asked = forced_case(case, held)
         lines = self.ask(asked.case)

@@ -23,7 +23,11 @@ def replaced(text: str, row: str, instead) -> str:
 class MistakesTest(FolderTest):
     def files_of(self, mistake: Mistake) -> dict:
         files = {"issue": mistakes.ISSUE, "rates": mistakes.RATES, "prices": mistakes.PRICES}
-        changed = mistake.whole if mistake.whole is not None else replaced(files[mistake.file], mistake.row, mistake.instead).encode()
+        changed = (
+            mistake.whole
+            if mistake.whole is not None
+            else replaced(files[mistake.file], mistake.row, mistake.instead).encode()
+        )
         return {file: changed if file == mistake.file else text.encode() for file, text in files.items()}
 
     def write_files(self, files: dict) -> list:
@@ -70,7 +74,9 @@ class MistakesTest(FolderTest):
                 self.clear()
                 answer.set_up(self)
                 explained = run_tool(self.folder, "explain", *answer.words)
-                self.assertRegex(explained.lines[0] if explained.lines else explained.err.splitlines()[0], answer.answer)
+                self.assertRegex(
+                    explained.lines[0] if explained.lines else explained.err.splitlines()[0], answer.answer
+                )
                 for told in answer.told:
                     self.assertIn(told, explained.err)
 

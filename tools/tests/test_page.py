@@ -22,7 +22,9 @@ class TableReader(HTMLParser):
         self.outside: list = []
 
     def handle_starttag(self, tag, attrs) -> None:
-        self.outside += [value for name, value in attrs if name in ("src", "href") or (value or "").startswith(("http:", "https:"))]
+        self.outside += [
+            value for name, value in attrs if name in ("src", "href") or (value or "").startswith(("http:", "https:"))
+        ]
         if tag in ("link", "script", "img", "iframe"):
             self.outside.append(tag)
         if tag in ("meta", "line", "rect", "path"):
@@ -100,8 +102,12 @@ class PageTest(FolderTest):
                 self.assertEqual(self.total(reader, "cash", "needed"), self.total(reader, "needs", "total"))
                 opening = self.total(reader, "cash", "opening cash")
                 if "receipts" in reader.tables:
-                    self.assertEqual(self.total(reader, "cash", "received"), self.total(reader, "receipts", "total") + opening)
-                    self.assertEqual(self.total(reader, "securities", "receipts"), self.total(reader, "receipts", "total"))
+                    self.assertEqual(
+                        self.total(reader, "cash", "received"), self.total(reader, "receipts", "total") + opening
+                    )
+                    self.assertEqual(
+                        self.total(reader, "securities", "receipts"), self.total(reader, "receipts", "total")
+                    )
                 self.try_csv(reader)
 
     def try_csv(self, reader: TableReader) -> None:
@@ -110,13 +116,19 @@ class PageTest(FolderTest):
             rows = list(csv.reader(path.open(newline="")))
             table = reader.tables[path.stem]
             self.assertEqual(rows[0], table["thead"][0])
-            self.assertEqual(rows[1:], [[cell if "," not in cell else cell.replace(",", "") for cell in row] for row in table["tbody"]])
+            shown = [[cell.replace(",", "") if cell[-3:-2] == "." else cell for cell in row] for row in table["tbody"]]
+            self.assertEqual(rows[1:], shown)
 
     def test_no_rival(self) -> None:
         """A case without purchases: `portfolio none`."""
-        words = self.write_case("settle,2025-01-15\nneed,2025-07-15,1000.00\nrestricted,3.00\n",
-                                "terms,1000,1000\nrate,2025-02-14,2026-01-15,4.00\noffer,2025-07-15,4.00,,1000\n", "")
-        text = NO_RIVAL.replace(b"l 0 0 0\n", b"s 1 0\nl 0 0 1000000000000\nl 0 1000000000000 0\n").replace(b"nodes 1", b"nodes 3")
+        words = self.write_case(
+            "settle,2025-01-15\nneed,2025-07-15,1000.00\nrestricted,3.00\n",
+            "terms,1000,1000\nrate,2025-02-14,2026-01-15,4.00\noffer,2025-07-15,4.00,,1000\n",
+            "",
+        )
+        text = NO_RIVAL.replace(b"l 0 0 0\n", b"s 1 0\nl 0 0 1000000000000\nl 0 1000000000000 0\n").replace(
+            b"nodes 1", b"nodes 3"
+        )
         self.write("certificate.txt", text)
         said = run_program(self.folder, "check", *words)
         self.assertEqual(said.lines, ["yes none"])
@@ -129,8 +141,13 @@ class PageTest(FolderTest):
         example = EXAMPLES / "refunding"
         self.write("certificate.txt", (example / "certificate.txt").read_bytes())
         report = (example / "report.txt").read_text()
-        for old, new in (("gap 0.86", "gap 0.85"), ("pay 1 2026-07-15 61623.88", "pay 1 2026-07-15 61623.89"), ("end\n", ""),
-                         ("date 2027-07-15 432500.24", "date 2027-07-15 432500.25"), ("12622474.87", "12622474.86")):
+        for old, new in (
+            ("gap 0.86", "gap 0.85"),
+            ("pay 1 2026-07-15 61623.88", "pay 1 2026-07-15 61623.89"),
+            ("end\n", ""),
+            ("date 2027-07-15 432500.24", "date 2027-07-15 432500.25"),
+            ("12622474.87", "12622474.86"),
+        ):
             self.write("certificate.report.txt", report.replace(old, new))
             ran = run_tool(self.folder, "page", *words)
             self.assertEqual((ran.status, ran.out), (124, b""), new)

@@ -3,11 +3,28 @@
 from __future__ import annotations
 
 import os
+import pty
+import subprocess
 import unittest
 
-from harness import EXAMPLES, FolderTest, run_program, run_script
+from harness import EXAMPLES, ROOT, FolderTest, run_program, run_script
 
-WITHOUT_PYTHON = ("bash", "cat", "cut", "dirname", "env", "find", "git", "grep", "readlink", "sed", "sha256sum", "sort", "tail", "xargs")
+WITHOUT_PYTHON = (
+    "bash",
+    "cat",
+    "cut",
+    "dirname",
+    "env",
+    "find",
+    "git",
+    "grep",
+    "readlink",
+    "sed",
+    "sha256sum",
+    "sort",
+    "tail",
+    "xargs",
+)
 
 
 def without_python(folder) -> dict:
@@ -15,7 +32,10 @@ def without_python(folder) -> dict:
     tools = folder / "bin"
     tools.mkdir()
     for name in WITHOUT_PYTHON:
-        found = next((path for path in os.environ["PATH"].split(os.pathsep) if os.access(os.path.join(path, name), os.X_OK)), None)
+        found = next(
+            (path for path in os.environ["PATH"].split(os.pathsep) if os.access(os.path.join(path, name), os.X_OK)),
+            None,
+        )
         if found is not None:
             os.symlink(os.path.join(found, name), tools / name)
     return {**os.environ, "PATH": str(tools)}
@@ -29,11 +49,15 @@ class ScriptTest(FolderTest):
         """The output and the exit status are the program's own, explained or not."""
         self.write_example("refunding")
         self.write("certificate.txt", (EXAMPLES / "refunding" / "certificate.txt").read_bytes())
-        cases = (["check", "issue.csv", "rates.csv", "prices.csv", "certificate.txt"],
-                 ["check", "rates.csv", "rates.csv", "prices.csv", "certificate.txt"],
-                 ["check", "issue.csv", "rates.csv", "prices.csv", "none.txt"],
-                 ["structure", "issue.csv", "rates.csv", "prices.csv", "other.txt"],
-                 ["structure", "issue.csv"], ["strukture"], [])
+        cases = (
+            ["check", "issue.csv", "rates.csv", "prices.csv", "certificate.txt"],
+            ["check", "rates.csv", "rates.csv", "prices.csv", "certificate.txt"],
+            ["check", "issue.csv", "rates.csv", "prices.csv", "none.txt"],
+            ["structure", "issue.csv", "rates.csv", "prices.csv", "other.txt"],
+            ["structure", "issue.csv"],
+            ["strukture"],
+            [],
+        )
         for words in cases:
             plain = run_program(self.folder, *words)
             for further in ([], ["--explain"], ["--no-explain"]):
@@ -48,6 +72,24 @@ class ScriptTest(FolderTest):
     def test_plain_standard_error(self) -> None:
         words = self.words("structure")
         self.assertEqual(run_script(self.folder, *words).err, "")
+
+    def test_terminal(self) -> None:
+        """Where standard error is a terminal, the answer is explained unasked."""
+        words = self.words("structure")
+        master, terminal = pty.openpty()
+        done = subprocess.run(
+            [str(ROOT / "escrow")] + words,
+            cwd=self.folder,
+            stdin=subprocess.DEVNULL,
+            stdout=subprocess.PIPE,
+            stderr=terminal,
+            check=False,
+        )
+        os.close(terminal)
+        told = os.read(master, 65536).decode()
+        os.close(master)
+        self.assertEqual((done.returncode, done.stdout), (0, (EXAMPLES / "refunding" / "report.txt").read_bytes()))
+        self.assertIn("no rival costs less by more than 0.86", told)
 
     def test_guard(self) -> None:
         words = self.words("structure")

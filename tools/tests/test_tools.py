@@ -9,7 +9,7 @@ import unittest
 from datetime import date
 
 from harness import EXAMPLES, FolderTest, run_program, run_tool
-from escrow_tools.case_files import read_issue_rows, read_prices, read_rates
+from escrow_tools.case_files import read_prices, read_rates
 from escrow_tools.offers_command import spread
 from escrow_tools.rate_table_text import DatedTable, Length, read_length, read_table
 
@@ -52,7 +52,7 @@ class TermSheetTest(FolderTest):
                 self.assertEqual(run_program(self.folder, "check", *further).lines[0], "yes")
                 continue
             output = further[further.index(">") + 1] if ">" in further else None
-            ran = run_tool(self.folder, name, *(further[:further.index(">")] if output else further))
+            ran = run_tool(self.folder, name, *(further[: further.index(">")] if output else further))
             self.assertEqual(ran.status, 0, ran.err)
             if output:
                 self.write(output, ran.out)
@@ -71,19 +71,27 @@ class TermSheetTest(FolderTest):
 class NeedsTest(FolderTest):
     def test_two_files(self) -> None:
         self.write("a.csv", "settle,2025-01-15\ncall,2026-01-15,101\nbond,2030-01-15,100000.00,4.000\n")
-        self.write("b.csv", "settle,2025-01-15\nbond,2026-07-15,50000.00,3.000\nneed,2025-07-15,10.00\nrestricted,4.00\n")
+        self.write(
+            "b.csv", "settle,2025-01-15\nbond,2026-07-15,50000.00,3.000\nneed,2025-07-15,10.00\nrestricted,4.00\n"
+        )
         ran = run_tool(self.folder, "needs", "a.csv", "b.csv")
-        self.assertEqual(ran.lines, ["need,2025-07-15,2760.00", "need,2026-01-15,103750.00", "need,2026-07-15,50750.00"])
+        self.assertEqual(
+            ran.lines, ["need,2025-07-15,2760.00", "need,2026-01-15,103750.00", "need,2026-07-15,50750.00"]
+        )
         whole = run_tool(self.folder, "needs", "--issue", "a.csv", "b.csv")
         self.assertEqual(whole.lines, ["settle,2025-01-15"] + ran.lines + ["restricted,4.00"])
 
     def test_by_bond(self) -> None:
-        self.write("a.csv", "settle,2025-01-15\ncall,2026-03-31,101\nbond,2027-06-30,100000.00,4.125\nneed,2025-06-30,500.00\n")
+        self.write(
+            "a.csv", "settle,2025-01-15\ncall,2026-03-31,101\nbond,2027-06-30,100000.00,4.125\nneed,2025-06-30,500.00\n"
+        )
         ran = run_tool(self.folder, "needs", "--by-bond", "a.csv")
         rows = list(csv.DictReader(io.StringIO(ran.out.decode())))
         called = next(row for row in rows if row["date"] == "2026-03-31")
-        self.assertEqual([called[name] for name in ("principal", "interest", "premium", "total")],
-                         ["100000.00", "1031.25", "1000.00", "102031.25"])
+        self.assertEqual(
+            [called[name] for name in ("principal", "interest", "premium", "total")],
+            ["100000.00", "1031.25", "1000.00", "102031.25"],
+        )
 
     def test_what_is_refused(self) -> None:
         self.write("a.csv", "settle,2025-01-15\nbond,2026-07-15,50000.00,3.000\n")
@@ -107,38 +115,86 @@ class OffersTest(FolderTest):
         return ran.lines
 
     def test_conventions(self) -> None:
-        self.assertEqual(self.rates()[1:5], ["rate,2026-02-15,2026-04-14,3.60", "rate,2026-04-15,2026-04-15,3.70",
-                                             "rate,2026-04-16,2028-01-14,3.50", "rate,2028-01-15,2028-01-15,3.80"])
-        self.assertEqual(self.rates("--between", "shorter")[1:4], ["rate,2026-02-15,2026-04-14,3.60", "rate,2026-04-15,2027-01-14,3.70",
-                                                                  "rate,2027-01-15,2028-01-14,3.50"])
-        self.assertEqual(self.rates("--between", "longer")[1:4], ["rate,2026-02-15,2026-02-15,3.60", "rate,2026-02-16,2026-04-15,3.70",
-                                                                 "rate,2026-04-16,2027-01-15,3.50"])
+        self.assertEqual(
+            self.rates()[1:5],
+            [
+                "rate,2026-02-15,2026-04-14,3.60",
+                "rate,2026-04-15,2026-04-15,3.70",
+                "rate,2026-04-16,2028-01-14,3.50",
+                "rate,2028-01-15,2028-01-15,3.80",
+            ],
+        )
+        self.assertEqual(
+            self.rates("--between", "shorter")[1:4],
+            ["rate,2026-02-15,2026-04-14,3.60", "rate,2026-04-15,2027-01-14,3.70", "rate,2027-01-15,2028-01-14,3.50"],
+        )
+        self.assertEqual(
+            self.rates("--between", "longer")[1:4],
+            ["rate,2026-02-15,2026-02-15,3.60", "rate,2026-02-16,2026-04-15,3.70", "rate,2026-04-16,2027-01-15,3.50"],
+        )
 
     def test_offers(self) -> None:
-        self.assertEqual(self.rates()[5:], ["offer,2026-07-15,max,,350001", "offer,2026-07-15,0.00,,350001", "offer,2027-07-15,max,,250001",
-                                            "offer,2027-07-15,0.00,,250001"])
-        self.assertEqual(self.rates("--no-zero", "--rates", "2.00", "--dates", "2026-10-15", "--terms", "1000,100")[5:], [
-            "offer,2026-07-15,max,,350100", "offer,2026-07-15,2.00,,350100", "offer,2026-10-15,max,,250100", "offer,2027-07-15,max,,250100",
-            "offer,2027-07-15,2.00,,250100"])
+        self.assertEqual(
+            self.rates()[5:],
+            [
+                "offer,2026-07-15,max,,350001",
+                "offer,2026-07-15,0.00,,350001",
+                "offer,2027-07-15,max,,250001",
+                "offer,2027-07-15,0.00,,250001",
+            ],
+        )
+        self.assertEqual(
+            self.rates("--no-zero", "--rates", "2.00", "--dates", "2026-10-15", "--terms", "1000,100")[5:],
+            [
+                "offer,2026-07-15,max,,350100",
+                "offer,2026-07-15,2.00,,350100",
+                "offer,2026-10-15,max,,250100",
+                "offer,2027-07-15,max,,250100",
+                "offer,2027-07-15,2.00,,250100",
+            ],
+        )
 
     def test_comments(self) -> None:
         self.rates("-o", "rates.csv")
         comments = dict(csv.reader(io.StringIO((self.folder / "rates.comments.csv").read_text())))
-        self.assertEqual((comments["table day"], comments["between lengths"], comments["settlement"]), ("2026-01-13", "lower", "2026-01-15"))
+        self.assertEqual(
+            (comments["table day"], comments["between lengths"], comments["settlement"]),
+            ("2026-01-13", "lower", "2026-01-15"),
+        )
 
     def test_lengths(self) -> None:
-        for text, length in (("90 days", Length(0, 90)), ("3 months", Length(3, 0)), ("1-06", Length(18, 0)), ("1y6m", Length(18, 0)),
-                             ("1 year 6 months", Length(18, 0)), ("2 yrs", Length(24, 0)), ("1 yr. 3 mos.", Length(15, 0)), ("soon", None)):
+        for text, length in (
+            ("90 days", Length(0, 90)),
+            ("3 months", Length(3, 0)),
+            ("1-06", Length(18, 0)),
+            ("1y6m", Length(18, 0)),
+            ("1 year 6 months", Length(18, 0)),
+            ("2 yrs", Length(24, 0)),
+            ("1 yr. 3 mos.", Length(15, 0)),
+            ("soon", None),
+        ):
             self.assertEqual(read_length(text), length, text)
-        for text in ("days,rate\n90,3.5\n", "90 days 3.5%\n", "90 days;3.50\n", "years,months,rate\n0,3,3.50\n", "months,rate\n3,3.5\n",
-                     "Term\tRate\n3 mo\t3.50\n", "30 days to 89 days,3.4\n3 months,3.5\n"):
+        for text in (
+            "days,rate\n90,3.5\n",
+            "90 days 3.5%\n",
+            "90 days;3.50\n",
+            "years,months,rate\n0,3,3.50\n",
+            "months,rate\n3,3.5\n",
+            "Term\tRate\n3 mo\t3.50\n",
+            "30 days to 89 days,3.4\n3 months,3.5\n",
+        ):
             table = DatedTable(read_table(text.encode(), None), date(2026, 1, 15), "lower")
             self.assertEqual(table.ranges()[-1].last, date(2026, 4, 15), text)
 
     def test_no_table(self) -> None:
         self.write("issue.csv", ISSUE)
-        for text, told in (("", "no line with a length"), ("3 months,high\n", "isn't one"), ("3 months,3.5\n90 days,3.6\nsix months 4\n", "line 3"),
-                           ("3 months,3.5\n3 months,3.6\n", "one greatest rate"), ("3 months,3.505\n", "two decimals")):
+        for text, told in (
+            ("", "no line with a length"),
+            ("3 months,high\n", "isn't one"),
+            ("3 months,3.5\n90 days,3.6\nsix months 4\n", "line 3"),
+            ("3 months,3.5\n3 months,3.6\n", "one greatest rate"),
+            ("3 months,3.505\n", "two decimals"),
+        ):
             self.write("table.csv", text)
             ran = run_tool(self.folder, "offers", "issue.csv", "table.csv")
             self.assertEqual((ran.status, ran.out), (124, b""), text)
@@ -147,7 +203,9 @@ class OffersTest(FolderTest):
     def test_near_the_limits(self) -> None:
         """480 need dates: 256 lines, the last and the first need date with an offer, and a case that the program takes."""
         days = [date(2026 + month // 12, month % 12 + 1, 15) for month in range(1, 481)]
-        self.write("issue.csv", "settle,2026-01-15\nrestricted,4.00\n" + "".join("need,%s,1000.00\n" % day for day in days))
+        self.write(
+            "issue.csv", "settle,2026-01-15\nrestricted,4.00\n" + "".join("need,%s,1000.00\n" % day for day in days)
+        )
         self.write("table.csv", TABLE + "40 years,4.50\n")
         self.write("prices.csv", b"")
         ran = run_tool(self.folder, "offers", "issue.csv", "table.csv", "-o", "rates.csv")
@@ -171,27 +229,40 @@ class PricesTest(FolderTest):
         self.write("notes.csv", NOTES)
         ran = run_tool(self.folder, "prices", "issue.csv", "notes.csv", "-o", "prices.csv")
         self.assertEqual(ran.status, 0, ran.err)
-        self.assertEqual((self.folder / "prices.csv").read_text(),
-                         "terms,1000,1000\nnote,2026-07-15,4.125,100-02+,351000\nnote,2027-06-30,3.500,99.53125,251000\n")
+        self.assertEqual(
+            (self.folder / "prices.csv").read_text(),
+            "terms,1000,1000\nnote,2026-07-15,4.125,100-02+,351000\nnote,2027-06-30,3.500,99.53125,251000\n",
+        )
         comments = list(csv.DictReader(io.StringIO((self.folder / "prices.comments.csv").read_text())))
         self.assertEqual([row["cusip"] for row in comments], ["91282CAA1", "91282CBB2"])
 
     def test_forms(self) -> None:
         self.write("issue.csv", ISSUE)
-        for text, words in (("maturity,coupon,price\n2027-06-30,3.5,99-17\n", ()), ("Maturity;Coupon;Ask\n06/30/2027;3 1/2;99.53125\n", ()),
-                            ("security description\task price\nT 3 1/2 06/30/27\t99-17\n", ()),
-                            ("maturity,coupon,ask\n2027-06-30,3.5,99.17\n", ("--quote", "32nds")),
-                            ("maturity,coupon,buy,sell\n2027-06-30,3.5,99-17,99-16\n", ("--price", "buy"))):
+        for text, words in (
+            ("maturity,coupon,price\n2027-06-30,3.5,99-17\n", ()),
+            ("Maturity;Coupon;Ask\n06/30/2027;3 1/2;99.53125\n", ()),
+            ("security description\task price\nT 3 1/2 06/30/27\t99-17\n", ()),
+            ("maturity,coupon,ask\n2027-06-30,3.5,99.17\n", ("--quote", "32nds")),
+            ("maturity,coupon,buy,sell\n2027-06-30,3.5,99-17,99-16\n", ("--price", "buy")),
+        ):
             self.write("notes.csv", text)
             ran = run_tool(self.folder, "prices", "issue.csv", "notes.csv", *words)
             self.assertEqual(ran.status, 0, ran.err)
             notes = read_prices(ran.out, date(2026, 1, 15)).notes
-            self.assertEqual([(note.maturity, note.coupon, note.price) for note in notes], [(date(2027, 6, 30), 3500, 9_953_125_000)], text)
+            self.assertEqual(
+                [(note.maturity, note.coupon, note.price) for note in notes],
+                [(date(2027, 6, 30), 3500, 9_953_125_000)],
+                text,
+            )
 
     def test_no_list(self) -> None:
         self.write("issue.csv", ISSUE)
-        for text, told in (("", "no heading row"), ("maturity,coupon,buy,sell\n2027-06-30,3.5,99-17,99-16\n", "--price"),
-                           ("maturity,coupon,ask\n2027-06-30,3.5,99.17\n", "--quote"), ("maturity,coupon,ask\nsoon,3.5,99-17\n", "line 2")):
+        for text, told in (
+            ("", "no heading row"),
+            ("maturity,coupon,buy,sell\n2027-06-30,3.5,99-17,99-16\n", "--price"),
+            ("maturity,coupon,ask\n2027-06-30,3.5,99.17\n", "--quote"),
+            ("maturity,coupon,ask\nsoon,3.5,99-17\n", "line 2"),
+        ):
             self.write("notes.csv", text)
             ran = run_tool(self.folder, "prices", "issue.csv", "notes.csv")
             self.assertEqual((ran.status, ran.out), (124, b""), text)
@@ -201,8 +272,11 @@ class PricesTest(FolderTest):
 class BestTest(FolderTest):
     def test_allowance_row(self) -> None:
         """The row that is said is enough, and a cent less isn't."""
-        words = self.write_case("settle,2025-01-15\nneed,2025-04-15,5050.00\nrestricted,4.00\n",
-                                "terms,1000,100\noffer,2025-04-15,0.00,,10000\n", "")
+        words = self.write_case(
+            "settle,2025-01-15\nneed,2025-04-15,5050.00\nrestricted,4.00\n",
+            "terms,1000,100\noffer,2025-04-15,0.00,,10000\n",
+            "",
+        )
         ran = run_tool(self.folder, "best", *words)
         self.assertEqual(ran.status, 0, ran.err)
         self.assertIn("add to issue.csv the row: allowance,50.00", ran.err)
@@ -227,8 +301,11 @@ class BestTest(FolderTest):
 
     def test_faulty_allowance(self) -> None:
         """A faulty allowance row isn't hidden by the one that stands in its place."""
-        words = self.write_case("settle,2025-01-15\nallowance,$5\nneed,2025-04-15,5000.00\nrestricted,4.00\n",
-                                "terms,1000,100\noffer,2025-04-15,0.00,,10000\n", "")
+        words = self.write_case(
+            "settle,2025-01-15\nallowance,$5\nneed,2025-04-15,5000.00\nrestricted,4.00\n",
+            "terms,1000,100\noffer,2025-04-15,0.00,,10000\n",
+            "",
+        )
         self.assertEqual(run_tool(self.folder, "best", *words).lines, ["refused issue row 2 BadNumber"])
 
 

@@ -5,8 +5,22 @@ from __future__ import annotations
 from dataclasses import dataclass, field
 from typing import Optional
 
-from ..case_files import (GREATEST_LINES, GREATEST_NEED_DATES, ISSUE, PRICES, RATES, Issue, Prices, Rates, Refusal, Terms, complete,
-                          read_issue_rows, read_prices, read_rates)
+from ..case_files import (
+    GREATEST_LINES,
+    GREATEST_NEED_DATES,
+    ISSUE,
+    PRICES,
+    RATES,
+    Issue,
+    Prices,
+    Rates,
+    Refusal,
+    Terms,
+    complete,
+    read_issue_rows,
+    read_prices,
+    read_rates,
+)
 from ..amounts import GREATEST_CENTS, GREATEST_YIELD
 from ..needs import needs_by_day
 from ..securities import Line, indexed, lines_of

@@ -29,7 +29,14 @@ class Cautions:
 
     def all(self) -> list[str]:
         found = []
-        for finder in (self.fractions, self.cent_prices, self.twice, self.weekends, self.far_settlement, self.unused_call):
+        for finder in (
+            self.fractions,
+            self.cent_prices,
+            self.twice,
+            self.weekends,
+            self.far_settlement,
+            self.unused_call,
+        ):
             found += list(finder())
         if len(found) > MOST_SHOWN:
             found[MOST_SHOWN:] = ["caution: %s more" % counted(len(found) - MOST_SHOWN, "such row")]
@@ -39,15 +46,22 @@ class Cautions:
         """Percents below 0.3, as where 0.045 is written for 4.5 percent."""
         issue, rates, prices = self.case.issue, self.case.rates, self.case.prices
         given = issue.amounts.get("restricted") if issue else None
-        if given is not None and 0 < given.value < LEAST_PLAUSIBLE * 10 ** 5:
-            yield self.at(ISSUE, given.record, "a yield of less than 0.3 percent: it is in percent, 4.75 and not 0.0475")
+        if given is not None and 0 < given.value < LEAST_PLAUSIBLE * 10**5:
+            yield self.at(
+                ISSUE, given.record, "a yield of less than 0.3 percent: it is in percent, 4.75 and not 0.0475"
+            )
         rows = [(ISSUE, bond.record, bond.coupon, "coupon") for bond in (issue.bonds if issue else [])]
         rows += [(RATES, one.record, one.rate, "greatest rate") for one in (rates.ranges if rates else [])]
         rows += [(RATES, one.record, one.rate or 0, "rate") for one in (rates.offers if rates else [])]
         rows += [(PRICES, note.record, note.coupon, "coupon") for note in (prices.notes if prices else [])]
         for file, record, rate, what in rows:
             if 0 < rate < LEAST_PLAUSIBLE and not (file == PRICES and rate >= 125):
-                yield self.at(file, record, "a %s of %s percent: it is in percent; is %s meant?" % (what, rate_text(rate), rate_text(rate * 100)))
+                yield self.at(
+                    file,
+                    record,
+                    "a %s of %s percent: it is in percent; is %s meant?"
+                    % (what, rate_text(rate), rate_text(rate * 100)),
+                )
 
     def cent_prices(self) -> Iterator[str]:
         """Prices with a point and two digits up to 31, beside others in 32nds."""
@@ -57,22 +71,32 @@ class Cautions:
         for note in notes:
             whole, point, rest = note.record.fields[3].partition(".")
             if point and len(rest) == 2 and int(rest) <= 31:
-                yield self.at(PRICES, note.record, "a price of %s in decimals beside others in 32nds: is %s-%s meant?"
-                              % (note.record.fields[3], whole, rest))
+                yield self.at(
+                    PRICES,
+                    note.record,
+                    "a price of %s in decimals beside others in 32nds: is %s-%s meant?"
+                    % (note.record.fields[3], whole, rest),
+                )
 
     def twice(self) -> Iterator[str]:
         """Rows that stand twice."""
         issue, rates, prices = self.case.issue, self.case.rates, self.case.prices
-        lists = [(ISSUE, issue.bonds + issue.needs if issue else []), (RATES, rates.offers if rates else []),
-                 (PRICES, prices.notes if prices else [])]
+        lists = [
+            (ISSUE, issue.bonds + issue.needs if issue else []),
+            (RATES, rates.offers if rates else []),
+            (PRICES, prices.notes if prices else []),
+        ]
         for file, rows in lists:
             seen: dict = {}
             times = Counter(row.record.fields for row in rows)
             for row in rows:
                 fields = row.record.fields
                 if times[fields] > 1 and fields in seen:
-                    yield self.at(file, row.record, "the same row as line %d: both count, so that it is needed or offered twice"
-                                  % seen[fields])
+                    yield self.at(
+                        file,
+                        row.record,
+                        "the same row as line %d: both count, so that it is needed or offered twice" % seen[fields],
+                    )
                 seen.setdefault(fields, row.record.line)
 
     def weekends(self) -> Iterator[str]:
@@ -80,15 +104,25 @@ class Cautions:
         case = self.case
         if case.issue is not None and is_weekend(case.issue.settlement):
             yield "caution: %s, line 1: settlement on %s is a %s" % (
-                self.names.get(ISSUE, ISSUE), case.issue.settlement, weekday_name(case.issue.settlement))
+                self.names.get(ISSUE, ISSUE),
+                case.issue.settlement,
+                weekday_name(case.issue.settlement),
+            )
         rows = [(RATES, one) for one in (case.rates.offers if case.rates else [])]
         rows += [(PRICES, one) for one in (case.prices.notes if case.prices else [])]
         found = [(file, one) for file, one in rows if is_weekend(one.maturity)]
         if found:
             file, one = found[0]
-            yield self.at(file, one.record, "it matures on a %s%s; business days aren't looked at: what it pays may come later than the "
-                          "need of that day" % (weekday_name(one.maturity), ", and %s more do on a weekend" % (len(found) - 1)
-                                                if len(found) > 1 else ""))
+            yield self.at(
+                file,
+                one.record,
+                "it matures on a %s%s; business days aren't looked at: what it pays may come later than the "
+                "need of that day"
+                % (
+                    weekday_name(one.maturity),
+                    ", and %s more do on a weekend" % (len(found) - 1) if len(found) > 1 else "",
+                ),
+            )
 
     def far_settlement(self) -> Iterator[str]:
         """A settlement day that the rate table can't be of."""
@@ -97,16 +131,28 @@ class Cautions:
         first = min(self.case.rates.ranges, key=lambda one: one.first)
         days = (first.first - self.case.issue.settlement).days
         if days > FAR_DAYS:
-            yield self.at(RATES, first.record, "the first range begins %s after settlement on %s: is the settlement day right, and the "
-                          "table of that day?" % (counted(days, "day"), self.case.issue.settlement))
+            yield self.at(
+                RATES,
+                first.record,
+                "the first range begins %s after settlement on %s: is the settlement day right, and the "
+                "table of that day?" % (counted(days, "day"), self.case.issue.settlement),
+            )
         if days < -FAR_DAYS:
-            yield self.at(RATES, first.record, "the first range begins %s before settlement on %s: is this table of an earlier day?"
-                          % (counted(-days, "day"), self.case.issue.settlement))
+            yield self.at(
+                RATES,
+                first.record,
+                "the first range begins %s before settlement on %s: is this table of an earlier day?"
+                % (counted(-days, "day"), self.case.issue.settlement),
+            )
 
     def unused_call(self) -> Iterator[str]:
         """A call that calls nothing, or bonds that are paid in full before it."""
         issue = self.case.issue
-        if issue is not None and issue.call is not None and not any(bond.maturity > issue.call.day for bond in issue.bonds):
+        if (
+            issue is not None
+            and issue.call is not None
+            and not any(bond.maturity > issue.call.day for bond in issue.bonds)
+        ):
             yield self.at(ISSUE, issue.call.record, "no bond matures after the call, so that nothing is called")
 
 
@@ -116,6 +162,15 @@ def totals(case: CaseRead) -> list[str]:
         return []
     issue = case.issue
     principal = sum(bond.principal for bond in issue.bonds)
-    return ["read: settlement %s; %s of %s; %s, %s in all; %s, %s" % (
-        issue.settlement, counted(len(issue.bonds), "bond"), money_for_people(principal), counted(len(case.needs), "need date"),
-        money_for_people(sum(case.needs.values())), counted(len(case.rates.offers), "offer"), counted(len(case.prices.notes), "note"))]
+    return [
+        "read: settlement %s; %s of %s; %s, %s in all; %s, %s"
+        % (
+            issue.settlement,
+            counted(len(issue.bonds), "bond"),
+            money_for_people(principal),
+            counted(len(case.needs), "need date"),
+            money_for_people(sum(case.needs.values())),
+            counted(len(case.rates.offers), "offer"),
+            counted(len(case.prices.notes), "note"),
+        )
+    ]

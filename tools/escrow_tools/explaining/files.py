@@ -27,13 +27,16 @@ def _fault_of(path: str) -> str:
 def _like_it(path: str) -> str:
     """A file of nearly that name in the same folder."""
     import difflib
+
     folder = os.path.dirname(path) or "."
     try:
         names = [entry.name for entry in Path(folder).iterdir() if entry.is_file()]
     except OSError:
         return ""
     near = difflib.get_close_matches(os.path.basename(path), names, 1, 0.6)
-    return "; %s is there: is it meant?" % os.path.join(folder if os.path.dirname(path) else "", near[0]) if near else ""
+    return (
+        "; %s is there: is it meant?" % os.path.join(folder if os.path.dirname(path) else "", near[0]) if near else ""
+    )
 
 
 def _write_fault(path: str) -> list[str]:
@@ -42,10 +45,17 @@ def _write_fault(path: str) -> list[str]:
         return ["CERT, %s, is a folder: give the name of a file" % path]
     if not os.path.isdir(folder):
         return ["CERT, %s, can't be written: its folder %s isn't there" % (path, folder)]
-    if os.path.exists(path) and not os.access(path, os.W_OK) or not os.path.exists(path) and not os.access(folder, os.W_OK):
+    if (
+        os.path.exists(path)
+        and not os.access(path, os.W_OK)
+        or not os.path.exists(path)
+        and not os.access(folder, os.W_OK)
+    ):
         return ["CERT, %s, may not be written by you (permissions of the file or of its folder)" % path]
-    return ["CERT, %s, or standard output couldn't be written whole: is the disk full, or did the reader of a pipe end? "
-            "What stands in CERT may be a part" % path]
+    return [
+        "CERT, %s, or standard output couldn't be written whole: is the disk full, or did the reader of a pipe end? "
+        "What stands in CERT may be a part" % path
+    ]
 
 
 def explain_fault(status: int, names: dict, command: str) -> list[str]:

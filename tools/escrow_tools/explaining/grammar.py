@@ -7,8 +7,17 @@ from typing import Optional
 from ..amounts import counted
 from .explanation import shown
 
-FORMS = ("escrow-certificate 1", "portfolio COUNT", "buy LINE UNITS", "gap CENTS", "nodes COUNT", "s LINE UNITS", "p",
-         "l WHOLE WEIGHT PRICE ..", "end")
+FORMS = (
+    "escrow-certificate 1",
+    "portfolio COUNT",
+    "buy LINE UNITS",
+    "gap CENTS",
+    "nodes COUNT",
+    "s LINE UNITS",
+    "p",
+    "l WHOLE WEIGHT PRICE ..",
+    "end",
+)
 MEANINGS = {
     "Truncated": "the text ends before this line does: the last line, `end`, has a line end too",
     "Trailing": "something stands behind `end`: delete it, blank lines too",
@@ -36,17 +45,23 @@ def _advice(data: bytes, text: str, number: int, kind: str, dates: int) -> list[
     if data.startswith(b"\xef\xbb\xbf"):
         return ["the file begins with a byte order mark: save it as plain ASCII"]
     if b"\r" in data:
-        return ["the lines end as on Windows (CR LF): save the file with plain line ends (LF), or take the one that `structure` wrote"]
+        return [
+            "the lines end as on Windows (CR LF): save the file with plain line ends (LF), or take the one that `structure` wrote"
+        ]
     if data.startswith((b"escrow report", b"settle,", b"terms,")):
         return ["this is another file, not a certificate: the words are ISSUE RATES PRICES CERT"]
     words = text.split(" ")
     if words[0] == "l" and kind == "Count":
-        return ["behind `l`, WHOLE and WEIGHT stands a price for each need date: the issue has %s, and here are %s"
-                % (counted(dates, "need date"), counted(max(len(words) - 3, 0), "price"))]
+        return [
+            "behind `l`, WHOLE and WEIGHT stands a price for each need date: the issue has %s, and here are %s"
+            % (counted(dates, "need date"), counted(max(len(words) - 3, 0), "price"))
+        ]
     if text != text.strip() or "  " in text or "\t" in text:
         return ["words are parted by one blank, and none stands before or behind them"]
     if words[0] == "buy" and kind == "Number":
-        return ["`buy LINE UNITS`: units are whole steps of the `terms` row, or cents of line 0, and what isn't bought is left out"]
+        return [
+            "`buy LINE UNITS`: units are whole steps of the `terms` row, or cents of line 0, and what isn't bought is left out"
+        ]
     if words[0] == "gap" and kind == "Number":
         return ["a gap is in whole cents: 86, not 0.86"]
     if kind == "Truncated":

@@ -12,8 +12,16 @@ from .. import amounts
 from ..amounts import FieldFault
 
 MONTHS = ("jan", "feb", "mar", "apr", "may", "jun", "jul", "aug", "sep", "oct", "nov", "dec")
-MILLIONS = {"k": 1_000, "thousand": 1_000, "m": 1_000_000, "mm": 1_000_000, "mio": 1_000_000, "million": 1_000_000,
-            "bn": 10 ** 9, "billion": 10 ** 9}
+MILLIONS = {
+    "k": 1_000,
+    "thousand": 1_000,
+    "m": 1_000_000,
+    "mm": 1_000_000,
+    "mio": 1_000_000,
+    "million": 1_000_000,
+    "bn": 10**9,
+    "billion": 10**9,
+}
 VULGAR = {"½": "1/2", "¼": "1/4", "¾": "3/4", "⅛": "1/8", "⅜": "3/8", "⅝": "5/8", "⅞": "7/8"}
 SPREADSHEET_EPOCH = date(1899, 12, 30)
 
@@ -85,7 +93,10 @@ def mend_amount(text: str) -> Mended:
         return Mended(None, "the amount is missing")
     bare = re.sub(r"(?i)us\$|usd|[$€£]|dollars?", "", plain).strip()
     if _is_negative(bare):
-        return Mended(None, "an amount can't be negative: what comes in is no need; leave it out, or take it off the need of that day")
+        return Mended(
+            None,
+            "an amount can't be negative: what comes in is no need; leave it out, or take it off the need of that day",
+        )
     match = re.fullmatch(r"(?i)([0-9.,' ]+?)\s*(k|thousand|mm?|mio|million|bn|billion)", bare)
     scale = MILLIONS[match.group(2).lower()] if match else 1
     number = _number((match.group(1) if match else bare).lstrip("+").strip())
@@ -108,7 +119,9 @@ def mend_dollars(text: str) -> Mended:
         return Mended(None, "this is a whole number of dollars, from 1 to 1,000,000,000")
     whole = int(number * (MILLIONS[match.group(2).lower()] if match else 1))
     if whole == 0:
-        return Mended(None, "this is a whole number of dollars, and at least 1: a line of which nothing may be bought is left out")
+        return Mended(
+            None, "this is a whole number of dollars, and at least 1: a line of which nothing may be bought is left out"
+        )
     if whole > amounts.GREATEST_DOLLARS:
         return Mended(str(amounts.GREATEST_DOLLARS), "a line has at most 1,000,000,000 dollars")
     return Mended(str(whole), "this is a whole number of dollars: no point, comma, blank or currency")
@@ -153,7 +166,10 @@ def mend_table_rate(text: str) -> Mended:
     rounded = number.quantize(Decimal("0.01"), ROUND_FLOOR)
     if rounded == number:
         return Mended(str(rounded), mended.why.replace("at most 8 decimals", "at most 2 decimals"))
-    return Mended(str(rounded), "a rate of this file has at most two decimals; this is rounded down, so that it isn't above the table's")
+    return Mended(
+        str(rounded),
+        "a rate of this file has at most two decimals; this is rounded down, so that it isn't above the table's",
+    )
 
 
 def mend_yield(text: str) -> Mended:

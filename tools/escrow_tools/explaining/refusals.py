@@ -6,7 +6,7 @@ from typing import Optional
 
 from .. import amounts
 from ..amounts import counted, money_for_people, short_rate
-from ..case_files import (CERT, INPUT_LIMIT, ISSUE, PRICES, RATES, RateIndex, Refusal, first_dates, least_days)
+from ..case_files import CERT, INPUT_LIMIT, ISSUE, PRICES, RATES, RateIndex, Refusal, first_dates, least_days
 from ..days import days_after, years_after
 from ..records import Record, records_of
 from .case_reading import CaseRead, read_whole_case
@@ -81,7 +81,9 @@ def _alike(refusal: Refusal, data: dict) -> list[str]:
         if record.number > refusal.row and record.word == refusal.record.word and len(record.fields) > refusal.place:
             text = record.fields[refusal.place]
             further += field.mend(text).text not in (None, text)
-    return ["the %s is to be looked at in %s as well" % (field.name, counted(further, "further row"))] if further else []
+    return (
+        ["the %s is to be looked at in %s as well" % (field.name, counted(further, "further row"))] if further else []
+    )
 
 
 # What stands at the beginning of files that aren't comma-separated text.
@@ -120,11 +122,17 @@ def _swapped(refused: Refused) -> Optional[str]:
     seems = looks_like(refused.data.get(refused.file, b""))
     if seems is None or seems == refused.file:
         return None
-    others = [name for file, name in refused.names.items()
-              if file != refused.file and file in refused.data and looks_like(refused.data[file]) == refused.file]
+    others = [
+        name
+        for file, name in refused.names.items()
+        if file != refused.file and file in refused.data and looks_like(refused.data[file]) == refused.file
+    ]
     hint = "; %s seems to be %s" % (others[0], WHAT_FILES_ARE[refused.file]) if others else ""
     return "%s has rows of %s%s: the words are ISSUE RATES PRICES CERT, in this order" % (
-        refused.name, WHAT_FILES_ARE[seems], hint)
+        refused.name,
+        WHAT_FILES_ARE[seems],
+        hint,
+    )
 
 
 def _missing(refused: Refused) -> Explanation:
@@ -139,34 +147,50 @@ def _missing(refused: Refused) -> Explanation:
         return Explanation("%s has no rows; its first row is `%s`" % (refused.name, first))
     begins = "row 1 of %s is `%s`" % (WHAT_FILES_ARE[refused.file], form_of(refused.file, first.split(",")[0]))
     if other_separator(refused.record.text):
-        return Explanation(begins + "; here another mark than a comma stands between the fields: save it with commas (CSV)")
+        return Explanation(
+            begins + "; here another mark than a comma stands between the fields: save it with commas (CSV)"
+        )
     wanted = first.split(",")[0]
     found = [record for record in records_of(data) if record.word == wanted]
     if found:
-        return Explanation("%s, and it stands in line %d: move it up; no heading row or remark may stand before it" % (begins, found[0].line))
+        return Explanation(
+            "%s, and it stands in line %d: move it up; no heading row or remark may stand before it"
+            % (begins, found[0].line)
+        )
     if meant_word(refused.file, refused.record.word) == wanted:
         return Explanation("%s: the word is `%s`, in small letters and without blanks" % (begins, wanted))
-    return Explanation("%s, and there is none: put it before this row" % begins, mended=None, advice=["its form: `%s`" % first])
+    return Explanation(
+        "%s, and there is none: put it before this row" % begins, mended=None, advice=["its form: `%s`" % first]
+    )
 
 
 def _missing_yield(refused: Refused) -> Explanation:
     issue = refused.case.issue
     if issue is not None and "price" in issue.amounts:
         line = issue.amounts["price"].record.line
-        return Explanation("the issue price stands in line %d, and no `pay,DATE,AMOUNT` row: add one for each payment of the "
-                           "refunding issue, or write `restricted,YIELD` in place of the price" % line)
+        return Explanation(
+            "the issue price stands in line %d, and no `pay,DATE,AMOUNT` row: add one for each payment of the "
+            "refunding issue, or write `restricted,YIELD` in place of the price" % line
+        )
     if issue is not None and issue.pays:
         return Explanation("there are `pay` rows and no `price,AMOUNT` row: add the issue price of the refunding issue")
-    return Explanation("there is no restricted yield: add a row `restricted,4.75` with the yield in percent, or the issue's `price` "
-                       "and its `pay` rows; `restricted,29.99` stands for `not restricted`")
+    return Explanation(
+        "there is no restricted yield: add a row `restricted,4.75` with the yield in percent, or the issue's `price` "
+        "and its `pay` rows; `restricted,29.99` stands for `not restricted`"
+    )
 
 
 def _too_long(refused: Refused) -> Explanation:
     size = len(refused.data.get(refused.file, b""))
     if refused.file == CERT:
         return Explanation("the certificate has more than 67,108,864 bytes: is it another file?")
-    advice = other_kind(refused.data.get(refused.file, b"")) or "put needs of one day into one row, or leave out what isn't needed"
-    return Explanation("%s has %s, and %s may be" % (refused.name, counted(size, "byte"), format(INPUT_LIMIT, ",")), advice=[advice])
+    advice = (
+        other_kind(refused.data.get(refused.file, b""))
+        or "put needs of one day into one row, or leave out what isn't needed"
+    )
+    return Explanation(
+        "%s has %s, and %s may be" % (refused.name, counted(size, "byte"), format(INPUT_LIMIT, ",")), advice=[advice]
+    )
 
 
 def _unknown_row(refused: Refused) -> Explanation:
@@ -182,15 +206,19 @@ def _unknown_row(refused: Refused) -> Explanation:
     for file, forms in FORMS.items():
         if file != refused.file and plain_word(word) in forms:
             name = refused.names.get(file, WHAT_FILES_ARE[file])
-            return Explanation("a `%s` row belongs to %s (%s), not to %s" % (plain_word(word), WHAT_FILES_ARE[file], name,
-                                                                             WHAT_FILES_ARE[refused.file]))
+            return Explanation(
+                "a `%s` row belongs to %s (%s), not to %s"
+                % (plain_word(word), WHAT_FILES_ARE[file], name, WHAT_FILES_ARE[refused.file])
+            )
     meant = meant_word(refused.file, word)
     if meant is not None:
         return Explanation("the word `%s` is written `%s`, in small letters and without blanks" % (shown(word), meant))
     if word.lstrip().startswith(("#", "//", "--", ";")):
         return Explanation("the files have no remarks: delete this line")
-    return Explanation("a row begins with one of %s, and not with `%s`: delete this line, or write what it stands for as one of "
-                       "these" % (words, shown(word)))
+    return Explanation(
+        "a row begins with one of %s, and not with `%s`: delete this line, or write what it stands for as one of "
+        "these" % (words, shown(word))
+    )
 
 
 def _wrong_fields(refused: Refused) -> Explanation:
@@ -207,7 +235,9 @@ def _wrong_fields(refused: Refused) -> Explanation:
     elif word == "call":
         advice.append("the price in percent of par is missing: 100 where the bonds are called at par")
     elif word == "bond":
-        advice.append("a maturity, a principal in dollars and a coupon in percent are wanted; the coupon is 0 where it bears none")
+        advice.append(
+            "a maturity, a principal in dollars and a coupon in percent are wanted; the coupon is 0 where it bears none"
+        )
     elif word == "rate":
         advice.append("the first and the last day of the range, and its greatest rate in percent are wanted")
     return Explanation("a `%s` row has %d fields, `%s`, and this has %d" % (word, wanted, form, found), advice=advice)
@@ -228,11 +258,15 @@ def _out_of_range(refused: Refused) -> Explanation:
     if word == "settle":
         return Explanation("settlement is from 2000-01-01 to 2150-01-01, and here `%s`" % refused.field)
     if refused.field_name in ("date", "maturity") and issue is not None:
-        return Explanation("the %s %s is more than 40 years after settlement on %s; the last day is %s"
-                           % (refused.field_name, refused.field, issue.settlement, issue.last_day))
+        return Explanation(
+            "the %s %s is more than 40 years after settlement on %s; the last day is %s"
+            % (refused.field_name, refused.field, issue.settlement, issue.last_day)
+        )
     if word == "price" and amounts.read_cents(refused.field) > 0:
-        return Explanation("the yield of the issue's payments for this price would be below 0 or above 29.99 percent",
-                           advice=_price_and_payments(refused))
+        return Explanation(
+            "the yield of the issue's payments for this price would be below 0 or above 29.99 percent",
+            advice=_price_and_payments(refused),
+        )
     if word == "price":
         return Explanation("the issue price is at least one cent; it is in dollars, what was paid for the whole issue")
     if refused.field_name in ("minimum", "step", "cap"):
@@ -242,8 +276,13 @@ def _out_of_range(refused: Refused) -> Explanation:
     if refused.field_name in ("rate", "greatest rate", "coupon", "yield"):
         why = fields_of(refused.file, word)[place - 1].mend(refused.field).why
         most = "29.99" if refused.field_name == "yield" else "30"
-        return Explanation("the %s `%s` is out of range: %s, and it is at most %s percent" % (refused.field_name, refused.field, why, most))
-    return Explanation("the %s `%s` is more than 100,000,000,000.00 dollars: is it in dollars?" % (refused.field_name, refused.field))
+        return Explanation(
+            "the %s `%s` is out of range: %s, and it is at most %s percent"
+            % (refused.field_name, refused.field, why, most)
+        )
+    return Explanation(
+        "the %s `%s` is more than 100,000,000,000.00 dollars: is it in dollars?" % (refused.field_name, refused.field)
+    )
 
 
 def _price_and_payments(refused: Refused) -> list[str]:
@@ -251,25 +290,44 @@ def _price_and_payments(refused: Refused) -> list[str]:
     if issue is None:
         return []
     total = sum(pay.cents for pay in issue.pays)
-    return ["the price is %s, and the %s come to %s: is each payment of principal and interest a `pay` row, and the price that of "
-            "the whole issue in dollars, not in percent?" % (money_for_people(issue.amount("price")), counted(len(issue.pays), "payment"),
-                                                             money_for_people(total))]
+    return [
+        "the price is %s, and the %s come to %s: is each payment of principal and interest a `pay` row, and the price that of "
+        "the whole issue in dollars, not in percent?"
+        % (money_for_people(issue.amount("price")), counted(len(issue.pays), "payment"), money_for_people(total))
+    ]
 
 
 def _denomination_range(refused: Refused) -> Explanation:
     terms = refused.case.terms_of(refused.file) if refused.record.word != "terms" else None
-    if refused.record.word == "terms" and refused.refusal.place == 1 and refused.field.isdigit() and 0 < int(refused.field) <= 10 ** 6:
-        return Explanation("the minimum has to be a multiple of the step, in whole dollars: %s isn't one of %s" % tuple(refused.record.fields[1:3]))
+    if (
+        refused.record.word == "terms"
+        and refused.refusal.place == 1
+        and refused.field.isdigit()
+        and 0 < int(refused.field) <= 10**6
+    ):
+        return Explanation(
+            "the minimum has to be a multiple of the step, in whole dollars: %s isn't one of %s"
+            % tuple(refused.record.fields[1:3])
+        )
     if refused.field_name == "cap" and refused.field.isdigit() and 0 < int(refused.field) <= amounts.GREATEST_DOLLARS:
         least = " of %s" % format(terms.minimum, ",") if terms else ""
-        return Explanation("the cap %s is below the least purchase%s, which the `terms` row gives" % (refused.field, least))
+        return Explanation(
+            "the cap %s is below the least purchase%s, which the `terms` row gives" % (refused.field, least)
+        )
     limit = "1,000,000,000" if refused.field_name == "cap" else "1,000,000"
-    return Explanation("the %s is from 1 to %s whole dollars, and here `%s`" % (refused.field_name, limit, refused.field))
+    return Explanation(
+        "the %s is from 1 to %s whole dollars, and here `%s`" % (refused.field_name, limit, refused.field)
+    )
 
 
 def _price_range(refused: Refused) -> Explanation:
-    return Explanation("the price `%s` is in percent of par, from 10 to 300: %s"
-                       % (refused.field, fields_of(refused.file, refused.record.word)[refused.refusal.place - 1].mend(refused.field).why))
+    return Explanation(
+        "the price `%s` is in percent of par, from 10 to 300: %s"
+        % (
+            refused.field,
+            fields_of(refused.file, refused.record.word)[refused.refusal.place - 1].mend(refused.field).why,
+        )
+    )
 
 
 def _repeated(refused: Refused) -> Explanation:
@@ -277,60 +335,98 @@ def _repeated(refused: Refused) -> Explanation:
     if earlier is None:
         return Explanation("a `%s` row stood before: keep one of them" % word)
     if {word, earlier.word} == {"restricted", "price"} or "pay" in (word, earlier.word):
-        return Explanation("a restricted yield stands beside a price or a payment, which are to compute it (%s: %s): keep one of the two, "
-                           "and delete the rows of the other" % (refused.earlier_line, shown(earlier.text)))
+        return Explanation(
+            "a restricted yield stands beside a price or a payment, which are to compute it (%s: %s): keep one of the two, "
+            "and delete the rows of the other" % (refused.earlier_line, shown(earlier.text))
+        )
     advice = []
     if word == "call":
-        advice = ["bonds with another call are an issue file of their own: `./escrow needs --issue FILE FILE` makes one of both"]
+        advice = [
+            "bonds with another call are an issue file of their own: `./escrow needs --issue FILE FILE` makes one of both"
+        ]
     elif word in ("cash", "allowance"):
         advice = ["there is one `%s` row: write the amount that is meant, or the sum of both" % word]
-    return Explanation("a `%s` row stood in %s already (%s): delete one of them" % (word, refused.earlier_line, shown(earlier.text)), advice=advice)
+    return Explanation(
+        "a `%s` row stood in %s already (%s): delete one of them" % (word, refused.earlier_line, shown(earlier.text)),
+        advice=advice,
+    )
 
 
 def _date_order(refused: Refused) -> Explanation:
     if refused.file == RATES:
-        return Explanation("the first day of the range, %s, is after its last day, %s" % tuple(refused.record.fields[1:3]))
+        return Explanation(
+            "the first day of the range, %s, is after its last day, %s" % tuple(refused.record.fields[1:3])
+        )
     settlement = refused.case.issue.settlement if refused.case.issue else None
     word = refused.record.word
-    kind = {"need": "a need can't be before settlement", "call": "the call has to be after settlement",
-            "bond": "an old bond has to mature after settlement", "pay": "a payment has to be after settlement"}[word]
-    return Explanation("%s: %s, and settlement is on %s" % (kind, refused.field, settlement),
-                       advice=["what is paid up to settlement isn't the escrow's: delete the row, or mend the date of this or of the `settle` row"])
+    kind = {
+        "need": "a need can't be before settlement",
+        "call": "the call has to be after settlement",
+        "bond": "an old bond has to mature after settlement",
+        "pay": "a payment has to be after settlement",
+    }[word]
+    return Explanation(
+        "%s: %s, and settlement is on %s" % (kind, refused.field, settlement),
+        advice=[
+            "what is paid up to settlement isn't the escrow's: delete the row, or mend the date of this or of the `settle` row"
+        ],
+    )
 
 
 def _overlap(refused: Refused) -> Explanation:
     earlier = refused.refusal.earlier
-    return Explanation("the range %s to %s has days in common with that of %s, %s to %s: each day has one greatest rate"
-                       % (refused.record.fields[1], refused.record.fields[2], refused.earlier_line, earlier.fields[1], earlier.fields[2]))
+    return Explanation(
+        "the range %s to %s has days in common with that of %s, %s to %s: each day has one greatest rate"
+        % (
+            refused.record.fields[1],
+            refused.record.fields[2],
+            refused.earlier_line,
+            earlier.fields[1],
+            earlier.fields[2],
+        )
+    )
 
 
 def _needs_too_large(refused: Refused) -> Explanation:
-    return Explanation("all needs, or all payments, come to more than 100,000,000,000.00 dollars: are the amounts in dollars? "
-                       "Else make an issue file for each part", place=refused.name)
+    return Explanation(
+        "all needs, or all payments, come to more than 100,000,000,000.00 dollars: are the amounts in dollars? "
+        "Else make an issue file for each part",
+        place=refused.name,
+    )
 
 
 def _too_many_dates(refused: Refused) -> Explanation:
     dates = len(refused.case.needs)
-    return Explanation("there are %s, and 480 may be: move needs of near days to the earliest of them, which is on the safe side"
-                       % counted(dates, "need date"), place=refused.name)
+    return Explanation(
+        "there are %s, and 480 may be: move needs of near days to the earliest of them, which is on the safe side"
+        % counted(dates, "need date"),
+        place=refused.name,
+    )
 
 
 def _no_rate(refused: Refused) -> Explanation:
     rates = refused.case.rates
     offer = refused.record.fields
     if rates is None or not rates.ranges:
-        return Explanation("the offer asks for interest (`%s`), and there is no `rate,FROM,TO,MAXIMUM` row: add the table's ranges, or "
-                           "offer it at 0.00" % offer[2])
+        return Explanation(
+            "the offer asks for interest (`%s`), and there is no `rate,FROM,TO,MAXIMUM` row: add the table's ranges, or "
+            "offer it at 0.00" % offer[2]
+        )
     first = min(one.first for one in rates.ranges)
     last = max(one.last for one in rates.ranges)
-    return Explanation("no range holds the maturity %s, and the offer asks for interest (`%s`): the ranges go from %s to %s"
-                       % (offer[1], offer[2], first, last), advice=["add a `rate` row that holds this day, or offer it at 0.00"])
+    return Explanation(
+        "no range holds the maturity %s, and the offer asks for interest (`%s`): the ranges go from %s to %s"
+        % (offer[1], offer[2], first, last),
+        advice=["add a `rate` row that holds this day, or offer it at 0.00"],
+    )
 
 
 def _rate_above_table(refused: Refused) -> Explanation:
     found = RateIndex(refused.case.rates.ranges).find(amounts.read_day(refused.record.fields[1]))
-    return Explanation("the rate %s is above %s, the greatest for that maturity (line %d): `max` stands for the greatest"
-                       % (refused.record.fields[2], short_rate(found.rate), found.record.line))
+    return Explanation(
+        "the rate %s is above %s, the greatest for that maturity (line %d): `max` stands for the greatest"
+        % (refused.record.fields[2], short_rate(found.rate), found.record.line)
+    )
 
 
 def _too_short(refused: Refused) -> Explanation:
@@ -339,42 +435,70 @@ def _too_short(refused: Refused) -> Explanation:
     rate = 0 if refused.record.fields[2].strip("0.") == "" else 1
     least = least_days(rate)
     advice = ["at a rate of 0.00 it may mature from %s on" % days_after(settlement, 15)] if rate else []
-    return Explanation("the offer would run %s from settlement on %s, and at least %d are wanted: it matures on %s or later"
-                       % (counted(max((maturity - settlement).days, 0), "day"), settlement, least, days_after(settlement, least)), advice=advice)
+    return Explanation(
+        "the offer would run %s from settlement on %s, and at least %d are wanted: it matures on %s or later"
+        % (counted(max((maturity - settlement).days, 0), "day"), settlement, least, days_after(settlement, least)),
+        advice=advice,
+    )
 
 
 def _too_long_term(refused: Refused) -> Explanation:
     settlement = refused.case.issue.settlement
-    return Explanation("the offer would run more than 40 years from settlement on %s: it matures on %s or before"
-                       % (settlement, years_after(settlement, 40)))
+    return Explanation(
+        "the offer would run more than 40 years from settlement on %s: it matures on %s or before"
+        % (settlement, years_after(settlement, 40))
+    )
 
 
 def _first_date(refused: Refused) -> Explanation:
     settlement, maturity = refused.case.issue.settlement, amounts.read_day(refused.record.fields[1])
     if maturity <= years_after(settlement, 1):
-        return Explanation("an offer of at most a year pays once, at maturity: its first payment date is left empty, and its comma stays")
+        return Explanation(
+            "an offer of at most a year pays once, at maturity: its first payment date is left empty, and its comma stays"
+        )
     days = " or ".join(str(day) for day in first_dates(settlement, maturity))
-    return Explanation("interest is first paid on %s: a date of its half-years, from 30 days to one year after settlement; left empty, "
-                       "it is the earliest" % days)
+    return Explanation(
+        "interest is first paid on %s: a date of its half-years, from 30 days to one year after settlement; left empty, "
+        "it is the earliest" % days
+    )
 
 
 def _too_many_lines(refused: Refused) -> Explanation:
     rates, prices = refused.case.rates, refused.case.prices
-    return Explanation("there are %s and %s, and 256 lines may be together: leave out those that are least wanted"
-                       % (counted(len(rates.offers), "offer"), counted(len(prices.notes), "note")),
-                       place="%s and %s" % (refused.names.get(RATES, RATES), refused.names.get(PRICES, PRICES)),
-                       advice=["`./escrow offers` and `./escrow prices` keep to the limit"])
+    return Explanation(
+        "there are %s and %s, and 256 lines may be together: leave out those that are least wanted"
+        % (counted(len(rates.offers), "offer"), counted(len(prices.notes), "note")),
+        place="%s and %s" % (refused.names.get(RATES, RATES), refused.names.get(PRICES, PRICES)),
+        advice=["`./escrow offers` and `./escrow prices` keep to the limit"],
+    )
 
 
 def _matured(refused: Refused) -> Explanation:
-    return Explanation("the note matures on %s, and settlement is on %s: it has matured by then; delete the row"
-                       % (refused.record.fields[1], refused.case.issue.settlement))
+    return Explanation(
+        "the note matures on %s, and settlement is on %s: it has matured by then; delete the row"
+        % (refused.record.fields[1], refused.case.issue.settlement)
+    )
 
 
 EXPLAINERS = {
-    "Missing": _missing, "TooLong": _too_long, "UnknownRow": _unknown_row, "WrongFields": _wrong_fields,
-    "BadNumber": _faulty_field, "BadDate": _faulty_field, "OutOfRange": _out_of_range, "PriceRange": _price_range,
-    "Repeated": _repeated, "DateOrder": _date_order, "Overlap": _overlap, "NeedsTooLarge": _needs_too_large,
-    "TooManyDates": _too_many_dates, "NoRate": _no_rate, "RateAboveTable": _rate_above_table, "TooShort": _too_short,
-    "TooLongTerm": _too_long_term, "FirstDate": _first_date, "TooManyLines": _too_many_lines, "Matured": _matured,
+    "Missing": _missing,
+    "TooLong": _too_long,
+    "UnknownRow": _unknown_row,
+    "WrongFields": _wrong_fields,
+    "BadNumber": _faulty_field,
+    "BadDate": _faulty_field,
+    "OutOfRange": _out_of_range,
+    "PriceRange": _price_range,
+    "Repeated": _repeated,
+    "DateOrder": _date_order,
+    "Overlap": _overlap,
+    "NeedsTooLarge": _needs_too_large,
+    "TooManyDates": _too_many_dates,
+    "NoRate": _no_rate,
+    "RateAboveTable": _rate_above_table,
+    "TooShort": _too_short,
+    "TooLongTerm": _too_long_term,
+    "FirstDate": _first_date,
+    "TooManyLines": _too_many_lines,
+    "Matured": _matured,
 }

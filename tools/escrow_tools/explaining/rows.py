@@ -87,7 +87,7 @@ def _mended_width(file: str, fields: list[str]) -> Optional[list[str]]:
 def _with_field(fields: list[str], place: int, text: Optional[str]) -> Optional[list[str]]:
     if text is None or fields[place] == text:
         return None
-    return fields[:place] + [text] + fields[place + 1:]
+    return fields[:place] + [text] + fields[place + 1 :]
 
 
 def _mended_word(file: str, fields: list[str], text: str) -> Optional[list[str]]:
@@ -104,7 +104,13 @@ def _mended_range(refusal: Refusal, case: CaseRead, fields: list[str]) -> Option
     if word == "terms" and place == 1:
         return _mended_minimum(fields)
     terms = case.terms_of(refusal.file)
-    if word in ("offer", "note") and place == 4 and terms is not None and fields[4].isdigit() and 0 < int(fields[4]) < terms.minimum:
+    if (
+        word in ("offer", "note")
+        and place == 4
+        and terms is not None
+        and fields[4].isdigit()
+        and 0 < int(fields[4]) < terms.minimum
+    ):
         return _with_field(fields, 4, str(terms.minimum))
     if word in ("call", "bond", "need", "pay", "note") and place == 1 and case.issue is not None:
         return _with_field(fields, 1, case.issue.last_day.isoformat())
@@ -117,7 +123,7 @@ def _mended_minimum(fields: list[str]) -> Optional[list[str]]:
     if not (fields[1].isdigit() and fields[2].isdigit()):
         return None
     minimum, step = int(fields[1]), int(fields[2])
-    if not (0 < step <= 10 ** 6 and 0 < minimum <= 10 ** 6):
+    if not (0 < step <= 10**6 and 0 < minimum <= 10**6):
         return None
     return _with_field(fields, 1, str(max(minimum // step, 1) * step))
 
@@ -163,7 +169,11 @@ def _mended_once(refusal: Refusal, case: CaseRead, fields: list[str], text: str)
     if name == "WrongFields":
         return _mended_width(refusal.file, fields)
     if name in ("BadNumber", "BadDate", "PriceRange"):
-        return _with_field(fields, refusal.place, fields_of(refusal.file, fields[0])[refusal.place - 1].mend(fields[refusal.place]).text)
+        return _with_field(
+            fields,
+            refusal.place,
+            fields_of(refusal.file, fields[0])[refusal.place - 1].mend(fields[refusal.place]).text,
+        )
     if name == "OutOfRange":
         return _mended_range(refusal, case, fields)
     if name == "DateOrder":
@@ -191,10 +201,12 @@ Reader = Callable[[bytes], CaseRead]
 
 def reader_of(file: str, data: dict) -> Reader:
     """Reads the case with other bytes for one of its files."""
+
     def read(changed: bytes) -> CaseRead:
         files = dict(data)
         files[file] = changed
         return read_whole_case(files.get(ISSUE), files.get(RATES), files.get(PRICES))
+
     return read
 
 

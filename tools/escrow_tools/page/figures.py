@@ -107,9 +107,16 @@ def _held(case: CaseRead, report: Report) -> list[Held]:
 
 
 def _refunded(series: list[Series]) -> list[Refunded]:
-    return [Refunded(one.name, bond, one.issue.call if is_called(bond, one.issue.call) else None,
-                     joined(bond_payments(bond, one.issue.settlement, one.issue.call)))
-            for one in series for bond in one.issue.bonds]
+    return [
+        Refunded(
+            one.name,
+            bond,
+            one.issue.call if is_called(bond, one.issue.call) else None,
+            joined(bond_payments(bond, one.issue.settlement, one.issue.call)),
+        )
+        for one in series
+        for bond in one.issue.bonds
+    ]
 
 
 def _other_needs(series: list[Series]) -> dict:
@@ -149,7 +156,9 @@ def _proof(settlement: date, flows: dict, price: int, ends: Interval) -> YieldPr
     """The proof of a yield, by powers that are worked out here."""
     rows = indexed(settlement, flows)
     if low_value(ends.low, rows) < ONE * price or high_value(ends.high, rows) > ONE * price:
-        raise Stop("the present values of the flows don't enclose %s at the yield's ends; nothing is made" % money(price))
+        raise Stop(
+            "the present values of the flows don't enclose %s at the yield's ends; nothing is made" % money(price)
+        )
     return YieldProof(ends, price, sorted(day for day, cents in flows.items() if cents), proof_of(rows, ends))
 
 
@@ -182,7 +191,9 @@ def _restricted(figures: Figures) -> Optional[YieldProof]:
     return _proof(issue.settlement, flows, issue.amount("price"), ends)
 
 
-def figures_of(case: CaseRead, series: list[Series], own: Series, summary: Optional[Summary], report: Optional[Report]) -> Figures:
+def figures_of(
+    case: CaseRead, series: list[Series], own: Series, summary: Optional[Summary], report: Optional[Report]
+) -> Figures:
     """All figures, tried: a sum that doesn't agree ends it."""
     figures = Figures(case, case.issue.settlement, summary, report)
     figures.needs = asked_needs(own)

@@ -30,7 +30,7 @@ def ticks(greatest: int) -> list[int]:
 def short_money(cents: int) -> str:
     """An amount on an axis: 12.5m, 250k, 0.40."""
     dollars, rest = divmod(cents, 100)
-    for size, letter in ((10 ** 9, "bn"), (10 ** 6, "m"), (10 ** 3, "k")):
+    for size, letter in ((10**9, "bn"), (10**6, "m"), (10**3, "k")):
         if dollars >= size:
             whole, part = divmod(dollars * 10 // size, 10)
             return "%d%s%s" % (whole, ".%d" % part if part else "", letter)
@@ -56,13 +56,23 @@ class Axis:
         for cents in self.ticks:
             height = self.top + self.height - self.up(cents)
             yield '<line class="grid" x1="%d" x2="%d" y1="%d" y2="%d"/>' % (LEFT, WIDTH - RIGHT, height, height)
-            yield '<text x="%d" y="%d" text-anchor="end">%s</text>' % (LEFT - 60, height + TEXT // 3, short_money(cents))
+            yield '<text x="%d" y="%d" text-anchor="end">%s</text>' % (
+                LEFT - 60,
+                height + TEXT // 3,
+                short_money(cents),
+            )
 
 
 def _bar(kind: str, place: int, width: int, axis: Axis, cents: int, what: str) -> str:
     height = max(axis.up(cents), 8)
     return '<rect class="%s" x="%d" y="%d" width="%d" height="%d"><title>%s</title></rect>' % (
-        kind, place, axis.top + axis.height - height, width, height, what)
+        kind,
+        place,
+        axis.top + axis.height - height,
+        width,
+        height,
+        what,
+    )
 
 
 def _bars(rows: list[Balance], axis: Axis) -> Iterator[str]:
@@ -70,9 +80,18 @@ def _bars(rows: list[Balance], axis: Axis) -> Iterator[str]:
     for row in rows:
         middle = axis.across(row.day)
         if row.receipts:
-            yield _bar("receipts", middle - width, width, axis, row.receipts, "%s: received %s" % (row.day, money_for_people(row.receipts)))
+            yield _bar(
+                "receipts",
+                middle - width,
+                width,
+                axis,
+                row.receipts,
+                "%s: received %s" % (row.day, money_for_people(row.receipts)),
+            )
         if row.needs:
-            yield _bar("needs", middle, width, axis, row.needs, "%s: needed %s" % (row.day, money_for_people(row.needs)))
+            yield _bar(
+                "needs", middle, width, axis, row.needs, "%s: needed %s" % (row.day, money_for_people(row.needs))
+            )
 
 
 def _width(rows: list[Balance], axis: Axis) -> int:
@@ -108,13 +127,21 @@ def picture(rows: list[Balance]) -> str:
     first, last = rows[0].day, rows[-1].day
     flows = Axis(first, last, max(max(row.receipts, row.needs) for row in rows), FLOWS_TOP, FLOWS_HEIGHT)
     left = Axis(first, last, max(row.left for row in rows), CASH_TOP, CASH_HEIGHT)
-    parts = ['<svg viewBox="0 0 %d %d" role="img" aria-labelledby="picture-title">' % (WIDTH, BOTTOM),
-             '<title id="picture-title">Receipts and needs by day, and what is left of them, from %s to %s</title>' % (first, last),
-             '<g font-size="%d">' % TEXT]
+    parts = [
+        '<svg viewBox="0 0 %d %d" role="img" aria-labelledby="picture-title">' % (WIDTH, BOTTOM),
+        '<title id="picture-title">Receipts and needs by day, and what is left of them, from %s to %s</title>'
+        % (first, last),
+        '<g font-size="%d">' % TEXT,
+    ]
     parts += list(_years(first, last, flows)) + list(flows.grid()) + list(left.grid())
     parts += list(_bars(rows, flows)) + [_steps(rows, left)]
-    parts += ['<rect class="receipts" x="%d" y="120" width="120" height="120"/><text x="%d" y="230">received</text>' % (LEFT, LEFT + 180),
-              '<rect class="needs" x="%d" y="120" width="120" height="120"/><text x="%d" y="230">needed</text>' % (LEFT + 1200, LEFT + 1380),
-              '<rect class="left" x="%d" y="%d" width="120" height="120"/><text x="%d" y="%d">left over, idle until the next day (another scale)'
-              '</text>' % (LEFT, CASH_TOP - 290, LEFT + 180, CASH_TOP - 180), "</g></svg>"]
+    parts += [
+        '<rect class="receipts" x="%d" y="120" width="120" height="120"/><text x="%d" y="230">received</text>'
+        % (LEFT, LEFT + 180),
+        '<rect class="needs" x="%d" y="120" width="120" height="120"/><text x="%d" y="230">needed</text>'
+        % (LEFT + 1200, LEFT + 1380),
+        '<rect class="left" x="%d" y="%d" width="120" height="120"/><text x="%d" y="%d">left over, idle until the next day (another scale)'
+        "</text>" % (LEFT, CASH_TOP - 290, LEFT + 180, CASH_TOP - 180),
+        "</g></svg>",
+    ]
     return "\n".join(parts)

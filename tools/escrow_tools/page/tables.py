@@ -12,7 +12,12 @@ from ..days import index_from
 from ..report import Idle
 from .figures import Figures, Held, YieldProof, restricted_units
 
-KINDS = {"certificate": "Certificate of indebtedness", "note": "SLGS note", "bond": "SLGS bond", "market": "Treasury note"}
+KINDS = {
+    "certificate": "Certificate of indebtedness",
+    "note": "SLGS note",
+    "bond": "SLGS bond",
+    "market": "Treasury note",
+}
 
 
 @dataclass(frozen=True)
@@ -66,11 +71,20 @@ def sources_and_uses(figures: Figures) -> Table:
     slgs = sum(held.cost.total for held in figures.held if held.line.is_slgs)
     clean = sum(held.cost.price for held in figures.held if not held.line.is_slgs)
     accrued = sum(held.cost.accrued for held in figures.held if not held.line.is_slgs)
-    rows = [("Deposit to the escrow at settlement", figures.summary.cost, None),
-            ("SLGS securities", None, slgs), ("Marketable notes, clean price", None, clean),
-            ("Marketable notes, accrued interest", None, accrued), ("Opening cash that is left uninvested", None, figures.cash)]
+    rows = [
+        ("Deposit to the escrow at settlement", figures.summary.cost, None),
+        ("SLGS securities", None, slgs),
+        ("Marketable notes, clean price", None, clean),
+        ("Marketable notes, accrued interest", None, accrued),
+        ("Opening cash that is left uninvested", None, figures.cash),
+    ]
     rows = [row for row in rows if row[1] or row[2]]
-    return Table("sources", "Sources and uses at settlement", [text_column("what"), money_column("sources"), money_column("uses")], rows)
+    return Table(
+        "sources",
+        "Sources and uses at settlement",
+        [text_column("what"), money_column("sources"), money_column("uses")],
+        rows,
+    )
 
 
 def subscriptions(figures: Figures) -> Table:
@@ -80,10 +94,26 @@ def subscriptions(figures: Figures) -> Table:
         if held.line.is_slgs:
             security = held.line.security
             most = index.find(security.maturity)
-            rows.append((held.line.number, KINDS[security.kind], security.maturity, security.rate, most.rate if most else None,
-                         security.first, held.bought.face))
-    columns = [count_column("line"), text_column("security"), day_column("maturity"), rate_column("rate, %"),
-               rate_column("table's greatest, %"), day_column("first interest"), money_column("amount")]
+            rows.append(
+                (
+                    held.line.number,
+                    KINDS[security.kind],
+                    security.maturity,
+                    security.rate,
+                    most.rate if most else None,
+                    security.first,
+                    held.bought.face,
+                )
+            )
+    columns = [
+        count_column("line"),
+        text_column("security"),
+        day_column("maturity"),
+        rate_column("rate, %"),
+        rate_column("table's greatest, %"),
+        day_column("first interest"),
+        money_column("amount"),
+    ]
     return Table("slgs", "Subscriptions for SLGS securities", columns, rows)
 
 
@@ -92,10 +122,30 @@ def notes(figures: Figures, cusips: dict) -> Table:
     for held in figures.held:
         if not held.line.is_slgs:
             security = held.line.security
-            rows.append((held.line.number, cusips.get(held.line.row, ""), security.maturity, security.rate, security.price, held.bought.face,
-                         held.cost.price, held.cost.accrued, held.cost.total))
-    columns = [count_column("line"), text_column("CUSIP"), day_column("maturity"), rate_column("coupon, %"), Column("clean price, %", "price"),
-               money_column("face"), money_column("cost at clean price"), money_column("accrued interest"), money_column("cost")]
+            rows.append(
+                (
+                    held.line.number,
+                    cusips.get(held.line.row, ""),
+                    security.maturity,
+                    security.rate,
+                    security.price,
+                    held.bought.face,
+                    held.cost.price,
+                    held.cost.accrued,
+                    held.cost.total,
+                )
+            )
+    columns = [
+        count_column("line"),
+        text_column("CUSIP"),
+        day_column("maturity"),
+        rate_column("coupon, %"),
+        Column("clean price, %", "price"),
+        money_column("face"),
+        money_column("cost at clean price"),
+        money_column("accrued interest"),
+        money_column("cost"),
+    ]
     return Table("notes", "Marketable notes", columns, rows)
 
 
@@ -105,13 +155,28 @@ def bonds(figures: Figures) -> Table:
     for one in figures.refunded:
         called = one.call.day if one.call else None
         parts = tuple(one.total(part) for part in ("principal", "interest", "premium", "total"))
-        rows.append(((one.file,) if len(files) > 1 else ()) + (one.bond.maturity, one.bond.coupon, called,
-                    one.call.price if one.call else None) + parts)
+        rows.append(
+            ((one.file,) if len(files) > 1 else ())
+            + (one.bond.maturity, one.bond.coupon, called, one.call.price if one.call else None)
+            + parts
+        )
     columns = ([text_column("file")] if len(files) > 1 else []) + [
-        day_column("maturity"), rate_column("coupon, %"), day_column("called on"), Column("call price, %", "price"), money_column("principal"),
-        money_column("interest"), money_column("premium"), money_column("total")]
-    return Table("bonds", "The refunded bonds, bond by bond", columns, rows,
-                 "A bond without a call is paid at maturity. Interest is that from settlement on; each amount of each bond is rounded by itself.")
+        day_column("maturity"),
+        rate_column("coupon, %"),
+        day_column("called on"),
+        Column("call price, %", "price"),
+        money_column("principal"),
+        money_column("interest"),
+        money_column("premium"),
+        money_column("total"),
+    ]
+    return Table(
+        "bonds",
+        "The refunded bonds, bond by bond",
+        columns,
+        rows,
+        "A bond without a call is paid at maturity. Interest is that from settlement on; each amount of each bond is rounded by itself.",
+    )
 
 
 def needs(figures: Figures) -> Table:
@@ -123,24 +188,68 @@ def needs(figures: Figures) -> Table:
         other = figures.other_needs.get(day, 0)
         if sum(values) + other:
             rows.append((day,) + values + (other, sum(values) + other))
-    columns = [day_column("date"), money_column("principal"), money_column("interest"), money_column("premium"), money_column("other needs"),
-               money_column("total")]
+    columns = [
+        day_column("date"),
+        money_column("principal"),
+        money_column("interest"),
+        money_column("premium"),
+        money_column("other needs"),
+        money_column("total"),
+    ]
     return Table("needs", "What is needed, by day", columns, rows)
 
 
 def receipts_by_security(figures: Figures) -> Table:
-    rows = [(held.line.number, KINDS[held.bought.kind], held.bought.maturity, one.day, one.principal, one.interest, one.total)
-            for held in figures.held for one in held.receipts if one.total]
-    columns = [count_column("line"), text_column("security"), day_column("maturity"), day_column("paid on"), money_column("principal"),
-               money_column("interest"), money_column("total")]
+    rows = [
+        (
+            held.line.number,
+            KINDS[held.bought.kind],
+            held.bought.maturity,
+            one.day,
+            one.principal,
+            one.interest,
+            one.total,
+        )
+        for held in figures.held
+        for one in held.receipts
+        if one.total
+    ]
+    columns = [
+        count_column("line"),
+        text_column("security"),
+        day_column("maturity"),
+        day_column("paid on"),
+        money_column("principal"),
+        money_column("interest"),
+        money_column("total"),
+    ]
     return Table("receipts", "Receipts, security by security", columns, rows)
 
 
 def securities(figures: Figures) -> Table:
-    rows = [(held.line.number, KINDS[held.bought.kind], held.bought.maturity, held.bought.rate, held.cost.total, held.principal, held.interest,
-             held.principal + held.interest) for held in figures.held]
-    columns = [count_column("line"), text_column("security"), day_column("maturity"), rate_column("rate, %"), money_column("cost"),
-               money_column("principal"), money_column("interest"), money_column("receipts")]
+    rows = [
+        (
+            held.line.number,
+            KINDS[held.bought.kind],
+            held.bought.maturity,
+            held.bought.rate,
+            held.cost.total,
+            held.principal,
+            held.interest,
+            held.principal + held.interest,
+        )
+        for held in figures.held
+    ]
+    columns = [
+        count_column("line"),
+        text_column("security"),
+        day_column("maturity"),
+        rate_column("rate, %"),
+        money_column("cost"),
+        money_column("principal"),
+        money_column("interest"),
+        money_column("receipts"),
+    ]
     return Table("securities", "What each security pays in all", columns, rows)
 
 
@@ -163,23 +272,66 @@ def cash(figures: Figures) -> Table:
         if until is not None:
             marked.add(len(rows))
         opening = row.receipts - principal - interest
-        rows.append((row.day, opening, principal, interest, row.receipts, row.needs, row.left, until, (until - row.day).days if until else None))
-    columns = [day_column("date"), money_column("opening cash"), money_column("principal"), money_column("interest"), money_column("received"),
-               money_column("needed"), money_column("left", False), day_column("idle until"), count_column("idle days")]
-    return Table("cash", "The cash balance, by day", columns, rows,
-                 "What is left over lies idle, at no interest, until the next day of the table.", frozenset(marked))
+        rows.append(
+            (
+                row.day,
+                opening,
+                principal,
+                interest,
+                row.receipts,
+                row.needs,
+                row.left,
+                until,
+                (until - row.day).days if until else None,
+            )
+        )
+    columns = [
+        day_column("date"),
+        money_column("opening cash"),
+        money_column("principal"),
+        money_column("interest"),
+        money_column("received"),
+        money_column("needed"),
+        money_column("left", False),
+        day_column("idle until"),
+        count_column("idle days"),
+    ]
+    return Table(
+        "cash",
+        "The cash balance, by day",
+        columns,
+        rows,
+        "What is left over lies idle, at no interest, until the next day of the table.",
+        frozenset(marked),
+    )
 
 
 def yield_proof(key: str, title: str, settlement: date, proof: YieldProof, what: str) -> Table:
-    rows = [(day, index_from(settlement, day), flow.cents, flow.low, flow.high) for day, flow in zip(proof.days, proof.flows)]
+    rows = [
+        (day, index_from(settlement, day), flow.cents, flow.low, flow.high)
+        for day, flow in zip(proof.days, proof.flows)
+    ]
     low, high = sum(flow.low for flow in proof.flows), sum(flow.high for flow in proof.flows)
-    columns = [day_column("date"), count_column("days (30E/360)"), money_column("amount"),
-               money_column("value at %s %%, down" % yield_text(proof.ends.low)), money_column("value at %s %%, up" % yield_text(proof.ends.high))]
-    remark = ("%s is %s. The present values at the lower end, each rounded down, sum to %s, and those at the upper end, each rounded up, to %s. "
-              "Before they are rounded to cents, the first sum is at least that amount and the second at most: the exact yield lies between %s "
-              "and %s percent, by half-years of 180 days." % (
-                  what, money_for_people(proof.price), money_for_people(low), money_for_people(high), yield_text(proof.ends.low),
-                  yield_text(proof.ends.high)))
+    columns = [
+        day_column("date"),
+        count_column("days (30E/360)"),
+        money_column("amount"),
+        money_column("value at %s %%, down" % yield_text(proof.ends.low)),
+        money_column("value at %s %%, up" % yield_text(proof.ends.high)),
+    ]
+    remark = (
+        "%s is %s. The present values at the lower end, each rounded down, sum to %s, and those at the upper end, each rounded up, to %s. "
+        "Before they are rounded to cents, the first sum is at least that amount and the second at most: the exact yield lies between %s "
+        "and %s percent, by half-years of 180 days."
+        % (
+            what,
+            money_for_people(proof.price),
+            money_for_people(low),
+            money_for_people(high),
+            yield_text(proof.ends.low),
+            yield_text(proof.ends.high),
+        )
+    )
     return Table(key, title, columns, rows, remark)
 
 
@@ -187,19 +339,38 @@ def summary_rows(figures: Figures) -> list[tuple[str, str]]:
     """What the first lines of the page say."""
     issue, summary = figures.case.issue, figures.summary
     principal = sum(one.bond.principal for one in figures.refunded)
-    rows = [("Settlement", issue.settlement.isoformat()),
-            ("Refunded bonds", "%s, principal %s" % (counted(len(figures.refunded), "bond"), money_for_people(principal))),
-            ("Needed", "%s on %s" % (money_for_people(sum(figures.needs.values())), counted(len(figures.needs), "date"))),
-            ("Restricted yield", "%s percent, %s" % (yield_text(restricted_units(figures)), "computed from the issue's price and payments"
-                                                     if figures.restricted else "as given")),
-            ("Yield limit", "%s percent: the restricted yield and one thousandth of a percentage point" % yield_text(figures.case.limit))]
+    rows = [
+        ("Settlement", issue.settlement.isoformat()),
+        ("Refunded bonds", "%s, principal %s" % (counted(len(figures.refunded), "bond"), money_for_people(principal))),
+        ("Needed", "%s on %s" % (money_for_people(sum(figures.needs.values())), counted(len(figures.needs), "date"))),
+        (
+            "Restricted yield",
+            "%s percent, %s"
+            % (
+                yield_text(restricted_units(figures)),
+                "computed from the issue's price and payments" if figures.restricted else "as given",
+            ),
+        ),
+        (
+            "Yield limit",
+            "%s percent: the restricted yield and one thousandth of a percentage point"
+            % yield_text(figures.case.limit),
+        ),
+    ]
     if summary is None:
         return rows
-    rows += [("Cost of the escrow", money_for_people(summary.cost)),
-             ("Yield of the escrow", yield_sentence(summary.yields)),
-             ("No rival costs less by more than", "%s; the issue allows %s" % (money_for_people(summary.gap),
-                                                                               money_for_people(issue.amount("allowance", 0)))),
-             ("Bought", "%s, and opening cash of %s" % (counted(len(figures.held), "security"), money_for_people(figures.cash)))]
+    rows += [
+        ("Cost of the escrow", money_for_people(summary.cost)),
+        ("Yield of the escrow", yield_sentence(summary.yields)),
+        (
+            "No rival costs less by more than",
+            "%s; the issue allows %s" % (money_for_people(summary.gap), money_for_people(issue.amount("allowance", 0))),
+        ),
+        (
+            "Bought",
+            "%s, and opening cash of %s" % (counted(len(figures.held), "security"), money_for_people(figures.cash)),
+        ),
+    ]
     return rows
 
 
@@ -219,11 +390,25 @@ def tables_of(figures: Figures, cusips: dict) -> list[Table]:
     if figures.report is not None:
         tables += [cash(figures), securities(figures)]
     if figures.escrow_yield is not None:
-        tables.append(yield_proof("yield", "Proof of the escrow's yield", figures.settlement, figures.escrow_yield,
-                                  "The securities' cost, without opening cash,"))
+        tables.append(
+            yield_proof(
+                "yield",
+                "Proof of the escrow's yield",
+                figures.settlement,
+                figures.escrow_yield,
+                "The securities' cost, without opening cash,",
+            )
+        )
     if figures.restricted is not None:
-        tables.append(yield_proof("restricted", "Proof of the restricted yield", figures.settlement, figures.restricted,
-                                  "The price of the refunding issue"))
+        tables.append(
+            yield_proof(
+                "restricted",
+                "Proof of the restricted yield",
+                figures.settlement,
+                figures.restricted,
+                "The price of the refunding issue",
+            )
+        )
     if figures.report is not None:
         tables.append(receipts_by_security(figures))
     return [table for table in tables if table.rows]
@@ -234,7 +419,11 @@ def cell_text(column: Column, value, for_people: bool) -> str:
     if value is None or value == "":
         return ""
     if column.kind == "money":
-        return money_for_people(value) if for_people else "%s%d.%02d" % ("-" if value < 0 else "", abs(value) // 100, abs(value) % 100)
+        return (
+            money_for_people(value)
+            if for_people
+            else "%s%d.%02d" % ("-" if value < 0 else "", abs(value) // 100, abs(value) % 100)
+        )
     if column.kind == "rate":
         return rate_text(value)
     if column.kind == "price":
