@@ -74,9 +74,7 @@ class MistakesTest(FolderTest):
                 self.clear()
                 answer.set_up(self)
                 explained = run_tool(self.folder, "explain", *answer.words)
-                self.assertRegex(
-                    explained.lines[0] if explained.lines else explained.err.splitlines()[0], answer.answer
-                )
+                self.assertRegex(explained.lines[0] if explained.lines else explained.err, answer.answer)
                 for told in answer.told:
                     self.assertIn(told, explained.err)
 

@@ -95,10 +95,9 @@ def _bars(rows: list[Balance], axis: Axis) -> Iterator[str]:
 
 
 def _width(rows: list[Balance], axis: Axis) -> int:
-    """As wide as the nearest two days let two bars be."""
-    places = [axis.across(row.day) for row in rows]
-    nearest = min((after - before for before, after in zip(places, places[1:])), default=2 * GREATEST_BAR)
-    return max(min(nearest * 2 // 5 - GAP, GREATEST_BAR), 6)
+    """As wide as days at equal distances would let two bars be."""
+    apart = (axis.across(rows[-1].day) - axis.across(rows[0].day)) // max(len(rows) - 1, 1)
+    return max(min(apart * 2 // 5 - GAP, GREATEST_BAR), 6)
 
 
 def _steps(rows: list[Balance], axis: Axis) -> str:
