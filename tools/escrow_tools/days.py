@@ -2,20 +2,26 @@
 
 from __future__ import annotations
 
-import calendar
 from datetime import date, timedelta
+from functools import lru_cache
+
+MONTH_DAYS = (31, 28, 31, 30, 31, 30, 31, 31, 30, 31, 30, 31)
 
 
 def days_after(day: date, days: int) -> date:
     return day + timedelta(days=days)
 
 
+def month_days(year: int, month: int) -> int:
+    is_leap = year % 4 == 0 and (year % 100 != 0 or year % 400 == 0)
+    return 29 if month == 2 and is_leap else MONTH_DAYS[month - 1]
+
+
 def months_after(day: date, months: int) -> date:
     """The same day of the month so many months later (or earlier), or the last day of a shorter month."""
     month = day.year * 12 + day.month - 1 + months
     year, month = divmod(month, 12)
-    last = calendar.monthrange(year, month + 1)[1]
-    return date(year, month + 1, min(day.day, last))
+    return date(year, month + 1, min(day.day, month_days(year, month + 1)))
 
 
 def years_after(day: date, years: int) -> date:
@@ -39,7 +45,7 @@ def half_back(maturity: date, halves: int, keeps_month_end: bool) -> date:
     """The date so many half-years before maturity, always counted from maturity itself."""
     day = months_after(maturity, -6 * halves)
     if keeps_month_end and is_month_end(maturity):
-        return day.replace(day=calendar.monthrange(day.year, day.month)[1])
+        return day.replace(day=month_days(day.year, day.month))
     return day
 
 
@@ -57,10 +63,11 @@ def series_date_up_to(maturity: date, day: date, keeps_month_end: bool = False) 
     return half_back(maturity, halves_to(maturity, day, keeps_month_end), keeps_month_end)
 
 
-def series_after(maturity: date, day: date, keeps_month_end: bool = False) -> list[date]:
+@lru_cache(maxsize=20_000)
+def series_after(maturity: date, day: date, keeps_month_end: bool = False) -> tuple:
     """The dates of the series after a day and up to maturity, in order."""
     halves = halves_to(maturity, day, keeps_month_end)
-    return [half_back(maturity, number, keeps_month_end) for number in range(halves - 1, -1, -1)]
+    return tuple(half_back(maturity, number, keeps_month_end) for number in range(halves - 1, -1, -1))
 
 
 def is_weekend(day: date) -> bool:

@@ -2,10 +2,10 @@
 
 from __future__ import annotations
 
+from bisect import bisect_right
 from collections import defaultdict
-from dataclasses import dataclass
 from datetime import date
-from typing import Iterable, Optional
+from typing import Iterable, NamedTuple, Optional, Sequence
 
 from .amounts import near
 from .case_files import Bond, Call, Issue
@@ -16,8 +16,7 @@ DAYS_360 = 36_000_000
 PRICE_UNITS = 10**10
 
 
-@dataclass(frozen=True)
-class Payment:
+class Payment(NamedTuple):
     """What an old bond needs on a day, in cents."""
 
     day: date
@@ -34,9 +33,9 @@ def is_called(bond: Bond, call: Optional[Call]) -> bool:
     return call is not None and bond.maturity > call.day
 
 
-def _interest_days(bond: Bond, settlement: date, call: Optional[Call]) -> list[date]:
+def _interest_days(bond: Bond, settlement: date, call: Optional[Call]) -> Sequence[date]:
     days = series_after(bond.maturity, settlement)
-    return [day for day in days if day <= call.day] if is_called(bond, call) else days
+    return days[: bisect_right(days, call.day)] if is_called(bond, call) else days
 
 
 def _accrued(bond: Bond, call: Call) -> int:
@@ -46,16 +45,30 @@ def _accrued(bond: Bond, call: Call) -> int:
     return 0 if begins == call.day else near(bond.principal * bond.coupon * days, DAYS_360)
 
 
+def half_coupon(bond: Bond) -> int:
+    """What is paid of interest on each day of interest."""
+    return near(bond.principal * bond.coupon, HALF_YEAR)
+
+
+def last_payment(bond: Bond, call: Optional[Call]) -> Payment:
+    """What is paid at maturity or at the call, beside half a coupon."""
+    if not is_called(bond, call):
+        return Payment(bond.maturity, bond.principal, 0, 0)
+    premium = near(bond.principal * call.price, PRICE_UNITS) - bond.principal
+    return Payment(call.day, bond.principal, _accrued(bond, call), premium)
+
+
 def bond_payments(bond: Bond, settlement: date, call: Optional[Call]) -> list[Payment]:
     """All that an old bond needs, in order of days; amounts that are rounded apart stand apart."""
-    half = near(bond.principal * bond.coupon, HALF_YEAR)
+    half = half_coupon(bond)
     payments = [Payment(day, 0, half, 0) for day in _interest_days(bond, settlement, call)]
-    if is_called(bond, call):
-        premium = near(bond.principal * call.price, PRICE_UNITS) - bond.principal
-        payments.append(Payment(call.day, bond.principal, _accrued(bond, call), premium))
-    else:
-        payments.append(Payment(bond.maturity, bond.principal, 0, 0))
-    return payments
+    return payments + [last_payment(bond, call)]
+
+
+def bond_total(bond: Bond, settlement: date, call: Optional[Call]) -> Payment:
+    """All that an old bond needs, summed, at its last day."""
+    last = last_payment(bond, call)
+    return last._replace(interest=last.interest + half_coupon(bond) * len(_interest_days(bond, settlement, call)))
 
 
 def joined(payments: Iterable[Payment]) -> list[Payment]:
@@ -75,6 +88,9 @@ def needs_by_day(issue: Issue) -> dict[date, int]:
     for need in issue.needs:
         sums[need.day] += need.cents
     for bond in issue.bonds:
-        for payment in bond_payments(bond, issue.settlement, issue.call):
-            sums[payment.day] += payment.total
+        half = half_coupon(bond)
+        for day in _interest_days(bond, issue.settlement, issue.call):
+            sums[day] += half
+        last = last_payment(bond, issue.call)
+        sums[last.day] += last.total
     return {day: sums[day] for day in sorted(sums) if sums[day] != 0}

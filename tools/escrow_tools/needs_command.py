@@ -9,7 +9,7 @@ from datetime import date
 
 from . import amounts
 from .amounts import counted, money, money_for_people
-from .needs import bond_payments, is_called, joined
+from .needs import bond_payments, bond_total, is_called, joined
 from .needs_asked import Series, asked_needs, read_series
 from .records import records_of
 from .speaking import Stop, Words, put_out, tell
@@ -111,7 +111,7 @@ def _totals(files: list[Series], needs: dict[date, int]) -> list[str]:
     lines = []
     for series in files:
         issue = series.issue
-        paid = [payment for bond in issue.bonds for payment in bond_payments(bond, issue.settlement, issue.call)]
+        paid = [bond_total(bond, issue.settlement, issue.call) for bond in issue.bonds]
         called = sum(is_called(bond, issue.call) for bond in issue.bonds)
         parts = [sum(getattr(payment, part) for payment in paid) for part in ("principal", "interest", "premium")]
         lines.append(

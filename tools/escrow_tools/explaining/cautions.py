@@ -13,6 +13,7 @@ from .case_reading import CaseRead
 from .explanation import shown
 
 LEAST_PLAUSIBLE = 300
+MOST_PLAUSIBLE = 15_000
 MOST_SHOWN = 6
 FAR_DAYS = 45
 
@@ -55,13 +56,10 @@ class Cautions:
         rows += [(RATES, one.record, one.rate or 0, "rate") for one in (rates.offers if rates else [])]
         rows += [(PRICES, note.record, note.coupon, "coupon") for note in (prices.notes if prices else [])]
         for file, record, rate, what in rows:
-            if 0 < rate < LEAST_PLAUSIBLE and not (file == PRICES and rate >= 125):
-                yield self.at(
-                    file,
-                    record,
-                    "a %s of %s percent: it is in percent; is %s meant?"
-                    % (what, rate_text(rate), rate_text(rate * 100)),
-                )
+            # An eighth or a quarter of a percent is a coupon that there is.
+            if 0 < rate < LEAST_PLAUSIBLE and rate % 125 != 0:
+                meant = "; is %s meant?" % rate_text(rate * 100) if rate <= MOST_PLAUSIBLE // 100 else ""
+                yield self.at(file, record, "a %s of %s percent: it is in percent%s" % (what, rate_text(rate), meant))
 
     def cent_prices(self) -> Iterator[str]:
         """Prices with a point and two digits up to 31, beside others in 32nds."""
