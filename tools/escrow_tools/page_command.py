@@ -10,7 +10,7 @@ from pathlib import Path
 from typing import Optional
 
 from . import program
-from .amounts import money_for_people, rate_text, yield_text
+from .amounts import counted, money_for_people, rate_text, yield_text
 from .case_files import CERT, ISSUE, PRICES, RATES
 from .certificate import read_certificate
 from .explaining.answers import Run, explain_run
@@ -213,13 +213,8 @@ def run(arguments: list[str]) -> int:
     if chosen.csv:
         _write_tables(chosen.csv, tables)
     put_out(page_html(page).encode())
-    tell(
-        "the page has %d tables; %s"
-        % (
-            len(tables),
-            "they are in %s as well" % chosen.csv if chosen.csv else "--csv DIR writes them for a spreadsheet",
-        )
-    )
+    further = "they are in %s as well" % chosen.csv if chosen.csv else "--csv DIR writes them for a spreadsheet"
+    tell("the page is made, with %s; %s" % (counted(len(tables), "table"), further))
     return program.DONE
 
 

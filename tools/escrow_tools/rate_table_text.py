@@ -30,6 +30,10 @@ UNITS = {
     "week": "weeks",
 }
 PART = re.compile(r"(\d+)\s*[- ]?\s*([a-z]+)\.?")
+# A day as it stands in a line of text: 2026-01-13, 1/13/2026, January 13, 2026, 13 January 2026.
+DATED = re.compile(
+    r"\d{4}-\d{1,2}-\d{1,2}|\d{1,2}[/.]\d{1,2}[/.]\d{2,4}|[A-Za-z]{3,9}\.? \d{1,2},? \d{4}|\d{1,2} [A-Za-z]{3,9} \d{4}"
+)
 RANGE_WORDS = re.compile(r"\s+(?:to|through|thru|until)\s+|\s*[\u2013\u2014]\s*")
 
 
@@ -122,15 +126,13 @@ class _TableReader:
             self.unit = next(unit for unit in units if unit)
 
     def dated(self, text: str) -> bool:
-        """Whether a line says the table's day; it is kept."""
-        match = re.search(
-            r"(?i)(?:date|day|effective|as of|rates for|published)\W*(?:on|for|of)?\W*([\w/., -]*\d[\w/., -]*)", text
-        )
-        mended = mend_date(re.sub(r"[,;\s]+$", "", match.group(1))) if match else None
-        if mended is None or mended.text is None:
-            return False
-        self.day = date.fromisoformat(mended.text)
-        return True
+        """Whether a line above the rates says the table's day; it is kept."""
+        for found in [] if self.rows else DATED.findall(text):
+            mended = mend_date(found)
+            if mended.text is not None:
+                self.day = date.fromisoformat(mended.text)
+                return True
+        return False
 
     def lengths(self, cells: list[str]) -> Optional[tuple[Length, Length]]:
         """The length that the cells before the rate give, or the first and the last one."""

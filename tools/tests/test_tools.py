@@ -186,6 +186,17 @@ class OffersTest(FolderTest):
             table = DatedTable(read_table(text.encode(), None), date(2026, 1, 15), "lower")
             self.assertEqual(table.ranges()[-1].last, date(2026, 4, 15), text)
 
+    def test_days_of_tables(self) -> None:
+        for line in (
+            "date,2026-01-13",
+            "SLGS rates for January 13, 2026",
+            "Effective: 1/13/2026",
+            "13 Jan 2026;;",
+            "Table of Jan. 13 2026",
+        ):
+            self.assertEqual(read_table((line + "\n3 months,3.5\n").encode(), None).day, date(2026, 1, 13), line)
+        self.assertIsNone(read_table(b"SLGS rates\n3 months,3.5\n", None).day)
+
     def test_no_table(self) -> None:
         self.write("issue.csv", ISSUE)
         for text, told in (

@@ -357,6 +357,8 @@ def summary_rows(figures: Figures) -> list[tuple[str, str]]:
             % yield_text(figures.case.limit),
         ),
     ]
+    if not figures.refunded:
+        rows.pop(1)
     if summary is None:
         return rows
     rows += [

@@ -11,6 +11,10 @@ from pathlib import Path
 from .meaning import Meaning
 from .tables import Column, Table, cell_text
 
+THIS_PAGE = (
+    "is made by a tool that is tested and not proved. Each figure on it is the program's own, or was worked out beside the program and agreed "
+    "with it; where one doesn't agree, no page is made."
+)
 NUMBERS = ("money", "rate", "count", "price")
 
 
@@ -94,9 +98,8 @@ def _meaning(page: Page) -> list[str]:
         "<blockquote>%s</blockquote>" % escape(page.meaning.claim),
         '<h2 id="limits">What it doesn\'t</h2>',
     ]
-    return parts + [
-        "<p><strong>%s</strong>: %s</p>" % (escape(word), escape(text)) for word, text in page.meaning.limits
-    ]
+    limits = page.meaning.limits + [("This page", THIS_PAGE)]
+    return parts + ["<p><strong>%s</strong>: %s</p>" % (escape(word), escape(text)) for word, text in limits]
 
 
 SIGNATURES = '<div class="signatures">%s</div>' % "".join(
