@@ -41,6 +41,13 @@ class Plan:
     def gap(self) -> int:
         return self.report.summary.gap
 
+    def is_better_than(self, other: Optional[Plan]) -> bool:
+        """Whether it costs less, or as much with a smaller gap."""
+        if other is None:
+            return True
+        mine, others = self.report.summary, other.report.summary
+        return (mine.cost, mine.gap) < (others.cost, others.gap)
+
 
 class Search:
     """Searches of one case with other allowances; the best plan of all of them is kept."""
@@ -57,7 +64,7 @@ class Search:
         answer = self.folder.structure(changed, shows_progress=True)
         if answer.status == program.DONE:
             plan = Plan(read_report(answer.lines), answer.said, self.folder.certificate.read_bytes())
-            if self.best is None or plan.gap < self.best.gap:
+            if plan.is_better_than(self.best):
                 self.best = plan
         return answer
 
