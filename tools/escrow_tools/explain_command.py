@@ -1,0 +1,78 @@
+"""`--explain`: runs the program with its own words, hands on what it says byte for byte, and then says what it means."""
+
+from __future__ import annotations
+
+import os
+import subprocess
+import sys
+from pathlib import Path
+from typing import Optional
+
+from . import program
+from .case_files import CERT, ISSUE, PRICES, RATES
+from .explaining.answers import Run, explain_run
+from .explaining.case_reading import read_whole_case
+from .explaining.cautions import totals
+from .speaking import Stop, put_out, tell
+
+PLACES = (ISSUE, RATES, PRICES, CERT)
+# Files that are larger than any that the program reads aren't read here.
+LARGEST = 70_000_000
+# Up to so many bytes of input files their totals are said at once, and else once the search has taken a second.
+SMALL_CASE = 200_000
+
+
+def _snapshot(path: str) -> Optional[bytes]:
+    """The bytes of a plain file; a pipe is the program's to read, once."""
+    try:
+        if os.path.isfile(path) and os.path.getsize(path) <= LARGEST:
+            return Path(path).read_bytes()
+    except (OSError, ValueError):
+        pass
+    return None
+
+
+def _files(words: list[str]) -> tuple[dict, dict]:
+    names = dict(zip(PLACES, words[1:5]))
+    read = {file: _snapshot(name) for file, name in names.items()}
+    return names, {file: data for file, data in read.items() if data is not None}
+
+
+def _tell_totals(running: subprocess.Popen, data: dict) -> None:
+    if sum(len(data.get(file, b"")) for file in PLACES[:3]) > SMALL_CASE:
+        try:
+            running.wait(1)
+            return
+        except subprocess.TimeoutExpired:
+            pass
+    case = read_whole_case(data.get(ISSUE), data.get(RATES), data.get(PRICES))
+    if case.refusal is None:
+        tell(*totals(case))
+
+
+def _is_whole(words: list[str]) -> bool:
+    return len(words) == 5 and words[0] in ("check", "structure")
+
+
+def run_explained(words: list[str]) -> int:
+    """The program's status, after its own words and what they mean."""
+    names, data = _files(words) if _is_whole(words) else ({}, {})
+    old_certificate = bool(names) and os.path.isfile(names[CERT])
+    running = subprocess.Popen([program.program_path()] + words, stdout=subprocess.PIPE)
+    if _is_whole(words) and words[0] == "structure":
+        # What it says is small but for a report, which comes at the very end.
+        _tell_totals(running, data)
+    said = running.communicate()[0]
+    status = running.returncode if running.returncode >= 0 else 128 - running.returncode
+    try:
+        put_out(said)
+    except Stop:
+        print("write fault", file=sys.stderr)
+        return program.WRITE_FAULT
+    run = Run(words, status, said.decode("ascii", "replace").splitlines(), names, data, old_certificate)
+    tell(*explain_run(run))
+    return status
+
+
+def run(arguments: list[str]) -> int:
+    return run_explained(arguments)

@@ -1,0 +1,362 @@
+"""What each answer of the program means, and what to do then."""
+
+from __future__ import annotations
+
+from dataclasses import dataclass, field
+from datetime import date
+from typing import Optional
+
+from .. import program
+from ..amounts import counted, money, money_for_people, yield_text
+from ..case_files import CERT, ISSUE, Refusal
+from ..certificate import Certificate, read_certificate
+from ..report import BadReport, cents_of, read_summary
+from ..securities import indexed
+from ..yields import interval
+from .case_reading import CaseRead, read_whole_case
+from .cautions import Cautions
+from .explanation import shown
+from .files import explain_fault
+from .grammar import explain_grammar
+from .holdings import holdings_of, is_permitted, most_receipts, up_to
+from .refusals import explain_refusal
+
+HUGE_ALLOWANCE = 10**13
+
+
+@dataclass
+class Run:
+    """A run of the program: its words, its answer, and the bytes of the files that could be read beside it."""
+
+    words: list[str]
+    status: int
+    lines: list[str]
+    names: dict = field(default_factory=dict)
+    data: dict = field(default_factory=dict)
+    # Whether a certificate of an earlier run stands where this one was to be written.
+    old_certificate: bool = False
+
+    @property
+    def command(self) -> str:
+        return self.words[0] if self.words else ""
+
+    @property
+    def first_line(self) -> str:
+        return self.lines[0] if self.lines else ""
+
+    def read_case(self) -> CaseRead:
+        if "read" not in self.__dict__:
+            self.__dict__["read"] = read_whole_case(
+                self.data.get(ISSUE), self.data.get("rates"), self.data.get("prices")
+            )
+        return self.__dict__["read"]
+
+    def read_certificate(self) -> Optional[Certificate]:
+        data = self.data.get(CERT)
+        return None if data is None else read_certificate(data)
+
+
+def explain_run(run: Run) -> list[str]:
+    """All that is said of a run, on standard error, after the program's own answer."""
+    explainer = EXPLAINERS.get(run.status)
+    lines = explainer(run) if explainer else []
+    if run.status in CASE_STATUSES:
+        lines += Cautions(run.read_case(), run.names).all()
+    if (
+        run.command == "structure"
+        and run.status not in (program.DONE, program.NONE_WITHIN, program.WRITE_FAULT)
+        and run.old_certificate
+    ):
+        lines.append("%s is from an earlier run: it stands as it was, and isn't of these files" % run.names[CERT])
+    return lines
+
+
+def _done(run: Run) -> list[str]:
+    if run.first_line == "yes none":
+        return ["accepted: no permitted purchases meet the needs within the yield limit, and the certificate proves it"]
+    try:
+        place = 1 if run.first_line == "yes" else [line[:5] for line in run.lines].index("cost ")
+        summary = read_summary(run.lines[place : place + 4])
+    except (BadReport, ValueError):
+        return []
+    cost, gap, limit = money_for_people(summary.cost), money_for_people(summary.gap), yield_text(summary.limit)
+    what = (
+        "accepted: the purchases pay every need" if run.first_line == "yes" else "found: these purchases pay every need"
+    )
+    lines = [
+        "%s, cost %s, and keep to the yield limit of %s percent" % (what, cost, limit),
+        "no rival costs less by more than %s: a rival is permitted, pays every need and keeps to the limit" % gap,
+    ]
+    if run.command == "structure":
+        lines.append(
+            "%s is written; `./escrow check` tries it, and `./escrow page` makes what a verifier signs"
+            % run.names[CERT]
+        )
+    return lines
+
+
+def _usage(run: Run) -> list[str]:
+    if not run.words:
+        return []
+    command, given = run.words[0], len(run.words) - 1
+    if command in ("check", "structure"):
+        return [
+            "`%s` takes four words, ISSUE RATES PRICES CERT, and here are %d%s"
+            % (
+                command,
+                given,
+                ": a name with blanks in it stands in quotes"
+                if given > 4
+                else "; an empty PRICES or RATES file is a file too",
+            )
+        ]
+    return ["`%s` is no command; `./escrow --help` lists them" % shown(command)]
+
+
+def _refused(run: Run) -> list[str]:
+    words = run.first_line.split(" ")
+    if len(words) != 5:
+        return []
+    file, row, name = words[1], int(words[3]), words[4]
+    if file not in run.data:
+        return ["%s, row %d: %s (the file can't be read again to show more)" % (run.names.get(file, file), row, name)]
+    if file == CERT:
+        return explain_refusal(Refusal(CERT, name), run.names, run.data)
+    refusal = run.read_case().refusal
+    if refusal is None or (refusal.file, refusal.row, refusal.name) != (file, row, name):
+        return [
+            "%s, row %d: %s; docs/FORMATS.md has the name with a faulty row and the mended one"
+            % (run.names.get(file, file), row, name)
+        ]
+    return explain_refusal(refusal, run.names, run.data)
+
+
+def _infeasible(run: Run) -> list[str]:
+    day = date.fromisoformat(run.first_line.split(" ")[1])
+    lines = ["even with all that is on offer, at every cap, the needs up to %s aren't met" % day]
+    case = run.read_case()
+    if case.refusal is not None or case.prices is None:
+        return lines
+    cash, paid, matured = most_receipts(case, day)
+    needed = up_to(case.needs, day)
+    lines.append(
+        "up to that day %s is needed, and at most %s comes in (cash %s, securities %s): %s is short"
+        % tuple(money_for_people(cents) for cents in (needed, cash + paid, cash, paid, needed - cash - paid))
+    )
+    if matured == 0:
+        lines.append(
+            "nothing on offer matures by then: offer a line that does, or bring that much `cash` to settlement"
+        )
+    else:
+        lines.append(
+            "%s by then: raise their caps, offer more, or bring `cash`"
+            % ("1 line matures" if matured == 1 else "%d lines mature" % matured)
+        )
+    return lines
+
+
+def _low_lines(case: CaseRead) -> int:
+    """How many SLGS lines bear at most half the limit."""
+    half = (case.limit or 0) // 2
+    return sum(line.is_slgs and line.security.rate * 10**5 <= half for line in case.lines)
+
+
+def _needs_low_line(case: CaseRead) -> list[str]:
+    """Advice where the limit may bind and nothing on offer yields less."""
+    if case.limit is None or case.refusal is not None:
+        return []
+    above = sum(line.is_slgs and line.security.rate * 10**5 > case.limit for line in case.lines)
+    above += sum(not line.is_slgs for line in case.lines)
+    if above and not _low_lines(case):
+        return [
+            "the yield limit of %s percent may bind, and no SLGS line of a low rate is on offer: add `offer,DATE,0.00,,CAP` on the "
+            "need dates (a subscriber may choose any rate up to the table's); `./escrow offers` does"
+            % yield_text(case.limit)
+        ]
+    return []
+
+
+def _none_within(run: Run) -> list[str]:
+    return [
+        "no permitted purchases meet the needs within the yield limit; %s holds the proof, and `check` says `yes none` to it"
+        % run.names[CERT]
+    ] + (_needs_low_line(run.read_case()) or ["offer SLGS at lower rates, or bring `cash`"])
+
+
+def _budget_spent(run: Run) -> list[str]:
+    said = dict(line.split(" ", 1) for line in run.lines if " " in line)
+    bound, best = said.get("bound"), said.get("best")
+    lines = ["the search ended after %s nodes without a plan that the allowance covers" % said.get("nodes", "its")]
+    if best in (None, "none"):
+        lines.append("no plan was found; a greater `budget` looks longer, and more lines or some `cash` may help")
+    else:
+        gap = cents_of(best) - cents_of(bound)
+        lines.append(
+            "the best plan costs %s, and nothing permitted costs less than %s"
+            % (money_for_people(cents_of(best)), money_for_people(cents_of(bound)))
+        )
+        lines.append("enough would be the row: allowance,%s" % money(gap))
+        lines.append("`./escrow best` writes that plan's certificate whatever is allowed")
+    return lines + _needs_low_line(run.read_case())
+
+
+def _unbuilt(run: Run) -> list[str]:
+    case = run.read_case()
+    if run.command == "best":
+        return ["the needs can be met, and no plan within the yield limit was found"] + (
+            _needs_low_line(case) or ["offer more lines or lower rates, or bring `cash`"]
+        )
+    allowed = case.issue.amount("allowance", 0) if case.issue else 0
+    return [
+        "the needs can be met, and no plan was found that is proved within the allowance of %s"
+        % money_for_people(allowed),
+        "`./escrow best` finds the best plan whatever is allowed, and says the `allowance` row for it",
+    ] + _needs_low_line(case)
+
+
+def _no(run: Run) -> list[str]:
+    words = run.first_line.split(" ")
+    explainer = REASONS.get(words[1] if len(words) > 1 else "")
+    return explainer(run, words[2:]) if explainer else []
+
+
+def _grammar(run: Run, words: list[str]) -> list[str]:
+    return explain_grammar(run.data.get(CERT), run.names[CERT], int(words[0]), words[1], len(run.read_case().needs))
+
+
+def _describe(case: CaseRead, number: int) -> str:
+    if number == 0:
+        return "line 0 is opening cash"
+    if number > len(case.lines):
+        return "there is no line %d: %s and %s are on offer" % (
+            number,
+            counted(len(case.rates.offers), "offer"),
+            counted(len(case.prices.notes), "note"),
+        )
+    line = case.lines[number - 1]
+    rows = case.rates.offers if line.is_slgs else case.prices.notes
+    row = rows[number - 1 if line.is_slgs else number - 1 - len(case.rates.offers)]
+    return "line %d is `%s`" % (number, shown(row.record.text))
+
+
+def _not_permitted(run: Run, words: list[str]) -> list[str]:
+    number, case, certificate = int(words[0]), run.read_case(), run.read_certificate()
+    lines = ["a purchase isn't permitted: " + _describe(case, number)]
+    if certificate is None or number > len(case.lines):
+        return lines
+    units = next((one.units for one in certificate.purchases or [] if one.line == number), 0)
+    if number == 0:
+        return lines + [
+            "%s is bought of it, and the issue's `cash` row allows %s; without the row it is 0"
+            % (money_for_people(units), money_for_people(case.issue.amount("cash", 0)))
+        ]
+    line = case.lines[number - 1]
+    if not is_permitted(line, units * line.step):
+        lines.append(
+            "%s of %s dollars are bought, that is %s; from %s to %s may be"
+            % (
+                counted(units, "unit"),
+                format(line.step // 100, ","),
+                *(money_for_people(cents) for cents in (units * line.step, line.least, line.most)),
+            )
+        )
+    return lines
+
+
+def _short_on(run: Run, words: list[str]) -> list[str]:
+    day, case, certificate = date.fromisoformat(words[0]), run.read_case(), run.read_certificate()
+    lines = ["up to %s less comes in than is needed" % day]
+    if certificate is not None and case.refusal is None:
+        receipts, needed = up_to(holdings_of(case, certificate).receipts, day), up_to(case.needs, day)
+        lines.append(
+            "needed up to then: %s; received up to then: %s; short by %s"
+            % tuple(money_for_people(cents) for cents in (needed, receipts, needed - receipts))
+        )
+    return lines + ["buy more that pays by that day; or is this the certificate of an earlier issue file?"]
+
+
+def _yield_above(run: Run, words: list[str]) -> list[str]:
+    case, certificate = run.read_case(), run.read_certificate()
+    lines = ["the yield of the purchases is above the limit"]
+    if certificate is not None and case.refusal is None:
+        held = holdings_of(case, certificate)
+        receipts = dict(held.receipts)
+        receipts[case.issue.settlement] -= held.cash
+        ends = interval(indexed(case.issue.settlement, receipts), held.security_cost)
+        if ends is not None:
+            lines = [
+                "the yield of the purchases is %s percent, and the limit %s"
+                % (yield_text(ends.high), yield_text(case.limit))
+            ]
+    return lines + [
+        "buy some at a lower rate (`offer,DATE,0.00,,CAP`), or `./escrow best` finds what keeps to the limit"
+    ]
+
+
+def _bad_split(run: Run, words: list[str]) -> list[str]:
+    return [
+        "node %s of the certificate's tree splits a line where it has no numbers on one side, or a line that isn't offered"
+        % words[0],
+        "is it the certificate of these files? `./escrow best` writes one anew",
+    ]
+
+
+def _weak_leaf(run: Run, words: list[str]) -> list[str]:
+    return [
+        "node %s of the certificate's tree doesn't bear out that nothing is cheaper by more than the gap" % words[0],
+        "is it the certificate of these files, rates and prices? write a greater `gap`, in cents, or let `./escrow best` write one anew",
+    ]
+
+
+def _gap_above(run: Run, words: list[str]) -> list[str]:
+    case, certificate = run.read_case(), run.read_certificate()
+    allowed = case.issue.amount("allowance") if case.issue else None
+    gap = money(certificate.gap) if certificate else "that gap"
+    has = "allows %s" % money_for_people(allowed) if allowed is not None else "has no `allowance` row, which is 0"
+    return [
+        "all holds but this: the certificate proves a gap of %s, and the issue %s" % (gap, has),
+        "enough is the row: allowance,%s" % gap,
+    ]
+
+
+def _no_memory(run: Run) -> list[str]:
+    return ["the system gave no more memory; nothing was written"]
+
+
+REASONS = {
+    "Grammar": _grammar,
+    "NotPermitted": _not_permitted,
+    "ShortOn": _short_on,
+    "YieldAbove": _yield_above,
+    "BadSplit": _bad_split,
+    "WeakLeaf": _weak_leaf,
+    "GapAbove": _gap_above,
+}
+
+
+def _fault(run: Run) -> list[str]:
+    return explain_fault(run.status, run.names, run.command)
+
+
+EXPLAINERS = {
+    program.DONE: _done,
+    program.NO: _no,
+    program.USAGE: _usage,
+    program.REFUSED: _refused,
+    program.INFEASIBLE: _infeasible,
+    program.NONE_WITHIN: _none_within,
+    program.BUDGET_SPENT: _budget_spent,
+    program.READ_FAULT: _fault,
+    program.WRITE_FAULT: _fault,
+    program.NO_FILE: _fault,
+    program.NO_MEMORY: _no_memory,
+    program.UNBUILT: _unbuilt,
+}
+CASE_STATUSES = (
+    program.DONE,
+    program.NO,
+    program.INFEASIBLE,
+    program.NONE_WITHIN,
+    program.BUDGET_SPENT,
+    program.UNBUILT,
+)

@@ -1,0 +1,99 @@
+"""A case read in the program's order, up to the first fault that the program names."""
+
+from __future__ import annotations
+
+from dataclasses import dataclass, field
+from typing import Optional
+
+from ..case_files import (
+    GREATEST_LINES,
+    GREATEST_NEED_DATES,
+    ISSUE,
+    PRICES,
+    RATES,
+    Issue,
+    Prices,
+    Rates,
+    Refusal,
+    Terms,
+    complete,
+    read_issue_rows,
+    read_prices,
+    read_rates,
+)
+from ..amounts import GREATEST_CENTS, GREATEST_YIELD
+from ..needs import needs_by_day
+from ..securities import Line, indexed, lines_of
+from ..yields import MATERIALLY_HIGHER, interval
+
+
+@dataclass
+class CaseRead:
+    """What was read, as far as it goes, and the first refusal."""
+
+    issue: Optional[Issue] = None
+    rates: Optional[Rates] = None
+    prices: Optional[Prices] = None
+    needs: dict = field(default_factory=dict)
+    lines: list[Line] = field(default_factory=list)
+    limit: Optional[int] = None
+    refusal: Optional[Refusal] = None
+
+    def terms_of(self, file: str) -> Optional[Terms]:
+        found = self.rates if file == RATES else self.prices
+        return found.terms if found is not None else None
+
+    def keep(self, refusal: Refusal) -> None:
+        """Keeps a refusal, and what was read of its file before it."""
+        self.refusal = refusal
+        if isinstance(refusal.so_far, Issue):
+            self.issue = refusal.so_far
+        elif isinstance(refusal.so_far, Rates):
+            self.rates = refusal.so_far
+        elif isinstance(refusal.so_far, Prices):
+            self.prices = refusal.so_far
+
+
+def restricted_yield(issue: Issue) -> int:
+    """The restricted yield in units of 10^-8 percent, given or computed."""
+    given = issue.amount("restricted")
+    if given is not None:
+        return given
+    flows: dict = {}
+    for pay in issue.pays:
+        flows[pay.day] = flows.get(pay.day, 0) + pay.cents
+    ends = interval(indexed(issue.settlement, flows), issue.amount("price"))
+    if ends is None or ends.low > GREATEST_YIELD:
+        raise Refusal(ISSUE, "OutOfRange", issue.amounts["price"].record, 1)
+    return ends.low
+
+
+def _read_issue(case: CaseRead, data: bytes) -> None:
+    case.issue = read_issue_rows(data)
+    complete(case.issue)
+    case.needs = needs_by_day(case.issue)
+    if max(sum(case.needs.values()), sum(pay.cents for pay in case.issue.pays)) > GREATEST_CENTS:
+        raise Refusal(ISSUE, "NeedsTooLarge")
+    if len(case.needs) > GREATEST_NEED_DATES:
+        raise Refusal(ISSUE, "TooManyDates")
+
+
+def read_whole_case(issue: Optional[bytes], rates: Optional[bytes], prices: Optional[bytes]) -> CaseRead:
+    """Reads the three files; one that couldn't be read ends it."""
+    case = CaseRead()
+    try:
+        if issue is not None:
+            _read_issue(case, issue)
+        if issue is None or rates is None:
+            return case
+        case.rates = read_rates(rates)
+        if prices is None:
+            return case
+        case.prices = read_prices(prices, case.issue.settlement)
+        case.lines = lines_of(case.issue, case.rates, case.prices)
+        if len(case.lines) > GREATEST_LINES:
+            raise Refusal(PRICES, "TooManyLines")
+        case.limit = restricted_yield(case.issue) + MATERIALLY_HIGHER
+    except Refusal as refusal:
+        case.keep(refusal)
+    return case

@@ -1,0 +1,75 @@
+"""Which of the four files can't be read or written, and why."""
+
+from __future__ import annotations
+
+import os
+from pathlib import Path
+
+from .. import program
+from ..case_files import CERT, ISSUE, PRICES, RATES
+from ..inputs import why_unreadable
+
+
+def _fault_of(path: str) -> str:
+    """Why a file can't be read; empty where it can."""
+    if os.path.exists(path) and not os.path.isdir(path) and not os.path.isfile(path):
+        return ""
+    try:
+        with open(path, "rb") as opened:
+            opened.read(1)
+    except OSError as fault:
+        return why_unreadable(path, fault)
+    except ValueError:
+        return "%r can't be the name of a file" % path
+    return ""
+
+
+def _like_it(path: str) -> str:
+    """A file of nearly that name in the same folder."""
+    import difflib
+
+    folder = os.path.dirname(path) or "."
+    try:
+        names = [entry.name for entry in Path(folder).iterdir() if entry.is_file()]
+    except OSError:
+        return ""
+    near = difflib.get_close_matches(os.path.basename(path), names, 1, 0.6)
+    return (
+        "; %s is there: is it meant?" % os.path.join(folder if os.path.dirname(path) else "", near[0]) if near else ""
+    )
+
+
+def _write_fault(path: str) -> list[str]:
+    folder = os.path.dirname(path) or "."
+    if os.path.isdir(path):
+        return ["CERT, %s, is a folder: give the name of a file" % path]
+    if not os.path.isdir(folder):
+        return ["CERT, %s, can't be written: its folder %s isn't there" % (path, folder)]
+    if (
+        os.path.exists(path)
+        and not os.access(path, os.W_OK)
+        or not os.path.exists(path)
+        and not os.access(folder, os.W_OK)
+    ):
+        return ["CERT, %s, may not be written by you (permissions of the file or of its folder)" % path]
+    return [
+        "CERT, %s, or standard output couldn't be written whole: is the disk full, or did the reader of a pipe end? "
+        "What stands in CERT may be a part" % path
+    ]
+
+
+def explain_fault(status: int, names: dict, command: str) -> list[str]:
+    """Of a status that says that a file is missing or can't be read or written."""
+    if status == program.WRITE_FAULT:
+        return _write_fault(names[CERT]) if command == "structure" else ["standard output couldn't be written whole"]
+    words = {ISSUE: "ISSUE", RATES: "RATES", PRICES: "PRICES", CERT: "CERT"}
+    read = (ISSUE, RATES, PRICES) if command == "structure" else (ISSUE, RATES, PRICES, CERT)
+    lines = []
+    for file in read:
+        why = _fault_of(names.get(file, ""))
+        if why:
+            empty = names.get(file) == ""
+            lines.append("%s: %s" % (words[file], "its name is empty" if empty else why + _like_it(names[file])))
+    if any("PRICES" in line or "RATES" in line for line in lines) and status == program.NO_FILE:
+        lines.append("a case without such securities has an empty file in this place")
+    return lines or ["a file couldn't be read; now it can: was it changed or moved meanwhile?"]

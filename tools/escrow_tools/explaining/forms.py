@@ -1,0 +1,99 @@
+"""The rows of the files, field by field: what each is called, how it is read, and how it is mended."""
+
+from __future__ import annotations
+
+from dataclasses import dataclass
+from typing import Callable
+
+from ..case_files import ISSUE, PRICES, RATES
+from . import mending
+
+
+@dataclass(frozen=True)
+class Field:
+    name: str
+    mend: Callable
+
+
+DATE = Field("date", mending.mend_date)
+MATURITY = Field("maturity", mending.mend_date)
+AMOUNT = Field("amount", mending.mend_amount)
+PRINCIPAL = Field("principal", mending.mend_amount)
+COUPON = Field("coupon", mending.mend_rate)
+PRICE = Field("price", mending.mend_price)
+YIELD = Field("yield", mending.mend_yield)
+COUNT = Field("count", mending.mend_count)
+TABLE_RATE = Field("rate", mending.mend_table_rate)
+MINIMUM = Field("minimum", mending.mend_dollars)
+STEP = Field("step", mending.mend_dollars)
+CAP = Field("cap", mending.mend_dollars)
+FROM = Field("first day", mending.mend_date)
+TO = Field("last day", mending.mend_date)
+MAXIMUM = Field("greatest rate", mending.mend_table_rate)
+FIRST = Field("first payment date", mending.mend_date)
+
+FORMS = {
+    ISSUE: {
+        "settle": ("settle,DATE", (DATE,)),
+        "call": ("call,DATE,PRICE", (DATE, PRICE)),
+        "bond": ("bond,MATURITY,PRINCIPAL,COUPON", (MATURITY, PRINCIPAL, COUPON)),
+        "need": ("need,DATE,AMOUNT", (DATE, AMOUNT)),
+        "pay": ("pay,DATE,AMOUNT", (DATE, AMOUNT)),
+        "cash": ("cash,AMOUNT", (AMOUNT,)),
+        "restricted": ("restricted,YIELD", (YIELD,)),
+        "price": ("price,AMOUNT", (AMOUNT,)),
+        "allowance": ("allowance,AMOUNT", (AMOUNT,)),
+        "budget": ("budget,COUNT", (COUNT,)),
+    },
+    RATES: {
+        "terms": ("terms,MINIMUM,STEP", (MINIMUM, STEP)),
+        "rate": ("rate,FROM,TO,MAXIMUM", (FROM, TO, MAXIMUM)),
+        "offer": ("offer,MATURITY,RATE,FIRST,CAP", (MATURITY, TABLE_RATE, FIRST, CAP)),
+    },
+    PRICES: {
+        "terms": ("terms,MINIMUM,STEP", (MINIMUM, STEP)),
+        "note": ("note,MATURITY,COUPON,PRICE,CAP", (MATURITY, COUPON, PRICE, CAP)),
+    },
+}
+# Words that people write for those of the files.
+SYNONYMS = {
+    ISSUE: {
+        "settlement": "settle",
+        "settled": "settle",
+        "dated": "settle",
+        "redemption": "call",
+        "redeem": "call",
+        "called": "call",
+        "maturity": "bond",
+        "bonds": "bond",
+        "debt": "need",
+        "requirement": "need",
+        "payment": "pay",
+        "pays": "pay",
+        "payments": "pay",
+        "yield": "restricted",
+        "restriction": "restricted",
+        "limit": "restricted",
+        "gap": "allowance",
+        "proceeds": "price",
+        "nodes": "budget",
+        "opening": "cash",
+        "deposit": "cash",
+        "needs": "need",
+        "requirements": "need",
+        "restricted yield": "restricted",
+        "arbitrage yield": "restricted",
+        "opening cash": "cash",
+        "issue price": "price",
+    },
+    RATES: {"rates": "rate", "offers": "offer", "slgs": "offer", "term": "terms", "maximum": "rate", "max": "rate"},
+    PRICES: {"notes": "note", "treasury": "note", "bond": "note", "bill": "note", "term": "terms", "security": "note"},
+}
+
+
+def form_of(file: str, word: str) -> str:
+    return FORMS[file][word][0]
+
+
+def fields_of(file: str, word: str) -> tuple:
+    return FORMS[file][word][1]

@@ -1,0 +1,57 @@
+"""What a certificate's purchases cost and pay, worked out line by line, to explain an answer about them."""
+
+from __future__ import annotations
+
+from collections import defaultdict
+from dataclasses import dataclass
+from datetime import date
+
+from ..certificate import Certificate
+from ..securities import Line
+from .case_reading import CaseRead
+
+
+@dataclass
+class Holdings:
+    """Opening cash, the faces of lines, and what comes in by day; all in cents."""
+
+    cash: int
+    faces: dict[int, int]
+    receipts: dict[date, int]
+    cost: int
+    security_cost: int
+
+
+def holdings_of(case: CaseRead, certificate: Certificate) -> Holdings:
+    """The holdings of a certificate whose purchases are of lines that are offered."""
+    receipts: dict[date, int] = defaultdict(int)
+    cash, cost, faces = 0, 0, {}
+    for purchase in certificate.purchases or []:
+        if purchase.line == 0:
+            cash += purchase.units
+            continue
+        line = case.lines[purchase.line - 1]
+        face = purchase.units * line.step
+        faces[purchase.line] = face
+        cost += line.security.cost(face).total
+        for paid in line.security.receipts(face):
+            receipts[paid.day] += paid.total
+    receipts[case.issue.settlement] += cash
+    return Holdings(cash, faces, dict(receipts), cost + cash, cost)
+
+
+def is_permitted(line: Line, face: int) -> bool:
+    return face == 0 or line.least <= face <= line.most
+
+
+def up_to(amounts_by_day: dict[date, int], day: date) -> int:
+    return sum(cents for one, cents in amounts_by_day.items() if one <= day)
+
+
+def most_receipts(case: CaseRead, day: date) -> tuple[int, int, int]:
+    """Up to a day: the greatest opening cash, what principal and interest of all lines at their caps pay, and how many mature."""
+    paid, matured = 0, 0
+    for line in case.lines:
+        paid += sum(one.total for one in line.security.receipts(line.most) if one.day <= day)
+        matured += line.security.maturity <= day
+    return case.issue.amount("cash", 0), paid, matured

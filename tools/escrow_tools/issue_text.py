@@ -1,0 +1,42 @@
+"""Issue files made from others: with another allowance, or with the needs alone."""
+
+from __future__ import annotations
+
+import re
+
+from .amounts import FieldFault, read_cents
+from .case_files import Issue
+from .records import BYTE_ORDER_MARK, records_of
+
+GREATEST_ALLOWANCE = "100000000000.00"
+NEED_WORDS = ("settle", "call", "bond", "need")
+
+
+def with_allowance(issue: bytes, amount: str) -> bytes:
+    """The same issue file with another allowance. Each other row keeps its number, so that a refusal names the row it is in."""
+    for record in records_of(issue):
+        if record.word == "allowance" and len(record.fields) == 2 and _is_amount(record.fields[1]):
+            return _with_line(issue, record.line, b"allowance," + amount.encode())
+    return issue + (b"" if issue.endswith((b"\n", b"\r")) else b"\n") + b"allowance," + amount.encode() + b"\n"
+
+
+def _is_amount(text: str) -> bool:
+    try:
+        read_cents(text)
+    except FieldFault:
+        return False
+    return True
+
+
+def _with_line(data: bytes, line: int, text: bytes) -> bytes:
+    mark = BYTE_ORDER_MARK if data.startswith(BYTE_ORDER_MARK) else b""
+    pieces = re.split(b"(\r\n|\n|\r)", data[len(mark) :])
+    pieces[2 * line - 2] = text
+    return mark + b"".join(pieces)
+
+
+def paid_by_cash(issue: Issue, data: bytes) -> bytes:
+    """A case in which opening cash pays everything, so that its report has each need."""
+    rows = [record.text for record in records_of(data) if record.word in NEED_WORDS]
+    rows += ["cash," + GREATEST_ALLOWANCE, "restricted,29.99", "allowance," + GREATEST_ALLOWANCE]
+    return ("\n".join(rows) + "\n").encode("utf-8", "replace")

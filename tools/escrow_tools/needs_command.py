@@ -1,0 +1,128 @@
+"""`./escrow needs`: what is needed by day, of one or more issue files."""
+
+from __future__ import annotations
+
+import csv
+import io
+from collections import Counter
+from datetime import date
+
+from . import amounts
+from .amounts import counted, money, money_for_people
+from .needs import bond_payments, bond_total, is_called, joined
+from .needs_asked import Series, asked_needs, read_series
+from .records import records_of
+from .speaking import Stop, Words, put_out, tell
+
+WHAT = """\
+What is needed by day, as `need` rows, of one or more issue files, each with its own call: two series, or the called
+part of a series and the part that isn't, are a file each. The figures are the program's own."""
+
+
+def words() -> Words:
+    parser = Words("needs", WHAT)
+    parser.add_argument(
+        "issues", nargs="+", metavar="ISSUE", help="issue file: `settle`, `call`, `bond` and `need` rows are enough"
+    )
+    kinds = parser.add_mutually_exclusive_group()
+    kinds.add_argument(
+        "--by-bond",
+        action="store_true",
+        help="each payment of each bond instead, with principal, interest and premium apart, as CSV",
+    )
+    kinds.add_argument(
+        "--issue",
+        action="store_true",
+        help="one whole issue file of them all: `settle`, the needs, and the further rows of the files",
+    )
+    return parser
+
+
+def run(arguments: list[str]) -> int:
+    chosen = words().parse_args(arguments)
+    files = [read_series(name) for name in chosen.issues]
+    _try_settlements(files)
+    needs: Counter = Counter()
+    for series in files:
+        needs.update(asked_needs(series))
+    if chosen.by_bond:
+        put_out(_by_bond(files).encode())
+    else:
+        rows = ["need,%s,%s" % (day, money(needs[day])) for day in sorted(needs)]
+        put_out(("".join(row + "\n" for row in (_whole_issue(files, rows) if chosen.issue else rows))).encode())
+    tell(*_totals(files, needs))
+    return 0
+
+
+def _try_settlements(files: list[Series]) -> None:
+    first = files[0]
+    for series in files[1:]:
+        if series.issue.settlement != first.issue.settlement:
+            raise Stop(
+                "%s settles on %s, and %s on %s"
+                % (first.name, first.issue.settlement, series.name, series.issue.settlement),
+                "write the same `settle` row in both",
+            )
+
+
+def _whole_issue(files: list[Series], needs: list[str]) -> list[str]:
+    """The rows of one issue file of them all."""
+    rows = ["settle,%s" % files[0].issue.settlement] + needs
+    said: dict[str, str] = {}
+    for series in files:
+        for record in records_of(series.data):
+            if record.word in amounts_rows():
+                text = ",".join(record.fields)
+                if record.word in said and said[record.word] != series.name:
+                    raise Stop(
+                        "%s and %s both have a `%s` row: leave it in one of them"
+                        % (said[record.word], series.name, record.word)
+                    )
+                said[record.word] = series.name
+                rows.append(text)
+    return rows
+
+
+def amounts_rows() -> tuple:
+    """The words of the rows that aren't needs."""
+    return ("cash", "restricted", "price", "pay", "allowance", "budget")
+
+
+def _by_bond(files: list[Series]) -> str:
+    text = io.StringIO()
+    rows = csv.writer(text, lineterminator="\n")
+    rows.writerow(["file", "row", "maturity", "coupon", "date", "principal", "interest", "premium", "total"])
+    for series in files:
+        issue = series.issue
+        for bond in issue.bonds:
+            head = [series.name, bond.record.number, bond.maturity, amounts.rate_text(bond.coupon)]
+            for paid in joined(bond_payments(bond, issue.settlement, issue.call)):
+                rows.writerow(
+                    head
+                    + [paid.day]
+                    + [money(part) for part in (paid.principal, paid.interest, paid.premium, paid.total)]
+                )
+        for need in issue.needs:
+            rows.writerow([series.name, need.record.number, "", "", need.day, "", "", "", money(need.cents)])
+    return text.getvalue()
+
+
+def _totals(files: list[Series], needs: dict[date, int]) -> list[str]:
+    lines = []
+    for series in files:
+        issue = series.issue
+        paid = [bond_total(bond, issue.settlement, issue.call) for bond in issue.bonds]
+        called = sum(is_called(bond, issue.call) for bond in issue.bonds)
+        parts = [sum(getattr(payment, part) for payment in paid) for part in ("principal", "interest", "premium")]
+        lines.append(
+            "%s: %s%s; principal %s, interest %s, premium %s; %s"
+            % (
+                series.name,
+                counted(len(issue.bonds), "bond"),
+                ", %d called on %s" % (called, issue.call.day) if issue.call else "",
+                *(money_for_people(part) for part in parts),
+                counted(len(issue.needs), "direct need"),
+            )
+        )
+    lines.append("%s, %s together" % (counted(len(needs), "need date"), money_for_people(sum(needs.values()))))
+    return lines

@@ -1,0 +1,227 @@
+"""`./escrow page`: the page that a verifier signs, of a certificate that `check` accepts."""
+
+from __future__ import annotations
+
+import csv
+import hashlib
+import io
+import os
+from pathlib import Path
+from typing import Optional
+
+from . import program
+from .amounts import counted, money_for_people, rate_text, yield_text
+from .case_files import CERT, ISSUE, PRICES, RATES
+from .certificate import read_certificate
+from .explaining.answers import Run, explain_run
+from .explaining.case_reading import read_whole_case
+from .inputs import REPORT, beside, read_case, read_file, write_file
+from .needs_asked import Series, read_series
+from .offering import COMMENTS
+from .page.figures import Figures, figures_of
+from .page.meaning import meaning
+from .page.picture import picture
+from .page.tables import summary_rows, tables_of
+from .page.writing import Page, page_html, table_csv
+from .program import Answer
+from .report import Report, Summary, read_summary
+from .report_asked import asked_report, first_difference, report_text
+from .speaking import Stop, Words, put_out, tell
+
+WHAT = """\
+The page that a verifier signs, as one HTML file on standard output: `check` is run first, and nothing is made of what it doesn't
+accept. Each figure is the program's own, or is worked out and tried against it. A report that is kept beside CERT
+(certificate.report.txt beside certificate.txt) has to be the one of these purchases."""
+
+
+def words() -> Words:
+    parser = Words("page", WHAT)
+    for name, what in (
+        ("ISSUE", "issue file"),
+        ("RATES", "rate file"),
+        ("PRICES", "price file"),
+        ("CERT", "certificate"),
+    ):
+        parser.add_argument(name.lower(), metavar=name, help=what)
+    parser.add_argument("--title", default="Refunding escrow", help="what stands at the head: the issuer and the bonds")
+    parser.add_argument(
+        "--series",
+        metavar="FILE",
+        action="append",
+        default=[],
+        help="an issue file of a series of which ISSUE has the needs alone (by `needs --issue`); once for each",
+    )
+    parser.add_argument("--report", metavar="FILE", help="the report to try, where it isn't kept beside CERT")
+    parser.add_argument(
+        "--table-day", metavar="DATE", help="the day of the rate table, where no RATES%s says it" % COMMENTS
+    )
+    parser.add_argument(
+        "--csv", metavar="DIR", help="write each table into this folder as well, as CSV with a heading row"
+    )
+    return parser
+
+
+class Maker:
+    """Makes the page of some files."""
+
+    def __init__(self, chosen):
+        self.chosen = chosen
+        self.names = {ISSUE: chosen.issue, RATES: chosen.rates, PRICES: chosen.prices, CERT: chosen.cert}
+        self.files = read_case(chosen.issue, chosen.rates, chosen.prices)
+        self.certificate = read_file(chosen.cert)
+
+    def data(self) -> dict:
+        return {ISSUE: self.files.issue, RATES: self.files.rates, PRICES: self.files.prices, CERT: self.certificate}
+
+    def accepted(self, folder) -> Answer:
+        """The answer of `check`, which has to be yes."""
+        answer = folder.check(self.files, self.certificate)
+        if answer.status != program.DONE:
+            said = answer.lines[0] if answer.lines else answer.complained.decode("ascii", "replace").strip()
+            raise Stop(
+                "`check` says `%s`; no page is made" % said,
+                *explain_run(Run(["check"], answer.status, answer.lines, self.names, self.data())),
+                status=answer.status,
+            )
+        return answer
+
+    def series(self) -> list[Series]:
+        return [read_series(name) for name in self.chosen.series or [self.chosen.issue]]
+
+    def own_series(self) -> Series:
+        return read_series(self.chosen.issue)
+
+    def kept_report(self) -> Optional[str]:
+        if self.chosen.report is not None:
+            return self.chosen.report
+        kept = beside(self.chosen.cert, REPORT)
+        return kept if os.path.isfile(kept) else None
+
+    def try_report(self, report: Report) -> None:
+        """A report that is kept is that of these purchases, to the letter."""
+        kept = self.kept_report()
+        if kept is None:
+            return
+        text = read_file(kept).decode("utf-8", "replace")
+        line = first_difference(text, report_text(report))
+        if line is not None:
+            wanted = (report_text(report).split("\n") + [""] * line)[line - 1]
+            raise Stop(
+                "%s isn't the report of these purchases: line %d is `%s`, and the program's is `%s`; nothing is made"
+                % (kept, line, (text.split("\n") + [""] * line)[line - 1], wanted)
+            )
+
+    def figures(self) -> Figures:
+        case = read_whole_case(self.files.issue, self.files.rates, self.files.prices)
+        with program.folder() as folder:
+            answer = self.accepted(folder)
+            if case.refusal is not None:
+                raise Stop("the files can't be read here as the program reads them; nothing is made")
+            summary, report = None, None
+            if answer.lines[0] == "yes":
+                summary = read_summary(answer.lines[1:5])
+                report = asked_report(folder, case, read_certificate(self.certificate), summary)
+                self.try_report(report)
+        return figures_of(case, self.series(), self.own_series(), summary, report)
+
+
+def _comments(path: str) -> list[list[str]]:
+    """The rows of a file of comments beside another; none where there is none."""
+    kept = beside(path, COMMENTS)
+    return list(csv.reader(io.StringIO(read_file(kept).decode("utf-8", "replace")))) if os.path.isfile(kept) else []
+
+
+def cusips(prices: str, figures: Figures) -> dict:
+    """The CUSIPs of notes by their rows, where the comments are those of this price file."""
+    rows = _comments(prices)
+    if not rows or "cusip" not in rows[0]:
+        return {}
+    said = {}
+    for row in rows[1:]:
+        values = dict(zip(rows[0], row))
+        note = next((one for one in figures.case.prices.notes if str(one.record.number) == values.get("row")), None)
+        if note is not None and (str(note.maturity), rate_text(note.coupon)) == (
+            values.get("maturity"),
+            values.get("coupon"),
+        ):
+            said[note.record.number] = values.get("cusip", "")
+    return said
+
+
+def table_day(chosen, figures: Figures) -> str:
+    """The day of the rate table, as far as it is said."""
+    if chosen.table_day:
+        return chosen.table_day
+    said = dict(row for row in _comments(chosen.rates) if len(row) == 2)
+    if said.get("settlement") not in (None, str(figures.settlement)):
+        return "not stated: the comments beside %s are of another settlement" % chosen.rates
+    return said.get("table day") or "not stated"
+
+
+def _digest(data: bytes) -> str:
+    return hashlib.sha256(data).hexdigest()
+
+
+def _files(maker: Maker) -> list[tuple]:
+    what = {ISSUE: "issue", RATES: "rates", PRICES: "prices", CERT: "certificate"}
+    rows = [(what[file], os.path.basename(maker.names[file]), _digest(data)) for file, data in maker.data().items()]
+    for one in maker.chosen.series:
+        rows.append(("series", os.path.basename(one), _digest(read_file(one))))
+    path = Path(program.program_path())
+    rows.append(("program", path.name, _digest(path.read_bytes())))
+    built_from = path.parent / "built_from"
+    if built_from.is_file():
+        rows.append(
+            (
+                "program's sources",
+                "one digest of all files that are proved and built",
+                built_from.read_text().split()[0],
+            )
+        )
+    return rows
+
+
+def verdict(summary: Optional[Summary]) -> tuple[str, str]:
+    if summary is None:
+        return (
+            "check says: yes none",
+            "No permitted purchases meet the needs within the yield limit; the certificate proves it.",
+        )
+    return (
+        "check says: yes",
+        "The purchases below pay every need in time, cost %s, and keep to the yield limit of %s percent; no rival costs "
+        "less by more than %s."
+        % (money_for_people(summary.cost), yield_text(summary.limit), money_for_people(summary.gap)),
+    )
+
+
+def run(arguments: list[str]) -> int:
+    chosen = words().parse_args(arguments)
+    maker = Maker(chosen)
+    figures = maker.figures()
+    tables = tables_of(figures, cusips(chosen.prices, figures))
+    facts = summary_rows(figures) + [("Day of the rate table", table_day(chosen, figures))]
+    page = Page(
+        chosen.title,
+        *verdict(figures.summary),
+        facts,
+        _files(maker),
+        tables,
+        meaning(),
+        picture(figures.report.balances) if figures.report else "",
+    )
+    if chosen.csv:
+        _write_tables(chosen.csv, tables)
+    put_out(page_html(page).encode())
+    further = "they are in %s as well" % chosen.csv if chosen.csv else "--csv DIR writes them for a spreadsheet"
+    tell("the page is made, with %s; %s" % (counted(len(tables), "table"), further))
+    return program.DONE
+
+
+def _write_tables(folder: str, tables: list) -> None:
+    try:
+        os.makedirs(folder, exist_ok=True)
+    except OSError as fault:
+        raise Stop("the folder %s can't be made: %s" % (folder, fault.strerror)) from None
+    for table in tables:
+        write_file(os.path.join(folder, table.key + ".csv"), table_csv(table).encode())

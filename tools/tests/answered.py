@@ -1,0 +1,108 @@
+"""Answers other than refusals, and what has to be said of each."""
+
+from __future__ import annotations
+
+from dataclasses import dataclass
+from typing import Callable
+
+FILES = ("issue.csv", "rates.csv", "prices.csv", "certificate.txt")
+CHECK, STRUCTURE = ("check",) + FILES, ("structure",) + FILES
+ISSUE = "settle,2025-01-15\nneed,2025-04-15,5000.00\nrestricted,4.00\n"
+RATES = "terms,1000,100\noffer,2025-04-15,0.00,,10000\n"
+CERTIFICATE = "escrow-certificate 1\nportfolio 1\nbuy 1 50\ngap 0\nnodes 1\nl 1 0 1000000000000\nend\n"
+
+
+@dataclass(frozen=True)
+class Answered:
+    """A case with an answer: how its files are written, the words, and a pattern of the answer's first line."""
+
+    what: str
+    set_up: Callable
+    words: tuple
+    answer: str
+    told: tuple
+
+
+def case(issue=ISSUE, rates=RATES, prices="", certificate=CERTIFICATE) -> Callable:
+    def set_up(test) -> None:
+        test.write_case(issue, rates, prices)
+        test.write("certificate.txt", certificate)
+
+    return set_up
+
+
+def without(name: str) -> Callable:
+    def set_up(test) -> None:
+        case()(test)
+        (test.folder / name).unlink()
+
+    return set_up
+
+
+def folder_at(name: str) -> Callable:
+    def set_up(test) -> None:
+        without(name)(test)
+        (test.folder / name).mkdir()
+
+    return set_up
+
+
+def cert(old: str, new: str) -> Callable:
+    return case(certificate=CERTIFICATE.replace(old, new))
+
+
+NOT_ENOUGH = "terms,1000,100\noffer,2025-04-15,0.00,,3000\n"
+TOO_LATE = "terms,1000,100\noffer,2025-05-15,0.00,,10000\n"
+HIGH = "terms,1000,1\nrate,2025-02-14,2026-01-15,5.00\noffer,2026-01-15,max,,10000\n"
+HIGH_ISSUE = "settle,2025-01-15\nneed,2026-01-15,1041.03\nrestricted,4.00\n"
+HIGH_CERT = "escrow-certificate 1\nportfolio 1\nbuy 1 1000\ngap 0\nnodes 1\nl 1 0 0\nend\n"
+COARSE = "settle,2025-01-15\nneed,2025-04-15,5050.00\nrestricted,4.00\n"
+COARSE_CERT = CERTIFICATE.replace("buy 1 50", "buy 1 51").replace("gap 0", "gap 5000")
+
+# fmt: off
+ANSWERED = (
+    Answered("caps that are too small", case(rates=NOT_ENOUGH), STRUCTURE, "infeasible 2025-04-15",
+             ("2,000.00 is short", "1 line matures", "caps", "certificate.txt is from an earlier run")),
+    Answered("nothing that matures in time", case(rates=TOO_LATE), STRUCTURE, "infeasible 2025-04-15",
+             ("5,000.00 is short", "nothing on offer matures by then", "`cash`")),
+    Answered("nothing on offer", case(rates=""), STRUCTURE, "infeasible 2025-04-15", ("5,000.00 is short",)),
+    Answered("no allowance with coarse steps", case(issue=COARSE), STRUCTURE, "(unbuilt structure|budget spent)|escrow report", ()),
+    Answered("a certificate of another issue file", case(issue=ISSUE.replace("5000.00", "5000.01")), CHECK, "no ShortOn 2025-04-15",
+             ("needed up to then: 5,000.01", "received up to then: 5,000.00", "short by 0.01")),
+    Answered("more than the cap", cert("buy 1 50", "buy 1 101"), CHECK, "no NotPermitted 1",
+             ("101 units", "10,100.00", "from 1,000.00 to 10,000.00")),
+    Answered("dollars in the place of units", cert("buy 1 50", "buy 1 5000"), CHECK, "no NotPermitted 1",
+             ("5,000 units of 100 dollars", "500,000.00")),
+    Answered("a line that isn't offered", cert("buy 1 50", "buy 3 50"), CHECK, "no NotPermitted 3", ("there is no line 3", "1 offer")),
+    Answered("cash that the issue doesn't have", cert("portfolio 1\nbuy 1 50", "portfolio 2\nbuy 0 100\nbuy 1 50"), CHECK,
+             "no NotPermitted 0", ("`cash` row allows 0.00",)),
+    Answered("a yield above the limit", case(issue=HIGH_ISSUE, rates=HIGH, certificate=HIGH_CERT), CHECK, "no YieldAbove",
+             ("the limit 4.00100000", "offer,DATE,0.00,,CAP")),
+    Answered("a gap that isn't allowed", case(issue=COARSE, certificate=COARSE_CERT), CHECK, "no GapAbove", ("allowance,50.00",)),
+    Answered("a gap above the allowance", case(issue=COARSE + "allowance,49.99\n", certificate=COARSE_CERT), CHECK, "no GapAbove",
+             ("allowance,50.00", "allows 49.99")),
+    Answered("prices that bear nothing out", cert("l 1 0 1000000000000", "l 1 0 0"), CHECK, "no WeakLeaf 1", ("node 1", "gap")),
+    Answered("a split of a line that isn't offered", cert("nodes 1\nl 1 0 1000000000000", "nodes 3\ns 9 1\nl 1 0 0\nl 1 0 0"), CHECK,
+             "no BadSplit 1", ("node 1",)),
+    Answered("line ends of Windows", cert("\n", "\r\n"), CHECK, "no Grammar 1 Header", ("CR LF",)),
+    Answered("a byte order mark", case(certificate=b"\xef\xbb\xbf" + CERTIFICATE.encode()), CHECK, "no Grammar 1 Header",
+             ("byte order mark",)),
+    Answered("no last line end", case(certificate=CERTIFICATE[:-1]), CHECK, "no Grammar 7 Truncated", ("add a line end",)),
+    Answered("a blank line at the end", case(certificate=CERTIFICATE + "\n"), CHECK, "no Grammar 8 Trailing", ("delete it",)),
+    Answered("an empty certificate", case(certificate=""), CHECK, "no Grammar 1 Truncated", ("is empty",)),
+    Answered("a gap in dollars", cert("gap 0", "gap 0.00"), CHECK, "no Grammar 4 Number", ("whole cents",)),
+    Answered("too few prices", cert("l 1 0 1000000000000", "l 1 0"), CHECK, "no Grammar 6 Count", ("1 need date", "0 prices")),
+    Answered("lines in disorder", cert("portfolio 1\nbuy 1 50", "portfolio 2\nbuy 2 1\nbuy 1 50"), CHECK, "no Grammar 4 Order", ("rise",)),
+    Answered("a report in the place of the certificate", case(certificate="escrow report\nend\n"), CHECK, "no Grammar 1 Header",
+             ("another file",)),
+    Answered("three words", case(), ("check",) + FILES[:3], "usage:", ("four words", "here are 3")),
+    Answered("a word that is no command", case(), ("verify",) + FILES, "usage:", ("no command", "--help")),
+    Answered("no issue file", without("issue.csv"), CHECK, "no file", ("ISSUE: issue.csv isn't there",)),
+    Answered("a rate file of another name", without("rates.csv"), CHECK, "no file", ("RATES: rates.csv isn't there", "empty file")),
+    Answered("no certificate", without("certificate.txt"), CHECK, "no file", ("CERT: certificate.txt isn't there",)),
+    Answered("a folder in a file's place", folder_at("prices.csv"), CHECK, "read fault", ("PRICES: prices.csv is a folder",)),
+    Answered("a folder in the certificate's place", folder_at("certificate.txt"), STRUCTURE, "write fault", ("certificate.txt, is a folder",)),
+    Answered("a certificate in a folder that isn't there", case(), STRUCTURE[:4] + ("there/certificate.txt",), "write fault",
+             ("its folder there isn't there",)),
+    Answered("a file in the place of a folder", case(), ("check", "issue.csv/x") + FILES[1:], "read fault", ("ISSUE", "is a file")),
+)

@@ -1,0 +1,180 @@
+"""The page: nothing of what isn't accepted, or of a damaged report; its tables' totals by a recomputation apart from it."""
+
+from __future__ import annotations
+
+import csv
+import unittest
+from decimal import Decimal
+from html.parser import HTMLParser
+
+from harness import EXAMPLES, NO_RIVAL, FolderTest, run_program, run_tool
+
+
+class TableReader(HTMLParser):
+    """Reads the tables of a page: rows of cells, and the rows of totals apart."""
+
+    def __init__(self) -> None:
+        super().__init__()
+        self.tables: dict = {}
+        self.heading = self.text = ""
+        self.row: list = []
+        self.open: list = []
+        self.outside: list = []
+
+    def handle_starttag(self, tag, attrs) -> None:
+        self.outside += [
+            value for name, value in attrs if name in ("src", "href") or (value or "").startswith(("http:", "https:"))
+        ]
+        if tag in ("link", "script", "img", "iframe"):
+            self.outside.append(tag)
+        if tag in ("meta", "line", "rect", "path"):
+            return
+        self.open.append(tag)
+        if tag == "h2":
+            self.heading = dict(attrs)["id"]
+        if tag in ("td", "th"):
+            self.text = ""
+        if tag == "tr":
+            self.row = []
+
+    def handle_endtag(self, tag) -> None:
+        self.assert_closed(tag)
+        if tag in ("td", "th"):
+            self.row.append(self.text)
+        if tag == "tr":
+            part = next(one for one in reversed(self.open) if one in ("thead", "tbody", "tfoot"))
+            self.tables.setdefault(self.heading, {}).setdefault(part, []).append(self.row)
+
+    def assert_closed(self, tag) -> None:
+        if tag in ("line", "rect", "path"):
+            return
+        assert self.open and self.open.pop() == tag, tag
+
+    def handle_data(self, data) -> None:
+        self.text += data
+
+
+def amount(text: str) -> Decimal:
+    return Decimal(text.replace(",", "") or "0")
+
+
+class PageTest(FolderTest):
+    def make(self, *words, certificate=None) -> TableReader:
+        ran = run_tool(self.folder, "page", *words)
+        self.assertEqual(ran.status, 0, ran.err)
+        reader = TableReader()
+        reader.feed(ran.out.decode())
+        self.assertEqual((reader.open, reader.outside), ([], []))
+        return reader
+
+    def try_totals(self, reader: TableReader) -> None:
+        """Each total is the sum of its column."""
+        for table in reader.tables.values():
+            for foot in table.get("tfoot", []):
+                for place, text in enumerate(foot[1:], 1):
+                    if text:
+                        self.assertEqual(amount(text), sum(amount(row[place]) for row in table["tbody"]))
+
+    def total(self, reader: TableReader, key: str, column: str) -> Decimal:
+        table = reader.tables[key]
+        return amount(table["tfoot"][0][table["thead"][0].index(column)])
+
+    def example_words(self, name: str) -> list:
+        words = self.write_example(name)
+        for path in (EXAMPLES / name).iterdir():
+            if path.suffix in (".csv", ".txt"):
+                self.write(path.name, path.read_bytes())
+        words = [word for word in words]
+        for series in sorted(self.folder.glob("series-*.csv")):
+            words += ["--series", series.name]
+        return words
+
+    def test_examples(self) -> None:
+        for folder in sorted(EXAMPLES.iterdir()):
+            with self.subTest(folder.name):
+                self.clear()
+                words = self.example_words(folder.name)
+                reader = self.make(*words, "--csv", "tables")
+                self.try_totals(reader)
+                said = dict(line.split(" ", 1) for line in run_program(self.folder, "check", *words[:4]).lines[1:])
+                self.assertEqual(self.total(reader, "sources", "sources"), Decimal(said["cost"]))
+                self.assertEqual(self.total(reader, "sources", "uses"), Decimal(said["cost"]))
+                self.assertEqual(self.total(reader, "cash", "needed"), self.total(reader, "needs", "total"))
+                opening = self.total(reader, "cash", "opening cash")
+                if "receipts" in reader.tables:
+                    self.assertEqual(
+                        self.total(reader, "cash", "received"), self.total(reader, "receipts", "total") + opening
+                    )
+                    self.assertEqual(
+                        self.total(reader, "securities", "receipts"), self.total(reader, "receipts", "total")
+                    )
+                self.try_csv(reader)
+
+    def try_csv(self, reader: TableReader) -> None:
+        """The tables of the page are those of the folder."""
+        for path in (self.folder / "tables").iterdir():
+            rows = list(csv.reader(path.open(newline="")))
+            table = reader.tables[path.stem]
+            self.assertEqual(rows[0], table["thead"][0])
+            shown = [[cell.replace(",", "") if cell[-3:-2] == "." else cell for cell in row] for row in table["tbody"]]
+            self.assertEqual(rows[1:], shown)
+
+    def test_no_rival(self) -> None:
+        """A case without purchases: `portfolio none`."""
+        words = self.write_case(
+            "settle,2025-01-15\nneed,2025-07-15,1000.00\nrestricted,3.00\n",
+            "terms,1000,1000\nrate,2025-02-14,2026-01-15,4.00\noffer,2025-07-15,4.00,,1000\n",
+            "",
+        )
+        text = NO_RIVAL.replace(b"l 0 0 0\n", b"s 1 0\nl 0 0 1000000000000\nl 0 1000000000000 0\n").replace(
+            b"nodes 1", b"nodes 3"
+        )
+        self.write("certificate.txt", text)
+        said = run_program(self.folder, "check", *words)
+        self.assertEqual(said.lines, ["yes none"])
+        reader = self.make(*words)
+        self.assertIn("needs", reader.tables)
+        self.assertNotIn("sources", reader.tables)
+
+    def test_damaged_reports(self) -> None:
+        words = self.write_example("refunding")
+        example = EXAMPLES / "refunding"
+        self.write("certificate.txt", (example / "certificate.txt").read_bytes())
+        report = (example / "report.txt").read_text()
+        for old, new in (
+            ("gap 0.86", "gap 0.85"),
+            ("pay 1 2026-07-15 61623.88", "pay 1 2026-07-15 61623.89"),
+            ("end\n", ""),
+            ("date 2027-07-15 432500.24", "date 2027-07-15 432500.25"),
+            ("12622474.87", "12622474.86"),
+        ):
+            self.write("certificate.report.txt", report.replace(old, new))
+            ran = run_tool(self.folder, "page", *words)
+            self.assertEqual((ran.status, ran.out), (124, b""), new)
+            self.assertIn("isn't the report of these purchases", ran.err)
+        self.write("certificate.report.txt", report)
+        self.assertEqual(run_tool(self.folder, "page", *words).status, 0)
+
+    def test_what_is_not_accepted(self) -> None:
+        words = self.write_example("refunding")
+        text = (EXAMPLES / "refunding" / "certificate.txt").read_text()
+        for old, new, status in (("gap 86", "gap 85", 1), ("buy 1 60440", "buy 1 60439", 1), ("end\n", "", 1)):
+            self.write("certificate.txt", text.replace(old, new))
+            ran = run_tool(self.folder, "page", *words)
+            self.assertEqual((ran.status, ran.out), (status, b""))
+            self.assertIn("no page is made", ran.err)
+        self.write("issue.csv", "settle,2026-01-15\n")
+        self.assertEqual(run_tool(self.folder, "page", *words).status, 3)
+
+    def test_series_that_are_others(self) -> None:
+        """Bonds whose needs don't sum to the issue's make no page."""
+        words = self.write_example("first")
+        self.write("certificate.txt", (EXAMPLES / "first" / "certificate.txt").read_bytes())
+        self.write("series.csv", "settle,2025-01-15\nneed,2025-04-15,5000.01\n")
+        ran = run_tool(self.folder, "page", *words, "--series", "series.csv")
+        self.assertEqual((ran.status, ran.out), (124, b""))
+        self.assertIn("don't agree", ran.err)
+
+
+if __name__ == "__main__":
+    unittest.main()
