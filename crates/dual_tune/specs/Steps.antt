@@ -1,5 +1,5 @@
 -- The steps of a leaf, and what it means that a leaf is improved. Both are this project's own.
-use Rattle.std.specs.Prelude.{◌≡◌, ◌⊎◌, ℕ, zero, suc, ◌+◌, ◌*◌, ◌/◌, ◌<◌, List, length, slice_index, slice_index_or, ◌≤ℤ◌}
+use Rattle.std.specs.Prelude.{◌≡◌, ◌⊎◌, ℕ, zero, suc, ◌+◌, ◌*◌, ◌/◌, ◌<◌, List, length, replicate, slice_index, slice_index_or, ◌≤ℤ◌}
 use Rattle.offer_book.specs.Book.{BookContents}
 use Rattle.dual_bound.specs.LeafBound.{bound_of}
 use Rattle.dual_bound.specs.Tree.{IsLeaf, with_price}
@@ -45,3 +45,18 @@ pub record IsImproved (n : ℕ) (book : BookContents) (ranges : List Interval) (
   pub whole : improved.whole ≡ leaf.whole
   pub given : bound_of n book ranges leaf ≤ℤ bound_of n book ranges improved
   pub steps : (step : Leaf) → IsStep leaf step → bound_of n book ranges step ≤ℤ bound_of n book ranges improved
+
+-- a leaf whose prices are 0, without a weight of the limit, that weighs the cost as another does
+abbrev pub zeros_like : BookContents → Leaf → Leaf
+zeros_like book leaf = record { whole = leaf.whole; mu = 0; prices = replicate (length book.needs) 0 }
+
+-- a leaf that weighs the cost alike has no greater bound
+abbrev pub HasNoGreater : ℕ → BookContents → List Interval → Leaf → Leaf → Type 0
+HasNoGreater n book ranges other leaf = other.whole ≡ leaf.whole → bound_of n book ranges other ≤ℤ bound_of n book ranges leaf
+
+-- a leaf is better than a given one and another: it keeps its limits and whether its cost counts, and neither has a greater bound
+pub record IsBetter (n : ℕ) (book : BookContents) (ranges : List Interval) (other given better : Leaf) : Type 0 where
+  pub well_formed : IsLeaf (length book.needs) better
+  pub whole : better.whole ≡ given.whole
+  pub no_less : bound_of n book ranges given ≤ℤ bound_of n book ranges better
+  pub no_greater : HasNoGreater n book ranges other better

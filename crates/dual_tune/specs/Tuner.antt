@@ -2,6 +2,7 @@
 use Rattle.std.specs.Prelude.{◌≡◌, ℕ, length}
 use Rattle.offer_book.specs.Book.{BookContents}
 use Rattle.dual_bound.specs.Tree.{IsLeaf}
+use Rattle.dual_tune.specs.Steps.{zeros_like}
 use Rattle.dual_tune.specs.Sweep.{IsSweep}
 use Rattle.dual_tune.specs.declared.parts.Parts.{Parts}
 
@@ -14,3 +15,4 @@ pub record AreParts (book : BookContents) (parts : Parts) : Type 0 where
   pub swept : IsSweep parts.sweep.columns.yield_units book parts.sweep
   pub dates : parts.simplex.dates ≡ length book.needs
   pub proposed : IsLeaf (length book.needs) parts.proposal
+  pub zeros : parts.zeros ≡ zeros_like book parts.zeros

@@ -1,11 +1,11 @@
 //! The parts of a tuner: the steps, the linear program, and what it proposes.
-ghost use Rattle.std.specs.Prelude.{All, ◌≡◌, ◌*◌, ◌^◌, ◌<◌, ◌≤◌, length, unsigned_abs, IfOk};
+ghost use Rattle.std.specs.Prelude.{All, ◌≡◌, ◌*◌, ◌^◌, ◌<◌, ◌≤◌, length, unsigned_abs, IfOk, IfSome};
 ghost use Rattle.std.specs.List.{AllZip};
 ghost use Rattle.fixed_powers.specs.DiscountPowers.{PowerTable};
 ghost use Rattle.dual_bound.specs.LeafBound.{bound_of};
 ghost use Rattle.dual_bound.specs.Ranges.{HasRoomFor};
 ghost use Rattle.dual_bound.specs.Tree.{IsLeaf};
-ghost use Rattle.dual_tune.specs.Steps.{IsImproved};
+ghost use Rattle.dual_tune.specs.Steps.{HasNoGreater, IsBetter, IsImproved, zeros_like};
 ghost use Rattle.dual_tune.specs.Sweep.{IsPlaced, stepped};
 ghost use Rattle.dual_tune.specs.Tuner.{AreParts};
 
@@ -28,6 +28,8 @@ pub(crate) struct Parts<'a> {
     pub simplex: Simplex<'a>,
     /// The leaf that it proposes.
     pub proposal: Leaf,
+    /// The leaf of prices of 0, without a weight of the limit.
+    pub zeros: Leaf,
 }
 
 // A place for what each line adds.
@@ -83,6 +85,36 @@ fn set_ranges(simplex: &mut Simplex, lines: u16, ranges: &Ranges)
     }
 }
 
+// The better of two leaves over ranges that weigh the cost alike: the other where its bound is greater than the given one.
+fn better_of(
+    columns: &mut Columns,
+    book: &Book,
+    ranges: &Ranges,
+    bound: i128,
+    other: &Leaf,
+    into: &mut Leaf,
+) -> i128
+    requires own { columns.old.book ≡ book.now }
+    requires ranges { AllZip HasRoomFor book.now.lines ranges.now }
+    requires other { IsLeaf (length book.now.needs) other.now }
+    requires into { IsLeaf (length book.now.needs) into.old }
+    requires bound { bound ≡ bound_of columns.old.yield_units book.now ranges.now into.old }
+    ensures own { columns.new.book ≡ book.now }
+    ensures yield_units { columns.new.yield_units ≡ columns.old.yield_units }
+    ensures better { IsBetter columns.old.yield_units book.now ranges.now other.now into.old into.new }
+    ensures bound { result ≡ bound_of columns.old.yield_units book.now ranges.now into.new }
+{
+    if other.whole != into.whole {
+        return bound;
+    }
+    let reached = columns.bound(ranges, other);
+    if reached <= bound {
+        return bound;
+    }
+    copy_leaf(book.need_count(), other, into);
+    reached
+}
+
 impl<'a> Parts<'a> {
     /// The parts for a book, by powers of the low side.
     pub(crate) fn make(
@@ -104,6 +136,7 @@ impl<'a> Parts<'a> {
             },
             simplex: Simplex::make(alloc, book, powers)?,
             proposal: Leaf::of_zeros(alloc, true, book.need_count())?,
+            zeros: Leaf::of_zeros(alloc, true, book.need_count())?,
         })
     }
 
@@ -137,8 +170,8 @@ impl<'a> Parts<'a> {
         self.sweep.columns.bound(ranges, &self.proposal)
     }
 
-    /// Puts the better leaf over ranges into another, as [`Tuner::tune`](crate::Tuner::tune) says.
-    pub(crate) fn tune(
+    // Puts the better leaf of the given one, its steps, and what the linear program proposes into another, with its bound.
+    fn improve(
         &mut self,
         book: &Book,
         ranges: &Ranges,
@@ -166,5 +199,49 @@ impl<'a> Parts<'a> {
         copy_leaf(dates, leaf, into);
         take_step(best.step, into);
         best.bound
+    }
+
+    // The better of the leaf of prices of 0 and another, whose bound is given.
+    fn or_zeros(&mut self, book: &Book, ranges: &Ranges, bound: i128, into: &mut Leaf) -> i128
+        requires parts { AreParts book.now self.old }
+        requires ranges { AllZip HasRoomFor book.now.lines ranges.now }
+        requires into { IsLeaf (length book.now.needs) into.old }
+        requires bound { bound ≡ bound_of self.old.sweep.columns.yield_units book.now ranges.now into.old }
+        ensures parts { AreParts book.now self.new }
+        ensures yield_units { self.new.sweep.columns.yield_units ≡ self.old.sweep.columns.yield_units }
+        ensures better { IsBetter self.old.sweep.columns.yield_units book.now ranges.now (zeros_like book.now into.old) into.old into.new }
+        ensures bound { result ≡ bound_of self.old.sweep.columns.yield_units book.now ranges.now into.new }
+    {
+        self.zeros.whole = into.whole;
+        better_of(&mut self.sweep.columns, book, ranges, bound, &self.zeros, into)
+    }
+
+    /// Puts the better leaf over ranges into another, as [`Tuner::tune`](crate::Tuner::tune) says.
+    pub(crate) fn tune(
+        &mut self,
+        book: &Book,
+        ranges: &Ranges,
+        leaf: &Leaf,
+        start: Option<&Leaf>,
+        into: &mut Leaf,
+    ) -> i128
+        requires parts { AreParts book.now self.old }
+        requires ranges { AllZip HasRoomFor book.now.lines ranges.now }
+        requires leaf { IsLeaf (length book.now.needs) leaf.now }
+        requires start { IfSome start (λ other. IsLeaf (length book.now.needs) other.now) }
+        requires into { length into.old.prices ≡ length book.now.needs }
+        ensures parts { AreParts book.now self.new }
+        ensures yield_units { self.new.sweep.columns.yield_units ≡ self.old.sweep.columns.yield_units }
+        ensures improved { IsImproved self.old.sweep.columns.yield_units book.now ranges.now leaf.now into.new }
+        ensures start { IfSome start.entry (λ other. HasNoGreater self.old.sweep.columns.yield_units book.now ranges.now other.now into.new) }
+        ensures zeros { HasNoGreater self.old.sweep.columns.yield_units book.now ranges.now (zeros_like book.now leaf.now) into.new }
+        ensures bound { result ≡ bound_of self.old.sweep.columns.yield_units book.now ranges.now into.new }
+    {
+        let bound = self.improve(book, ranges, leaf, start, into);
+        let bound = self.or_zeros(book, ranges, bound, into);
+        match start {
+            Some(start) => better_of(&mut self.sweep.columns, book, ranges, bound, start, into),
+            None => bound,
+        }
     }
 }

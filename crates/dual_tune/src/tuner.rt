@@ -1,11 +1,11 @@
 //! Improving a leaf.
-ghost use Rattle.std.specs.Prelude.{◌≡◌, length, IfOk};
+ghost use Rattle.std.specs.Prelude.{◌≡◌, ◌<◌, ◌^◌, length, unsigned_abs, IfOk, IfSome};
 ghost use Rattle.std.specs.List.{AllZip};
 ghost use Rattle.fixed_powers.specs.DiscountPowers.{PowerTable};
 ghost use Rattle.dual_bound.specs.LeafBound.{bound_of};
 ghost use Rattle.dual_bound.specs.Ranges.{HasRoomFor};
 ghost use Rattle.dual_bound.specs.Tree.{IsLeaf};
-ghost use Rattle.dual_tune.specs.Steps.{IsImproved};
+ghost use Rattle.dual_tune.specs.Steps.{HasNoGreater, IsImproved, zeros_like};
 
 use crate::parts::Parts;
 use dual_bound::{Leaf, Ranges};
@@ -49,9 +49,9 @@ impl<'a> Tuner<'a> {
         Ok(Tuner { book, parts })
     }
 
-    /// Puts into a leaf, which has a price for each need date, the best over ranges of a given leaf, each of its steps, and what the
-    /// linear program proposes, starting from another leaf's prices where one is given. It answers the leaf's bound, and takes no
-    /// memory.
+    /// Puts into a leaf, which has a price for each need date, the best over ranges of a given leaf, each of its steps, the leaf of
+    /// prices of 0, and what the linear program proposes; where another leaf is given the program starts from its prices, and that
+    /// leaf counts too if it weighs the cost alike. It answers the leaf's bound, and takes no memory.
     pub fn tune(
         &mut self,
         ranges: &Ranges,
@@ -61,12 +61,26 @@ impl<'a> Tuner<'a> {
     ) -> i128
         requires ranges { AllZip HasRoomFor self.old.book.lines ranges.now }
         requires leaf { IsLeaf (length self.old.book.needs) leaf.now }
+        requires start { IfSome start (λ other. IsLeaf (length self.old.book.needs) other.now) }
         requires into { length into.old.prices ≡ length self.old.book.needs }
         ensures tuner { self.new ≡ self.old }
         ensures improved { IsImproved self.old.yield_units self.old.book ranges.now leaf.now into.new }
+        ensures start { IfSome start.entry (λ other. HasNoGreater self.old.yield_units self.old.book ranges.now other.now into.new) }
+        ensures zeros { HasNoGreater self.old.yield_units self.old.book ranges.now (zeros_like self.old.book leaf.now) into.new }
         ensures bound { result ≡ bound_of self.old.yield_units self.old.book ranges.now into.new }
     {
         self.parts.tune(self.book, ranges, leaf, start, into)
+    }
+
+    /// The bound of a leaf over ranges, scaled. It takes no memory.
+    pub fn bound(&mut self, ranges: &Ranges, leaf: &Leaf) -> i128
+        requires ranges { AllZip HasRoomFor self.old.book.lines ranges.now }
+        requires leaf { IsLeaf (length self.old.book.needs) leaf.now }
+        ensures tuner { self.new ≡ self.old }
+        ensures value { result ≡ bound_of self.old.yield_units self.old.book ranges.now leaf.now }
+        ensures size { unsigned_abs result < 10 ^ 37 }
+    {
+        self.parts.sweep.columns.bound(ranges, leaf)
     }
 }
 

@@ -6,7 +6,7 @@ use Rattle.dual_bound.specs.declared.tree.Leaf.{Leaf}
 use Rattle.dual_tune.specs.Sweep.{stepped}
 use Rattle.dual_tune.specs.declared.sweep.Sweep.{Sweep}
 use Rattle.dual_tune.proofs.SweepFacts.{step-whole}
-use Rattle.dual_tune.proofs.parts.Parts.tune.Goals as goal
+use Rattle.dual_tune.proofs.parts.Parts.improve.Goals as goal
 
 pub returns-then-proposed-best-clause-improved : goal.returns-then-proposed-best-clause-improved
 returns-then-proposed-best-clause-improved c =

@@ -1,0 +1,5 @@
+mod Distinct
+pub mod Filled
+mod Middle
+mod Parts
+pub mod Reach

@@ -1,0 +1,72 @@
+//! Where a node is split.
+ghost use Rattle.std.specs.Prelude.{◌≡◌, ◌<◌, ◌*◌, ◌-◌, false, length, slice_index_or, IsTrue};
+ghost use Rattle.dual_bound.specs.Ranges.{AreTight, is_proper, is_single};
+ghost use Rattle.offer_book.specs.CaseBook.{cash_line};
+ghost use Rattle.halving_tree.specs.Halving.{IsHalved, IsWidest, width_at};
+
+use dual_bound::Ranges;
+use offer_book::Book;
+
+/// A split of a line's interval: its left side has the units up to a number, its right side those from the next one on.
+#[derive(Clone, Copy, Debug, PartialEq, Eq)]
+pub struct Split {
+    /// The line, counted from 0.
+    pub line: u16,
+    /// The most units of the left side.
+    pub at: u64,
+}
+
+/// The rule by which a search splits nodes.
+#[derive(Clone, Copy, Debug, PartialEq, Eq)]
+pub enum SplitRule {
+    /// At the middle of the first line whose interval is widest, in cents: the rule of the halving tree.
+    Halving,
+}
+
+// How wide a line's interval is, in cents.
+fn width(book: &Book, ranges: &Ranges, line: u16) -> u128
+    requires lines { line < length book.now.lines }
+    requires ranges { line < length ranges.now }
+    ensures { result ≡ width_at book.now.lines ranges.now line }
+{
+    let interval = ranges.intervals()[usize::from(line)];
+    u128::from(interval.high - interval.low) * u128::from(book.line(line).step)
+}
+
+// The first line of the greatest width.
+fn widest(book: &Book, ranges: &Ranges) -> u16
+    requires { AreTight book.now.lines ranges.now }
+    ensures { IsWidest book.now.lines ranges.now result }
+{
+    let count = book.line_count();
+    let mut line = 0;
+    let mut greatest = width(book, ranges, 0);
+    for other in 1..count {
+        let own = width(book, ranges, other);
+        if greatest < own {
+            line = other;
+            greatest = own;
+        }
+    }
+    line
+}
+
+impl SplitRule {
+    /// Where a node of these ranges is split, which hold more than one portfolio: the line is there, and the split is proper.
+    pub fn split(self, book: &Book, ranges: &Ranges) -> Split
+        requires tight { AreTight book.now.lines ranges.now }
+        requires several { is_single ranges.now ≡ false }
+        ensures proper { IsTrue (is_proper ranges.now result.line result.at) }
+        ensures there { result.line < length book.now.lines }
+        ensures halved { self ≡ SplitRule.Halving → IsHalved book.now.lines ranges.now result.line result.at }
+    {
+        // A book keeps its limits.
+        let _count = book.line_count();
+        let line = widest(book, ranges);
+        let interval = ranges.intervals()[usize::from(line)];
+        Split {
+            line,
+            at: interval.low + (interval.high - interval.low) / 2,
+        }
+    }
+}
