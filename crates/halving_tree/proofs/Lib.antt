@@ -1,4 +1,4 @@
-mod Distinct
+pub mod Distinct
 pub mod Filled
 mod Middle
 mod Parts
