@@ -1,7 +1,7 @@
 //! The parts of a tuner: the steps, the linear program, and what it proposes.
 ghost use Rattle.std.specs.Prelude.{All, ◌≡◌, ◌*◌, ◌^◌, ◌<◌, ◌≤◌, length, unsigned_abs, IfOk, IfSome};
 ghost use Rattle.std.specs.List.{AllZip};
-ghost use Rattle.fixed_powers.specs.DiscountPowers.{PowerTable};
+ghost use Rattle.fixed_powers.specs.DiscountPowers.{IsLowTable};
 ghost use Rattle.dual_bound.specs.LeafBound.{bound_of};
 ghost use Rattle.dual_bound.specs.Ranges.{HasRoomFor};
 ghost use Rattle.dual_bound.specs.Tree.{IsLeaf};
@@ -13,8 +13,7 @@ use crate::payers::payers_by_date;
 use crate::sweep::{LineLeast, Step, Sweep, copy_leaf};
 use dual_bound::{Columns, Leaf, Ranges};
 use escrow_desk::NoMemory;
-use escrow_units::GREATEST_INDEX;
-use fixed_powers::{Powers, Side};
+use fixed_powers::Powers;
 use offer_book::Book;
 use price_lp::{COLD_ITERATIONS, Purpose, Simplex, SolveEnd, WARM_ITERATIONS};
 use std::alloc::Global;
@@ -122,8 +121,7 @@ impl<'a> Parts<'a> {
         book: &'a Book,
         powers: &Powers,
     ) -> Result<Parts<'a>, NoMemory>
-        requires side { powers.now.side ≡ Side.Low }
-        requires longest { powers.now.longest ≡ GREATEST_INDEX }
+        requires powers { IsLowTable powers.now }
         ensures parts { IfOk result (AreParts book.now) }
         ensures yield_units { IfOk result (λ parts. parts.sweep.columns.yield_units ≡ powers.now.yield_units) }
     {

@@ -1,6 +1,6 @@
 //! Worked figures. They come from another program.
 ghost use Rattle.std.specs.Prelude.{◌≡◌, ◌^◌, IfOk};
-ghost use Rattle.fixed_powers.specs.DiscountPowers.{PowerTable};
+ghost use Rattle.fixed_powers.specs.DiscountPowers.{IsLowTable};
 
 use crate::{Tuner, improve};
 use case_file::{Case, read_case};
@@ -39,8 +39,7 @@ fn case_of(alloc: Global, issue: &[u8], rates: &[u8]) -> Result<Case, Fail> {
 }
 
 fn powers_of(alloc: Global, limit: u64) -> Result<Powers, Fail>
-    ensures side { IfOk result (λ powers. powers.side ≡ Side.Low) }
-    ensures longest { IfOk result (λ powers. powers.longest ≡ GREATEST_INDEX) }
+    ensures { IfOk result IsLowTable }
 {
     if limit > 350_100_000 {
         return Err(Fail::new("no limit"));

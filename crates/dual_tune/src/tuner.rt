@@ -1,7 +1,7 @@
 //! Improving a leaf.
 ghost use Rattle.std.specs.Prelude.{◌≡◌, ◌<◌, ◌^◌, length, unsigned_abs, IfOk, IfSome};
 ghost use Rattle.std.specs.List.{AllZip};
-ghost use Rattle.fixed_powers.specs.DiscountPowers.{PowerTable};
+ghost use Rattle.fixed_powers.specs.DiscountPowers.{IsLowTable};
 ghost use Rattle.dual_bound.specs.LeafBound.{bound_of};
 ghost use Rattle.dual_bound.specs.Ranges.{HasRoomFor};
 ghost use Rattle.dual_bound.specs.Tree.{IsLeaf};
@@ -10,8 +10,7 @@ ghost use Rattle.dual_tune.specs.Steps.{HasNoGreater, IsImproved, zeros_like};
 use crate::parts::Parts;
 use dual_bound::{Leaf, Ranges};
 use escrow_desk::NoMemory;
-use escrow_units::GREATEST_INDEX;
-use fixed_powers::{Powers, Side};
+use fixed_powers::Powers;
 use offer_book::Book;
 use std::alloc::Global;
 use std::marker::Model;
@@ -41,8 +40,7 @@ impl<'a> Tuner<'a> {
     ///
     /// Where memory ran out.
     pub fn make(alloc: Global, book: &'a Book, powers: &Powers) -> Result<Tuner<'a>, NoMemory>
-        requires side { powers.now.side ≡ Side.Low }
-        requires longest { powers.now.longest ≡ GREATEST_INDEX }
+        requires powers { IsLowTable powers.now }
         ensures { IfOk result (λ tuner. tuner ≡ record { book = book.now; yield_units = powers.now.yield_units }) }
     {
         let parts = Parts::make(alloc, book, powers)?;
@@ -99,8 +97,7 @@ pub fn improve(
     ranges: &Ranges,
     leaf: &Leaf,
 ) -> Result<Leaf, NoMemory>
-    requires side { powers.now.side ≡ Side.Low }
-    requires longest { powers.now.longest ≡ GREATEST_INDEX }
+    requires powers { IsLowTable powers.now }
     requires ranges { AllZip HasRoomFor book.now.lines ranges.now }
     requires leaf { IsLeaf (length book.now.needs) leaf.now }
     ensures { IfOk result (IsImproved powers.now.yield_units book.now ranges.now leaf.now) }
