@@ -1,0 +1,246 @@
+-- What a grown tree comes to, as the nodes of a certificate.
+use Rattle.std.proofs.Common.{◌≡◌, ◌≢◌, ◌∙◌, ◌⊎◌, inl, inr, ℕ, zero, suc, ◌+◌, ◌-◌, ◌*◌, ◌^◌, ◌<◌, ◌≤◌, ℤ, pos, ◌-ℤ◌, ◌*ℤ◌, ◌≤ℤ◌, ◌<ℤ◌, Bool, true, false, not, ◌&&◌, if◌then◌else◌, List, [], ◌∷◌, ◌++◌, length, map, get_or, refl, sym, ap, subst, arith, Option, Some, None}
+use Rattle.std.specs.Prelude.{IsTrue, int_lt, option_map}
+use Rattle.std.specs.List.{All, AllZip}
+use Rattle.std.proofs.lemmas.Bool.{cases_lt}
+use Rattle.std.proofs.lemmas.Int.{ints}
+use Rattle.std.proofs.lemmas.List.{append-nil, get_or_past, length-map}
+use Rattle.std.proofs.Math.Nat.{mul-le-mul_left}
+use Rattle.bound_certificate.specs.Certificate.{IsNode}
+use Rattle.case_file.specs.Case.{CaseContents}
+use Rattle.cash_table.specs.Points.{is_within_limit}
+use Rattle.dual_bound.proofs.RangeFacts.{splits-at, tight-at, tight-length}
+use Rattle.dual_bound.proofs.RangeLaws.{root_is_tight, sides_are_tight}
+use Rattle.dual_bound.proofs.Soundness.{all-lines}
+use Rattle.dual_bound.specs.LeafBound.{bound_of}
+use Rattle.dual_bound.specs.Ranges.{AreTight, is_proper, is_single, root_of}
+use Rattle.dual_bound.specs.Tree.{AreTrees, IsLeaf}
+use Rattle.dual_bound.specs.declared.ranges.Interval.{Interval}
+use Rattle.dual_bound.specs.declared.tree.Leaf.{Leaf}
+use Rattle.dual_bound.specs.declared.tree.TreeNode.{TreeNode}
+use Rattle.dual_bound.specs.declared.tree.TreeNode.TheVariants as node
+use Rattle.dual_tune.specs.Steps.{IsImproved, IsStep as IsLeafStep}
+use Rattle.escrow_check.specs.Acceptance.{Claim, bears_out, is_bad_split, is_closed_leaf, is_closed_point, is_weak, low_ends, placed_nodes}
+use Rattle.escrow_check.specs.Reasons.{IsProper}
+use Rattle.halving_tree.proofs.Reach.{reach_is_leaf}
+use Rattle.halving_tree.specs.Base.{base_leaf, reach_leaf}
+use Rattle.node_pool.proofs.WayFacts.{ways-tight}
+use Rattle.node_pool.specs.Pool.{IsChildOf, IsOneTree, SplitsAreWhole, state_at}
+use Rattle.node_pool.specs.Tree.{AreEnded, IsEnded, IsPreorderOf, IsTreeOf, Tree, preorder}
+use Rattle.node_pool.specs.Way.{AreProper, IsStep, IsWay, Step, ranges_at}
+use Rattle.node_pool.specs.declared.node.Link.{Link}
+use Rattle.node_pool.specs.declared.node.NodeId.{NodeId}
+use Rattle.node_pool.specs.declared.node.State.{State}
+use Rattle.node_pool.specs.declared.node.State.TheVariants as state
+use Rattle.offer_book.specs.Book.{AreLines, BookContents, IsBook, IsLine}
+use Rattle.offer_book.specs.CaseBook.{cash_line}
+use Rattle.offer_book.specs.Portfolio.{IsPermittedUnits, Meets}
+use Rattle.offer_book.specs.declared.line.Line.{Line}
+use Rattle.search_tree.proofs.Count.{nodes-all}
+use Rattle.search_tree.proofs.Shape.{AllAt, HoldsBy, IsEndNode, all-nodes, all-placed, are-trees, from-nodes, leaf-holds, placed-at, to-nodes, tree-nodes, tree_nodes}
+use Rattle.search_tree.specs.Growing.{IsPriced, IsSplitNode, node_of}
+use Rattle.search_tree.specs.Shows.{IsRaised, IsWell}
+use Rattle.search_tree.specs.Tree.{TreeContents, end_by, end_node, link_node}
+use Rattle.search_tree.specs.declared.node.Closing.{Closing}
+use Rattle.search_tree.specs.declared.node.Closing.TheVariants as closing
+use Rattle.search_tree.specs.declared.node.SearchNode.{SearchNode}
+
+-- ---- a tree of which each node is closed or split
+-- what holds at a node, by its state
+abbrev pub EndsAt : CaseContents → ℤ → (List Interval → SearchNode → Type 0) → ℕ → List Interval → SearchNode → State → Type 0
+EndsAt case popped Closes number ranges own (state.Split line at left right) = IsSplitNode case popped ranges own.priced line at
+EndsAt case popped Closes number ranges own (state.Closed leaf) = (leaf ≡ number) × Closes ranges own
+EndsAt case popped Closes number ranges own other = Unit {0}
+
+pub record IsEndAt (case : CaseContents) (popped : ℤ) (Closes : List Interval → SearchNode → Type 0) (number : ℕ) (ranges : List Interval) (own : SearchNode) (s : State) : Type 0 where
+  pub priced : IsPriced case ranges own.priced
+  pub ends : EndsAt case popped Closes number ranges own s
+
+pub record IsEndTree (case : CaseContents) (popped : ℤ) (Closes : List Interval → SearchNode → Type 0) (tree : TreeContents) : Type 0 where
+  pub one : IsOneTree tree.pool.states
+  pub whole : SplitsAreWhole tree.pool.states
+  pub ended : AreEnded tree.pool.states
+  pub each : (number : ℕ) (way : List Step) → number < length tree.pool.states → IsWay tree.pool.states number way
+      → IsEndAt case popped Closes number (ranges_at case.book.lines way) (node_of tree.nodes number) (state_at tree.pool.states number)
+
+-- the nodes that its leaves stand for
+abbrev pub ends_of : CaseContents → TreeContents → ℕ → TreeNode
+ends_of case tree number = end_node case.book.needs (node_of tree.nodes number)
+
+end-ends : (case : CaseContents) (leaf : Leaf) (how : Closing) → IsEndNode (end_by case.book.needs leaf how)
+end-ends case leaf closing.Open = tt
+end-ends case leaf closing.Borne = tt
+end-ends case leaf (closing.Unreached day) = tt
+end-ends case leaf closing.Point = tt
+
+pub ends-end : (case : CaseContents) (tree : TreeContents) (number : ℕ) → IsEndNode (ends_of case tree number)
+ends-end case tree number = end-ends case (node_of tree.nodes number).priced.leaf (node_of tree.nodes number).closing
+
+-- what holds of each split, and of each node that is closed so, holds of the whole tree
+holds-by : (case : CaseContents) (popped : ℤ) (Closes : List Interval → SearchNode → Type 0) (P : TreeNode × List Interval → Type 0) (tree : TreeContents) (number : ℕ) (ranges : List Interval) (s : State)
+    → ((line at : ℕ) → IsPriced case ranges (node_of tree.nodes number).priced → IsSplitNode case popped ranges (node_of tree.nodes number).priced line at → P (node.Split line at, ranges))
+    → (IsPriced case ranges (node_of tree.nodes number).priced → Closes ranges (node_of tree.nodes number) → P (ends_of case tree number, ranges))
+    → IsEndAt case popped Closes number ranges (node_of tree.nodes number) s → HoldsBy P (ends_of case tree) ranges s
+holds-by case popped Closes P tree number ranges (state.Waiting key) splits closes is = tt
+holds-by case popped Closes P tree number ranges state.InHand splits closes is = tt
+holds-by case popped Closes P tree number ranges (state.Closed leaf) splits closes is =
+    subst (λ (k : ℕ). P (ends_of case tree k, ranges)) (sym is.ends.0) (closes is.priced is.ends.1)
+holds-by case popped Closes P tree number ranges (state.Split line at left right) splits closes is = splits line at is.priced is.ends
+
+-- a split is of a node that is there
+pub split-there : (states : List State) (number line at : ℕ) (left right : NodeId) → state_at states number ≡ state.Split line at left right → number < length states
+split-there states number line at left right split = elim (cases_lt number (length states)) [
+    | inl below ↦ below
+    | inr past ↦ absurd (let clash : state.InHand ≡ state.Split line at left right = sym (get_or_past states number state.InHand past) ∙ split in cc)
+  ]
+
+way-split : (case : CaseContents) (popped : ℤ) (Closes : List Interval → SearchNode → Type 0) (tree : TreeContents) → IsEndTree case popped Closes tree → (child parent : ℕ) (step : Step) (above : List Step)
+    → (up : IsStep tree.pool.states child parent step) → IsWay tree.pool.states parent above → is_proper (ranges_at case.book.lines above) step.line step.at ≡ true
+way-split case popped Closes tree is child parent step above up way =
+    let here = split-there tree.pool.states parent step.line step.at up.left up.right up.split in
+    let split : IsEndAt case popped Closes parent (ranges_at case.book.lines above) (node_of tree.nodes parent) (state.Split step.line step.at up.left up.right) =
+    subst (IsEndAt case popped Closes parent (ranges_at case.book.lines above) (node_of tree.nodes parent)) up.split (is.each parent above here way) in
+    split.ends.proper
+
+way-proper : (case : CaseContents) (popped : ℤ) (Closes : List Interval → SearchNode → Type 0) (tree : TreeContents) → IsEndTree case popped Closes tree → (number : ℕ) (way : List Step) → number < length tree.pool.states
+    → IsWay tree.pool.states number way → AreProper case.book.lines way
+way-proper case popped Closes tree is number [] few way = tt
+way-proper case popped Closes tree is number (step ∷ above) few way = (
+  way-proper case popped Closes tree is way.0 above (split-there tree.pool.states way.0 step.line step.at way.1.left way.1.right way.1.split) way.2,
+  way-split case popped Closes tree is number way.0 step above way.1 way.2,
+)
+
+pub all-at : (case : CaseContents) (popped : ℤ) (Closes : List Interval → SearchNode → Type 0) (P : TreeNode × List Interval → Type 0) (tree : TreeContents) (shape : Tree)
+    → IsEndTree case popped Closes tree → IsTreeOf tree.pool.states 0 shape
+    → ((number : ℕ) (ranges : List Interval) (line at : ℕ) → IsPriced case ranges (node_of tree.nodes number).priced → IsSplitNode case popped ranges (node_of tree.nodes number).priced line at → AreTight case.book.lines ranges → P (node.Split line at, ranges))
+    → ((number : ℕ) (ranges : List Interval) → IsPriced case ranges (node_of tree.nodes number).priced → Closes ranges (node_of tree.nodes number) → AreTight case.book.lines ranges → P (ends_of case tree number, ranges))
+    → IsBook case.book → AllAt case.book.lines P (ends_of case tree) shape (root_of case.book.lines)
+all-at case popped Closes P tree shape is shape_is splits closes limits =
+    from-nodes case.book.lines P (ends_of case tree) tree.pool.states shape 0 [] holds shape_is refl
+  where
+    holds : (child : ℕ) (up : List Step) → IsWay tree.pool.states child up → HoldsBy P (ends_of case tree) (ranges_at case.book.lines up) (state_at tree.pool.states child)
+    holds child up way = elim (cases_lt child (length tree.pool.states)) [
+        | inl few ↦
+            let tight = ways-tight sides_are_tight case.book.lines (root_is_tight case.book limits) up (way-proper case popped Closes tree is child up few way) in
+            holds-by case popped Closes P tree child (ranges_at case.book.lines up) (state_at tree.pool.states child)
+            (λ line at priced split. splits child (ranges_at case.book.lines up) line at priced split tight)
+            (λ priced closed. closes child (ranges_at case.book.lines up) priced closed tight) (is.each child up few way)
+        | inr past ↦ subst (HoldsBy P (ends_of case tree) (ranges_at case.book.lines up)) (sym (get_or_past tree.pool.states child state.InHand past)) tt
+      ]
+
+-- ---- what holds of every such tree
+-- its splits are proper
+proper-node : (ranges : List Interval) (next : TreeNode) → IsEndNode next → is_bad_split (next, ranges) ≡ false
+proper-node ranges (node.Split line at) ends = absurd ends
+proper-node ranges node.Point ends = refl
+proper-node ranges (node.Closed leaf) ends = refl
+
+lt-test : (a b : ℤ) → a <ℤ b → int_lt a b ≡ true
+lt-test a b below = grind (arith, ints)
+
+-- a closed node is weak or not as its closing says
+pub weak-by : (case : CaseContents) (claim : Claim) (ranges : List Interval) (own : SearchNode) → IsPriced case ranges own.priced
+    → (own.closing ≡ closing.Open → ⊥) → (own.closing ≡ closing.Borne → bears_out own.priced.bound claim ≡ true)
+    → ((day : ℤ) → own.closing ≡ closing.Unreached day → pos 0 <ℤ bound_of (case.limit - 1) case.book ranges (reach_leaf case.book.needs day))
+    → (own.closing ≡ closing.Point → is_closed_point case claim ranges ≡ true) → is_weak case claim (end_node case.book.needs own, ranges) ≡ false
+weak-by case claim ranges own priced opened borne unreached point = by own.closing refl
+  where
+    at : bears_out own.priced.bound claim ≡ true → not (is_closed_leaf case claim ranges own.priced.leaf) ≡ false
+    at is =
+        ap (λ (w : Bool). not (if w then bears_out (bound_of (case.limit - 1) case.book ranges own.priced.leaf) claim else int_lt (pos 0) (bound_of (case.limit - 1) case.book ranges own.priced.leaf))) priced.improved.whole
+        ∙ ap (λ (b : ℤ). not (bears_out b claim)) (sym priced.bound) ∙ ap not is
+
+    by : (how : Closing) → own.closing ≡ how → is_weak case claim (end_by case.book.needs own.priced.leaf how, ranges) ≡ false
+    by closing.Open is = absurd (opened is)
+    by closing.Borne is = at (borne is)
+    by (closing.Unreached day) is = (
+        let test = lt-test (pos 0) (bound_of (case.limit - 1) case.book ranges (reach_leaf case.book.needs day)) (unreached day is) in
+        ap not test)
+    by closing.Point is = ap not (point is)
+
+-- leaves that weigh the cost are raised
+raised-by : (case : CaseContents) (ranges : List Interval) (own : SearchNode) → IsPriced case ranges own.priced → IsRaised case (end_node case.book.needs own, ranges)
+raised-by case ranges own priced = by own.closing
+  where
+    by : (how : Closing) → IsRaised case (end_by case.book.needs own.priced.leaf how, ranges)
+    by closing.Open = λ whole. priced.improved
+    by closing.Borne = λ whole. priced.improved
+    by (closing.Unreached day) = λ whole. absurd (cc)
+    by closing.Point = tt
+
+-- nodes are within the limits of a certificate
+node-by : (case : CaseContents) (ranges : List Interval) (own : SearchNode) → IsBook case.book → IsPriced case ranges own.priced → IsNode (length case.book.needs) (end_node case.book.needs own)
+node-by case ranges own limits priced = by own.closing
+  where
+    by : (how : Closing) → IsNode (length case.book.needs) (end_by case.book.needs own.priced.leaf how)
+    by closing.Open = priced.improved.well_formed
+    by closing.Borne = priced.improved.well_formed
+    by (closing.Unreached day) = reach_is_leaf case.book.needs day limits.needs.rising
+    by closing.Point = tt
+
+most-small : (settle : ℤ) (line : Line) → IsLine settle line → line.most ≤ 10 ^ 13
+most-small settle line (inl cash) = omega (arith, cash.most)
+most-small settle line (inr security) = omega (arith, mul-le-mul_left line.most security.step_at_least, security.cap)
+
+high-few : (line : Line) (units : ℕ) → IsPermittedUnits line units → units ≤ line.most
+high-few line units (inl none) = omega arith
+high-few line units (inr some) = some.1
+
+split-node-by : (case : CaseContents) (ranges : List Interval) (line at : ℕ) → IsBook case.book → AreTight case.book.lines ranges → is_proper ranges line at ≡ true → (line ≤ 65_535) × (at ≤ 10 ^ 13)
+split-node-by case ranges line at limits tight proper =
+    let none : Interval = record { low = 0; high = 0 } in
+    let split = splits-at ranges line at proper in
+    let same = tight-length case.book.lines ranges tight in
+    let there = split.there in
+    let within : line < length case.book.lines = omega (arith, there, same) in
+    let own : Line = get_or case.book.lines line (cash_line 0) in
+    let high = high-few own (get_or ranges line none).high (tight-at case.book.lines ranges line (cash_line 0) none tight there).high in
+    let small = most-small case.book.settle own (all-lines case.book.settle case.book.lines limits.lines line (cash_line 0) within) in
+    (omega (arith, within, few-lines case.book limits), omega (arith, split.right none, high, small))
+  where
+    few-lines : (book : BookContents) → IsBook book → length book.lines ≤ 257
+    few-lines book limits = by book.lines limits.lines
+      where
+        by : (lines : List Line) → AreLines book.settle lines → length lines ≤ 257
+        by [] are = absurd are
+        by (cash ∷ securities) are = omega (arith, are.2)
+
+-- a tree as the nodes of a certificate
+pub record IsWritten (case : CaseContents) (tree : TreeContents) (shape : Tree) (nodes : List TreeNode) : Type 0 where
+  pub shape_is : IsTreeOf tree.pool.states 0 shape
+  pub nodes_are : nodes ≡ tree_nodes (ends_of case tree) shape
+  pub count : length nodes ≡ length tree.pool.states
+
+pub written : (case : CaseContents) (tree : TreeContents) (links : List Link) (nodes : List TreeNode) (shape : Tree) → IsOneTree tree.pool.states → SplitsAreWhole tree.pool.states → IsTreeOf tree.pool.states 0 shape → links ≡ preorder shape
+    → nodes ≡ map (link_node (ends_of case tree)) links → IsWritten case tree shape nodes
+written case tree links nodes shape one whole shape_is links_are nodes_are = record {
+  shape_is = shape_is;
+  nodes_are = nodes_are ∙ ap (map (link_node (ends_of case tree))) links_are ∙ tree-nodes (ends_of case tree) shape;
+  count = ap length nodes_are ∙ length-map links (link_node (ends_of case tree)) ∙ ap length links_are ∙ nodes-all tree.pool.states shape one whole shape_is;
+}
+
+pub well-written : (case : CaseContents) (popped : ℤ) (Closes : List Interval → SearchNode → Type 0) (tree : TreeContents) (shape : Tree) (nodes : List TreeNode) → IsBook case.book → IsEndTree case popped Closes tree
+    → IsWritten case tree shape nodes → IsWell case nodes
+well-written case popped Closes tree shape nodes limits is made = record {
+  proper = subst (λ (ns : List TreeNode). All IsProper (placed_nodes case.book ns)) (sym made.nodes_are)
+      (all-placed lines IsProper ends shape root (ends-end case tree)
+      (all-at case popped Closes IsProper tree shape is made.shape_is (λ number ranges line at priced split tight. ap not split.proper) (λ number ranges priced closed tight. proper-node ranges (ends number) (ends-end case tree number)) limits));
+  raised = subst (λ (ns : List TreeNode). All (IsRaised case) (placed_nodes case.book ns)) (sym made.nodes_are)
+      (all-placed lines (IsRaised case) ends shape root (ends-end case tree)
+      (all-at case popped Closes (IsRaised case) tree shape is made.shape_is (λ number ranges line at priced split tight. tt) (λ number ranges priced closed tight. raised-by case ranges (node_of tree.nodes number) priced) limits));
+  limited = subst (All (IsNode (length case.book.needs))) (sym made.nodes_are)
+      (all-nodes lines (IsNode (length case.book.needs)) ends shape root
+      (all-at case popped Closes (λ (p : TreeNode × List Interval). IsNode (length case.book.needs) p.0) tree shape is made.shape_is
+      (λ number ranges line at priced split tight. split-node-by case ranges line at limits tight split.proper)
+      (λ number ranges priced closed tight. node-by case ranges (node_of tree.nodes number) limits priced) limits));
+  trees = subst (AreTrees 1) (sym made.nodes_are) (subst (AreTrees 1) (append-nil (tree_nodes ends shape)) (are-trees ends shape 0 [] (ends-end case tree) refl));
+}
+  where
+    lines : List Line
+    lines = case.book.lines
+
+    root : List Interval
+    root = root_of case.book.lines
+
+    ends : ℕ → TreeNode
+    ends = ends_of case tree

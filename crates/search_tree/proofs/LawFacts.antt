@@ -1,0 +1,33 @@
+-- The laws, proved.
+use Rattle.std.proofs.Common.{◌≡◌, List}
+use Rattle.case_file.specs.Case.{CaseContents}
+use Rattle.node_pool.specs.Tree.{Tree}
+use Rattle.search_tree.proofs.ClosedFacts.{closed-all, closed-tree}
+use Rattle.search_tree.proofs.EndFacts.{IsWritten, well-written, written}
+use Rattle.search_tree.proofs.ClosedFacts.{ClosedFor}
+use Rattle.search_tree.proofs.GrowFacts.{closed-kept, split-kept}
+use Rattle.search_tree.proofs.SpentFacts.{full-shows}
+use Rattle.search_tree.specs.Laws.{ClosedIsKept, ClosedTreesShow, FullTreesShow, SplitIsKept}
+
+pub closed_is_kept : ClosedIsKept
+closed_is_kept case best tree number ranges how held closes = closed-kept case best tree.pool.states tree.nodes number ranges how held closes
+
+pub split_is_kept : SplitIsKept
+split_is_kept case best tree number line at ranges left right held whole split left_priced left_up right_priced right_up =
+    split-kept case best tree.pool.states tree.nodes number line at ranges left right held whole split left_priced left_up right_priced right_up
+
+pub closed_trees_show : ClosedTreesShow
+closed_trees_show case best popped tree nodes claim is borne point =
+    let shape : Tree = is.written.1.0 in
+    let made : IsWritten case tree shape nodes = written case tree is.written.0 nodes shape is.one is.whole is.written.1.1 is.written.1.2 is.written.2 in
+    let ends = closed-tree case best tree popped is.one is.whole is.ended is.kept in
+    record {
+      well = well-written case popped (ClosedFor case best) tree shape nodes is.limits ends made;
+      count = made.count;
+      closed = closed-all case best claim popped tree shape nodes is.limits ends made (λ number ranges own closed. borne number own) point;
+    }
+
+pub full_trees_show : FullTreesShow
+full_trees_show case best bound cents before after nodes full made is_bound =
+    let shape : Tree = made.1.0 in
+    full-shows case best bound cents before after shape nodes full (written case after made.0 nodes shape full.one full.whole made.1.1 made.1.2 made.2) is_bound

@@ -1,0 +1,134 @@
+-- What a search keeps while its tree grows. It is this project's own.
+use Rattle.std.specs.Prelude.{◌≡◌, ◌≢◌, ◌⊎◌, ℕ, ◌-◌, ◌+◌, ◌<◌, ◌≤◌, true, false, List, [], length, slice_index_or, Option, Some, None, option_map, ℤ, pos, ◌-ℤ◌, ◌≤ℤ◌, ◌<ℤ◌}
+use Rattle.case_file.specs.Case.{CaseContents}
+use Rattle.cash_table.specs.Points.{is_within_limit}
+use Rattle.dual_bound.specs.LeafBound.{bound_of}
+use Rattle.dual_bound.specs.Ranges.{is_proper, is_single}
+use Rattle.dual_bound.specs.declared.ranges.Interval.{Interval}
+use Rattle.dual_tune.specs.Steps.{IsImproved}
+use Rattle.escrow_check.specs.Acceptance.{Claim, bears_out, is_closed_point, low_ends}
+use Rattle.halving_tree.specs.Base.{base_leaf, reach_leaf}
+use Rattle.halving_tree.specs.Halving.{IsHalved, is_end, is_unreached}
+use Rattle.node_pool.specs.Pool.{IsInHand, Waits, state_at}
+use Rattle.node_pool.specs.Way.{IsWay, Step, ranges_at}
+use Rattle.node_pool.specs.declared.node.State.{State}
+use Rattle.node_pool.specs.declared.node.State.TheVariants as state
+use Rattle.offer_book.specs.Book.{BookContents}
+use Rattle.offer_book.specs.Portfolio.{IsPermitted, Meets, cost}
+use Rattle.search_tree.specs.declared.node.Closing.{Closing}
+use Rattle.search_tree.specs.declared.node.Closing.TheVariants as closing
+use Rattle.search_tree.specs.declared.node.Priced.{Priced}
+use Rattle.search_tree.specs.declared.node.SearchNode.{SearchNode}
+
+-- what the best plan so far claims: that no rival costs less than it by more than the allowance; without a plan, that there is none
+abbrev pub claim_of_best : CaseContents → Option ℕ → Claim
+claim_of_best case best = option_map (λ cents. pos cents -ℤ pos case.allowance) best
+
+-- a plan that can be bought, with what it costs
+pub record IsBought (limit : ℕ) (book : BookContents) (plan : List ℕ) (cents : ℕ) : Type 0 where
+  pub permitted : IsPermitted book plan
+  pub meets : Meets book plan
+  pub within : is_within_limit limit book plan ≡ true
+  pub priced : cents ≡ cost book plan
+
+-- the leaf of a node: over the node's ranges its bound isn't below that of the base leaf and each of its steps, nor below 0
+pub record IsPriced (case : CaseContents) (ranges : List Interval) (priced : Priced) : Type 0 where
+  pub improved : IsImproved (case.limit - 1) case.book ranges (base_leaf case.book) priced.leaf
+  pub bound : priced.bound ≡ bound_of (case.limit - 1) case.book ranges priced.leaf
+  pub some : pos 0 ≤ℤ priced.bound
+
+-- a point: the one portfolio of its ranges is no rival, or costs no less than the best plan; and without a best plan it doesn't meet
+-- the needs within the limit
+pub record IsLostPoint (case : CaseContents) (best : Option ℕ) (ranges : List Interval) : Type 0 where
+  pub closed : is_closed_point case (option_map pos best) ranges ≡ true
+  pub lost : best ≡ None → Meets case.book (low_ends ranges) → is_within_limit case.limit case.book (low_ends ranges) ≡ true → ⊥
+
+-- how a node is closed
+abbrev pub IsClosedBy : CaseContents → Option ℕ → List Interval → ℤ → Closing → Type 0
+IsClosedBy case best ranges bound closing.Open = ⊥
+IsClosedBy case best ranges bound closing.Borne = bears_out bound (claim_of_best case best) ≡ true
+IsClosedBy case best ranges bound (closing.Unreached day) = pos 0 <ℤ bound_of (case.limit - 1) case.book ranges (reach_leaf case.book.needs day)
+IsClosedBy case best ranges bound closing.Point = IsLostPoint case best ranges
+
+-- a node isn't closed: it holds several portfolios, its leaf doesn't bear the best plan out, and its needs may be reached
+pub record GoesOn (case : CaseContents) (best : Option ℕ) (ranges : List Interval) (bound : ℤ) : Type 0 where
+  pub several : is_single ranges ≡ false
+  pub reached : is_unreached case ranges ≡ false
+  pub not_borne : bears_out bound (claim_of_best case best) ≡ false
+
+-- what is found of a node that is tried
+abbrev pub IsTried : CaseContents → Option ℕ → List Interval → ℤ → Closing → Type 0
+IsTried case best ranges bound closing.Open = GoesOn case best ranges bound
+IsTried case best ranges bound closing.Borne = IsClosedBy case best ranges bound closing.Borne
+IsTried case best ranges bound (closing.Unreached day) = IsClosedBy case best ranges bound (closing.Unreached day)
+IsTried case best ranges bound closing.Point = IsClosedBy case best ranges bound closing.Point
+
+-- a split is one of the halving tree
+pub record IsHalvingSplit (case : CaseContents) (ranges : List Interval) (line at : ℕ) : Type 0 where
+  pub goes_on : is_end case ranges ≡ false
+  pub halved : IsHalved case.book.lines ranges line at
+
+-- a split: it is proper, its node's bound isn't above the last one that was taken, and it is one of the halving tree
+pub record IsSplitNode (case : CaseContents) (popped : ℤ) (ranges : List Interval) (priced : Priced) (line at : ℕ) : Type 0 where
+  pub proper : is_proper ranges line at ≡ true
+  pub few : line < length case.book.lines
+  pub low : priced.bound ≤ℤ popped
+  pub halving : IsHalvingSplit case ranges line at
+
+-- what holds at a node's ranges, by its state, its number being given
+abbrev pub IsAt : CaseContents → Option ℕ → ℤ → ℕ → List Interval → SearchNode → State → Type 0
+IsAt case best popped number ranges node (state.Waiting key) = (key ≡ node.priced.bound) × (popped ≤ℤ key) × (node.closing ≡ closing.Open)
+IsAt case best popped number ranges node state.InHand = (node.priced.bound ≡ popped) × (node.closing ≡ closing.Open)
+IsAt case best popped number ranges node (state.Split line at left right) = IsSplitNode case popped ranges node.priced line at × (node.closing ≡ closing.Open)
+IsAt case best popped number ranges node (state.Closed leaf) = (leaf ≡ number) × IsClosedBy case best ranges node.priced.bound node.closing
+
+-- a node that stands for a number that isn't there
+abbrev pub no_node : SearchNode
+no_node = record { priced = record { leaf = record { whole = true; mu = 0; prices = [] }; bound = pos 0 }; closing = closing.Open }
+
+abbrev pub node_of : List SearchNode → ℕ → SearchNode
+node_of nodes number = slice_index_or nodes number no_node
+
+pub record IsNodeAt (case : CaseContents) (best : Option ℕ) (popped : ℤ) (number : ℕ) (ranges : List Interval) (node : SearchNode) (own : State) : Type 0 where
+  pub priced : IsPriced case ranges node.priced
+  pub stands : IsAt case best popped number ranges node own
+
+-- so it is at each node's ranges, which the way to the root gives
+pub record IsGrown (case : CaseContents) (best : Option ℕ) (popped : ℤ) (states : List State) (nodes : List SearchNode) : Type 0 where
+  pub same : length nodes ≡ length states
+  pub each : (number : ℕ) (way : List Step) → number < length states → IsWay states number way
+      → IsNodeAt case best popped number (ranges_at case.book.lines way) (node_of nodes number) (state_at states number)
+
+-- no node is in hand
+abbrev pub NoneInHand : List State → Type 0
+NoneInHand states = (number : ℕ) → number < length states → state_at states number ≡ state.InHand → ⊥
+
+-- a tree as a search keeps it between two nodes
+pub record IsKept (case : CaseContents) (best : Option ℕ) (popped : ℤ) (states : List State) (nodes : List SearchNode) : Type 0 where
+  pub grown : IsGrown case best popped states nodes
+  pub none : NoneInHand states
+
+abbrev pub HasGrown : CaseContents → Option ℕ → List State → List SearchNode → Type 0
+HasGrown case best states nodes = (popped : ℤ) × IsKept case best popped states nodes
+
+-- a node in hand, the only one, whose bound no node that waits is below
+pub record IsPopped (case : CaseContents) (best : Option ℕ) (states : List State) (nodes : List SearchNode) (number : ℕ) : Type 0 where
+  pub grown : IsGrown case best (node_of nodes number).priced.bound states nodes
+  pub held : IsInHand states number
+  pub others : (other : ℕ) → other < length states → state_at states other ≡ state.InHand → other ≡ number
+
+-- a node in hand, of the ranges at hand
+pub record IsHeld (case : CaseContents) (best : Option ℕ) (states : List State) (nodes : List SearchNode) (number : ℕ) (ranges : List Interval) : Type 0 where
+  pub popped : IsPopped case best states nodes number
+  pub ranged : (way : List Step) → IsWay states number way → ranges ≡ ranges_at case.book.lines way
+
+-- a node waits which is to be split, and has the least bound of those that wait
+pub record IsStuck (case : CaseContents) (best : Option ℕ) (bound : ℤ) (states : List State) (nodes : List SearchNode) : Type 0 where
+  pub number : ℕ
+  pub there : number < length states
+  pub waits : Waits states number bound
+  pub kept : IsKept case best bound states nodes
+  pub goes_on : (way : List Step) → IsWay states number way → GoesOn case best (ranges_at case.book.lines way) bound
+  pub line : ℕ
+  pub at : ℕ
+  pub halving : (way : List Step) → IsWay states number way → IsHalvingSplit case (ranges_at case.book.lines way) line at

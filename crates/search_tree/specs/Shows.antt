@@ -1,0 +1,66 @@
+-- What the nodes of a search's tree show. This is this project's own.
+use Rattle.std.specs.Prelude.{◌≡◌, ℕ, ◌-◌, ◌*◌, ◌≤◌, false, true, List, All, length, Some, ℤ, pos, ◌≤ℤ◌}
+use Rattle.bound_certificate.specs.Certificate.{IsNode}
+use Rattle.case_file.specs.Case.{CaseContents}
+use Rattle.cash_table.specs.Points.{is_within_limit}
+use Rattle.dual_bound.specs.LeafBound.{bound_of}
+use Rattle.dual_bound.specs.Tree.{AreTrees}
+use Rattle.dual_bound.specs.declared.prices.TheConstants.{PRICE_SCALE}
+use Rattle.dual_bound.specs.declared.ranges.Interval.{Interval}
+use Rattle.dual_bound.specs.declared.tree.Leaf.{Leaf}
+use Rattle.dual_bound.specs.declared.tree.TreeNode.{TreeNode}
+use Rattle.dual_bound.specs.declared.tree.TreeNode.TheVariants as node
+use Rattle.dual_tune.specs.Steps.{IsImproved, IsStep}
+use Rattle.escrow_check.specs.Acceptance.{bears_out, is_weak, low_ends, placed_nodes}
+use Rattle.escrow_check.specs.Reasons.{IsProper}
+use Rattle.halving_tree.specs.Base.{base_leaf}
+use Rattle.offer_book.specs.Portfolio.{Meets}
+use Rattle.offer_book.specs.declared.coefficients.TheConstants.{COEFFICIENT_SCALE}
+
+-- ---- what leaves and splits show
+-- a leaf that weighs the cost: over the ranges of its node its bound is below that of neither the base leaf nor any of its steps
+abbrev pub IsRaised : CaseContents → TreeNode × List Interval → Type 0
+IsRaised case (node.Closed leaf, ranges) = leaf.whole ≡ true → IsImproved (case.limit - 1) case.book ranges (base_leaf case.book) leaf
+IsRaised case (node.Split line at, ranges) = Unit {0}
+IsRaised case (node.Point, ranges) = Unit {0}
+
+-- a bound isn't above a number of cents
+abbrev pub IsWorthAtMost : ℕ → ℤ → Type 0
+IsWorthAtMost cents bound = bound ≤ℤ pos (COEFFICIENT_SCALE * PRICE_SCALE * cents)
+
+-- over ranges neither the base leaf nor any of its steps is worth more than a number of cents
+pub record AreStepsAtMost (case : CaseContents) (cents : ℕ) (ranges : List Interval) : Type 0 where
+  pub base : IsWorthAtMost cents (bound_of (case.limit - 1) case.book ranges (base_leaf case.book))
+  pub steps : (step : Leaf) → IsStep (base_leaf case.book) step → IsWorthAtMost cents (bound_of (case.limit - 1) case.book ranges step)
+
+-- so it is at each split
+abbrev pub IsNeededSplit : CaseContents → ℕ → TreeNode × List Interval → Type 0
+IsNeededSplit case cents (node.Split line at, ranges) = AreStepsAtMost case cents ranges
+IsNeededSplit case cents (node.Closed leaf, ranges) = Unit {0}
+IsNeededSplit case cents (node.Point, ranges) = Unit {0}
+
+-- a point doesn't both meet the needs and keep within the limit
+abbrev pub IsNoPlan : CaseContents → TreeNode × List Interval → Type 0
+IsNoPlan case (node.Point, ranges) = Meets case.book (low_ends ranges) → is_within_limit case.limit case.book (low_ends ranges) ≡ true → ⊥
+IsNoPlan case (node.Split line at, ranges) = Unit {0}
+IsNoPlan case (node.Closed leaf, ranges) = Unit {0}
+
+-- ---- a bound of the whole tree
+-- a tree holds a bound, in cents: its splits are proper, and each of its leaves and points shows that no rival costs less
+pub record HoldsBound (case : CaseContents) (nodes : List TreeNode) (cents : ℕ) : Type 0 where
+  pub proper : All IsProper (placed_nodes case.book nodes)
+  pub closed : All (λ p. is_weak case (Some (pos cents)) p ≡ false) (placed_nodes case.book nodes)
+
+-- a number of cents is the greatest that a bound bears out
+pub record IsBoundOf (bound : ℤ) (cents : ℕ) : Type 0 where
+  pub borne : bears_out bound (Some (pos cents)) ≡ true
+  pub most : IsWorthAtMost cents bound
+  pub greatest : (more : ℕ) → bears_out bound (Some (pos more)) ≡ true → more ≤ cents
+
+-- what every tree of a search shows as the nodes of a certificate: they are one tree within its limits, whose splits are proper, and
+-- whose leaves are raised where they weigh the cost
+pub record IsWell (case : CaseContents) (nodes : List TreeNode) : Type 0 where
+  pub proper : All IsProper (placed_nodes case.book nodes)
+  pub raised : All (IsRaised case) (placed_nodes case.book nodes)
+  pub limited : All (IsNode (length case.book.needs)) nodes
+  pub trees : AreTrees 1 nodes

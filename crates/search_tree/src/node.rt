@@ -1,0 +1,35 @@
+//! A node of the search's tree: its leaf, and how it was closed.
+
+use dual_bound::Leaf;
+use escrow_units::Day;
+
+/// How a node is closed, if it is.
+#[derive(Clone, Copy, Debug, PartialEq, Eq)]
+pub enum Closing {
+    /// It isn't.
+    Open,
+    /// By its own leaf, which bears out that no rival costs less than the best plan by more than the allowance.
+    Borne,
+    /// By the leaf that weighs the needs up to a day alone: its ranges don't reach them.
+    Unreached(Day),
+    /// As a point: it holds one portfolio, which is no rival, or costs no less than the best plan.
+    Point,
+}
+
+/// A leaf over the ranges of a node, and its bound there, scaled.
+#[derive(Drop)]
+pub struct Priced {
+    /// The leaf, which weighs the cost.
+    pub leaf: Leaf,
+    /// Its bound over the node's ranges, one unit below the limit.
+    pub bound: i128,
+}
+
+/// A node of the search's tree.
+#[derive(Drop)]
+pub struct SearchNode {
+    /// Its leaf and that leaf's bound.
+    pub priced: Priced,
+    /// How it was closed.
+    pub closing: Closing,
+}
