@@ -16,8 +16,8 @@ use offer_book::Book;
 use plan_finder::{Proposal, find};
 use std::alloc::Global;
 
-// How many linear programs the search for a plan solves, about.
-const EFFORT: u32 = 10_000;
+// How much work the search for a plan is at most, in sweeps: each goes once through all columns of the linear program.
+const EFFORT: u32 = 50_000;
 
 // The backward plan, where there is one.
 fn backward(alloc: Global, book: &Book) -> Result<Option<Plan>, NoMemory>
