@@ -124,14 +124,6 @@ held-little n book plan held i own limits permitted are within at =
     (purchase-little n book.settle line (get_or plan i 0) (get_or held i own) limits.settlement (book-line book i some_line limits within)
     (permitted_few line (get_or plan i 0) (permitted-at book plan i within permitted some_line)) (are.each i own within some_line))
 
--- the step of a line
-line-step : (settle : ℤ) (line : Line) → IsLine settle line → (0 < line.step) × (line.step ≤ 10 ^ 8)
-line-step settle line (inl cash) = (omega (arith, cash.step), omega (arith, cash.step))
-line-step settle line (inr security) = (omega (arith, security.step_at_least), security.step_at_most)
-
-pub step-is : (book : BookContents) (i : ℕ) (line : Line) → IsBook book → i < length book.lines → line ≡ get_or book.lines i line → (0 < line.step) × (line.step ≤ 10 ^ 8)
-step-is book i line limits within at = line-step book.settle line (line-is book i line limits within at)
-
 -- what holds of a line of a book holds of it by its place
 pub by-place : (P : Line → Type 0) (book : BookContents) (i : ℕ) (line : Line) → i < length book.lines → line ≡ get_or book.lines i line → P line → (d : Line) → P (get_or book.lines i d)
 by-place P book i line within at holds d = subst P (at ∙ get_or_default book.lines i line d within) holds

@@ -16,8 +16,8 @@ use Rattle.cash_table.proofs.ReceiptFacts.{nothing_by}
 use Rattle.cash_table.proofs.ZipFacts.{sum_by-zero}
 use Rattle.dual_bound.specs.Columns.{kind_power}
 use Rattle.backward_build.specs.Spare.{ArePaid}
-use Rattle.plan_finder.specs.Ledger.{AreHeld, AreTerms, IsLedger, line_worth}
-use Rattle.plan_finder.specs.declared.ledger.Ledger.{Ledger}
+use Rattle.plan_finder.specs.Ledger.{AreHeld, AreTerms, IsAccount, line_worth}
+use Rattle.plan_finder.specs.declared.account.Account.{Account}
 use Rattle.plan_finder.proofs.PutFacts.{pair_line_worth}
 
 -- a plan that buys nothing
@@ -72,9 +72,9 @@ none-worth n settle (line ∷ lines) (units ∷ plan) none =
 pub zeros : (n : ℕ) → AreNone (replicate n 0)
 zeros n = λ k within. grind (arith, get_or-replicate, length-replicate)
 
-pub make-ledger : (n : ℕ) (book : BookContents) (ledger : Ledger) → IsBook book → ledger.plan ≡ replicate (length book.lines) 0
+pub make-ledger : (n : ℕ) (book : BookContents) (ledger : Account) → IsBook book → ledger.plan ≡ replicate (length book.lines) 0
     → AreTerms n book ledger.terms.items → AreHeld n book (replicate (length book.lines) 0) ledger.held.items → ArePaid book.needs book.needs ledger.needed
-    → ((k : ℕ) → k < length book.needs → get_or ledger.received k 0 ≡ 0) → ledger.cost.0 ≡ 0 → ledger.worth ≡ 0 → IsLedger n book ledger
+    → ((k : ℕ) → k < length book.needs → get_or ledger.received k 0 ≡ 0) → ledger.cost.0 ≡ 0 → ledger.worth ≡ 0 → IsAccount n book ledger
 make-ledger n book ledger limits plan terms held needed received cost worth =
     let none = zeros (length book.lines) in
     record {

@@ -23,8 +23,8 @@ use Rattle.dual_bound.specs.Columns.{kind_power}
 use Rattle.backward_build.specs.Spare.{ArePaid}
 use Rattle.backward_build.proofs.TrimFacts.{some_line, some_need}
 use Rattle.backward_build.proofs.UnitFacts.{payments_exchange, permitted-set}
-use Rattle.plan_finder.specs.Ledger.{AreHeld, IsLedger, IsPurchase, flows_worth, line_worth, plan_worth}
-use Rattle.plan_finder.specs.declared.ledger.Ledger.{Ledger}
+use Rattle.plan_finder.specs.Ledger.{AreHeld, IsAccount, IsPurchase, flows_worth, line_worth, plan_worth}
+use Rattle.plan_finder.specs.declared.account.Account.{Account}
 use Rattle.plan_finder.specs.declared.terms.Purchase.{Purchase}
 use Rattle.plan_finder.proofs.LedgerFacts.{held-set, sum-exchange, sum-part}
 
@@ -52,7 +52,7 @@ pub purchase-paid : (n : ℕ) (book : BookContents) (line : Line) (units : ℕ) 
     → ArePaid book.needs purchase.payments.items paid → ArePaid book.needs (line_payments book.settle line units) paid
 purchase-paid n book line units purchase paid own are = subst (λ flows. ArePaid book.needs flows paid) own.payments are
 
-pub received-part : (n : ℕ) (book : BookContents) (ledger : Ledger) (i : ℕ) (before : Purchase) (paid : List ℕ) → IsLedger n book ledger → i < length book.lines
+pub received-part : (n : ℕ) (book : BookContents) (ledger : Account) (i : ℕ) (before : Purchase) (paid : List ℕ) → IsAccount n book ledger → i < length book.lines
     → before ≡ get_or ledger.held.items i before → ArePaid book.needs before.payments.items paid
     → (k : ℕ) → k < length book.needs → get_or paid k 0 ≤ get_or ledger.received k 0
 received-part n book ledger i before paid is within at are k here =
@@ -61,7 +61,7 @@ received-part n book ledger i before paid is within at are k here =
     omega (arith, own k some_need here, is.received k some_need here, line-paid (get_or book.needs k some_need).day book ledger.plan i some_line within is.permitted.same_length)
 
 -- what is received once a line has other units
-pub received-set : (n : ℕ) (book : BookContents) (ledger : Ledger) (i units : ℕ) (before after : Purchase) (paid now : List ℕ) → IsLedger n book ledger → i < length book.lines
+pub received-set : (n : ℕ) (book : BookContents) (ledger : Account) (i units : ℕ) (before after : Purchase) (paid now : List ℕ) → IsAccount n book ledger → i < length book.lines
     → before ≡ get_or ledger.held.items i before → ((d : Line) → IsPurchase n book.settle (get_or book.lines i d) units after)
     → ArePaid book.needs before.payments.items paid → ArePaid book.needs after.payments.items now
     → (k : ℕ) (d : Flow) → k < length book.needs
@@ -80,7 +80,7 @@ received-set n book ledger i units before after paid now is within at own were a
       payments_exchange t book ledger.plan i units some_line within is.permitted.same_length,
     )
 
-pub received-room : (n : ℕ) (book : BookContents) (ledger : Ledger) (i units : ℕ) (before after : Purchase) (paid now : List ℕ) → IsLedger n book ledger → i < length book.lines
+pub received-room : (n : ℕ) (book : BookContents) (ledger : Account) (i units : ℕ) (before after : Purchase) (paid now : List ℕ) → IsAccount n book ledger → i < length book.lines
     → ((d : Line) → IsPermittedUnits (get_or book.lines i d) units)
     → before ≡ get_or ledger.held.items i before → ((d : Line) → IsPurchase n book.settle (get_or book.lines i d) units after)
     → ArePaid book.needs before.payments.items paid → ArePaid book.needs after.payments.items now
@@ -93,12 +93,12 @@ received-room n book ledger i units before after paid now is within permitted at
     )
 
 -- the cost, and what it is worth, once a line has other units
-pub cost-part : (n : ℕ) (book : BookContents) (ledger : Ledger) (i : ℕ) (before : Purchase) → IsLedger n book ledger → i < length book.lines
+pub cost-part : (n : ℕ) (book : BookContents) (ledger : Account) (i : ℕ) (before : Purchase) → IsAccount n book ledger → i < length book.lines
     → before ≡ get_or ledger.held.items i before → before.cost.0 ≤ ledger.cost.0
 cost-part n book ledger i before is within at =
     omega (arith, (held-is n book ledger.plan ledger.held.items i before is.held within at some_line).cost, is.cost, sum-part pair_cost book.lines ledger.plan i some_line within is.permitted.same_length)
 
-pub cost-set : (n : ℕ) (book : BookContents) (ledger : Ledger) (i units : ℕ) (before after : Purchase) → IsLedger n book ledger → i < length book.lines
+pub cost-set : (n : ℕ) (book : BookContents) (ledger : Account) (i units : ℕ) (before after : Purchase) → IsAccount n book ledger → i < length book.lines
     → before ≡ get_or ledger.held.items i before → ((d : Line) → IsPurchase n book.settle (get_or book.lines i d) units after)
     → ledger.cost.0 - before.cost.0 + after.cost.0 ≡ cost_of book (set ledger.plan i units)
 cost-set n book ledger i units before after is within at own =
@@ -111,14 +111,14 @@ cost-set n book ledger i units before after is within at own =
       sum-exchange pair_cost book.lines ledger.plan i units some_line within is.permitted.same_length,
     )
 
-pub cost-room : (n : ℕ) (book : BookContents) (ledger : Ledger) (i units : ℕ) (before after : Purchase) → IsLedger n book ledger → i < length book.lines
+pub cost-room : (n : ℕ) (book : BookContents) (ledger : Account) (i units : ℕ) (before after : Purchase) → IsAccount n book ledger → i < length book.lines
     → ((d : Line) → IsPermittedUnits (get_or book.lines i d) units)
     → before ≡ get_or ledger.held.items i before → ((d : Line) → IsPurchase n book.settle (get_or book.lines i d) units after)
     → ledger.cost.0 - before.cost.0 + after.cost.0 < 2 ^ 64
 cost-room n book ledger i units before after is within permitted at own =
     omega (arith, cost-set n book ledger i units before after is within at own, cost_at_most book (set ledger.plan i units) is.limits (permitted-set book ledger.plan i units is.permitted permitted))
 
-pub worth-part : (n : ℕ) (book : BookContents) (ledger : Ledger) (i : ℕ) (before : Purchase) → IsLedger n book ledger → i < length book.lines
+pub worth-part : (n : ℕ) (book : BookContents) (ledger : Account) (i : ℕ) (before : Purchase) → IsAccount n book ledger → i < length book.lines
     → before ≡ get_or ledger.held.items i before → before.worth ≤ ledger.worth
 worth-part n book ledger i before is within at =
     omega (
@@ -128,7 +128,7 @@ worth-part n book ledger i before is within at =
       sum-part (pair_line_worth n book.settle) book.lines ledger.plan i some_line within is.permitted.same_length,
     )
 
-pub worth-set : (n : ℕ) (book : BookContents) (ledger : Ledger) (i units : ℕ) (before after : Purchase) → IsLedger n book ledger → i < length book.lines
+pub worth-set : (n : ℕ) (book : BookContents) (ledger : Account) (i units : ℕ) (before after : Purchase) → IsAccount n book ledger → i < length book.lines
     → before ≡ get_or ledger.held.items i before → ((d : Line) → IsPurchase n book.settle (get_or book.lines i d) units after)
     → ledger.worth - before.worth + after.worth ≡ plan_worth n book (set ledger.plan i units)
 worth-set n book ledger i units before after is within at own =
@@ -178,7 +178,7 @@ worth-most n book plan limits permitted =
       payments_at_most book plan limits permitted,
     )
 
-pub worth-room : (n : ℕ) (book : BookContents) (ledger : Ledger) (i units : ℕ) (before after : Purchase) → IsLedger n book ledger → i < length book.lines
+pub worth-room : (n : ℕ) (book : BookContents) (ledger : Account) (i units : ℕ) (before after : Purchase) → IsAccount n book ledger → i < length book.lines
     → ((d : Line) → IsPermittedUnits (get_or book.lines i d) units)
     → before ≡ get_or ledger.held.items i before → ((d : Line) → IsPurchase n book.settle (get_or book.lines i d) units after)
     → ledger.worth - before.worth + after.worth < 2 ^ 128
@@ -186,14 +186,14 @@ worth-room n book ledger i units before after is within permitted at own =
     omega (arith, worth-set n book ledger i units before after is within at own, worth-most n book (set ledger.plan i units) is.limits (permitted-set book ledger.plan i units is.permitted permitted))
 
 -- the ledger once a line has other units
-pub put-ledger : (n : ℕ) (book : BookContents) (old new : Ledger) (i units : ℕ) (before after : Purchase) (paid now : List ℕ) → IsLedger n book old → i < length book.lines
+pub put-ledger : (n : ℕ) (book : BookContents) (old new : Account) (i units : ℕ) (before after : Purchase) (paid now : List ℕ) → IsAccount n book old → i < length book.lines
     → ((d : Line) → IsPermittedUnits (get_or book.lines i d) units)
     → before ≡ get_or old.held.items i before → ((d : Line) → IsPurchase n book.settle (get_or book.lines i d) units after)
     → ArePaid book.needs before.payments.items paid → ArePaid book.needs after.payments.items now
     → new.plan ≡ set old.plan i units → new.terms.items ≡ old.terms.items → new.held.items ≡ set old.held.items i after → new.needed ≡ old.needed
     → ((k : ℕ) → k < length book.needs → get_or new.received k 0 ≡ get_or old.received k 0 - get_or paid k 0 + get_or now k 0)
     → new.cost.0 ≡ old.cost.0 - before.cost.0 + after.cost.0 → new.worth ≡ old.worth - before.worth + after.worth
-    → IsLedger n book new
+    → IsAccount n book new
 put-ledger n book old new i units before after paid now is within permitted at own were are plan terms held needed received cost worth = record {
   limits = is.limits;
   permitted = rw plan (permitted-set book old.plan i units is.permitted permitted);

@@ -1,4 +1,4 @@
--- What the ledger of a plan has: the terms of each line, what the plan's units of it cost and pay, and what all of them come to.
+-- What the account of a plan has: the terms of each line, what the plan's units of it cost and pay, and what all of them come to.
 use Rattle.std.specs.Prelude.{◌≡◌, ℕ, ◌-◌, ◌*◌, ◌<◌, ◌≤◌, List, All, length, map, slice_index, slice_index_or, sum_by, ℤ}
 use Rattle.std.specs.List.{zip}
 use Rattle.escrow_units.specs.declared.security.Flow.{Flow}
@@ -11,7 +11,7 @@ use Rattle.offer_book.specs.declared.line.Line.{Line}
 use Rattle.offer_book.specs.declared.line.LineKind.{LineKind}
 use Rattle.dual_bound.specs.Columns.{kind_power}
 use Rattle.backward_build.specs.Spare.{ArePaid}
-use Rattle.plan_finder.specs.declared.ledger.Ledger.{Ledger}
+use Rattle.plan_finder.specs.declared.account.Account.{Account}
 use Rattle.plan_finder.specs.declared.terms.LineTerms.{LineTerms}
 use Rattle.plan_finder.specs.declared.terms.Purchase.{Purchase}
 
@@ -53,16 +53,22 @@ pub record AreHeld (n : ℕ) (book : BookContents) (plan : List ℕ) (held : Lis
 abbrev pub plan_worth : ℕ → BookContents → List ℕ → ℕ
 plan_worth n book plan = sum_by (λ p. line_worth n book.settle p.0 p.1) (zip book.lines plan)
 
--- a ledger of a book, at the yield n: all that it has is that of its plan
-pub record IsLedger (n : ℕ) (book : BookContents) (ledger : Ledger) : Type 0 where
+-- what contracts see of a ledger: the book, the yield by which its securities are worth something against the limit, and the plan
+pub record LedgerContents : Type 0 where
+  pub book : BookContents
+  pub yield_units : ℕ
+  pub plan : List ℕ
+
+-- an account of a plan of a book, at the yield n: all that it has is that of its plan
+pub record IsAccount (n : ℕ) (book : BookContents) (account : Account) : Type 0 where
   pub limits : IsBook book
-  pub permitted : IsPermitted book ledger.plan
-  pub terms : AreTerms n book ledger.terms.items
-  pub held : AreHeld n book ledger.plan ledger.held.items
-  pub needed : ArePaid book.needs book.needs ledger.needed
-  pub received : ArePaid book.needs (payments_of book ledger.plan) ledger.received
-  pub cost : ledger.cost.0 ≡ cost_of book ledger.plan
-  pub worth : ledger.worth ≡ plan_worth n book ledger.plan
+  pub permitted : IsPermitted book account.plan
+  pub terms : AreTerms n book account.terms.items
+  pub held : AreHeld n book account.plan account.held.items
+  pub needed : ArePaid book.needs book.needs account.needed
+  pub received : ArePaid book.needs (payments_of book account.plan) account.received
+  pub cost : account.cost.0 ≡ cost_of book account.plan
+  pub worth : account.worth ≡ plan_worth n book account.plan
 
 -- what a line has to pay up to each need date, so that nothing is short: what is needed, less what the other lines pay
 abbrev pub AreDue : List Flow → List Flow → List Flow → List ℕ → Type 0

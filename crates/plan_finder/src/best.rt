@@ -1,7 +1,6 @@
 //! The cheapest plan that was found.
-ghost use Rattle.std.specs.Prelude.{◌≡◌, ℕ, ◌<◌, ◌≤◌, All, IfSome, OnOk, length};
+ghost use Rattle.std.specs.Prelude.{◌≡◌, ◌<◌, ◌≤◌, All, IfSome, OnOk, length};
 ghost use Rattle.offer_book.specs.Portfolio.{IsPermitted};
-ghost use Rattle.plan_finder.specs.Ledger.{IsLedger};
 ghost use Rattle.plan_finder.specs.Proposal.{IsProposal};
 
 use crate::finding::Proposal;
@@ -12,7 +11,6 @@ use crate::trimming::trim;
 use cash_table::{Plan, within_limit};
 use escrow_desk::NoMemory;
 use escrow_units::{Cents, YieldUnits};
-use offer_book::Book;
 use std::alloc::Global;
 
 /// How much was done to make a plan exact.
@@ -40,39 +38,33 @@ pub(crate) fn is_cheaper(cost: Cents, best: &Option<Proposal>) -> bool {
 /// Where memory ran out.
 pub(crate) fn offer(
     alloc: Global,
-    book: &Book,
     limit: YieldUnits,
     ledger: &Ledger,
     best: &mut Option<Proposal>,
 ) -> Result<(), NoMemory>
-    requires ledger { (n : ℕ) × IsLedger n book.now ledger.now }
-    requires best { IfSome best.old (IsProposal limit.0 book.now) }
-    ensures { OnOk result (IfSome best.new (IsProposal limit.0 book.now)) }
+    requires { IfSome best.old (IsProposal limit.0 ledger.now.book) }
+    ensures { IfSome best.new (IsProposal limit.0 ledger.now.book) }
 {
-    if !is_cheaper(ledger.cost, best)
-        || ledger.is_dearer(book)
-        || ledger.first_short(book).is_some()
-    {
+    if !is_cheaper(ledger.cost(), best) || ledger.is_dearer() || ledger.shortage().is_some() {
         return Ok(());
     }
-    if within_limit(alloc, book, &ledger.plan, limit)? {
+    if within_limit(alloc, ledger.book(), ledger.plan(), limit)? {
         *best = Some(Proposal {
-            plan: ledger.plan.copy(alloc)?,
-            cost: ledger.cost,
+            plan: ledger.plan().copy(alloc)?,
+            cost: ledger.cost(),
         });
     }
     Ok(())
 }
 
 // Gives the ledger the units of a plan.
-fn restore(book: &Book, ledger: &mut Ledger, plan: &Plan)
-    requires ledger { (n : ℕ) × IsLedger n book.now ledger.old }
-    requires plan { IsPermitted book.now plan.now }
-    ensures ledger { (n : ℕ) → IsLedger n book.now ledger.old → IsLedger n book.now ledger.new }
+fn restore(ledger: &mut Ledger, plan: &Plan)
+    requires { IsPermitted ledger.old.book plan.now }
+    ensures book { ledger.new.book ≡ ledger.old.book }
     ensures plan { ledger.new.plan ≡ plan.now }
 {
-    for line in 0..book.line_count() {
-        ledger.change(book, line, plan.get(line));
+    for line in 0..ledger.book().line_count() {
+        ledger.put(line, plan.get(line));
     }
 }
 
@@ -84,28 +76,26 @@ fn restore(book: &Book, ledger: &mut Ledger, plan: &Plan)
 /// Where memory ran out.
 pub(crate) fn finish(
     alloc: Global,
-    book: &Book,
     limit: YieldUnits,
     orders: &[Vec<Ranked>],
     ledger: &mut Ledger,
     best: &mut Option<Proposal>,
 ) -> Result<Exactness, NoMemory>
-    requires ledger { (n : ℕ) × IsLedger n book.now ledger.old }
-    requires orders { All (λ order. All (λ ranked. ranked.line < length book.now.lines) order.items) orders.now }
-    requires best { IfSome best.old (IsProposal limit.0 book.now) }
-    ensures ledger { OnOk result ((n : ℕ) → IsLedger n book.now ledger.old → IsLedger n book.now ledger.new) }
-    ensures best { OnOk result (IfSome best.new (IsProposal limit.0 book.now)) }
+    requires orders { All (λ order. All (λ ranked. ranked.line < length ledger.old.book.lines) order.items) orders.now }
+    requires best { IfSome best.old (IsProposal limit.0 ledger.old.book) }
+    ensures book { ledger.new.book ≡ ledger.old.book }
+    ensures best { IfSome best.new (IsProposal limit.0 ledger.old.book) }
 {
-    let rises = mend(book, ledger);
+    let rises = mend(ledger);
     let mut tries = 0u32;
-    if ledger.first_short(book).is_some() {
+    if ledger.shortage().is_some() {
         return Ok(Exactness { rises, tries });
     }
-    let mended = ledger.plan.copy(alloc)?;
+    let mended = ledger.plan().copy(alloc)?;
     for order in orders {
-        restore(book, ledger, &mended);
-        tries = tries.saturating_add(trim(book, ledger, order.as_slice()));
-        offer(alloc, book, limit, ledger, best)?;
+        restore(ledger, &mended);
+        tries = tries.saturating_add(trim(ledger, order.as_slice()));
+        offer(alloc, limit, ledger, best)?;
     }
     Ok(Exactness { rises, tries })
 }

@@ -6,8 +6,7 @@ ghost use Rattle.std.specs.Prelude.{◌≡◌, ℕ, ◌<◌, ◌≤◌, All, IfO
 ghost use Rattle.fixed_powers.specs.DiscountPowers.{IsLowTable, PowerTable};
 ghost use Rattle.offer_book.specs.Portfolio.{IsPermitted, IsPermittedUnits};
 ghost use Rattle.offer_book.specs.declared.line.Line.{Line};
-ghost use Rattle.plan_finder.specs.Dive.{AreLinesOf, IsDiver};
-ghost use Rattle.plan_finder.specs.Ledger.{IsLedger};
+ghost use Rattle.plan_finder.specs.Dive.{AreLinesOf};
 
 use crate::draw::drawn_rank;
 use crate::ledger::Ledger;
@@ -48,21 +47,24 @@ enum Turn {
     Last,
 }
 
-/// The linear program of a dive, and what is fixed of it.
+/// The linear program of a dive over the lines of a book, and what is fixed of it.
 #[derive(Drop)]
 pub(crate) struct Diver<'a> {
-    /// The linear program.
-    pub simplex: Simplex<'a>,
-    /// The basis before a line is fixed.
-    pub start: Basis,
-    /// The basis with the line fixed below.
-    pub below: Basis,
-    /// The units of each line that is fixed.
-    pub fixed: Vec<Option<u64>>,
-    /// The lines in the order of their ends.
-    pub order: Vec<Ranked>,
-    /// How much work it was to fix lines, in units of the program's work, up to the type's end.
-    pub fixing: u64,
+    /// The book.
+    pub book: &'a Book,
+    simplex: Simplex<'a>,
+    // The basis before a line is fixed.
+    start: Basis,
+    // The basis with the line fixed below.
+    below: Basis,
+    // The units of each line that is fixed.
+    fixed: Vec<Option<u64>>,
+    // The lines in the order of their ends.
+    order: Vec<Ranked>,
+    // How much work it was to fix lines, in units of the program's work, up to the type's end.
+    fixing: u64,
+    ghost each_line: { length fixed.items ≡ length book.now.lines },
+    ghost ordered: { AreLinesOf book.now order.items },
 }
 
 // The turn of a line that isn't fixed, by the amount of it, in units of 2^-10 of a cent.
@@ -102,11 +104,12 @@ impl<'a> Diver<'a> {
     ) -> Result<Diver<'a>, NoMemory>
         requires powers { IsLowTable powers.now }
         requires order { AreLinesOf book.now order.items }
-        ensures { IfOk result (IsDiver book.now) }
+        ensures { IfOk result (λ diver. diver.book.now ≡ book.now) }
     {
         let mut simplex = Simplex::make(alloc, book, powers)?;
         simplex.aim(Purpose::Plan, true);
         Ok(Diver {
+            book,
             start: simplex.new_basis(alloc)?,
             below: simplex.new_basis(alloc)?,
             simplex,
@@ -121,6 +124,11 @@ impl<'a> Diver<'a> {
         self.simplex.work().saturating_add(self.fixing)
     }
 
+    /// How much work a sweep is: to go once through all columns of the program.
+    pub(crate) fn sweep(&self) -> u64 {
+        self.simplex.sweep()
+    }
+
     // Whether a line can be fixed next.
     fn is_open(&self, line: u16) -> bool
         requires { line < length self.now.fixed.items }
@@ -129,9 +137,8 @@ impl<'a> Diver<'a> {
     }
 
     // The open line that comes first in the order that a number draws.
-    fn next_drawn(&self, book: &Book, number: u32) -> Option<u16>
-        requires { IsDiver book.now self.now }
-        ensures { IfSome result (λ line. line < length book.now.lines) }
+    fn next_drawn(&self, number: u32) -> Option<u16>
+        ensures { IfSome result (λ line. line < length self.now.book.now.lines) }
     {
         let mut next = None;
         let mut first = None;
@@ -149,16 +156,15 @@ impl<'a> Diver<'a> {
     }
 
     // The first open line of the first turn in which there is one, those that pay last first.
-    fn next_in_turn(&self, book: &Book) -> Option<u16>
-        requires { IsDiver book.now self.now }
-        ensures { IfSome result (λ line. line < length book.now.lines) }
+    fn next_in_turn(&self) -> Option<u16>
+        ensures { IfSome result (λ line. line < length self.now.book.now.lines) }
     {
         let mut next = None;
         let mut soonest = None;
         for place in (0..self.order.len()).rev() {
             let line = self.order[place].line;
             if self.is_open(line) {
-                let turn = turn_of(book.line(line), self.simplex.amount(line));
+                let turn = turn_of(self.book.line(line), self.simplex.amount(line));
                 if is_sooner(turn, soonest) {
                     soonest = Some(turn);
                     next = Some(line);
@@ -169,28 +175,26 @@ impl<'a> Diver<'a> {
     }
 
     // The line that is fixed next.
-    fn next_line(&self, book: &Book, sequence: Sequence) -> Option<u16>
-        requires { IsDiver book.now self.now }
-        ensures { IfSome result (λ line. line < length book.now.lines) }
+    fn next_line(&self, sequence: Sequence) -> Option<u16>
+        ensures { IfSome result (λ line. line < length self.now.book.now.lines) }
     {
         match sequence {
-            Sequence::Coarse => self.next_in_turn(book),
-            Sequence::Drawn(number) => self.next_drawn(book, number),
+            Sequence::Coarse => self.next_in_turn(),
+            Sequence::Drawn(number) => self.next_drawn(number),
         }
     }
 
     // Fixes a line at a number of units, with what they cost and pay exactly.
-    fn fix(&mut self, book: &Book, ledger: &Ledger, line: u16, units: u64)
-        requires diver { IsDiver book.now self.old }
-        requires ledger { (n : ℕ) × IsLedger n book.now ledger.now }
-        requires line { line < length book.now.lines }
-        requires permitted { (d : Line) → IsPermittedUnits (slice_index_or book.now.lines line d) units }
-        ensures { IsDiver book.now self.new }
+    fn fix(&mut self, ledger: &Ledger, line: u16, units: u64)
+        requires ledger { ledger.now.book ≡ self.old.book.now }
+        requires line { line < length self.old.book.now.lines }
+        requires permitted { (d : Line) → IsPermittedUnits (slice_index_or self.old.book.now.lines line d) units }
+        ensures { self.new.book ≡ self.old.book }
     {
         if self.fixed[usize::from(line)] == Some(units) {
             return;
         }
-        let bought = ledger.purchase(book, line, units);
+        let bought = ledger.purchase(line, units);
         let holding = Holding {
             units,
             cost: bought.cost,
@@ -204,9 +208,8 @@ impl<'a> Diver<'a> {
     }
 
     // Solves one linear program more, and gives its objective: the greatest number where there is no solution.
-    fn solve(&mut self, book: &Book, iterations: u32) -> i128
-        requires { IsDiver book.now self.old }
-        ensures { IsDiver book.now self.new }
+    fn solve(&mut self, iterations: u32) -> i128
+        ensures { self.new.book ≡ self.old.book }
     {
         match self.simplex.solve(iterations, None) {
             SolveEnd::Stopped => i128::MAX,
@@ -215,152 +218,131 @@ impl<'a> Diver<'a> {
     }
 
     // Fixes a line at the better of two numbers of units, by the objective of the program.
-    fn choose(&mut self, book: &Book, ledger: &Ledger, line: u16, choice: Neighbours)
-        requires diver { IsDiver book.now self.old }
-        requires ledger { (n : ℕ) × IsLedger n book.now ledger.now }
-        requires line { line < length book.now.lines }
-        requires below { (d : Line) → IsPermittedUnits (slice_index_or book.now.lines line d) choice.below }
-        requires above { (d : Line) → IsPermittedUnits (slice_index_or book.now.lines line d) choice.above }
-        ensures { IsDiver book.now self.new }
+    fn choose(&mut self, ledger: &Ledger, line: u16, choice: Neighbours)
+        requires ledger { ledger.now.book ≡ self.old.book.now }
+        requires line { line < length self.old.book.now.lines }
+        requires below { (d : Line) → IsPermittedUnits (slice_index_or self.old.book.now.lines line d) choice.below }
+        requires above { (d : Line) → IsPermittedUnits (slice_index_or self.old.book.now.lines line d) choice.above }
+        ensures { self.new.book ≡ self.old.book }
     {
         self.simplex.save(&mut self.start);
-        self.fix(book, ledger, line, choice.below);
-        let below = self.solve(book, WARM_ITERATIONS);
+        self.fix(ledger, line, choice.below);
+        let below = self.solve(WARM_ITERATIONS);
         self.simplex.save(&mut self.below);
         self.simplex.start_from(&self.start);
-        self.fix(book, ledger, line, choice.above);
-        let above = self.solve(book, WARM_ITERATIONS);
+        self.fix(ledger, line, choice.above);
+        let above = self.solve(WARM_ITERATIONS);
         if below <= above {
-            self.fix(book, ledger, line, choice.below);
+            self.fix(ledger, line, choice.below);
             self.simplex.start_from(&self.below);
-            self.solve(book, WARM_ITERATIONS);
+            self.solve(WARM_ITERATIONS);
         }
     }
 
     // The permitted numbers of units next to the amount of a line.
-    fn neighbours(&self, book: &Book, line: u16) -> Neighbours
-        requires diver { IsDiver book.now self.now }
-        requires line { line < length book.now.lines }
-        ensures below { (d : Line) → IsPermittedUnits (slice_index_or book.now.lines line d) result.below }
-        ensures above { (d : Line) → IsPermittedUnits (slice_index_or book.now.lines line d) result.above }
+    fn neighbours(&self, line: u16) -> Neighbours
+        requires line { line < length self.now.book.now.lines }
+        ensures below { (d : Line) → IsPermittedUnits (slice_index_or self.now.book.now.lines line d) result.below }
+        ensures above { (d : Line) → IsPermittedUnits (slice_index_or self.now.book.now.lines line d) result.above }
     {
-        next_to(book.line(line), self.simplex.amount(line))
+        next_to(self.book.line(line), self.simplex.amount(line))
     }
 
     // Fixes a line at a permitted number of units next to its amount: at the one below where the work is spent.
-    fn decide(&mut self, book: &Book, ledger: &Ledger, line: u16, most_work: u64)
-        requires diver { IsDiver book.now self.old }
-        requires ledger { (n : ℕ) × IsLedger n book.now ledger.now }
-        requires line { line < length book.now.lines }
-        ensures { IsDiver book.now self.new }
+    fn decide(&mut self, ledger: &Ledger, line: u16, most_work: u64)
+        requires ledger { ledger.now.book ≡ self.old.book.now }
+        requires line { line < length self.old.book.now.lines }
+        ensures { self.new.book ≡ self.old.book }
     {
-        let choice = self.neighbours(book, line);
+        let choice = self.neighbours(line);
         if most_work <= self.work() {
-            self.fix(book, ledger, line, choice.below);
+            self.fix(ledger, line, choice.below);
         } else if choice.exact || choice.below == choice.above {
-            self.fix(book, ledger, line, choice.below);
-            self.solve(book, WARM_ITERATIONS);
+            self.fix(ledger, line, choice.below);
+            self.solve(WARM_ITERATIONS);
         } else {
-            self.choose(book, ledger, line, choice);
+            self.choose(ledger, line, choice);
         }
     }
 
     /// Fixes one open line after the other until none is left: at most every line once. Once so much work is spent, no program is
     /// solved any more.
-    pub(crate) fn descend(
-        &mut self,
-        book: &Book,
-        ledger: &Ledger,
-        sequence: Sequence,
-        most_work: u64,
-    )
-        requires diver { IsDiver book.now self.old }
-        requires ledger { (n : ℕ) × IsLedger n book.now ledger.now }
-        ensures { IsDiver book.now self.new }
+    pub(crate) fn descend(&mut self, ledger: &Ledger, sequence: Sequence, most_work: u64)
+        requires ledger { ledger.now.book ≡ self.old.book.now }
+        ensures { self.new.book ≡ self.old.book }
     {
-        for _turn in 0..book.line_count() {
-            match self.next_line(book, sequence) {
-                Some(line) => self.decide(book, ledger, line, most_work),
+        for _turn in 0..self.book.line_count() {
+            match self.next_line(sequence) {
+                Some(line) => self.decide(ledger, line, most_work),
                 None => return,
             }
         }
     }
 
     // Frees a line.
-    fn free(&mut self, book: &Book, line: u16)
-        requires diver { IsDiver book.now self.old }
-        requires line { line < length book.now.lines }
-        ensures { IsDiver book.now self.new }
+    fn free(&mut self, line: u16)
+        requires line { line < length self.old.book.now.lines }
+        ensures { self.new.book ≡ self.old.book }
     {
         if self.fixed[usize::from(line)].is_none() {
             return;
         }
         let whole = Interval {
             low: 0,
-            high: book.line(line).most,
+            high: self.book.line(line).most,
         };
         self.simplex.set_range(line, whole);
         self.fixed[usize::from(line)] = None;
     }
 
     /// Solves the program of all lines from the start, and gives its objective.
-    pub(crate) fn start_whole(&mut self, book: &Book) -> i128
-        requires { IsDiver book.now self.old }
-        ensures { IsDiver book.now self.new }
+    pub(crate) fn start_whole(&mut self) -> i128
+        ensures { self.new.book ≡ self.old.book }
     {
-        for line in 0..book.line_count() {
-            self.free(book, line);
+        for line in 0..self.book.line_count() {
+            self.free(line);
         }
         self.simplex.start_greedily();
-        self.solve(book, COLD_ITERATIONS)
+        self.solve(COLD_ITERATIONS)
     }
 
     /// Solves the program from the start in which only some lines are free, and all others are fixed at a plan's units; it gives
     /// its objective.
-    pub(crate) fn start_near(
-        &mut self,
-        book: &Book,
-        ledger: &Ledger,
-        plan: &Plan,
-        free: &[bool],
-    ) -> i128
-        requires diver { IsDiver book.now self.old }
-        requires ledger { (n : ℕ) × IsLedger n book.now ledger.now }
-        requires plan { IsPermitted book.now plan.now }
-        requires free { length free.now ≡ length book.now.lines }
-        ensures { IsDiver book.now self.new }
+    pub(crate) fn start_near(&mut self, ledger: &Ledger, plan: &Plan, free: &[bool]) -> i128
+        requires ledger { ledger.now.book ≡ self.old.book.now }
+        requires plan { IsPermitted self.old.book.now plan.now }
+        requires free { length free.now ≡ length self.old.book.now.lines }
+        ensures { self.new.book ≡ self.old.book }
     {
-        for line in 0..book.line_count() {
+        for line in 0..self.book.line_count() {
             if free[usize::from(line)] {
-                self.free(book, line);
+                self.free(line);
             } else {
-                self.fix(book, ledger, line, plan.get(line));
+                self.fix(ledger, line, plan.get(line));
             }
         }
         self.simplex.start_greedily();
-        self.solve(book, COLD_ITERATIONS)
+        self.solve(COLD_ITERATIONS)
     }
 
     // The units at which a line stands after a dive.
-    fn units(&self, book: &Book, line: u16) -> u64
-        requires diver { IsDiver book.now self.now }
-        requires line { line < length book.now.lines }
-        ensures { (d : Line) → IsPermittedUnits (slice_index_or book.now.lines line d) result }
+    fn units(&self, line: u16) -> u64
+        requires line { line < length self.now.book.now.lines }
+        ensures { (d : Line) → IsPermittedUnits (slice_index_or self.now.book.now.lines line d) result }
     {
         match self.fixed[usize::from(line)] {
-            Some(units) => permitted_below(book.line(line), units),
-            None => self.neighbours(book, line).below,
+            Some(units) => permitted_below(self.book.line(line), units),
+            None => self.neighbours(line).below,
         }
     }
 
     /// Gives the ledger the plan at which a dive ended.
-    pub(crate) fn surface(&self, book: &Book, ledger: &mut Ledger)
-        requires diver { IsDiver book.now self.now }
-        requires ledger { (n : ℕ) × IsLedger n book.now ledger.old }
-        ensures { (n : ℕ) → IsLedger n book.now ledger.old → IsLedger n book.now ledger.new }
+    pub(crate) fn surface(&self, ledger: &mut Ledger)
+        requires { ledger.old.book ≡ self.now.book.now }
+        ensures { ledger.new.book ≡ ledger.old.book }
     {
-        for line in 0..book.line_count() {
-            ledger.change(book, line, self.units(book, line));
+        for line in 0..self.book.line_count() {
+            ledger.put(line, self.units(line));
         }
     }
 }

@@ -1,12 +1,10 @@
 //! Finding a plan.
-ghost use Rattle.std.specs.Prelude.{◌≤◌, IfOk, IfSome, OnOk};
-ghost use Rattle.plan_finder.specs.Dive.{IsSearch};
+ghost use Rattle.std.specs.Prelude.{◌≡◌, ◌≤◌, IfOk, IfSome};
 ghost use Rattle.plan_finder.specs.Proposal.{IsProposal};
 
-use crate::again::{Stop, dive_again};
-use crate::best::offer;
+use crate::again::dive_again;
 use crate::dive::Sequence;
-use crate::search::Search;
+use crate::search::{Search, Task};
 use cash_table::Plan;
 use escrow_desk::NoMemory;
 use escrow_units::{Cents, GREATEST_YIELD, YieldUnits};
@@ -26,54 +24,38 @@ pub struct Proposal {
 const MORE_DIVES: u32 = 12;
 
 // Dives in orders that are drawn until there is a plan.
-fn dive_until_found(
-    alloc: Global,
-    book: &Book,
-    limit: YieldUnits,
-    search: &mut Search,
-    best: &mut Option<Proposal>,
-) -> Result<(), NoMemory>
-    requires search { IsSearch book.now search.old }
-    requires best { IfSome best.old (IsProposal limit.0 book.now) }
-    ensures search { OnOk result (IsSearch book.now search.new) }
-    ensures best { OnOk result (IfSome best.new (IsProposal limit.0 book.now)) }
+fn dive_until_found(search: &mut Search) -> Result<(), NoMemory>
+    ensures { search.new ≡ search.old }
 {
+    search.dive_whole(Sequence::Coarse)?;
     for number in 1..MORE_DIVES + 1 {
-        if best.is_some() || search.is_spent() {
+        if search.has_near() || search.is_done() {
             return Ok(());
         }
-        search.dive_whole(alloc, book, limit, Sequence::Drawn(number), best)?;
+        search.dive_whole(Sequence::Drawn(number))?;
     }
     Ok(())
 }
 
-// The best plan of dives, where something is needed.
-fn find_by_dives(
-    alloc: Global,
-    book: &Book,
-    limit: YieldUnits,
-    stop: &Stop,
-    search: &mut Search,
-) -> Result<Option<Proposal>, NoMemory>
-    requires search { IsSearch book.now search.old }
-    ensures { IfOk result (λ proposal. IfSome proposal (IsProposal limit.0 book.now)) }
+// Looks for plans by dives, where something is needed.
+fn look(search: &mut Search) -> Result<(), NoMemory>
+    ensures { search.new ≡ search.old }
 {
-    let mut best = None;
-    search.dive_whole(alloc, book, limit, Sequence::Coarse, &mut best)?;
-    dive_until_found(alloc, book, limit, search, &mut best)?;
-    if best.is_none() {
-        return Ok(None);
+    dive_until_found(search)?;
+    search.promote()?;
+    if search.has_best() {
+        dive_again(search)?;
     }
-    dive_again(alloc, book, limit, stop, search, &mut best)?;
-    Ok(best)
+    Ok(())
 }
 
 /// Looks for a cheap plan that is permitted, meets the needs and is within the limit, in units of 10^-10, from 1 to
-/// 3,000,000,000. It goes on until so much work is done as the effort says, at least that of one dive, or a plan costs at most
-/// the target, in cents.
+/// 3,000,000,000. It goes on until so much work is done as the effort says, or a plan costs at most the target, in cents: the least
+/// cost that is possible.
 ///
 /// The effort is in sweeps: as much work as to go once through each column of the linear program. It is the same on every machine,
-/// and so the same input gives the same plan.
+/// and so the same input gives the same plan. Once it is spent, a dive that has begun ends without another program, and its plan is
+/// made exact still.
 ///
 /// None says nothing but that no plan was found.
 ///
@@ -91,12 +73,19 @@ pub fn find(
     requires limit_to { limit.0 ≤ GREATEST_YIELD }
     ensures { IfOk result (λ proposal. IfSome proposal (IsProposal limit.0 book.now)) }
 {
-    let mut search = Search::make(alloc, book, limit)?;
-    search.allow(book, effort);
+    let task = Task {
+        alloc,
+        book,
+        limit,
+        target,
+        effort,
+    };
+    let mut search = Search::make(task)?;
     if book.need_count() == 0 {
-        let mut best = None;
-        offer(alloc, book, limit, &search.ledger, &mut best)?;
-        return Ok(best);
+        search.offer()?;
+        search.promote()?;
+        return Ok(search.into_best());
     }
-    find_by_dives(alloc, book, limit, &Stop { effort, target }, &mut search)
+    look(&mut search)?;
+    Ok(search.into_best())
 }

@@ -1,10 +1,11 @@
 //! Plans for every case: a dive over the linear relaxation, made exact in cents.
 //!
-//! A dive fixes one line after the other where the relaxation is cheapest. A ledger keeps what its plan costs and pays exactly;
+//! A dive fixes one line after the other where the relaxation is cheapest. A ledger keeps what its plan costs and pays exactly, in an account;
 //! by it the plan is mended where it is short, and trimmed where it pays more than it has to. Then dives over parts of the lines
 //! look for a cheaper plan near the best one.
 #![tactic(auto)]
 
+mod account;
 mod again;
 mod best;
 mod dive;

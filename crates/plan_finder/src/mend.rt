@@ -4,22 +4,12 @@ ghost use Rattle.escrow_units.specs.Flows.{total};
 ghost use Rattle.day_sums.specs.Summed.{total_by};
 ghost use Rattle.offer_book.specs.Portfolio.{IsPermittedUnits};
 ghost use Rattle.offer_book.specs.declared.line.Line.{Line};
-ghost use Rattle.plan_finder.specs.Ledger.{IsLedger};
 ghost use Rattle.plan_finder.specs.Mend.{IsRise};
 
-use crate::ledger::Ledger;
+use crate::ledger::{Ledger, Shortage};
 use crate::terms::Purchase;
 use escrow_units::{Cents, Day, Flow};
 use offer_book::{Book, Line};
-
-/// What is short on a need date.
-#[derive(Clone, Copy)]
-pub(crate) struct Shortage {
-    /// The date.
-    pub day: Day,
-    /// How much is short, in cents.
-    pub cents: u64,
-}
 
 // A rise of a line to more units.
 #[derive(Clone, Copy)]
@@ -92,21 +82,20 @@ fn weight(held: Cents, bought: Cents, filled: u64, short: u64) -> u64 {
 }
 
 // The rise of a line that covers a shortage, or as much of it as the line can, if it pays anything by then.
-fn rise_of(book: &Book, ledger: &Ledger, line: u16, shortage: &Shortage) -> Option<Rise>
-    requires ledger { (n : ℕ) × IsLedger n book.now ledger.now }
-    requires line { line < length book.now.lines }
-    ensures { IfSome result (IsRise book.now) }
+fn rise_of(ledger: &Ledger, line: u16, shortage: &Shortage) -> Option<Rise>
+    requires { line < length ledger.now.book.lines }
+    ensures { IfSome result (IsRise ledger.now.book) }
 {
-    let offer = book.line(line);
+    let offer = ledger.book().line(line);
     let units = ledger.units(line);
     let first = next_units(offer, units)?;
-    let held = &ledger.held[usize::from(line)];
-    let gained = gain(held, &ledger.purchase(book, line, first), shortage.day);
+    let held = ledger.held(line);
+    let gained = gain(held, &ledger.purchase(line, first), shortage.day);
     if gained == 0 {
         return None;
     }
     let enough = enough_units(offer, units, first, gained, shortage.cents);
-    let bought = ledger.purchase(book, line, enough);
+    let bought = ledger.purchase(line, enough);
     let filled = gain(held, &bought, shortage.day);
     Some(Rise {
         line,
@@ -132,50 +121,36 @@ fn lighter(book: &Book, first: Option<Rise>, second: Option<Rise>) -> Option<Ris
     }
 }
 
-// What is short on the first need date on which the plan is short.
-fn first_shortage(book: &Book, ledger: &Ledger) -> Option<Shortage>
-    requires { (n : ℕ) × IsLedger n book.now ledger.now }
-{
-    let place = ledger.first_short(book)?;
-    Some(Shortage {
-        day: book.need(place).day,
-        cents: ledger.short_by(place),
-    })
-}
-
 // The rise of one line that covers a shortage at the least cost.
-fn cheapest_rise(book: &Book, ledger: &Ledger, shortage: &Shortage) -> Option<Rise>
-    requires { (n : ℕ) × IsLedger n book.now ledger.now }
-    ensures { IfSome result (IsRise book.now) }
+fn cheapest_rise(ledger: &Ledger, shortage: &Shortage) -> Option<Rise>
+    ensures { IfSome result (IsRise ledger.now.book) }
 {
     let mut cheapest = None;
-    for line in 0..book.line_count() {
-        cheapest = lighter(book, cheapest, rise_of(book, ledger, line, shortage));
+    for line in 0..ledger.book().line_count() {
+        cheapest = lighter(ledger.book(), cheapest, rise_of(ledger, line, shortage));
     }
     cheapest
 }
 
 // The rise of one line that covers the first shortage at the least cost, if there is any.
-fn next_rise(book: &Book, ledger: &Ledger) -> Option<Rise>
-    requires { (n : ℕ) × IsLedger n book.now ledger.now }
-    ensures { IfSome result (IsRise book.now) }
+fn next_rise(ledger: &Ledger) -> Option<Rise>
+    ensures { IfSome result (IsRise ledger.now.book) }
 {
-    match first_shortage(book, ledger) {
-        Some(shortage) => cheapest_rise(book, ledger, &shortage),
+    match ledger.shortage() {
+        Some(shortage) => cheapest_rise(ledger, &shortage),
         None => None,
     }
 }
 
 /// Raises lines while the plan is short, each time the one that covers the first shortage at the least cost: at most four times
 /// for each line, and 64 times. It answers how often.
-pub(crate) fn mend(book: &Book, ledger: &mut Ledger) -> u32
-    requires ledger { (n : ℕ) × IsLedger n book.now ledger.old }
-    ensures ledger { (n : ℕ) → IsLedger n book.now ledger.old → IsLedger n book.now ledger.new }
+pub(crate) fn mend(ledger: &mut Ledger) -> u32
+    ensures { ledger.new.book ≡ ledger.old.book }
 {
-    let most = 4 * u32::from(book.line_count()) + 64;
+    let most = 4 * u32::from(ledger.book().line_count()) + 64;
     for round in 0..most {
-        match next_rise(book, ledger) {
-            Some(rise) => ledger.put(book, rise.line, rise.units),
+        match next_rise(ledger) {
+            Some(rise) => ledger.put(rise.line, rise.units),
             None => return round,
         }
     }

@@ -42,13 +42,11 @@ fn permitted_above(line: &Line, units: u64) -> u64
 
 /// The permitted numbers of units next to an amount at par, in units of 2^-10 of a cent.
 pub(crate) fn next_to(line: &Line, amount: i64) -> Neighbours
-    requires some { 0 < line.now.step }
-    requires step { line.now.step ≤ 10 ^ 8 }
     ensures below { IsPermittedUnits line.now result.below }
     ensures above { IsPermittedUnits line.now result.above }
 {
     let bought = u64::try_from(amount).unwrap_or(0);
-    let step = line.step * AMOUNT_SCALE;
+    let step = line.step.saturating_mul(AMOUNT_SCALE).max(1);
     let whole = bought / step;
     let below = permitted_below(line, whole);
     Neighbours {

@@ -1,7 +1,6 @@
 //! Orders of lines.
 ghost use Rattle.std.specs.Prelude.{◌≡◌, ℕ, ◌<◌, ◌≤◌, All, IfOk, length};
 ghost use Rattle.escrow_units.specs.Flows.{Rise};
-ghost use Rattle.plan_finder.specs.Ledger.{IsLedger};
 
 use crate::ledger::Ledger;
 use cash_table::place_of;
@@ -50,14 +49,13 @@ fn end_of(needs: &[Flow], flows: &[Flow]) -> u16
 /// # Errors
 ///
 /// Where memory ran out.
-pub(crate) fn ends_of(alloc: Global, book: &Book, ledger: &Ledger) -> Result<Vec<u16>, NoMemory>
-    requires { (n : ℕ) × IsLedger n book.now ledger.now }
-    ensures { IfOk result (λ ends. length ends.items ≡ length book.now.lines) }
+pub(crate) fn ends_of(alloc: Global, ledger: &Ledger) -> Result<Vec<u16>, NoMemory>
+    ensures { IfOk result (λ ends. length ends.items ≡ length ledger.now.book.lines) }
 {
     let mut ends = Vec::new(alloc);
-    for line in 0..book.line_count() {
-        let nothing = ledger.purchase(book, line, 0);
-        ends.push(end_of(book.needs(), nothing.payments.as_slice()))?;
+    for line in 0..ledger.book().line_count() {
+        let nothing = ledger.purchase(line, 0);
+        ends.push(end_of(ledger.book().needs(), nothing.payments.as_slice()))?;
     }
     Ok(ends)
 }

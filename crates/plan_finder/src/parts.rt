@@ -23,6 +23,15 @@ fn free_window(free: &mut [bool], ends: &[u16], start: u64, dates: u64)
     }
 }
 
+// Frees opening cash.
+fn free_cash(free: &mut [bool])
+    ensures { length free.new ≡ length free.old }
+{
+    if let Some(cash) = free.get_mut(0) {
+        *cash = true;
+    }
+}
+
 // Frees a number of lines that are drawn.
 fn free_drawn(free: &mut [bool], draw: &mut Draw, lines: &[u16], count: u64)
     requires some { 0 < length lines.now }
@@ -59,12 +68,11 @@ fn free_all_but(free: &mut [bool], draw: &mut Draw, lines: &[u16], among: u64)
 
 /// Frees two in three of some lines, which are drawn, and opening cash.
 pub(crate) fn free_most(free: &mut [bool], draw: &mut Draw, lines: &[u16])
-    requires some { 0 < length free.old }
     requires there { All (λ line. line < length free.old) lines.now }
 {
     free_none(free);
     free_all_but(free, draw, lines, 3);
-    free[0] = true;
+    free_cash(free);
 }
 
 // Frees the lines whose payments end within a window that is drawn: 5 to 30 in a hundred of the need dates.
@@ -101,7 +109,6 @@ pub(crate) fn free_part(
     requires there { All (λ line. line < length free.old) lines.now }
     requires few { length lines.now ≤ 257 }
     requires few_lines { length free.old ≤ 257 }
-    requires first { 0 < length free.old }
     requires ends { length ends.now ≡ length free.old }
     requires plan { length plan.now ≡ length free.old }
     requires dates { 0 < dates }
@@ -122,5 +129,5 @@ pub(crate) fn free_part(
         }
         _ => free_all_but(free, draw, lines, 2),
     }
-    free[0] = true;
+    free_cash(free);
 }

@@ -1,46 +1,83 @@
 //! Dives, and the exact plans that come of them.
-ghost use Rattle.std.specs.Prelude.{◌<◌, ◌≤◌, ◌≡◌, ℕ, All, IfOk, IfSome, OnOk, length};
+ghost use Rattle.std.specs.Prelude.{◌<◌, ◌≤◌, ◌≡◌, All, IfOk, IfSome, length};
 ghost use Rattle.fixed_powers.specs.DiscountPowers.{PowerTable};
 ghost use Rattle.offer_book.specs.Portfolio.{IsPermitted};
-ghost use Rattle.plan_finder.specs.Dive.{AreLinesOf, IsDiver, IsSearch};
-ghost use Rattle.plan_finder.specs.Ledger.{IsLedger};
+ghost use Rattle.plan_finder.specs.Dive.{AreLinesOf};
 ghost use Rattle.plan_finder.specs.Proposal.{IsProposal};
 
-use crate::best::{Exactness, finish};
+use crate::best::{Exactness, finish, is_cheaper, offer};
 use crate::dive::{Diver, PAYMENT_WORK, Sequence};
 use crate::draw::Draw;
 use crate::finding::Proposal;
 use crate::ledger::Ledger;
 use crate::order::{By, Ranked, ends_of, order};
 use crate::parts::{free_most, free_part};
-use cash_table::Plan;
 use escrow_desk::NoMemory;
-use escrow_units::{GREATEST_INDEX, GREATEST_YIELD, YieldUnits};
+use escrow_units::{Cents, GREATEST_INDEX, GREATEST_YIELD, YieldUnits};
 use fixed_powers::{Powers, Side};
 use offer_book::Book;
 use std::alloc::Global;
+use std::marker::Model;
 
-/// What a search works with. All its memory is taken when it is made, but for plans and for the exact test of the limit.
+/// What is looked for.
+#[derive(Clone, Copy)]
+pub(crate) struct Task<'a> {
+    /// Where memory comes from.
+    pub alloc: Global,
+    /// The book.
+    pub book: &'a Book,
+    /// The limit on the yield, in units of 10^-10.
+    pub limit: YieldUnits,
+    /// The cost below which no plan is possible, in cents.
+    pub target: Cents,
+    /// How much work may be done in all, in sweeps.
+    pub effort: u32,
+}
+
+/// What a search works with. All its memory is taken when it is made, but for plans and for the exact test of the limit. Contracts
+/// see the book and the limit.
 #[derive(Drop)]
 pub(crate) struct Search<'a> {
-    /// The exact book of the plan at hand.
-    pub ledger: Ledger,
-    /// The linear program.
-    pub diver: Diver<'a>,
-    /// The orders in which lines are trimmed.
-    pub orders: Vec<Vec<Ranked>>,
-    /// The last need date that each line's payments serve, counted from 1.
-    pub ends: Vec<u16>,
-    /// The lines that can be bought.
-    pub lines: Vec<u16>,
-    /// Which lines are free in a dive near a plan.
-    pub free: Vec<bool>,
-    /// What is drawn.
-    pub draw: Draw,
-    /// How much work it was to make plans exact, in units of the program's work, up to the type's end.
-    pub finishing: u64,
-    /// How much work may be done in all.
-    pub most_work: u64,
+    task: Task<'a>,
+    // The plan at hand.
+    ledger: Ledger<'a>,
+    // The linear program.
+    diver: Diver<'a>,
+    // The orders in which lines are trimmed.
+    orders: Vec<Vec<Ranked>>,
+    // The last need date that each line's payments serve, counted from 1.
+    ends: Vec<u16>,
+    // The lines that can be bought.
+    lines: Vec<u16>,
+    // Which lines are free in a dive near a plan.
+    free: Vec<bool>,
+    draw: Draw,
+    // How much work it was to make plans exact, in units of the program's work, up to the type's end.
+    finishing: u64,
+    // The cheapest plan of the dives since the search began anew, if any was found.
+    near: Option<Proposal>,
+    // The cheapest plan of all.
+    best: Option<Proposal>,
+}
+
+impl<'a> Model for Search<'a> {
+    ghost use Rattle.std.specs.Prelude.{◌≡◌, ◌<◌, ◌≤◌, All, IfSome, length};
+    ghost use Rattle.plan_finder.specs.Dive.{AreLinesOf, SearchContents};
+    ghost use Rattle.plan_finder.specs.Proposal.{IsProposal};
+
+    ghost Value = { SearchContents };
+
+    ghost view = { λ s. record { book = s.task.book.now; limit = s.task.limit.0 } };
+
+    ghost invariant = { λ s. (s.ledger.book ≡ s.task.book.now)
+        × (s.diver.book.now ≡ s.task.book.now)
+        × All (λ order. AreLinesOf s.task.book.now order.items) s.orders.items
+        × (length s.ends.items ≡ length s.task.book.now.lines)
+        × All (λ line. line < length s.task.book.now.lines) s.lines.items
+        × (length s.lines.items ≤ length s.task.book.now.lines)
+        × (length s.free.items ≡ length s.task.book.now.lines)
+        × IfSome s.near (IsProposal s.task.limit.0 s.task.book.now)
+        × IfSome s.best (IsProposal s.task.limit.0 s.task.book.now) };
 }
 
 // How much work a try is beside the purchase, in units of the program's work: running up what is paid by each need date.
@@ -88,8 +125,27 @@ fn lines_on_offer(alloc: Global, book: &Book) -> Result<Vec<u16>, NoMemory>
     Ok(lines)
 }
 
+// The plan of a proposal once more.
+fn copied(
+    alloc: Global,
+    book: &Book,
+    limit: YieldUnits,
+    proposal: &Option<Proposal>,
+) -> Result<Option<Proposal>, NoMemory>
+    requires { IfSome proposal.now (IsProposal limit.0 book.now) }
+    ensures { IfOk result (λ copied. IfSome copied (IsProposal limit.0 book.now)) }
+{
+    match proposal {
+        Some(proposal) => Ok(Some(Proposal {
+            plan: proposal.plan.copy(alloc)?,
+            cost: proposal.cost,
+        })),
+        None => Ok(None),
+    }
+}
+
 impl<'a> Search<'a> {
-    /// What a search of a book under a limit works with, in units of 10^-10, from 1 to 3,000,000,000.
+    /// What a search of a task works with. Its limit is from 1 to 3,000,000,000.
     ///
     /// Present values are taken one unit below the limit and rounded down: what is worth at most its cost there is within the
     /// limit.
@@ -97,20 +153,20 @@ impl<'a> Search<'a> {
     /// # Errors
     ///
     /// Where memory ran out.
-    pub(crate) fn make(
-        alloc: Global,
-        book: &'a Book,
-        limit: YieldUnits,
-    ) -> Result<Search<'a>, NoMemory>
-        requires limit_from { 1 ≤ limit.0 }
-        requires limit_to { limit.0 ≤ GREATEST_YIELD }
-        ensures { IfOk result (IsSearch book.now) }
+    pub(crate) fn make(task: Task<'a>) -> Result<Search<'a>, NoMemory>
+        requires limit_from { 1 ≤ task.limit.0 }
+        requires limit_to { task.limit.0 ≤ GREATEST_YIELD }
+        ensures { IfOk result (λ search. search ≡ record { book = task.entry.book.now; limit = task.entry.limit.0 }) }
     {
-        let powers = Powers::make(alloc, YieldUnits(limit.0 - 1), Side::Low, GREATEST_INDEX)?;
+        let alloc = task.alloc;
+        let book = task.book;
+        let below = YieldUnits(task.limit.0 - 1);
+        let powers = Powers::make(alloc, below, Side::Low, GREATEST_INDEX)?;
         let ledger = Ledger::make(alloc, book, &powers)?;
-        let ends = ends_of(alloc, book, &ledger)?;
+        let ends = ends_of(alloc, &ledger)?;
         let earliest = order(alloc, book, ends.as_slice(), By::EarliestFirst)?;
         Ok(Search {
+            task,
             ledger,
             diver: Diver::make(alloc, book, &powers, earliest)?,
             orders: orders_of(alloc, book, ends.as_slice())?,
@@ -119,26 +175,29 @@ impl<'a> Search<'a> {
             free: vec![in alloc; false; usize::from(book.line_count())]?,
             draw: Draw::from(SEED),
             finishing: 0,
-            most_work: 0,
+            near: None,
+            best: None,
         })
     }
 
-    /// Allows so much work in all: so many times the columns of the program.
-    pub(crate) fn allow(&mut self, book: &Book, sweeps: u32)
-        requires { IsSearch book.now self.old }
-        ensures { IsSearch book.now self.new }
-    {
-        self.most_work = u64::from(sweeps).saturating_mul(self.diver.simplex.sweep());
+    // How much work may be done in all, in units of the program's work.
+    fn most_work(&self) -> u64 {
+        u64::from(self.task.effort).saturating_mul(self.diver.sweep())
     }
 
-    /// Whether all work is done that may be.
-    pub(crate) fn is_spent(&self) -> bool {
-        self.most_work <= self.diver.work().saturating_add(self.finishing)
+    /// Whether all work is done that may be, or the best plan costs no more than the target.
+    pub(crate) fn is_done(&self) -> bool {
+        let work = self.diver.work().saturating_add(self.finishing);
+        let is_spent = self.most_work() <= work;
+        match &self.best {
+            Some(best) => is_spent || best.cost.0 <= self.task.target.0,
+            None => is_spent,
+        }
     }
 
     // How much work it was to make a plan exact: a rise weighs two purchases of each line, and a try one and the dates.
     fn work_of(&self, done: Exactness) -> u64 {
-        let sweep = self.diver.simplex.sweep();
+        let sweep = self.diver.sweep();
         let purchase = PAYMENT_WORK.saturating_mul(sweep / (self.ends.len() as u64).max(1));
         let rise = (2 * PAYMENT_WORK).saturating_mul(sweep);
         let rises = u64::from(done.rises).saturating_mul(rise);
@@ -146,30 +205,57 @@ impl<'a> Search<'a> {
         rises.saturating_add(tries)
     }
 
-    // Dives from the solution at hand, makes the plan exact, and offers it.
-    fn dive(
-        &mut self,
-        alloc: Global,
-        book: &Book,
-        limit: YieldUnits,
-        sequence: Sequence,
-        best: &mut Option<Proposal>,
-    ) -> Result<(), NoMemory>
-        requires search { IsSearch book.now self.old }
-        requires best { IfSome best.old (IsProposal limit.0 book.now) }
-        ensures search { OnOk result (IsSearch book.now self.new) }
-        ensures best { OnOk result (IfSome best.new (IsProposal limit.0 book.now)) }
+    /// How much work may be done in all, in sweeps. Each dive takes more than one.
+    pub(crate) fn effort(&self) -> u32 {
+        self.task.effort
+    }
+
+    /// Whether there is a plan since the search began anew.
+    pub(crate) fn has_near(&self) -> bool {
+        self.near.is_some()
+    }
+
+    /// Whether there is any plan.
+    pub(crate) fn has_best(&self) -> bool {
+        self.best.is_some()
+    }
+
+    /// The cheapest plan of all, if any was promoted.
+    pub(crate) fn into_best(self) -> Option<Proposal>
+        ensures { IfSome result (IsProposal self.entry.limit self.entry.book) }
     {
-        let most_work = self.most_work.saturating_sub(self.finishing);
-        self.diver.descend(book, &self.ledger, sequence, most_work);
-        self.diver.surface(book, &mut self.ledger);
+        self.best
+    }
+
+    /// Offers the plan at hand as it stands.
+    ///
+    /// # Errors
+    ///
+    /// Where memory ran out.
+    pub(crate) fn offer(&mut self) -> Result<(), NoMemory>
+        ensures { self.new ≡ self.old }
+    {
+        offer(
+            self.task.alloc,
+            self.task.limit,
+            &self.ledger,
+            &mut self.near,
+        )
+    }
+
+    // Dives from the solution at hand, makes the plan exact, and offers it.
+    fn dive(&mut self, sequence: Sequence) -> Result<(), NoMemory>
+        ensures { self.new ≡ self.old }
+    {
+        let most_work = self.most_work().saturating_sub(self.finishing);
+        self.diver.descend(&self.ledger, sequence, most_work);
+        self.diver.surface(&mut self.ledger);
         let done = finish(
-            alloc,
-            book,
-            limit,
+            self.task.alloc,
+            self.task.limit,
             self.orders.as_slice(),
             &mut self.ledger,
-            best,
+            &mut self.near,
         )?;
         let work = self.work_of(done);
         self.finishing = self.finishing.saturating_add(work);
@@ -181,76 +267,117 @@ impl<'a> Search<'a> {
     /// # Errors
     ///
     /// Where memory ran out.
-    pub(crate) fn dive_whole(
-        &mut self,
-        alloc: Global,
-        book: &Book,
-        limit: YieldUnits,
-        sequence: Sequence,
-        best: &mut Option<Proposal>,
-    ) -> Result<(), NoMemory>
-        requires search { IsSearch book.now self.old }
-        requires best { IfSome best.old (IsProposal limit.0 book.now) }
-        ensures search { OnOk result (IsSearch book.now self.new) }
-        ensures best { OnOk result (IfSome best.new (IsProposal limit.0 book.now)) }
+    pub(crate) fn dive_whole(&mut self, sequence: Sequence) -> Result<(), NoMemory>
+        ensures { self.new ≡ self.old }
     {
-        self.diver.start_whole(book);
-        self.dive(alloc, book, limit, sequence, best)
+        self.diver.start_whole();
+        self.dive(sequence)
     }
 
-    /// Dives with the free lines free and the others at the units of a permitted plan, unless the program shows that nothing
-    /// cheaper than what was found can come of it.
+    /// Dives near the cheapest plan of the dives since the search began anew, with the free lines free and the others at the units
+    /// of that plan, unless the program shows that nothing cheaper can come of it.
     ///
     /// # Errors
     ///
     /// Where memory ran out.
-    pub(crate) fn dive_near(
-        &mut self,
-        alloc: Global,
-        book: &Book,
-        limit: YieldUnits,
-        sequence: Sequence,
-        plan: &Plan,
-        found: &mut Option<Proposal>,
-    ) -> Result<(), NoMemory>
-        requires search { IsSearch book.now self.old }
-        requires plan { IsPermitted book.now plan.now }
-        requires found { IfSome found.old (IsProposal limit.0 book.now) }
-        ensures search { OnOk result (IsSearch book.now self.new) }
-        ensures found { OnOk result (IfSome found.new (IsProposal limit.0 book.now)) }
+    pub(crate) fn dive_near(&mut self) -> Result<(), NoMemory>
+        ensures { self.new ≡ self.old }
     {
+        let Some(near) = &self.near else {
+            return Ok(());
+        };
         let objective = self
             .diver
-            .start_near(book, &self.ledger, plan, self.free.as_slice());
-        if is_hopeless(objective, found) {
+            .start_near(&self.ledger, &near.plan, self.free.as_slice());
+        if is_hopeless(objective, &self.near) {
             return Ok(());
         }
-        self.dive(alloc, book, limit, sequence, found)
+        self.dive(Sequence::Coarse)
+    }
+
+    /// Begins anew with a dive in an order that is drawn, with two in three lines free and the others as in the best plan.
+    ///
+    /// # Errors
+    ///
+    /// Where memory ran out.
+    pub(crate) fn dive_far(&mut self, number: u32) -> Result<(), NoMemory>
+        ensures { self.new ≡ self.old }
+    {
+        self.near = None;
+        self.draw_most();
+        let Some(best) = &self.best else {
+            return Ok(());
+        };
+        self.diver
+            .start_near(&self.ledger, &best.plan, self.free.as_slice());
+        self.dive(Sequence::Drawn(number))
+    }
+
+    /// Begins anew at the best plan.
+    ///
+    /// # Errors
+    ///
+    /// Where memory ran out.
+    pub(crate) fn return_to_best(&mut self) -> Result<(), NoMemory>
+        ensures { self.new ≡ self.old }
+    {
+        self.near = copied(self.task.alloc, self.task.book, self.task.limit, &self.best)?;
+        Ok(())
+    }
+
+    /// Begins anew with nothing.
+    pub(crate) fn forget(&mut self)
+        ensures { self.new ≡ self.old }
+    {
+        self.near = None;
+    }
+
+    /// What the cheapest plan since the search began anew costs, in cents: the greatest number where there is none.
+    pub(crate) fn near_cost(&self) -> u64 {
+        match &self.near {
+            Some(near) => near.cost.0,
+            None => u64::MAX,
+        }
+    }
+
+    /// Takes over the cheapest plan since the search began anew, where it is cheaper than the best one.
+    ///
+    /// # Errors
+    ///
+    /// Where memory ran out.
+    pub(crate) fn promote(&mut self) -> Result<(), NoMemory>
+        ensures { self.new ≡ self.old }
+    {
+        let cost = Cents(self.near_cost());
+        if self.near.is_some() && is_cheaper(cost, &self.best) {
+            self.best = copied(self.task.alloc, self.task.book, self.task.limit, &self.near)?;
+        }
+        Ok(())
     }
 
     /// Draws which lines are free in the next dive near a plan.
-    pub(crate) fn draw_part(&mut self, book: &Book, plan: &Plan)
-        requires search { IsSearch book.now self.old }
-        requires plan { IsPermitted book.now plan.now }
-        ensures { IsSearch book.now self.new }
+    pub(crate) fn draw_part(&mut self)
+        ensures { self.new ≡ self.old }
     {
-        let dates = u64::from(book.need_count()).max(1);
+        let dates = u64::from(self.task.book.need_count()).max(1);
+        let Some(near) = &self.near else {
+            return;
+        };
         if self.lines.len() > 0 {
             free_part(
                 self.free.as_mut_slice(),
                 &mut self.draw,
                 self.lines.as_slice(),
                 self.ends.as_slice(),
-                plan,
+                &near.plan,
                 dates,
             );
         }
     }
 
-    /// Draws two in three lines, beside opening cash, to be free in the next dive near a plan.
-    pub(crate) fn draw_most(&mut self, book: &Book)
-        requires { IsSearch book.now self.old }
-        ensures { IsSearch book.now self.new }
+    // Draws two in three lines, beside opening cash, to be free in the next dive near a plan.
+    fn draw_most(&mut self)
+        ensures { self.new ≡ self.old }
     {
         free_most(
             self.free.as_mut_slice(),

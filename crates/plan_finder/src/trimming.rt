@@ -1,16 +1,15 @@
 //! Plans taken down as far as the needs allow, one line after another.
-ghost use Rattle.std.specs.Prelude.{ℕ, ◌<◌, ◌≤◌, ◌↔◌, All, IsTrue, length, slice_index_or};
+ghost use Rattle.std.specs.Prelude.{◌≡◌, ◌<◌, ◌≤◌, ◌↔◌, All, IsTrue, length, slice_index_or};
 ghost use Rattle.offer_book.specs.Portfolio.{IsPermittedUnits, Meets, line_payments};
 ghost use Rattle.backward_build.specs.Spare.{Cover};
 ghost use Rattle.offer_book.specs.declared.line.Line.{Line};
 ghost use Rattle.backward_build.specs.Spare.{ArePaid};
-ghost use Rattle.plan_finder.specs.Ledger.{IsLedger};
 
-use crate::ledger::{Ledger, paid};
+use crate::account::paid;
+use crate::ledger::Ledger;
 use crate::order::Ranked;
 use backward_build::covers;
 use escrow_units::MOST_NEED_DATES;
-use offer_book::Book;
 
 // A line of a plan, and what it has to pay up to each need date, in cents.
 #[derive(Drop)]
@@ -27,13 +26,13 @@ struct Bracket {
 }
 
 // Whether units of a line pay what is due up to each need date.
-fn suffices(book: &Book, ledger: &Ledger, duty: &Duty, units: u64) -> bool
-    requires ledger { (n : ℕ) × IsLedger n book.now ledger.now }
-    requires line { duty.now.line < length book.now.lines }
-    requires units { (d : Line) → units ≤ (slice_index_or book.now.lines duty.now.line d).most }
-    ensures { (d : Line) → IsTrue result ↔ Cover book.now.needs duty.now.due (line_payments book.now.settle (slice_index_or book.now.lines duty.now.line d) units) }
+fn suffices(ledger: &Ledger, duty: &Duty, units: u64) -> bool
+    requires line { duty.now.line < length ledger.now.book.lines }
+    requires units { (d : Line) → units ≤ (slice_index_or ledger.now.book.lines duty.now.line d).most }
+    ensures { (d : Line) → IsTrue result ↔ Cover ledger.now.book.needs duty.now.due (line_payments ledger.now.book.settle (slice_index_or ledger.now.book.lines duty.now.line d) units) }
 {
-    let bought = ledger.purchase(book, duty.line, units);
+    let book = ledger.book();
+    let bought = ledger.purchase(duty.line, units);
     covers(
         &paid(book, &bought),
         &duty.due,
@@ -42,25 +41,24 @@ fn suffices(book: &Book, ledger: &Ledger, duty: &Duty, units: u64) -> bool
 }
 
 // Looks for the fewest units that suffice downward from some that do, in steps that double.
-fn bracket_of(book: &Book, ledger: &Ledger, duty: &Duty, units: u64) -> Bracket
-    requires ledger { (n : ℕ) × IsLedger n book.now ledger.now }
-    requires line { duty.now.line < length book.now.lines }
-    requires least { (d : Line) → (slice_index_or book.now.lines duty.now.line d).least ≤ units }
-    requires most { (d : Line) → units ≤ (slice_index_or book.now.lines duty.now.line d).most }
-    requires enough { (d : Line) → Cover book.now.needs duty.now.due (line_payments book.now.settle (slice_index_or book.now.lines duty.now.line d) units) }
-    ensures least { (d : Line) → (slice_index_or book.now.lines duty.now.line d).least ≤ result.low }
+fn bracket_of(ledger: &Ledger, duty: &Duty, units: u64) -> Bracket
+    requires line { duty.now.line < length ledger.now.book.lines }
+    requires least { (d : Line) → (slice_index_or ledger.now.book.lines duty.now.line d).least ≤ units }
+    requires most { (d : Line) → units ≤ (slice_index_or ledger.now.book.lines duty.now.line d).most }
+    requires enough { (d : Line) → Cover ledger.now.book.needs duty.now.due (line_payments ledger.now.book.settle (slice_index_or ledger.now.book.lines duty.now.line d) units) }
+    ensures least { (d : Line) → (slice_index_or ledger.now.book.lines duty.now.line d).least ≤ result.low }
     ensures ordered { result.low ≤ result.high }
     ensures most { result.high ≤ units }
-    ensures enough { (d : Line) → Cover book.now.needs duty.now.due (line_payments book.now.settle (slice_index_or book.now.lines duty.now.line d) result.high) }
+    ensures enough { (d : Line) → Cover ledger.now.book.needs duty.now.due (line_payments ledger.now.book.settle (slice_index_or ledger.now.book.lines duty.now.line d) result.high) }
 {
-    let least = book.line(duty.line).least;
+    let least = ledger.book().line(duty.line).least;
     let mut high = units;
     for doublings in 0..63u32 {
         let step = 1u64 << doublings;
         if high - least < step {
             return Bracket { low: least, high };
         }
-        if suffices(book, ledger, duty, high - step) {
+        if suffices(ledger, duty, high - step) {
             high -= step;
         } else {
             return Bracket {
@@ -73,21 +71,20 @@ fn bracket_of(book: &Book, ledger: &Ledger, duty: &Duty, units: u64) -> Bracket
 }
 
 // The fewest units of a line that suffice within a bracket, by bisection: more units pay no less.
-fn fewest_within(book: &Book, ledger: &Ledger, duty: &Duty, bracket: Bracket) -> u64
-    requires ledger { (n : ℕ) × IsLedger n book.now ledger.now }
-    requires line { duty.now.line < length book.now.lines }
+fn fewest_within(ledger: &Ledger, duty: &Duty, bracket: Bracket) -> u64
+    requires line { duty.now.line < length ledger.now.book.lines }
     requires ordered { bracket.low ≤ bracket.high }
-    requires most { (d : Line) → bracket.high ≤ (slice_index_or book.now.lines duty.now.line d).most }
-    requires enough { (d : Line) → Cover book.now.needs duty.now.due (line_payments book.now.settle (slice_index_or book.now.lines duty.now.line d) bracket.high) }
+    requires most { (d : Line) → bracket.high ≤ (slice_index_or ledger.now.book.lines duty.now.line d).most }
+    requires enough { (d : Line) → Cover ledger.now.book.needs duty.now.due (line_payments ledger.now.book.settle (slice_index_or ledger.now.book.lines duty.now.line d) bracket.high) }
     ensures least { bracket.low ≤ result }
     ensures most { result ≤ bracket.high }
-    ensures enough { (d : Line) → Cover book.now.needs duty.now.due (line_payments book.now.settle (slice_index_or book.now.lines duty.now.line d) result) }
+    ensures enough { (d : Line) → Cover ledger.now.book.needs duty.now.due (line_payments ledger.now.book.settle (slice_index_or ledger.now.book.lines duty.now.line d) result) }
 {
     let mut low = bracket.low;
     let mut high = bracket.high;
     while low < high {
         let middle = low + (high - low) / 2;
-        if suffices(book, ledger, duty, middle) {
+        if suffices(ledger, duty, middle) {
             high = middle;
         } else {
             low = middle + 1;
@@ -97,20 +94,19 @@ fn fewest_within(book: &Book, ledger: &Ledger, duty: &Duty, bracket: Bracket) ->
 }
 
 // The fewest permitted units of a line that suffice, of which some do.
-fn fewest(book: &Book, ledger: &Ledger, duty: &Duty, units: u64) -> u64
-    requires ledger { (n : ℕ) × IsLedger n book.now ledger.now }
-    requires line { duty.now.line < length book.now.lines }
-    requires permitted { (d : Line) → IsPermittedUnits (slice_index_or book.now.lines duty.now.line d) units }
-    requires enough { (d : Line) → Cover book.now.needs duty.now.due (line_payments book.now.settle (slice_index_or book.now.lines duty.now.line d) units) }
-    ensures permitted { (d : Line) → IsPermittedUnits (slice_index_or book.now.lines duty.now.line d) result }
+fn fewest(ledger: &Ledger, duty: &Duty, units: u64) -> u64
+    requires line { duty.now.line < length ledger.now.book.lines }
+    requires permitted { (d : Line) → IsPermittedUnits (slice_index_or ledger.now.book.lines duty.now.line d) units }
+    requires enough { (d : Line) → Cover ledger.now.book.needs duty.now.due (line_payments ledger.now.book.settle (slice_index_or ledger.now.book.lines duty.now.line d) units) }
+    ensures permitted { (d : Line) → IsPermittedUnits (slice_index_or ledger.now.book.lines duty.now.line d) result }
     ensures most { result ≤ units }
-    ensures enough { (d : Line) → Cover book.now.needs duty.now.due (line_payments book.now.settle (slice_index_or book.now.lines duty.now.line d) result) }
+    ensures enough { (d : Line) → Cover ledger.now.book.needs duty.now.due (line_payments ledger.now.book.settle (slice_index_or ledger.now.book.lines duty.now.line d) result) }
 {
-    if suffices(book, ledger, duty, 0) {
+    if suffices(ledger, duty, 0) {
         0
     } else {
-        let bracket = bracket_of(book, ledger, duty, units);
-        fewest_within(book, ledger, duty, bracket)
+        let bracket = bracket_of(ledger, duty, units);
+        fewest_within(ledger, duty, bracket)
     }
 }
 
@@ -120,36 +116,34 @@ fn tries_of(taken: u64) -> u32 {
 }
 
 // Takes a line down as far as the needs allow. It answers how many numbers of units were tried.
-fn trim_line(book: &Book, ledger: &mut Ledger, line: u16) -> u32
-    requires ledger { (n : ℕ) × IsLedger n book.now ledger.old }
-    requires line { line < length book.now.lines }
-    requires meets { Meets book.now ledger.old.plan }
-    ensures ledger { (n : ℕ) → IsLedger n book.now ledger.old → IsLedger n book.now ledger.new }
-    ensures meets { Meets book.now ledger.new.plan }
+fn trim_line(ledger: &mut Ledger, line: u16) -> u32
+    requires line { line < length ledger.old.book.lines }
+    requires meets { Meets ledger.old.book ledger.old.plan }
+    ensures book { ledger.new.book ≡ ledger.old.book }
+    ensures meets { Meets ledger.new.book ledger.new.plan }
 {
     let units = ledger.units(line);
     let duty = Duty {
         line,
-        due: ledger.due(book, line),
+        due: ledger.due(line),
     };
-    let fewest = fewest(book, ledger, &duty, units);
-    ledger.change(book, line, fewest);
+    let fewest = fewest(ledger, &duty, units);
+    ledger.put(line, fewest);
     tries_of(units.saturating_sub(fewest))
 }
 
 /// Takes each line of a plan that meets the needs down as far as the needs allow, in an order. What one gives back only
 /// tightens the others, so that once is enough. It answers how many numbers of units of a line were tried.
-pub(crate) fn trim(book: &Book, ledger: &mut Ledger, order: &[Ranked]) -> u32
-    requires ledger { (n : ℕ) × IsLedger n book.now ledger.old }
-    requires meets { Meets book.now ledger.old.plan }
-    requires order { All (λ ranked. ranked.line < length book.now.lines) order.now }
-    ensures ledger { (n : ℕ) → IsLedger n book.now ledger.old → IsLedger n book.now ledger.new }
-    ensures meets { Meets book.now ledger.new.plan }
+pub(crate) fn trim(ledger: &mut Ledger, order: &[Ranked]) -> u32
+    requires meets { Meets ledger.old.book ledger.old.plan }
+    requires order { All (λ ranked. ranked.line < length ledger.old.book.lines) order.now }
+    ensures book { ledger.new.book ≡ ledger.old.book }
+    ensures meets { Meets ledger.new.book ledger.new.plan }
 {
     let mut tries = 0u32;
     for ranked in order {
         if ledger.units(ranked.line) > 0 {
-            tries = tries.saturating_add(trim_line(book, ledger, ranked.line));
+            tries = tries.saturating_add(trim_line(ledger, ranked.line));
         }
     }
     tries

@@ -5,9 +5,9 @@ use Rattle.plan_finder.proofs.trimming.fewest.Goals as goal
 
 pub bracket_of-bracket-requires-clause-least : goal.bracket_of-bracket-requires-clause-least
 bracket_of-bracket-requires-clause-least c = λ d.
-    let line = get_or c.args.book.now.lines c.args.duty.now.line d in
+    let line = get_or c.args.ledger.now.book.lines c.args.duty.now.line d in
     elim (c.requires.permitted d) [
-      | inl none ↦ (let yes = (c.suffices.ensures d).1 (subst (λ n. Cover c.args.book.now.needs c.args.duty.now.due (line_payments c.args.book.now.settle line n)) none (c.requires.enough d)) in
+      | inl none ↦ (let yes = (c.suffices.ensures d).1 (subst (λ n. Cover c.args.ledger.now.book.needs c.args.duty.now.due (line_payments c.args.ledger.now.book.settle line n)) none (c.requires.enough d)) in
           let no = c.if-suffices.false in
           absurd (cc))
       | inr some ↦ some.0

@@ -1,5 +1,5 @@
-use Rattle.plan_finder.specs.Dive.{IsDiver}
+use Rattle.std.proofs.Common.{◌≡◌}
 use Rattle.plan_finder.proofs.dive.Diver.descend.Given as goal
 
 abbrev pub invariant-loop-turn : goal.invariant-loop-turn
-invariant-loop-turn l = IsDiver l.book l.self
+invariant-loop-turn l = l.self.book ≡ l.fn.self.book

@@ -1,5 +1,5 @@
-use Rattle.plan_finder.specs.Dive.{IsDiver}
+use Rattle.std.proofs.Common.{◌≡◌}
 use Rattle.plan_finder.proofs.dive.Diver.start_whole.Given as goal
 
 abbrev pub invariant-loop-line : goal.invariant-loop-line
-invariant-loop-line l = IsDiver l.book l.self
+invariant-loop-line l = l.self.book ≡ l.fn.self.book

@@ -3,20 +3,20 @@ use Rattle.std.proofs.lemmas.Bool.{cases_eq}
 use Rattle.std.proofs.lemmas.List.{get_or-set_other, get_or-set_same, length-set}
 use Rattle.plan_finder.proofs.LedgerFacts.{held-little}
 use Rattle.plan_finder.proofs.PutFacts.{held-is, purchase-paid, received-part}
-use Rattle.plan_finder.proofs.ledger.Ledger.due.Goals as goal
+use Rattle.plan_finder.proofs.account.Account.due.Goals as goal
 
 pub paid-due-requires : goal.paid-due-requires
 paid-due-requires c =
     let at : c.index.result.now ≡ get_or c.args.self.now.held.items c.args.line c.index.result.now = search rules in
-    let ledger = c.requires.ledger.1 in
-    held-little c.requires.ledger.0 c.args.book.now c.args.self.now.plan c.args.self.now.held.items c.args.line c.index.result.now ledger.limits ledger.permitted ledger.held c.requires.line at
+    let ledger = c.requires.account.1 in
+    held-little c.requires.account.0 c.args.book.now c.args.self.now.plan c.args.self.now.held.items c.args.line c.index.result.now ledger.limits ledger.permitted ledger.held c.requires.line at
 
 pub overflow_sub-self : goal.overflow_sub-self
 overflow_sub-self c =
     let at : c.index.result.now ≡ get_or c.args.self.now.held.items c.args.line c.index.result.now = search rules in
     omega (
       arith,
-      received-part c.requires.ledger.0 c.args.book.now c.args.self.now c.args.line c.index.result.now c.paid-due.result c.requires.ledger.1 c.requires.line at c.paid-due.ensures c.loop-place.place
+      received-part c.requires.account.0 c.args.book.now c.args.self.now c.args.line c.index.result.now c.paid-due.result c.requires.account.1 c.requires.line at c.paid-due.ensures c.loop-place.place
           (omega arith),
       c.loop-place.invariant.rest c.loop-place.place (omega arith),
     )
@@ -24,8 +24,8 @@ overflow_sub-self c =
 pub returns : goal.returns
 returns c = λ d k need within.
     let book = c.args.book.now in
-    let n = c.requires.ledger.0 in
-    let ledger = c.requires.ledger.1 in
+    let n = c.requires.account.0 in
+    let ledger = c.requires.account.1 in
     let at : c.index.result.now ≡ get_or c.args.self.now.held.items c.args.line c.index.result.now = search rules in
     let own = purchase-paid n book (get_or book.lines c.args.line d) (get_or c.args.self.now.plan c.args.line 0) c.index.result.now c.paid-due.result
     (held-is n book c.args.self.now.plan c.args.self.now.held.items c.args.line c.index.result.now ledger.held c.requires.line at d) c.paid-due.ensures in

@@ -1,6 +1,6 @@
 use Rattle.std.proofs.Common.{◌≡◌, ℕ, ◌-◌, ◌<◌, ◌≤◌, get_or, length}
 use Rattle.escrow_units.specs.declared.limits.TheConstants.{MOST_NEED_DATES}
-use Rattle.plan_finder.proofs.ledger.Ledger.due.Given as goal
+use Rattle.plan_finder.proofs.account.Account.due.Given as goal
 
 abbrev pub invariant-loop-place : goal.invariant-loop-place
 invariant-loop-place l = record {

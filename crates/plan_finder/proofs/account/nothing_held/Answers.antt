@@ -5,7 +5,7 @@ use Rattle.plan_finder.specs.Ledger.{IsPurchase}
 use Rattle.plan_finder.specs.declared.terms.Purchase.{Purchase}
 use Rattle.plan_finder.proofs.LedgerFacts.{line-is, push-each, terms-at}
 use Rattle.plan_finder.proofs.MakeFacts.{zeros}
-use Rattle.plan_finder.proofs.ledger.nothing_held.Goals as goal
+use Rattle.plan_finder.proofs.account.nothing_held.Goals as goal
 
 pub purchase-requires-clause-line : goal.purchase-requires-clause-line
 purchase-requires-clause-line c =

@@ -1,7 +1,7 @@
 use Rattle.std.proofs.Common.{◌+◌, replicate, arith}
 use Rattle.std.proofs.lemmas.List.Folds.{sum_by-replicate}
 use Rattle.std.proofs.lemmas.List.Sums.{sum_by-take-drop}
-use Rattle.plan_finder.proofs.ledger.paid_by.Goals as goal
+use Rattle.plan_finder.proofs.account.paid_by.Goals as goal
 
 pub returns : goal.returns
 returns c = λ k need within.

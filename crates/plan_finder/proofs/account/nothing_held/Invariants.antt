@@ -2,7 +2,7 @@ use Rattle.std.proofs.Common.{◌≡◌, ℕ, ◌<◌, length, get_or}
 use Rattle.offer_book.specs.declared.line.Line.{Line}
 use Rattle.plan_finder.specs.Ledger.{AreTerms, IsPurchase}
 use Rattle.plan_finder.specs.declared.terms.Purchase.{Purchase}
-use Rattle.plan_finder.proofs.ledger.nothing_held.Given as goal
+use Rattle.plan_finder.proofs.account.nothing_held.Given as goal
 
 abbrev pub invariant-loop-line : goal.invariant-loop-line
 invariant-loop-line l = record {

@@ -1,7 +1,7 @@
 use Rattle.std.proofs.Common.{rules, arith}
 use Rattle.std.proofs.lemmas.List.{get_or-replicate}
 use Rattle.plan_finder.proofs.MakeFacts.{make-ledger}
-use Rattle.plan_finder.proofs.ledger.Ledger.make.Goals as goal
+use Rattle.plan_finder.proofs.account.Account.make.Goals as goal
 
 pub returns : goal.returns
 returns c =

@@ -4,7 +4,7 @@ use Rattle.offer_book.specs.declared.line.Line.{Line}
 use Rattle.plan_finder.specs.Ledger.{IsTerms}
 use Rattle.plan_finder.specs.declared.terms.LineTerms.{LineTerms}
 use Rattle.plan_finder.proofs.LedgerFacts.{line-is, push-each}
-use Rattle.plan_finder.proofs.ledger.terms_of.Goals as goal
+use Rattle.plan_finder.proofs.account.terms_of.Goals as goal
 
 pub make-requires-clause-settlement : goal.make-requires-clause-settlement
 make-requires-clause-settlement c = rw c.settle-settle.ensures c.line_count-line-end.ensures.limits.settlement

@@ -4,7 +4,7 @@ use Rattle.cash_table.specs.Points.{low_value}
 use Rattle.cash_table.proofs.CostFacts.{cost_is}
 use Rattle.fixed_powers.specs.DiscountPowers.{one}
 use Rattle.plan_finder.proofs.WorthFacts.{less_test, plan_worth-low}
-use Rattle.plan_finder.proofs.ledger.Ledger.is_dearer.Goals as goal
+use Rattle.plan_finder.proofs.account.Account.is_dearer.Goals as goal
 
 pub returns : goal.returns
 returns c = λ n ledger.

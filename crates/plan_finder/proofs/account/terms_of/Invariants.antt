@@ -2,7 +2,7 @@ use Rattle.std.proofs.Common.{◌≡◌, ℕ, ◌<◌, length, get_or}
 use Rattle.offer_book.specs.declared.line.Line.{Line}
 use Rattle.plan_finder.specs.Ledger.{IsTerms}
 use Rattle.plan_finder.specs.declared.terms.LineTerms.{LineTerms}
-use Rattle.plan_finder.proofs.ledger.terms_of.Given as goal
+use Rattle.plan_finder.proofs.account.terms_of.Given as goal
 
 abbrev pub invariant-loop-line : goal.invariant-loop-line
 invariant-loop-line l = record {

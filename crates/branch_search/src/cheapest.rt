@@ -1,0 +1,109 @@
+//! The cheapest plan that a search has at the root.
+
+ghost use Rattle.std.specs.Prelude.{◌≡◌, ◌↔◌, ◌≤◌, ℕ, Err, IfOk, IfSome, IsSomeAnd, IsTrue, MatchOption};
+ghost use Rattle.backward_build.specs.BackwardPlan.{backward_plan};
+ghost use Rattle.backward_build.specs.declared.backward.BuildEnd.{BuildEnd as BuildFault};
+ghost use Rattle.offer_book.specs.Portfolio.{IsPermitted, cost as cost_of};
+ghost use Rattle.plan_finder.specs.Proposal.{IsProposal};
+ghost use Rattle.branch_search.specs.Root.{HasNone, IsBest, IsBuilt};
+
+use crate::taken::taken;
+use backward_build::{BuildEnd, build, trim};
+use cash_table::{Plan, cost};
+use escrow_desk::NoMemory;
+use escrow_units::{Cents, GREATEST_YIELD, YieldUnits};
+use offer_book::Book;
+use plan_finder::{Proposal, find};
+use std::alloc::Global;
+
+// How much work the search for a plan is at most, in sweeps: each goes once through all columns of the linear program.
+const EFFORT: u32 = 50_000;
+
+// The backward plan, where there is one.
+fn backward(alloc: Global, book: &Book) -> Result<Option<Plan>, NoMemory>
+    ensures { IfOk result (λ plan. MatchOption plan ((fault : BuildFault) × (backward_plan book.now ≡ Err fault)) (IsBuilt book.now)) }
+{
+    match build(alloc, book) {
+        Ok(plan) => Ok(Some(plan)),
+        Err(BuildEnd::NoMemory) => Err(NoMemory),
+        Err(BuildEnd::NoOwnOffer(_)) => Ok(None),
+        Err(BuildEnd::OverCap(_)) => Ok(None),
+    }
+}
+
+// The backward plan, trimmed where the trimmed one is within the limit; None where neither is, or where there is none.
+fn backward_within(alloc: Global, book: &Book, limit: YieldUnits) -> Result<Option<Plan>, NoMemory>
+    ensures { IfOk result (λ plan. MatchOption plan (HasNone limit.0 book.now) (IsBest limit.0 book.now)) }
+{
+    let Some(built) = backward(alloc, book)? else {
+        return Ok(None);
+    };
+    let trimmed = trim(alloc, book, &built)?;
+    taken(alloc, book, limit, built, trimmed)
+}
+
+// Whether a plan is there and costs at most a target.
+fn is_cheap(book: &Book, plan: Option<&Plan>, target: Cents) -> bool
+    requires permitted { IfSome plan (λ plan. IsPermitted book.now plan.now) }
+    ensures { IsTrue result ↔ IsSomeAnd plan.entry (λ plan. cost_of book.now plan.now ≤ target.0) }
+{
+    match plan {
+        Some(plan) => cost(book, plan).0 <= target.0,
+        None => false,
+    }
+}
+
+// Of a plan and a proposed one, the one that costs less.
+fn cheaper_of_two(book: &Book, plan: Plan, proposed: Proposal) -> Plan
+    requires { IsPermitted book.now plan }
+    ensures { (limit : ℕ) → IsBest limit book.now plan → IsProposal limit book.now proposed → IsBest limit book.now result }
+{
+    if proposed.cost.0 < cost(book, &plan).0 {
+        proposed.plan
+    } else {
+        plan
+    }
+}
+
+// The same where there may be no other than the proposed one.
+fn or_proposed(book: &Book, plan: Option<Plan>, proposed: Proposal) -> Plan
+    requires { IfSome plan (IsPermitted book.now) }
+    ensures { (limit : ℕ) → MatchOption plan (HasNone limit book.now) (IsBest limit book.now) → IsProposal limit book.now proposed → IsBest limit book.now result }
+{
+    match plan {
+        Some(plan) => cheaper_of_two(book, plan, proposed),
+        None => proposed.plan,
+    }
+}
+
+// The same where either may be missing.
+fn cheaper(book: &Book, plan: Option<Plan>, proposed: Option<Proposal>) -> Option<Plan>
+    requires { IfSome plan (IsPermitted book.now) }
+    ensures { (limit : ℕ) → MatchOption plan (HasNone limit book.now) (IsBest limit book.now) → IfSome proposed (IsProposal limit book.now)
+        → MatchOption result (HasNone limit book.now) (IsBest limit book.now) }
+{
+    match proposed {
+        Some(proposed) => Some(or_proposed(book, plan, proposed)),
+        None => plan,
+    }
+}
+
+/// The cheapest of the backward plan, the one that it is trimmed to and one that is looked for, of those within the limit; None
+/// where there is none. Another one is looked for only where the first two cost more than the target.
+pub(crate) fn cheapest(
+    alloc: Global,
+    book: &Book,
+    limit: YieldUnits,
+    target: Cents,
+) -> Result<Option<Plan>, NoMemory>
+    requires limit_from { 1 ≤ limit.0 }
+    requires limit_to { limit.0 ≤ GREATEST_YIELD }
+    ensures { IfOk result (λ plan. MatchOption plan (HasNone limit.0 book.now) (IsBest limit.0 book.now)) }
+{
+    let plan = backward_within(alloc, book, limit)?;
+    if is_cheap(book, plan.as_ref(), target) {
+        return Ok(plan);
+    }
+    let proposed = find(alloc, book, limit, EFFORT, target)?;
+    Ok(cheaper(book, plan, proposed))
+}

@@ -1,0 +1,236 @@
+//! The exact account of a plan: what it costs and pays, and what it is worth at the yield limit.
+ghost use Rattle.std.specs.Prelude.{◌≡◌, ℕ, ◌+◌, ◌-◌, ◌*◌, ◌/◌, ◌^◌, ◌<◌, ◌≤◌, ◌↔◌, All, IfOk, IfNone, IfSome, IsTrue, length, replicate, slice_index, slice_index_or, slice_set};
+ghost use Rattle.escrow_units.specs.Flows.{Rise, total};
+ghost use Rattle.escrow_units.specs.declared.security.Flow.{Flow};
+ghost use Rattle.fixed_powers.specs.DiscountPowers.{IsLowTable, PowerTable, one};
+ghost use Rattle.offer_book.specs.Portfolio.{IsPermitted, IsPermittedUnits, Meets, line_payments, payments, security_cost};
+ghost use Rattle.offer_book.specs.declared.line.Line.{Line};
+ghost use Rattle.cash_table.specs.Points.{low_value};
+ghost use Rattle.backward_build.specs.Spare.{ArePaid};
+ghost use Rattle.plan_finder.specs.Ledger.{AreDue, AreHeld, AreTerms, IsAccount, IsPurchase};
+ghost use Rattle.plan_finder.specs.declared.terms.Purchase.{Purchase};
+
+use crate::terms::{LineTerms, Purchase};
+use backward_build::run_up;
+use cash_table::{Plan, add_receipts};
+use escrow_desk::NoMemory;
+use escrow_units::{Cents, Flow, MOST_NEED_DATES};
+use fixed_powers::{ONE, Powers};
+use offer_book::Book;
+use std::alloc::Global;
+
+/// A plan, and all that it comes to. A line's units are changed by [`Account::put`] alone, which reads that line and the need
+/// dates, and no other line.
+#[derive(Drop)]
+pub(crate) struct Account {
+    /// The units of each line.
+    pub plan: Plan,
+    /// What each line costs and pays, by its terms.
+    pub terms: Vec<LineTerms>,
+    /// What the plan's units of each line cost and pay.
+    pub held: Vec<Purchase>,
+    /// What is needed up to each need date, in cents.
+    pub needed: [u64; MOST_NEED_DATES],
+    /// What the plan pays up to each need date, in cents.
+    pub received: [u64; MOST_NEED_DATES],
+    /// What the plan costs, opening cash included.
+    pub cost: Cents,
+    /// What its securities are worth at the yield limit, in units of 2^-62 of a cent.
+    pub worth: u128,
+}
+
+// What flows come to up to each need date, in cents.
+fn paid_by(needs: &[Flow], flows: &[Flow]) -> [u64; MOST_NEED_DATES]
+    requires places { length needs.now ≤ MOST_NEED_DATES }
+    requires rising { Rise needs.now }
+    requires small { total flows.now < 2 ^ 64 }
+    ensures { ArePaid needs.now flows.now result }
+{
+    let mut paid = [0; MOST_NEED_DATES];
+    add_receipts(&mut paid, needs, flows);
+    run_up(&mut paid, needs.len());
+    paid
+}
+
+/// What a purchase pays up to each need date, in cents.
+pub(crate) fn paid(book: &Book, purchase: &Purchase) -> [u64; MOST_NEED_DATES]
+    requires { total purchase.now.payments.items ≤ 2 * 10 ^ 13 }
+    ensures { ArePaid book.now.needs purchase.now.payments.items result }
+{
+    paid_by(book.needs(), purchase.payments.as_slice())
+}
+
+// Takes off what a line paid before by each date, and adds what it pays now.
+fn exchange(received: &mut [u64], before: &[u64], after: &[u64], dates: usize)
+    requires received { dates ≤ length received.old }
+    requires before { dates ≤ length before.now }
+    requires after { dates ≤ length after.now }
+    requires part { (k : ℕ) → k < dates → slice_index before.now k ≤ slice_index received.old k }
+    requires room { (k : ℕ) → k < dates → slice_index received.old k - slice_index before.now k + slice_index after.now k < 2 ^ 64 }
+    ensures { (k : ℕ) → k < dates → slice_index received.new k ≡ slice_index received.old k - slice_index before.now k + slice_index after.now k }
+{
+    for place in 0..dates {
+        received[place] = received[place] - before[place] + after[place];
+    }
+}
+
+// The terms of the lines of a book.
+fn terms_of(alloc: Global, book: &Book, powers: &Powers) -> Result<Vec<LineTerms>, NoMemory>
+    requires powers { IsLowTable powers.now }
+    ensures { IfOk result (λ terms. AreTerms powers.now.yield_units book.now terms.items) }
+{
+    let settle = book.settle();
+    let mut terms = Vec::new(alloc);
+    for line in 0..book.line_count() {
+        terms.push(LineTerms::make(alloc, settle, powers, book.line(line))?)?;
+    }
+    Ok(terms)
+}
+
+// Nothing of each line.
+fn nothing_held(alloc: Global, book: &Book, terms: &[LineTerms]) -> Result<Vec<Purchase>, NoMemory>
+    requires { (n : ℕ) × AreTerms n book.now terms.now }
+    ensures { IfOk result (λ held. (n : ℕ) → AreTerms n book.now terms.now → AreHeld n book.now (replicate (length book.now.lines) 0) held.items) }
+{
+    let mut held = Vec::new(alloc);
+    for line in 0..book.line_count() {
+        held.push(terms[usize::from(line)].purchase(book.line(line), 0))?;
+    }
+    Ok(held)
+}
+
+impl Account {
+    /// The account of the plan that buys nothing, against the limit of the powers. It reads the calendar of each line once.
+    ///
+    /// # Errors
+    ///
+    /// Where memory ran out.
+    pub(crate) fn make(alloc: Global, book: &Book, powers: &Powers) -> Result<Account, NoMemory>
+        requires powers { IsLowTable powers.now }
+        ensures { IfOk result (IsAccount powers.now.yield_units book.now) }
+    {
+        let terms = terms_of(alloc, book, powers)?;
+        let held = nothing_held(alloc, book, terms.as_slice())?;
+        Ok(Account {
+            plan: Plan::zero(alloc, book)?,
+            terms,
+            held,
+            needed: paid_by(book.needs(), book.needs()),
+            received: [0; MOST_NEED_DATES],
+            cost: Cents(0),
+            worth: 0,
+        })
+    }
+
+    /// The units of a line, counted from 0.
+    pub(crate) fn units(&self, line: u16) -> u64
+        requires { line < length self.now.plan }
+        ensures { result ≡ slice_index self.now.plan line }
+    {
+        self.plan.get(line)
+    }
+
+    /// What the plan's units of a line cost and pay.
+    pub(crate) fn held(&self, book: &Book, line: u16) -> &Purchase
+        requires account { (n : ℕ) × IsAccount n book.now self.now }
+        requires line { line < length book.now.lines }
+        ensures { total result.now.payments.items ≤ 2 * 10 ^ 13 }
+    {
+        &self.held[usize::from(line)]
+    }
+
+    /// What units of a line would cost and pay.
+    pub(crate) fn purchase(&self, book: &Book, line: u16, units: u64) -> Purchase
+        requires account { (n : ℕ) × IsAccount n book.now self.now }
+        requires line { line < length book.now.lines }
+        requires units { (d : Line) → units ≤ (slice_index_or book.now.lines line d).most }
+        ensures value { (n : ℕ) (d : Line) → IsAccount n book.now self.now → IsPurchase n book.now.settle (slice_index_or book.now.lines line d) units result }
+        ensures little { total result.payments.items ≤ 2 * 10 ^ 13 }
+    {
+        self.terms[usize::from(line)].purchase(book.line(line), units)
+    }
+
+    /// Changes the units of a line, and with them all that the plan comes to.
+    pub(crate) fn put(&mut self, book: &Book, line: u16, units: u64)
+        requires account { (n : ℕ) × IsAccount n book.now self.old }
+        requires line { line < length book.now.lines }
+        requires permitted { (d : Line) → IsPermittedUnits (slice_index_or book.now.lines line d) units }
+        ensures plan { self.new.plan ≡ slice_set self.old.plan line units }
+        ensures account { (n : ℕ) → IsAccount n book.now self.old → IsAccount n book.now self.new }
+    {
+        let place = usize::from(line);
+        let after = self.purchase(book, line, units);
+        let before = &self.held[place];
+        exchange(
+            &mut self.received,
+            &paid(book, before),
+            &paid(book, &after),
+            usize::from(book.need_count()),
+        );
+        self.cost = Cents(self.cost.0 - before.cost.0 + after.cost.0);
+        self.worth = self.worth - before.worth + after.worth;
+        self.held[place] = after;
+        self.plan.put(line, units);
+    }
+
+    /// Changes the units of a line where they are others.
+    pub(crate) fn change(&mut self, book: &Book, line: u16, units: u64)
+        requires account { (n : ℕ) × IsAccount n book.now self.old }
+        requires line { line < length book.now.lines }
+        requires permitted { (d : Line) → IsPermittedUnits (slice_index_or book.now.lines line d) units }
+        ensures plan { self.new.plan ≡ slice_set self.old.plan line units }
+        ensures account { (n : ℕ) → IsAccount n book.now self.old → IsAccount n book.now self.new }
+    {
+        if self.units(line) == units {
+            return;
+        }
+        self.put(book, line, units);
+    }
+
+    /// By how much the plan is short up to a need date, counted from 0, in cents.
+    pub(crate) fn short_by(&self, place: u16) -> u64
+        requires place { place < MOST_NEED_DATES }
+        requires short { slice_index self.now.received place < slice_index self.now.needed place }
+        ensures { result ≡ slice_index self.now.needed place - slice_index self.now.received place }
+    {
+        self.needed[usize::from(place)] - self.received[usize::from(place)]
+    }
+
+    /// What a line has to pay up to each need date, in cents, so that nothing is short.
+    pub(crate) fn due(&self, book: &Book, line: u16) -> [u64; MOST_NEED_DATES]
+        requires account { (n : ℕ) × IsAccount n book.now self.now }
+        requires line { line < length book.now.lines }
+        ensures { (d : Line) → AreDue book.now.needs (payments book.now self.now.plan) (line_payments book.now.settle (slice_index_or book.now.lines line d) (slice_index self.now.plan line)) result }
+    {
+        let mut due = paid(book, &self.held[usize::from(line)]);
+        for place in 0..usize::from(book.need_count()) {
+            due[place] = self.needed[place].saturating_sub(self.received[place] - due[place]);
+        }
+        due
+    }
+
+    /// The place of the first need date on which the plan is short, counted from 0.
+    pub(crate) fn first_short(&self, book: &Book) -> Option<u16>
+        requires account { (n : ℕ) × IsAccount n book.now self.now }
+        ensures none { IfNone result (Meets book.now self.now.plan) }
+        ensures some { IfSome result (λ place. (place < length book.now.needs) × (slice_index self.now.received place < slice_index self.now.needed place)) }
+    {
+        for place in 0..book.need_count() {
+            if self.received[usize::from(place)] < self.needed[usize::from(place)] {
+                return Some(place);
+            }
+        }
+        None
+    }
+
+    /// Whether the plan's securities are worth more at the yield of the account's powers than they cost, by more than a part in 10^8
+    /// of that. A yield that is higher by a unit of 10^-10 makes less of a difference in forty years.
+    pub(crate) fn is_dearer(&self, book: &Book) -> bool
+        requires account { (n : ℕ) × IsAccount n book.now self.now }
+        ensures { (n : ℕ) → IsAccount n book.now self.now
+            → IsTrue result ↔ (one * (security_cost book.now self.now.plan + security_cost book.now self.now.plan / 10 ^ 8) < low_value book.now n self.now.plan) }
+    {
+        let security_cost = u128::from(self.cost.0 - self.plan.get(0));
+        u128::from(ONE) * (security_cost + security_cost / 100_000_000) < self.worth
+    }
+}
