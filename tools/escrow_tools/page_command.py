@@ -6,12 +6,13 @@ import csv
 import hashlib
 import io
 import os
+from functools import cached_property
 from pathlib import Path
 from typing import Optional
 
 from . import program
 from .amounts import counted, money_for_people, rate_text, yield_text
-from .case_files import CERT, ISSUE, PRICES, RATES
+from .case_files import CERT, ISSUE, PRICES, RATES, read_issue_rows
 from .certificate import read_certificate
 from .explaining.answers import Run, explain_run
 from .explaining.case_reading import read_whole_case
@@ -85,11 +86,15 @@ class Maker:
             )
         return answer
 
-    def series(self) -> list[Series]:
-        return [read_series(name) for name in self.chosen.series or [self.chosen.issue]]
-
+    @cached_property
     def own_series(self) -> Series:
-        return read_series(self.chosen.issue)
+        """The issue file itself, which `check` has accepted."""
+        return Series(self.chosen.issue, self.files.issue, read_issue_rows(self.files.issue))
+
+    @cached_property
+    def series(self) -> list[Series]:
+        """The files of the bonds, each read once."""
+        return [read_series(name) for name in self.chosen.series] or [self.own_series]
 
     def kept_report(self) -> Optional[str]:
         if self.chosen.report is not None:
@@ -122,7 +127,7 @@ class Maker:
                 summary = read_summary(answer.lines[1:5])
                 report = asked_report(folder, case, read_certificate(self.certificate), summary)
                 self.try_report(report)
-        return figures_of(case, self.series(), self.own_series(), summary, report)
+        return figures_of(case, self.series, self.own_series, summary, report)
 
 
 def _comments(path: str) -> list[list[str]]:
@@ -165,8 +170,8 @@ def _digest(data: bytes) -> str:
 def _files(maker: Maker) -> list[tuple]:
     what = {ISSUE: "issue", RATES: "rates", PRICES: "prices", CERT: "certificate"}
     rows = [(what[file], os.path.basename(maker.names[file]), _digest(data)) for file, data in maker.data().items()]
-    for one in maker.chosen.series:
-        rows.append(("series", os.path.basename(one), _digest(read_file(one))))
+    for one in maker.series if maker.chosen.series else []:
+        rows.append(("series", os.path.basename(one.name), _digest(one.data)))
     path = Path(program.program_path())
     rows.append(("program", path.name, _digest(path.read_bytes())))
     built_from = path.parent / "built_from"

@@ -12,7 +12,7 @@ from escrow_tools.amounts import money, yield_text
 from escrow_tools.case_files import read_issue_rows
 from escrow_tools.certificate import Certificate, Purchase
 from escrow_tools.explaining.case_reading import read_whole_case, restricted_yield
-from escrow_tools.explaining.holdings import holdings_of
+from escrow_tools.explaining.holdings import holdings_of, most_receipts, up_to
 from escrow_tools.needs import needs_by_day
 from escrow_tools.needs_asked import Series, asked_needs
 from escrow_tools.report import read_report, yield_ends
@@ -142,6 +142,67 @@ class FiguresTest(FolderTest):
             self.assertEqual(line.security.cost(bought.face).total, bought.cost)
             own = [(one.day, one.total) for one in line.security.receipts(bought.face) if one.total]
             self.assertEqual(own, [(one.day, one.cents) for one in report.paid if one.line == bought.line])
+
+    def own_answer(self, case, certificate: Certificate) -> str:
+        """What `check` has to say first of purchases that are permitted, as it is worked out here."""
+        held = holdings_of(case, certificate)
+        for day in case.needs:
+            if up_to(held.receipts, day) < up_to(case.needs, day):
+                return "no ShortOn %s" % day
+        flows = dict(held.receipts)
+        flows[case.issue.settlement] = flows.get(case.issue.settlement, 0) - held.cash
+        ends = interval(indexed(case.issue.settlement, flows), held.security_cost)
+        return "no YieldAbove" if ends is not None and ends.high > case.limit else "no WeakLeaf 1"
+
+    def test_drawn_answers(self) -> None:
+        """What is explained of a certificate: the day on which it is short, and its yield against the limit."""
+        said = set()
+        for number in range(3 * DRAWS):
+            draw = random.Random(100 + number)
+            settlement = SETTLEMENTS[number % len(SETTLEMENTS)]
+            issue = "settle,%s\nrestricted,%d.%02d\ncash,50000\n" % (settlement, draw.randrange(7), draw.randrange(100))
+            for _ in range(3):
+                issue += "need,%s,%d.25\n" % (drawn_day(draw, settlement, 0, 30), draw.randrange(1, 5_000_000))
+            files = (issue, drawn_rates(draw, settlement), drawn_prices(draw, settlement))
+            case = read_whole_case(*(text.encode() for text in files))
+            with self.subTest(number=number):
+                purchases = [Purchase(0, 5_000_000)] if draw.random() < 0.5 else []
+                purchases += [
+                    Purchase(line.number, line.most // line.step) for line in case.lines if draw.random() < 0.8
+                ]
+                certificate = Certificate(purchases, 0, 1)
+                words = self.write_case(*files)
+                text = "escrow-certificate 1\nportfolio %d\n" % len(purchases)
+                text += "".join("buy %d %d\n" % (one.line, one.units) for one in purchases)
+                self.write("certificate.txt", text + "gap 0\nnodes 1\nl 1 0%s\nend\n" % (" 0" * len(case.needs)))
+                answer = run_program(self.folder, "check", *words).lines[0]
+                self.assertEqual(answer, self.own_answer(case, certificate))
+                said.add(answer.split(" ")[1])
+        self.assertEqual(said, {"ShortOn", "YieldAbove", "WeakLeaf"})
+
+    def test_drawn_reach(self) -> None:
+        """The day by which all that is on offer falls short."""
+        reached = 0
+        for number in range(2 * DRAWS):
+            draw = random.Random(200 + number)
+            settlement = SETTLEMENTS[number % len(SETTLEMENTS)]
+            issue = "settle,%s\nrestricted,29.99\ncash,%d\nallowance,100000000000.00\n" % (
+                settlement,
+                draw.randrange(9) * 100_000,
+            )
+            for _ in range(4):
+                issue += "need,%s,%d.25\n" % (drawn_day(draw, settlement, 40, 30), draw.randrange(1, 40_000_000))
+            files = (issue, drawn_rates(draw, settlement), drawn_prices(draw, settlement))
+            case = read_whole_case(*(text.encode() for text in files))
+            short = [day for day in case.needs if sum(most_receipts(case, day)[:2]) < up_to(case.needs, day)]
+            with self.subTest(number=number):
+                answer = run_program(self.folder, "structure", *self.write_case(*files))
+                if short:
+                    self.assertEqual(answer.lines, ["infeasible %s" % short[0]])
+                else:
+                    self.assertNotEqual(answer.status, program.INFEASIBLE)
+                    reached += 1
+        self.assertTrue(0 < reached < 2 * DRAWS)
 
     def test_drawn_cases(self) -> None:
         for number in range(DRAWS):

@@ -119,9 +119,7 @@ def mend_dollars(text: str) -> Mended:
         return Mended(None, "this is a whole number of dollars, from 1 to 1,000,000,000")
     whole = int(number * (MILLIONS[match.group(2).lower()] if match else 1))
     if whole == 0:
-        return Mended(
-            None, "this is a whole number of dollars, and at least 1: a line of which nothing may be bought is left out"
-        )
+        return Mended(None, "this is a whole number of dollars, and at least 1")
     if whole > amounts.GREATEST_DOLLARS:
         return Mended(str(amounts.GREATEST_DOLLARS), "a line has at most 1,000,000,000 dollars")
     return Mended(str(whole), "this is a whole number of dollars: no point, comma, blank or currency")

@@ -207,8 +207,8 @@ def _unknown_row(refused: Refused) -> Explanation:
         if file != refused.file and plain_word(word) in forms:
             name = refused.names.get(file, WHAT_FILES_ARE[file])
             return Explanation(
-                "a `%s` row belongs to %s (%s), not to %s"
-                % (plain_word(word), WHAT_FILES_ARE[file], name, WHAT_FILES_ARE[refused.file])
+                "%s belongs to %s (%s), not to %s"
+                % (_row_of(plain_word(word)), WHAT_FILES_ARE[file], name, WHAT_FILES_ARE[refused.file])
             )
     meant = meant_word(refused.file, word)
     if meant is not None:
@@ -221,6 +221,10 @@ def _unknown_row(refused: Refused) -> Explanation:
     )
 
 
+def _row_of(word: str) -> str:
+    return "%s `%s` row" % ("an" if word[:1] in "aeiou" else "a", word)
+
+
 def _wrong_fields(refused: Refused) -> Explanation:
     word = refused.record.word
     form = form_of(refused.file, word)
@@ -229,7 +233,7 @@ def _wrong_fields(refused: Refused) -> Explanation:
     if found > wanted and not refused.record.fields[-1].strip():
         advice.append("commas stand at its end, as a spreadsheet pads rows: delete them")
     elif found > wanted:
-        advice.append("a number has no commas in it, and nothing may stand behind the last field")
+        advice.append("a number has no commas in it, and no other field stands between these or behind them")
     elif word == "offer":
         advice.append("the first payment date may be empty, but its comma stays")
     elif word == "call":
@@ -240,7 +244,7 @@ def _wrong_fields(refused: Refused) -> Explanation:
         )
     elif word == "rate":
         advice.append("the first and the last day of the range, and its greatest rate in percent are wanted")
-    return Explanation("a `%s` row has %d fields, `%s`, and this has %d" % (word, wanted, form, found), advice=advice)
+    return Explanation("%s has %d fields, `%s`, and this has %d" % (_row_of(word), wanted, form, found), advice=advice)
 
 
 def _faulty_field(refused: Refused) -> Explanation:
@@ -249,7 +253,8 @@ def _faulty_field(refused: Refused) -> Explanation:
     advice = []
     if mended.text is None and refused.refusal.name == "BadDate" and field.name == "date" and refused.field.strip():
         advice.append("write the day as four digits of the year, two of the month, two of the day")
-    return Explanation("the %s `%s`: %s" % (field.name, shown(refused.field), mended.why), advice=advice)
+    what = "the %s `%s`: " % (field.name, shown(refused.field)) if refused.field.strip() else ""
+    return Explanation(what + mended.why, advice=advice)
 
 
 def _out_of_range(refused: Refused) -> Explanation:
@@ -275,11 +280,8 @@ def _out_of_range(refused: Refused) -> Explanation:
         return Explanation("a budget is from 1 to 10,000 nodes; without this row it is 1,000")
     if refused.field_name in ("rate", "greatest rate", "coupon", "yield"):
         why = fields_of(refused.file, word)[place - 1].mend(refused.field).why
-        most = "29.99" if refused.field_name == "yield" else "30"
-        return Explanation(
-            "the %s `%s` is out of range: %s, and it is at most %s percent"
-            % (refused.field_name, refused.field, why, most)
-        )
+        most = "" if "at most 29.99" in why else ", and it is at most 30 percent"
+        return Explanation("the %s `%s` is out of range: %s%s" % (refused.field_name, refused.field, why, most))
     return Explanation(
         "the %s `%s` is more than 100,000,000,000.00 dollars: is it in dollars?" % (refused.field_name, refused.field)
     )
@@ -291,9 +293,9 @@ def _price_and_payments(refused: Refused) -> list[str]:
         return []
     total = sum(pay.cents for pay in issue.pays)
     return [
-        "the price is %s, and the %s come to %s: is each payment of principal and interest a `pay` row, and the price that of "
+        "the price is %s, and the payments (%s) come to %s: is each payment of principal and interest a `pay` row, and the price that of "
         "the whole issue in dollars, not in percent?"
-        % (money_for_people(issue.amount("price")), counted(len(issue.pays), "payment"), money_for_people(total))
+        % (money_for_people(issue.amount("price")), counted(len(issue.pays), "row"), money_for_people(total))
     ]
 
 

@@ -1,0 +1,60 @@
+"""What the guide shows is what the example prints, and what it says of a yes is what README.md says."""
+
+from __future__ import annotations
+
+import re
+import unittest
+
+from harness import EXAMPLES, ROOT, FolderTest, run_tool
+
+GUIDE = ROOT / "docs" / "GUIDE.md"
+SERIES = EXAMPLES / "series"
+
+
+def code_lines(text: str) -> list:
+    """The lines of the code blocks of a text."""
+    return [line.strip() for line in text.splitlines() if line.startswith("    ")]
+
+
+class GuideTest(FolderTest):
+    def setUp(self) -> None:
+        super().setUp()
+        self.text = GUIDE.read_text(encoding="utf-8")
+        for path in SERIES.iterdir():
+            self.write(path.name, path.read_bytes())
+
+    def test_claim(self) -> None:
+        quotes = [
+            re.findall(r"(?m)^> .*$", text) for text in (self.text, (ROOT / "README.md").read_text(encoding="utf-8"))
+        ]
+        self.assertTrue(quotes[0])
+        self.assertEqual(quotes[0], quotes[1])
+
+    def test_what_tools_say(self) -> None:
+        runs = (
+            ("needs", "--issue", "series-a.csv", "series-b.csv"),
+            ("offers", "issue.csv", "table.csv", "-o", "rates.csv"),
+            ("prices", "issue.csv", "notes.csv", "--rates", "rates.csv", "-o", "prices.csv"),
+        )
+        said = [line for words in runs for line in run_tool(self.folder, *words).err.splitlines()]
+        shown = [line for line in code_lines(self.text) if line.startswith("escrow: ")]
+        for line in said:
+            self.assertIn(line, shown)
+
+    def test_report(self) -> None:
+        """Each line of the report and of the answer that is shown stands in the example's."""
+        known = (SERIES / "certificate.report.txt").read_text().splitlines() + (
+            SERIES / "expected.txt"
+        ).read_text().splitlines()
+        words = ("buy", "cash", "cost", "yield", "limit", "gap", "pay", "date", "idle", "proof")
+        for line in code_lines(self.text):
+            if line.split(" ")[0] in words and "," not in line and line != "cash,AMOUNT":
+                self.assertIn(line, known)
+
+    def test_picture(self) -> None:
+        self.assertIn("(page.png)", self.text)
+        self.assertLess((ROOT / "docs" / "page.png").stat().st_size, 200_000)
+
+
+if __name__ == "__main__":
+    unittest.main()
