@@ -10,13 +10,14 @@ use Rattle.dual_bound.specs.declared.prices.TheConstants.{PRICE_SCALE}
 use Rattle.dual_bound.specs.declared.tree.Leaf.{Leaf}
 use Rattle.escrow_check.specs.Acceptance.{bears_out}
 use Rattle.escrow_units.specs.declared.limits.TheConstants.{GREATEST_YIELD}
+use Rattle.halving_tree.specs.Base.{base_leaf}
 use Rattle.offer_book.specs.Book.{IsBook}
 use Rattle.offer_book.specs.Portfolio.{cost}
 use Rattle.offer_book.specs.declared.coefficients.TheConstants.{COEFFICIENT_SCALE}
 use Rattle.plain_case.proofs.GapFacts.{plain_gap_holds}
 use Rattle.branch_search.proofs.RootFacts.{bears, bound_at_root, leaf-sound}
 use Rattle.branch_search.specs.Plain.{IsPlainWithin, PlainAreSettled}
-use Rattle.branch_search.specs.Search.{IsOpenAtRoot, base_leaf}
+use Rattle.branch_search.specs.Search.{IsOpenAtRoot}
 use Rattle.branch_search.specs.declared.found.SearchEnd.TheVariants as ended
 
 -- a bound that bears out a cost with a gap does so where it is higher too

@@ -1,7 +1,6 @@
 -- What a search finds, and where the root of its tree alone doesn't settle a case. The search is this project's own.
-use Rattle.std.specs.Prelude.{◌≡◌, ◌⊎◌, ℕ, ◌-◌, ◌<◌, ◌≤◌, false, true, List, [], ◌∷◌, length, replicate, unwrap_or, Ok, Some}
+use Rattle.std.specs.Prelude.{◌≡◌, ◌⊎◌, ℕ, ◌-◌, ◌<◌, ◌≤◌, false, true, List, [], ◌∷◌, length, Ok, Some}
 use Rattle.backward_build.specs.BackwardPlan.{backward_plan}
-use Rattle.backward_build.specs.PriceCurve.{bootstrapped_prices, leaf_of_prices}
 use Rattle.backward_build.specs.Trim.{HasNoMore, IsTrimmed}
 use Rattle.bound_certificate.specs.Certificate.{IsWellFormed}
 use Rattle.case_file.specs.Case.{CaseContents}
@@ -14,6 +13,7 @@ use Rattle.dual_bound.specs.declared.tree.TreeNode.{TreeNode}
 use Rattle.dual_bound.specs.declared.tree.TreeNode.TheVariants as node
 use Rattle.dual_tune.specs.Steps.{IsImproved}
 use Rattle.escrow_check.specs.Reasons.{IsSoundTree, IsUnopposed}
+use Rattle.halving_tree.specs.Base.{base_leaf}
 use Rattle.offer_book.specs.Book.{BookContents}
 use Rattle.offer_book.specs.Portfolio.{IsPermitted, Meets, cost}
 use Rattle.branch_search.specs.Purchases.{certificate_of}
@@ -30,10 +30,6 @@ pub record IsFound (case : CaseContents) (plan : List ℕ) (nodes : List TreeNod
   pub least : (less : ℕ) → less < gap → ¬ IsSoundTree case (certificate_of plan nodes less)
 
 -- ---- the leaf at the root
--- the leaf with which a search starts: that of the bootstrapped prices, and where there are none, that of 0 for each need date
-abbrev pub base_leaf : BookContents → Leaf
-base_leaf book = leaf_of_prices (unwrap_or (bootstrapped_prices book) (replicate (length book.needs) 0))
-
 -- a leaf at the root is the base leaf, improved over the root's ranges, one unit of yield below the limit
 abbrev pub IsRootLeaf : ℕ → BookContents → Leaf → Type 0
 IsRootLeaf limit book leaf = IsImproved (limit - 1) book (root_of book.lines) (base_leaf book) leaf

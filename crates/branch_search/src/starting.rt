@@ -1,30 +1,17 @@
 //! How a search starts: the leaf at the root of the tree.
 
-ghost use Rattle.std.specs.Prelude.{◌≡◌, ◌≤◌, IfOk, length};
-ghost use Rattle.dual_bound.specs.Tree.{IsLeaf};
+ghost use Rattle.std.specs.Prelude.{◌≤◌, IfOk};
 ghost use Rattle.branch_search.specs.Root.{IsRoot};
-ghost use Rattle.branch_search.specs.Search.{base_leaf as base_leaf_of};
 
 use crate::root_leaf::RootLeaf;
-use backward_build::bootstrap;
-use dual_bound::{Leaf, Ranges, bound};
+use dual_bound::{Ranges, bound};
 use dual_tune::improve;
 use escrow_desk::NoMemory;
 use escrow_units::{GREATEST_INDEX, GREATEST_YIELD, YieldUnits};
 use fixed_powers::{Powers, Side};
+use halving_tree::base_leaf;
 use offer_book::Book;
 use std::alloc::Global;
-
-// The leaf of the bootstrapped prices, and where there are none, of 0 for each need date.
-fn base_leaf(alloc: Global, book: &Book) -> Result<Leaf, NoMemory>
-    ensures value { IfOk result (λ leaf. leaf ≡ base_leaf_of book.now) }
-    ensures well { IfOk result (IsLeaf (length book.now.needs)) }
-{
-    match bootstrap(alloc, book)? {
-        Some(leaf) => Ok(leaf),
-        None => Leaf::of_zeros(alloc, true, book.need_count()),
-    }
-}
 
 /// The base leaf improved over the ranges of the root, one unit below the limit, with its bound there.
 pub(crate) fn root_leaf(alloc: Global, book: &Book, limit: YieldUnits) -> Result<RootLeaf, NoMemory>

@@ -211,7 +211,14 @@ impl<'a> Parts<'a> {
         ensures bound { result ≡ bound_of self.old.sweep.columns.yield_units book.now ranges.now into.new }
     {
         self.zeros.whole = into.whole;
-        better_of(&mut self.sweep.columns, book, ranges, bound, &self.zeros, into)
+        better_of(
+            &mut self.sweep.columns,
+            book,
+            ranges,
+            bound,
+            &self.zeros,
+            into,
+        )
     }
 
     /// Puts the better leaf over ranges into another, as [`Tuner::tune`](crate::Tuner::tune) says.

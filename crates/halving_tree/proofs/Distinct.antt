@@ -19,9 +19,9 @@ pub member-append : {X : Type 0} (xs ys : List X) (x : X) → Member (xs ++ ys) 
 member-append [] ys x m = inr m
 member-append (y ∷ xs) ys x (inl same) = inl (inl same)
 member-append (y ∷ xs) ys x (inr later) = elim (member-append xs ys x later) [
-    | inl first ↦ inl (inr first)
-    | inr second ↦ inr second
-  ]
+  | inl first ↦ inl (inr first)
+  | inr second ↦ inr second
+]
 
 -- each element is none of the later ones
 abbrev pub AreDistinct : {X : Type 0} → List X → Type 0
@@ -32,11 +32,12 @@ AreDistinct {X = X} (x ∷ xs) = ((y : X) → Member xs y → x ≡ y → ⊥) �
 pub distinct-append : {X : Type 0} (xs ys : List X) → AreDistinct xs → AreDistinct ys → ((x y : X) → Member xs x → Member ys y → x ≡ y → ⊥) → AreDistinct (xs ++ ys)
 distinct-append [] ys one other apart = other
 distinct-append (x ∷ xs) ys one other apart = (
-    λ y m same. elim (member-append xs ys y m) [
-      | inl first ↦ one.0 y first same
-      | inr second ↦ apart x y (inl refl) second same
-    ],
-    distinct-append xs ys one.1 other (λ a b m n. apart a b (inr m) n))
+  λ y m same. elim (member-append xs ys y m) [
+    | inl first ↦ one.0 y first same
+    | inr second ↦ apart x y (inl refl) second same
+  ],
+  distinct-append xs ys one.1 other (λ a b m n. apart a b (inr m) n),
+)
 
 -- a list without one of its elements
 record Without {X : Type 0} (ys : List X) (x : X) : Type 0 where

@@ -34,9 +34,9 @@ several (interval ∷ ranges) more = by (interval.low == interval.high) refl (λ
 -- what a line of a book steps by
 step-some : (settle : ℤ) (line : Line) → IsLine settle line → 0 < line.step
 step-some settle line is = elim is [
-    | inl cash ↦ omega (arith, cash.step)
-    | inr security ↦ omega (arith, security.step_at_least)
-  ]
+  | inl cash ↦ omega (arith, cash.step)
+  | inr security ↦ omega (arith, security.step_at_least)
+]
 
 -- the widest of several intervals has some width
 some-width : (book : BookContents) (ranges : List Interval) (line : ℕ) → IsBook book → AreTight book.lines ranges → is_single ranges ≡ false → IsWidest book.lines ranges line

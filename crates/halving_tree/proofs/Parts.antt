@@ -25,12 +25,12 @@ same-widest lines ranges a b one other =
   where
     same : (a b x y : ℕ) → (a < b → x < y) → (b < a → y < x) → y ≤ x → x ≤ y → a ≡ b
     same a b x y below above no_more no_less = elim (cases_lt a b) [
-        | inl lt ↦ absurd (omega (arith, below lt, no_more))
-        | inr ge ↦ elim (cases_lt b a) [
-          | inl gt ↦ absurd (omega (arith, above gt, no_less))
-          | inr le ↦ omega arith
-        ]
+      | inl lt ↦ absurd (omega (arith, below lt, no_more))
+      | inr ge ↦ elim (cases_lt b a) [
+        | inl gt ↦ absurd (omega (arith, above gt, no_less))
+        | inr le ↦ omega arith
       ]
+    ]
 
 some-nodes : (tree : Splits) → 1 ≤ node_count tree
 some-nodes End = omega arith
@@ -43,9 +43,9 @@ parts-within case ranges (Split line at left right) (Split line2 at2 left2 right
     let same : line2 ≡ line = same-widest case.book.lines ranges line2 line whole.1.widest upper.1.widest in
     let middle : at2 ≡ at = whole.1.middle ∙ ap (λ (l : ℕ). middle_at ranges l) same ∙ sym upper.1.middle in
     let one = parts-within case (narrowed case.book.lines ranges line at false) left left2 upper.2
-        (subst (λ (l : ℕ). IsHalvingTree case (narrowed case.book.lines ranges l at false) left2) same (subst (λ (a : ℕ). IsHalvingTree case (narrowed case.book.lines ranges line2 a false) left2) middle whole.2)) in
+    (subst (λ (l : ℕ). IsHalvingTree case (narrowed case.book.lines ranges l at false) left2) same (subst (λ (a : ℕ). IsHalvingTree case (narrowed case.book.lines ranges line2 a false) left2) middle whole.2)) in
     let other = parts-within case (narrowed case.book.lines ranges line at true) right right2 upper.3
-        (subst (λ (l : ℕ). IsHalvingTree case (narrowed case.book.lines ranges l at true) right2) same (subst (λ (a : ℕ). IsHalvingTree case (narrowed case.book.lines ranges line2 a true) right2) middle whole.3)) in
+    (subst (λ (l : ℕ). IsHalvingTree case (narrowed case.book.lines ranges l at true) right2) same (subst (λ (a : ℕ). IsHalvingTree case (narrowed case.book.lines ranges line2 a true) right2) middle whole.3)) in
     omega arith
 
 pub parts_are_within : PartsAreWithin

@@ -3,14 +3,13 @@ ghost use Rattle.std.specs.Prelude.{◌≡◌, ◌≤◌, ◌^◌, IfOk, length}
 ghost use Rattle.std.specs.List.{AllZip};
 ghost use Rattle.fixed_powers.specs.DiscountPowers.{IsLowTable, PowerTable};
 ghost use Rattle.dual_bound.specs.Ranges.{HasRoomFor};
-ghost use Rattle.dual_bound.specs.Tree.{IsLeaf};
 
-use backward_build::bootstrap;
 use dual_bound::{Interval, Leaf, PRICE_SCALE, Ranges, bound};
 use dual_tune::improve;
 use escrow_desk::NoMemory;
 use escrow_units::{GREATEST_INDEX, GREATEST_YIELD, YieldUnits};
 use fixed_powers::{Powers, Side};
+use halving_tree::base_leaf;
 use offer_book::{Book, COEFFICIENT_SCALE};
 use price_lp::{Basis, COLD_ITERATIONS, Purpose, Simplex, WARM_ITERATIONS};
 use std::io;
@@ -207,18 +206,8 @@ fn improved(rt: &HostRuntime, book: &Book, powers: &Powers) -> Result<i128, NoMe
     requires powers { IsLowTable powers.now }
 {
     let ranges = Ranges::root(rt.alloc(), book)?;
-    let base = base_leaf(rt, book)?;
+    let base = base_leaf(rt.alloc(), book)?;
     let leaf = improve(rt.alloc(), book, powers, &ranges, &base)?;
     let scale = i128::from(PRICE_SCALE) * i128::from(COEFFICIENT_SCALE);
     Ok(bound(book, powers, &ranges, &leaf) / scale)
-}
-
-// The leaf of the bootstrapped prices, and where there are none, of 0 for each need date.
-fn base_leaf(rt: &HostRuntime, book: &Book) -> Result<Leaf, NoMemory>
-    ensures { IfOk result (IsLeaf (length book.now.needs)) }
-{
-    match bootstrap(rt.alloc(), book)? {
-        Some(leaf) => Ok(leaf),
-        None => Leaf::of_zeros(rt.alloc(), true, book.need_count()),
-    }
 }

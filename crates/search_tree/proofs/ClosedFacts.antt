@@ -67,12 +67,12 @@ closed-all case best claim popped tree shape nodes limits is made borne point =
     (all-placed case.book.lines (λ p. is_weak case claim p ≡ false) (ends_of case tree) shape (root_of case.book.lines) (ends-end case tree)
     (all-at case popped (ClosedFor case best) (λ p. is_weak case claim p ≡ false) tree shape is made.shape_is (λ number ranges line at priced split tight. refl)
     (λ number ranges priced closed tight.
-      let own : SearchNode = node_of tree.nodes number in
-      weak-by case claim ranges own priced
-      (λ none. subst (IsClosedBy case best ranges own.priced.bound) none closed)
-      (λ borne_is. borne number ranges borne_is closed)
-      (λ day unreached. subst (IsClosedBy case best ranges own.priced.bound) unreached closed)
-      (λ point_is. point ranges ((subst (IsClosedBy case best ranges own.priced.bound) point_is closed).closed)))
+    let own : SearchNode = node_of tree.nodes number in
+    weak-by case claim ranges own priced
+    (λ none. subst (IsClosedBy case best ranges own.priced.bound) none closed)
+    (λ borne_is. borne number ranges borne_is closed)
+    (λ day unreached. subst (IsClosedBy case best ranges own.priced.bound) unreached closed)
+    (λ point_is. point ranges ((subst (IsClosedBy case best ranges own.priced.bound) point_is closed).closed)))
     limits))
 
 -- ---- the least gap

@@ -147,9 +147,9 @@ visited-split states number one other left right tree whole is first second =
           | inr in_right ↦ (let under = second.below y in_right in absurd (omega (arith, same, later, next, path-order states y right.0 under.0 whole under.1)))
         ],
         distinct-append first.numbers second.numbers first.distinct second.distinct
-        (λ x y m n same.
-          apart-below states y left.0 right.0 number tree whole left_child right_child (λ equal. absurd (omega (arith, equal, next)))
-          (subst (λ (k : ℕ). IsBelow states k left.0) same (first.below x m)) (second.below y n)),
+            (λ x y m n same.
+            apart-below states y left.0 right.0 number tree whole left_child right_child (λ equal. absurd (omega (arith, equal, next)))
+            (subst (λ (k : ℕ). IsBelow states k left.0) same (first.below x m)) (second.below y n)),
       );
       below = λ x m. elim m [
         | inl same ↦ ([], same)
@@ -224,7 +224,7 @@ nodes-all states tree one whole is =
     let seen = visited states tree 0 one whole is in
     let few = distinct-few seen.numbers (upto (length states)) seen.distinct (λ x m. upto-all (length states) x (inside x (seen.below x m))) in
     let many = distinct-few (upto (length states)) seen.numbers (upto-distinct (length states)) (λ x m.
-      let way = some-way states x one (upto-below (length states) x m) in seen.all x (way.0, way-path states x way.0 way.1)) in
+    let way = some-way states x one (upto-below (length states) x m) in seen.all x (way.0, way-path states x way.0 way.1)) in
     omega (arith, few, many, seen.many, upto-long (length states))
   where
     inside : (x : ℕ) → IsBelow states x 0 → x < length states

@@ -90,9 +90,9 @@ holds-by case popped Closes P tree number ranges (state.Split line at left right
 -- a split is of a node that is there
 pub split-there : (states : List State) (number line at : ℕ) (left right : NodeId) → state_at states number ≡ state.Split line at left right → number < length states
 split-there states number line at left right split = elim (cases_lt number (length states)) [
-    | inl below ↦ below
-    | inr past ↦ absurd (let clash : state.InHand ≡ state.Split line at left right = sym (get_or_past states number state.InHand past) ∙ split in cc)
-  ]
+  | inl below ↦ below
+  | inr past ↦ absurd (let clash : state.InHand ≡ state.Split line at left right = sym (get_or_past states number state.InHand past) ∙ split in cc)
+]
 
 way-split : (case : CaseContents) (popped : ℤ) (Closes : List Interval → SearchNode → Type 0) (tree : TreeContents) → IsEndTree case popped Closes tree → (child parent : ℕ) (step : Step) (above : List Step)
     → (up : IsStep tree.pool.states child parent step) → IsWay tree.pool.states parent above → is_proper (ranges_at case.book.lines above) step.line step.at ≡ true
@@ -120,13 +120,13 @@ all-at case popped Closes P tree shape is shape_is splits closes limits =
   where
     holds : (child : ℕ) (up : List Step) → IsWay tree.pool.states child up → HoldsBy P (ends_of case tree) (ranges_at case.book.lines up) (state_at tree.pool.states child)
     holds child up way = elim (cases_lt child (length tree.pool.states)) [
-        | inl few ↦
-            let tight = ways-tight sides_are_tight case.book.lines (root_is_tight case.book limits) up (way-proper case popped Closes tree is child up few way) in
-            holds-by case popped Closes P tree child (ranges_at case.book.lines up) (state_at tree.pool.states child)
-            (λ line at priced split. splits child (ranges_at case.book.lines up) line at priced split tight)
-            (λ priced closed. closes child (ranges_at case.book.lines up) priced closed tight) (is.each child up few way)
-        | inr past ↦ subst (HoldsBy P (ends_of case tree) (ranges_at case.book.lines up)) (sym (get_or_past tree.pool.states child state.InHand past)) tt
-      ]
+      | inl few ↦
+          let tight = ways-tight sides_are_tight case.book.lines (root_is_tight case.book limits) up (way-proper case popped Closes tree is child up few way) in
+          holds-by case popped Closes P tree child (ranges_at case.book.lines up) (state_at tree.pool.states child)
+          (λ line at priced split. splits child (ranges_at case.book.lines up) line at priced split tight)
+          (λ priced closed. closes child (ranges_at case.book.lines up) priced closed tight) (is.each child up few way)
+      | inr past ↦ subst (HoldsBy P (ends_of case tree) (ranges_at case.book.lines up)) (sym (get_or_past tree.pool.states child state.InHand past)) tt
+    ]
 
 -- ---- what holds of every such tree
 -- its splits are proper

@@ -215,11 +215,12 @@ pub closed-kept : (case : CaseContents) (best : Option ℕ) (states : List State
     → IsClosedBy case best ranges (node_of nodes number).priced.bound how
     → HasGrown case best (with_state states number (state.Closed number)) (set nodes number (record (node_of nodes number) { closing = how }))
 closed-kept case best states nodes number ranges how held closes =
-    let own : SearchNode = record (node_of nodes number) { closing = how } in
-    ((node_of nodes number).priced.bound,
-    set-kept case best states nodes (set nodes number own) number ranges own (state.Closed number) held (λ line at left right same. absurd (cc)) (λ same. absurd (cc))
-    (length-set nodes number own) (node-same nodes number own (omega (arith, held.popped.held.there, held.popped.grown.same))) (λ k apart. node-other nodes number k own apart)
-    refl (refl, closes))
+    let own : SearchNode = record (node_of nodes number) { closing = how } in (
+      (node_of nodes number).priced.bound,
+      set-kept case best states nodes (set nodes number own) number ranges own (state.Closed number) held (λ line at left right same. absurd (cc)) (λ same. absurd (cc))
+          (length-set nodes number own) (node-same nodes number own (omega (arith, held.popped.held.there, held.popped.grown.same))) (λ k apart. node-other nodes number k own apart)
+          refl (refl, closes),
+    )
 
 -- the node in hand isn't closed
 held-open : (case : CaseContents) (best : Option ℕ) (states : List State) (nodes : List SearchNode) (number : ℕ) (ranges : List Interval) → IsHeld case best states nodes number ranges → (way : List Step) → IsWay states number way
@@ -258,13 +259,16 @@ pub split-kept : (case : CaseContents) (best : Option ℕ) (states : List State)
     → IsPriced case (narrowed case.book.lines ranges line at false) left → (node_of nodes number).priced.bound ≤ℤ left.bound
     → IsPriced case (narrowed case.book.lines ranges line at true) right → (node_of nodes number).priced.bound ≤ℤ right.bound
     → HasGrown case best (after_split states number line at left.bound right.bound) (nodes ++ open_node left ∷ open_node right ∷ [])
-split-kept case best states nodes number line at ranges left right held whole split left_priced left_up right_priced right_up = (bound, record {
-  grown = record {
-    same = omega (arith, length-append nodes (open_node left ∷ open_node right ∷ []), long, held.popped.grown.same);
-    each = λ child up inside is. node-at child up (omega (arith, inside, long)) is;
-  };
-  none = λ other inside hand. still other (omega (arith, inside, long)) hand;
-})
+split-kept case best states nodes number line at ranges left right held whole split left_priced left_up right_priced right_up = (
+  bound,
+  record {
+    grown = record {
+      same = omega (arith, length-append nodes (open_node left ∷ open_node right ∷ []), long, held.popped.grown.same);
+      each = λ child up inside is. node-at child up (omega (arith, inside, long)) is;
+    };
+    none = λ other inside hand. still other (omega (arith, inside, long)) hand;
+  },
+)
   where
     few : number < length states
     few = held.popped.held.there
@@ -346,24 +350,24 @@ split-kept case best states nodes number line at ranges left right held whole sp
 
     node-at : (child : ℕ) (up : List Step) → child < length states + 2 → IsWay after child up → IsNodeAt case best bound child (ranges_at case.book.lines up) (node_of all child) (state_at after child)
     node-at child up inside is = elim (cases_lt child (length states)) [
-        | inl old ↦ old-at child up old (way-old states number line at left.bound right.bound few child up old is)
-        | inr new ↦ elim (cases_lt (length states) child) [
-          | inl right_one ↦
-              let own : child ≡ length states + 1 = omega (arith, right_one, inside) in
-              let ranged = side-ranges true up (way-new states number line at left.bound right.bound few whole child true own up is) in
-              subst (λ (k : ℕ). IsNodeAt case best bound k (ranges_at case.book.lines up) (node_of all k) (state_at after k)) (sym own)
-              (subst (λ (t : State). IsNodeAt case best bound (length states + 1) (ranges_at case.book.lines up) (node_of all (length states + 1)) t) (sym second-state)
-              (subst (λ (n : SearchNode). IsNodeAt case best bound (length states + 1) (ranges_at case.book.lines up) n (state.Waiting right.bound)) (sym second-node)
-              (split-node case best bound (length states + 1) (ranges_at case.book.lines up) right (subst (λ (r : List Interval). IsPriced case r right) ranged right_priced) right_up)))
-          | inr left_one ↦
-              let own : child ≡ length states = omega (arith, left_one, new) in
-              let ranged = side-ranges false up (way-new states number line at left.bound right.bound few whole child false own up is) in
-              subst (λ (k : ℕ). IsNodeAt case best bound k (ranges_at case.book.lines up) (node_of all k) (state_at after k)) (sym own)
-              (subst (λ (t : State). IsNodeAt case best bound (length states) (ranges_at case.book.lines up) (node_of all (length states)) t) (sym first-state)
-              (subst (λ (n : SearchNode). IsNodeAt case best bound (length states) (ranges_at case.book.lines up) n (state.Waiting left.bound)) (sym first-node)
-              (split-node case best bound (length states) (ranges_at case.book.lines up) left (subst (λ (r : List Interval). IsPriced case r left) ranged left_priced) left_up)))
-        ]
+      | inl old ↦ old-at child up old (way-old states number line at left.bound right.bound few child up old is)
+      | inr new ↦ elim (cases_lt (length states) child) [
+        | inl right_one ↦
+            let own : child ≡ length states + 1 = omega (arith, right_one, inside) in
+            let ranged = side-ranges true up (way-new states number line at left.bound right.bound few whole child true own up is) in
+            subst (λ (k : ℕ). IsNodeAt case best bound k (ranges_at case.book.lines up) (node_of all k) (state_at after k)) (sym own)
+            (subst (λ (t : State). IsNodeAt case best bound (length states + 1) (ranges_at case.book.lines up) (node_of all (length states + 1)) t) (sym second-state)
+            (subst (λ (n : SearchNode). IsNodeAt case best bound (length states + 1) (ranges_at case.book.lines up) n (state.Waiting right.bound)) (sym second-node)
+            (split-node case best bound (length states + 1) (ranges_at case.book.lines up) right (subst (λ (r : List Interval). IsPriced case r right) ranged right_priced) right_up)))
+        | inr left_one ↦
+            let own : child ≡ length states = omega (arith, left_one, new) in
+            let ranged = side-ranges false up (way-new states number line at left.bound right.bound few whole child false own up is) in
+            subst (λ (k : ℕ). IsNodeAt case best bound k (ranges_at case.book.lines up) (node_of all k) (state_at after k)) (sym own)
+            (subst (λ (t : State). IsNodeAt case best bound (length states) (ranges_at case.book.lines up) (node_of all (length states)) t) (sym first-state)
+            (subst (λ (n : SearchNode). IsNodeAt case best bound (length states) (ranges_at case.book.lines up) n (state.Waiting left.bound)) (sym first-node)
+            (split-node case best bound (length states) (ranges_at case.book.lines up) left (subst (λ (r : List Interval). IsPriced case r left) ranged left_priced) left_up)))
       ]
+    ]
 
     place-right : (other : ℕ) → length states < other → other < length states + 2 → length states + 1 ≡ other
     place-right other one two = omega (arith, one, two)
@@ -373,12 +377,12 @@ split-kept case best states nodes number line at ranges left right held whole sp
 
     still : (other : ℕ) → other < length states + 2 → state_at after other ≡ state.InHand → ⊥
     still other inside hand = elim (cases_lt other (length states)) [
-        | inl old ↦ by old (other == number) refl
-        | inr new ↦ elim (cases_lt (length states) other) [
-          | inl right_one ↦ (let clash : state.Waiting right.bound ≡ state.InHand = sym second-state ∙ ap (state_at after) (place-right other right_one inside) ∙ hand in absurd (cc))
-          | inr left_one ↦ (let clash : state.Waiting left.bound ≡ state.InHand = sym first-state ∙ ap (state_at after) (place-left other left_one new) ∙ hand in absurd (cc))
-        ]
+      | inl old ↦ by old (other == number) refl
+      | inr new ↦ elim (cases_lt (length states) other) [
+        | inl right_one ↦ (let clash : state.Waiting right.bound ≡ state.InHand = sym second-state ∙ ap (state_at after) (place-right other right_one inside) ∙ hand in absurd (cc))
+        | inr left_one ↦ (let clash : state.Waiting left.bound ≡ state.InHand = sym first-state ∙ ap (state_at after) (place-left other left_one new) ∙ hand in absurd (cc))
       ]
+    ]
       where
         by : other < length states → (b : Bool) → (other == number) ≡ b → ⊥
         by old true e =

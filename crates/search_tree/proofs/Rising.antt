@@ -53,9 +53,9 @@ least-rises n book leaf line inner outer enclose tight own lies = by (inner.low 
 
     by : (one : Bool) → (inner.low == inner.high) ≡ one → (none : Bool) → (inner.low == 0) ≡ none → (one_out : Bool) → (outer.low == outer.high) ≡ one_out → (none_out : Bool) → (outer.low == 0) ≡ none_out
         → least_within n book leaf line outer ≤ℤ
-          (if one then reduced_cost n book leaf line inner.low
-          else if none then int_min (pos 0) (int_min (form_at form line.least) (form_at form inner.high))
-          else int_min (form_at form inner.low) (form_at form inner.high))
+        (if one then reduced_cost n book leaf line inner.low
+        else if none then int_min (pos 0) (int_min (form_at form line.least) (form_at form inner.high))
+        else int_min (form_at form inner.low) (form_at form inner.high))
     by true e none f one_out g none_out h = single
     by false e none f true g none_out h = absurd (
         let apart : inner.low ≡ inner.high → ⊥ = (λ same. grind (arith, nat_tests, e, same)) in

@@ -184,8 +184,7 @@ pub way-before : (before after : TreeContents) → IsDrained before after → (n
 way-before before after drained number [] way = way
 way-before before after drained number (step ∷ above) way =
     let up : IsStep after.pool.states number way.0 step = way.1 in
-    let there = split-there after.pool.states way.0 step.line step.at up.left up.right up.split in
-    (
+    let there = split-there after.pool.states way.0 step.line step.at up.left up.right up.split in (
       way.0,
       record {
         left = up.left;
@@ -253,9 +252,9 @@ root-split : (states : List State) (number : ℕ) (way : List Step) → IsWay st
     → (number ≡ 0) ⊎ ((line : ℕ) × (at : ℕ) × (left : NodeId) × (right : NodeId) × (state_at states 0 ≡ state.Split line at left right))
 root-split states number [] way = inl way
 root-split states number (step ∷ above) way = inr (elim (root-split states way.0 above way.2) [
-    | inl root ↦ (step.line, step.at, way.1.left, way.1.right, ap (state_at states) (sym root) ∙ way.1.split)
-    | inr split ↦ split
-  ])
+  | inl root ↦ (step.line, step.at, way.1.left, way.1.right, ap (state_at states) (sym root) ∙ way.1.split)
+  | inr split ↦ split
+])
 
 -- at the root neither the base leaf nor any of its steps is worth more
 root-low : (case : CaseContents) (best : Option ℕ) (bound : ℤ) (tree : TreeContents) (s : State) → IsNodeAt case best bound 0 (root_of case.book.lines) (node_of tree.nodes 0) s
@@ -341,9 +340,9 @@ occurs-some lines states shape stuck way shape_is way_is closed = by (occurs_in 
 -- each split is one of the halving tree, and so is the one that is stuck
 closed-there : (states : List State) (number leaf : ℕ) → state_at states number ≡ state.Closed leaf → number < length states
 closed-there states number leaf closed = elim (cases_lt number (length states)) [
-    | inl below ↦ below
-    | inr past ↦ absurd (let clash : state.InHand ≡ state.Closed leaf = sym (get_or_past states number state.InHand past) ∙ closed in cc)
-  ]
+  | inl below ↦ below
+  | inr past ↦ absurd (let clash : state.InHand ≡ state.Closed leaf = sym (get_or_past states number state.InHand past) ∙ closed in cc)
+]
 
 upper-part : (case : CaseContents) (popped : ℤ) (Closes : List Interval → SearchNode → Type 0) (tree : TreeContents) (stuck line at : ℕ) (shape : Tree) (number : ℕ) (way : List Step) → IsEndTree case popped Closes tree
     → ((up : List Step) → IsWay tree.pool.states stuck up → IsHalvingSplit case (ranges_at case.book.lines up) line at)
@@ -363,8 +362,7 @@ upper-part case popped Closes tree stuck line at (TreeLeaf leaf) number way is h
 upper-part case popped Closes tree stuck line at (Split own_line own_at left right) number way is halving shape_is way_is =
     let here = is.each number way (split-there tree.pool.states number own_line own_at shape_is.0 shape_is.1 shape_is.2) way_is in
     let split : IsSplitNode case popped (ranges_at case.book.lines way) (node_of tree.nodes number).priced own_line own_at =
-    subst (EndsAt case popped Closes number (ranges_at case.book.lines way) (node_of tree.nodes number)) shape_is.2 here.ends in
-    (
+    subst (EndsAt case popped Closes number (ranges_at case.book.lines way) (node_of tree.nodes number)) shape_is.2 here.ends in (
       split.halving.goes_on,
       split.halving.halved,
       upper-part case popped Closes tree stuck line at left shape_is.0.0 (record { line = own_line; at = own_at; right = false } ∷ way) is halving shape_is.3 (left-way tree.pool.states number own_line own_at shape_is.0 shape_is.1 way shape_is.2 way_is),
@@ -442,4 +440,3 @@ full-shows case best bound cents before after shape nodes full made is_bound = r
       closed = at.0;
       priced = (settled.each stuck.number after-way.0 (omega (arith, stuck.there, full.drained.states)) after-way.1).priced;
     }
-

@@ -15,7 +15,6 @@ use Rattle.node_pool.specs.declared.node.State.TheVariants as state
 abbrev pub IsNoSplit : State → Type 0
 IsNoSplit s = (line at : ℕ) (left right : NodeId) → s ≡ state.Split line at left right → ⊥
 
-
 -- ---- a node changes that isn't split, before or after
 step-set : (states : List State) (number : ℕ) (new : State) → number < length states → IsNoSplit new → (child parent : ℕ) (step : Step) → IsStep (set states number new) child parent step → IsStep states child parent step
 step-set states number new there none child parent step is = by (parent == number) refl
@@ -143,9 +142,9 @@ way-new old number line at l r there whole child side own (step ∷ above) way =
 -- ---- every node has a way
 child-way : (states : List State) (child number : ℕ) (above : List Step) → IsChildOf states child number → IsWay states number above → (way : List Step) × IsWay states child way
 child-way states child number above is way = elim is.side [
-    | inl left ↦ (record { line = is.line; at = is.at; right = false } ∷ above, (number, record { left = is.left; right = is.right; split = is.split; side = sym left }, way))
-    | inr right ↦ (record { line = is.line; at = is.at; right = true } ∷ above, (number, record { left = is.left; right = is.right; split = is.split; side = sym right }, way))
-  ]
+  | inl left ↦ (record { line = is.line; at = is.at; right = false } ∷ above, (number, record { left = is.left; right = is.right; split = is.split; side = sym left }, way))
+  | inr right ↦ (record { line = is.line; at = is.at; right = true } ∷ above, (number, record { left = is.left; right = is.right; split = is.split; side = sym right }, way))
+]
 
 has-way : (fuel : ℕ) (states : List State) (child : ℕ) → IsOneTree states → child < fuel → child < length states → (way : List Step) × IsWay states child way
 has-way zero states child one few inside = absurd (omega arith)

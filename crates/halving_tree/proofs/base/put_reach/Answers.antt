@@ -16,7 +16,7 @@ loop-place-preserved c =
       c.loop-place.invariant.1,
       ap length c.put.ensures ∙ length-set prices place c.reach_price.result ∙ c.loop-place.invariant.2,
       ap (take (place + 1)) c.put.ensures
-      ∙ filled-more (reach_price c.args.day) prices needs place c.reach_price.result c.need-need.result within (omega (arith, c.loop-place.invariant.2)) c.need-need.ensures c.reach_price.ensures
+          ∙ filled-more (reach_price c.args.day) prices needs place c.reach_price.result c.need-need.result within (omega (arith, c.loop-place.invariant.2)) c.need-need.ensures c.reach_price.ensures
           c.loop-place.invariant.3,
     )
 
