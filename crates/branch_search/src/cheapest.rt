@@ -17,7 +17,7 @@ use plan_finder::{Proposal, find};
 use std::alloc::Global;
 
 // How much work the search for a plan is at most, in sweeps: each goes once through all columns of the linear program.
-const EFFORT: u32 = 50_000;
+const EFFORT: u32 = 30_000;
 
 // The backward plan, where there is one.
 fn backward(alloc: Global, book: &Book) -> Result<Option<Plan>, NoMemory>

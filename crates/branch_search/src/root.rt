@@ -20,8 +20,8 @@ use std::alloc::Global;
 /// The limit is from 1 to 3,000,000,000 units of 10^-10, the allowance is at most 10^13 cents, and the budget is from 1 to
 /// 10,000 nodes. What is found is accepted by `check`, with the least gap that its tree supports. The tree is one leaf: that of
 /// the bootstrapped prices, or of prices of 0 where there are none, improved. The portfolio is the cheapest of the backward plan,
-/// the one that it is trimmed to and one that is looked for, of those within the limit; another one is looked for only where the
-/// first two don't settle the case. A plain case whose issue allows at least its gap is settled here.
+/// the one that it is trimmed to and one that is looked for, of those within the limit, whatever is allowed; another one is looked
+/// for only where the first two cost more than the leaf's bound. A plain case whose issue allows at least its gap is settled here.
 ///
 /// # Errors
 ///
@@ -52,7 +52,8 @@ pub fn search(
         return Err(SearchEnd::Short(day));
     }
     let root = root_leaf(alloc, book, limit)?;
-    let target = greatest_cost(root.bound, allowance);
+    // What is allowed is no reason to buy dearer: nothing but a gap of 0 ends the search for a plan early.
+    let target = greatest_cost(root.bound, Cents(0));
     let Some(plan) = cheapest(alloc, book, limit, target)? else {
         return Err(SearchEnd::RootOnly);
     };

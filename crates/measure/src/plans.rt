@@ -18,7 +18,7 @@ pub(crate) fn measure_plans(
     requires limit_from { 1 ≤ limit.0 }
     requires limit_to { limit.0 ≤ GREATEST_YIELD }
 {
-    for effort in [1_000, 10_000, 50_000] {
+    for effort in [1_000, 10_000, 30_000] {
         let start = Instant::now(rt)?;
         let found = find(rt.alloc(), book, limit, effort, Cents(0));
         let micros = micros_since(rt, start)?;
