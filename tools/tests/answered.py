@@ -95,7 +95,7 @@ ANSWERED = (
     Answered("lines in disorder", cert("portfolio 1\nbuy 1 50", "portfolio 2\nbuy 2 1\nbuy 1 50"), CHECK, "no Grammar 4 Order", ("rise",)),
     Answered("a report in the place of the certificate", case(certificate="escrow report\nend\n"), CHECK, "no Grammar 1 Header",
              ("another file",)),
-    Answered("three words", case(), ("check",) + FILES[:3], "usage:", ("four words", "here are 3")),
+    Answered("three words", case(), ("check",) + FILES[:3], "usage:", ("takes 4 words, ISSUE RATES PRICES CERT", "here are 3")),
     Answered("a word that is no command", case(), ("verify",) + FILES, "usage:", ("no command", "--help")),
     Answered("no issue file", without("issue.csv"), CHECK, "no file", ("ISSUE: issue.csv isn't there",)),
     Answered("a rate file of another name", without("rates.csv"), CHECK, "no file", ("RATES: rates.csv isn't there", "empty file")),

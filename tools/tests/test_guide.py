@@ -6,6 +6,8 @@ import re
 import unittest
 
 from harness import EXAMPLES, ROOT, FolderTest, run_tool
+from escrow_tools.explaining.case_reading import read_whole_case
+from escrow_tools.explaining.cautions import totals
 
 GUIDE = ROOT / "docs" / "GUIDE.md"
 SERIES = EXAMPLES / "series"
@@ -40,6 +42,8 @@ class GuideTest(FolderTest):
         shown = [line for line in code_lines(self.text) if line.startswith("escrow: ")]
         for line in said:
             self.assertIn(line, shown)
+        case = read_whole_case(*((SERIES / name).read_bytes() for name in ("issue.csv", "rates.csv", "prices.csv")))
+        self.assertIn("escrow: " + totals(case)[0], shown)
 
     def test_report(self) -> None:
         """Each line of the report and of the answer that is shown stands in the example's."""

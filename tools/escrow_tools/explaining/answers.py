@@ -96,21 +96,20 @@ def _done(run: Run) -> list[str]:
 
 
 def _usage(run: Run) -> list[str]:
+    """The words that a command takes, as the program's own usage text has them."""
     if not run.words:
         return []
     command, given = run.words[0], len(run.words) - 1
-    if command in ("check", "structure"):
-        return [
-            "`%s` takes four words, ISSUE RATES PRICES CERT, and here are %d%s"
-            % (
-                command,
-                given,
-                ": a name with blanks in it stands in quotes"
-                if given > 4
-                else "; an empty PRICES or RATES file is a file too",
-            )
-        ]
-    return ["`%s` is no command; `./escrow --help` lists them" % shown(command)]
+    forms = [form.split(" ") for form in run.first_line.replace("usage: ", "").split(" | ")]
+    form = next((form for form in forms if form[0] == command), None)
+    if form is None:
+        return ["`%s` is no command; `./escrow --help` lists them" % shown(command)]
+    lines = ["`%s` takes %d words, %s, and here are %d" % (command, len(form) - 1, " ".join(form[1:]), given)]
+    if given > len(form) - 1:
+        lines.append("a name with blanks in it stands in quotes")
+    elif given < len(form) - 1:
+        lines.append("where no notes or no SLGS securities are offered, an empty file stands in that place")
+    return lines
 
 
 def _refused(run: Run) -> list[str]:
@@ -179,7 +178,7 @@ def _needs_low_line(case: CaseRead) -> list[str]:
 def _none_within(run: Run) -> list[str]:
     return [
         "no permitted purchases meet the needs within the yield limit; %s holds the proof, and `check` says `yes none` to it"
-        % run.names[CERT]
+        % run.names.get(CERT, "CERT")
     ] + (_needs_low_line(run.read_case()) or ["offer SLGS at lower rates, or bring `cash`"])
 
 

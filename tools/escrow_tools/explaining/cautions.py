@@ -155,20 +155,15 @@ class Cautions:
 
 
 def totals(case: CaseRead) -> list[str]:
-    """What was read, in a line: bonds, principal, needs, offers, notes."""
+    """What was read, in a line: bonds and their principal, where there are any, needs, offers, notes."""
     if case.issue is None or case.rates is None or case.prices is None:
         return []
-    issue = case.issue
-    principal = sum(bond.principal for bond in issue.bonds)
-    return [
-        "read: settlement %s; %s of %s; %s, %s in all; %s, %s"
-        % (
-            issue.settlement,
-            counted(len(issue.bonds), "bond"),
-            money_for_people(principal),
-            counted(len(case.needs), "need date"),
-            money_for_people(sum(case.needs.values())),
-            counted(len(case.rates.offers), "offer"),
-            counted(len(case.prices.notes), "note"),
-        )
-    ]
+    bonds = case.issue.bonds
+    parts = ["settlement %s" % case.issue.settlement]
+    if bonds:
+        principal = money_for_people(sum(bond.principal for bond in bonds))
+        parts.append("%s, principal %s" % (counted(len(bonds), "bond"), principal))
+    needed = money_for_people(sum(case.needs.values()))
+    parts.append("%s, %s in all" % (counted(len(case.needs), "need date"), needed))
+    parts.append("%s, %s" % (counted(len(case.rates.offers), "offer"), counted(len(case.prices.notes), "note")))
+    return ["read: " + "; ".join(parts)]

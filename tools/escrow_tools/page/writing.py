@@ -83,7 +83,7 @@ def _files(page: Page) -> list[str]:
     return (
         [
             '<h2 id="files">What was checked</h2>',
-            '<div class="scroll"><table>',
+            '<div class="scroll whole"><table>',
             '<thead><tr><th scope="col">file</th><th scope="col">name</th><th scope="col">SHA-256</th></tr></thead>',
             "<tbody>",
         ]
