@@ -69,16 +69,14 @@ class Search:
         return answer
 
     def lower_gap(self) -> None:
-        """Searches with less allowance than the gap, as long as that brings it down."""
-        refused = 0
-        while self.searches < MOST_SEARCHES and self.best.gap > max(SMALL_GAP, refused * 21 // 20):
-            asked = max(self.best.gap // 8, SMALL_GAP) if refused == 0 else (self.best.gap + refused) // 2
-            answer = self.allow(money(asked))
+        """Searches with less allowance than the gap, as long as that brings it down. What is allowed has no bearing on the plan that
+        a search finds, so where one doesn't settle it another with somewhat more allowance wouldn't find a better one."""
+        while self.searches < MOST_SEARCHES and self.best.gap > SMALL_GAP:
+            answer = self.allow(money(max(self.best.gap // 8, SMALL_GAP)))
             if answer.status == program.BUDGET_SPENT:
                 self._allow_what_is_open(answer)
-                return
             if answer.status != program.DONE:
-                refused = asked
+                return
 
     def _allow_what_is_open(self, answer: Answer) -> None:
         """A search that spent its budget says its bound and its best plan: what lies between is enough."""

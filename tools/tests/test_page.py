@@ -142,7 +142,7 @@ class PageTest(FolderTest):
         self.write("certificate.txt", (example / "certificate.txt").read_bytes())
         report = (example / "report.txt").read_text()
         for old, new in (
-            ("gap 0.86", "gap 0.85"),
+            ("gap 0.29", "gap 0.28"),
             ("pay 1 2026-07-15 61623.88", "pay 1 2026-07-15 61623.89"),
             ("end\n", ""),
             ("date 2027-07-15 432500.24", "date 2027-07-15 432500.25"),

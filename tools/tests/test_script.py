@@ -89,7 +89,7 @@ class ScriptTest(FolderTest):
         told = os.read(master, 65536).decode()
         os.close(master)
         self.assertEqual((done.returncode, done.stdout), (0, (EXAMPLES / "refunding" / "report.txt").read_bytes()))
-        self.assertIn("no rival costs less by more than 0.86", told)
+        self.assertIn("no rival costs less by more than 0.29", told)
 
     def test_guard(self) -> None:
         words = self.words("structure")
