@@ -12,14 +12,14 @@ use Rattle.dual_bound.specs.LeafBound.{bound_of}
 use Rattle.dual_bound.specs.Ranges.{is_single, narrowed}
 use Rattle.dual_bound.specs.declared.ranges.Interval.{Interval}
 use Rattle.escrow_check.specs.Acceptance.{bears_out, costs_enough, is_closed_point, low_ends}
-use Rattle.node_pool.specs.Pool.{IsInHand, IsLeast, SplitsAreWhole, Waits, state_at, with_state}
+use Rattle.node_pool.specs.Pool.{IsInHand, IsLeast, NoneInHand, SplitsAreWhole, Waits, state_at, with_state}
 use Rattle.node_pool.specs.Way.{IsWay, Step, ranges_at}
 use Rattle.node_pool.specs.declared.node.State.{State}
 use Rattle.node_pool.specs.declared.node.State.TheVariants as state
 use Rattle.offer_book.specs.Portfolio.{Meets, cost}
 use Rattle.node_pool.proofs.PoolFacts.{after_split, other_state, own_state, split_of}
 use Rattle.search_tree.proofs.Ways.{IsNoSplit, WayNew, way-new, way-old, way-set}
-use Rattle.search_tree.specs.Growing.{GoesOn, HasGrown, IsAt, IsClosedBy, IsGrown, IsHalvingSplit, IsHeld, IsKept, IsLostPoint, IsNodeAt, IsPopped, IsPriced, IsSplitNode, IsStuck, NoneInHand, claim_of_best, node_of, no_node}
+use Rattle.search_tree.specs.Growing.{GoesOn, HasGrown, IsAt, IsClosedBy, IsGrown, IsHalvingSplit, IsHeld, IsKept, IsLostPoint, IsNodeAt, IsPopped, IsPriced, IsSplitNode, IsStuck, claim_of_best, node_of, no_node}
 use Rattle.search_tree.specs.Best.{IsAtMost, IsNoDearer}
 use Rattle.search_tree.specs.Tree.{open_node}
 use Rattle.search_tree.specs.declared.node.Priced.{Priced}

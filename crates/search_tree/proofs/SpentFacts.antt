@@ -24,7 +24,7 @@ use Rattle.escrow_check.specs.Acceptance.{bears_out, costs_enough, is_bad_split,
 use Rattle.escrow_check.specs.Reasons.{IsProper}
 use Rattle.halving_tree.specs.Base.{base_leaf, reach_leaf}
 use Rattle.halving_tree.specs.Halving.{End, HasMoreNodes, IsHalved, IsUpperPart, Split as Halved, Splits, backward_claim, claim_within, is_borne_out, is_end, is_unreached, node_count}
-use Rattle.node_pool.specs.Pool.{IsOneTree, SplitsAreWhole, Waits, state_at}
+use Rattle.node_pool.specs.Pool.{IsOneTree, NoneInHand, SplitsAreWhole, Waits, state_at}
 use Rattle.node_pool.specs.Tree.{AreEnded, IsEnded, IsTreeOf, Leaf as TreeLeaf, Split, Tree, preorder}
 use Rattle.node_pool.specs.Way.{IsStep, IsWay, Step, ranges_at}
 use Rattle.node_pool.specs.declared.node.Link.{Link}
@@ -41,7 +41,7 @@ use Rattle.search_tree.proofs.EndFacts.{EndsAt, IsEndAt, IsEndTree, IsWritten, a
 use Rattle.search_tree.proofs.ClosedFacts.{IsBorneNode, node-bears}
 use Rattle.search_tree.proofs.Shape.{AllAt, all-placed, leaf-holds, left-way, right-way, to-nodes}
 use Rattle.search_tree.proofs.Ways.{some-way}
-use Rattle.search_tree.specs.Growing.{GoesOn, IsBought, IsAt, IsClosedBy, IsGrown, IsHalvingSplit, IsKept, IsNodeAt, IsPriced, IsSplitNode, IsStuck, NoneInHand, claim_of_best, no_node, node_of}
+use Rattle.search_tree.specs.Growing.{GoesOn, IsBought, IsAt, IsClosedBy, IsGrown, IsHalvingSplit, IsKept, IsNodeAt, IsPriced, IsSplitNode, IsStuck, claim_of_best, no_node, node_of}
 use Rattle.search_tree.specs.Best.{CoversBackward, IsAtMost}
 use Rattle.search_tree.specs.Laws.{IsFull, ShowsBound}
 use Rattle.search_tree.specs.Shows.{AreStepsAtMost, HoldsBound, IsBoundOf, IsNeededSplit, IsWell, IsWorthAtMost}

@@ -9,7 +9,7 @@ use Rattle.dual_tune.specs.Steps.{IsImproved}
 use Rattle.escrow_check.specs.Acceptance.{Claim, bears_out, is_closed_point, low_ends}
 use Rattle.halving_tree.specs.Base.{base_leaf, reach_leaf}
 use Rattle.halving_tree.specs.Halving.{IsHalved, is_end, is_unreached}
-use Rattle.node_pool.specs.Pool.{IsInHand, Waits, state_at}
+use Rattle.node_pool.specs.Pool.{IsInHand, NoneInHand, Waits, state_at}
 use Rattle.node_pool.specs.Way.{IsWay, Step, ranges_at}
 use Rattle.node_pool.specs.declared.node.State.{State}
 use Rattle.node_pool.specs.declared.node.State.TheVariants as state
@@ -98,10 +98,6 @@ pub record IsGrown (case : CaseContents) (best : Option ℕ) (popped : ℤ) (sta
   pub same : length nodes ≡ length states
   pub each : (number : ℕ) (way : List Step) → number < length states → IsWay states number way
       → IsNodeAt case best popped number (ranges_at case.book.lines way) (node_of nodes number) (state_at states number)
-
--- no node is in hand
-abbrev pub NoneInHand : List State → Type 0
-NoneInHand states = (number : ℕ) → number < length states → state_at states number ≡ state.InHand → ⊥
 
 -- a tree as a search keeps it between two nodes
 pub record IsKept (case : CaseContents) (best : Option ℕ) (popped : ℤ) (states : List State) (nodes : List SearchNode) : Type 0 where
