@@ -1,37 +1,24 @@
 -- What a tree without a waiting node shows.
-use Rattle.std.proofs.Common.{◌≡◌, ◌≢◌, ◌∙◌, ◌⊎◌, inl, inr, ℕ, zero, suc, ◌+◌, ◌-◌, ◌*◌, ◌^◌, ◌<◌, ◌≤◌, ℤ, pos, ◌-ℤ◌, ◌*ℤ◌, ◌≤ℤ◌, ◌<ℤ◌, Bool, true, false, not, ◌&&◌, ◌||◌, if◌then◌else◌, List, [], ◌∷◌, ◌++◌, length, map, get_or, refl, sym, ap, subst, arith, Option, Some, None}
-use Rattle.std.specs.Prelude.{IsTrue, int_lt, option_map}
+use Rattle.std.proofs.Common.{◌≡◌, ◌∙◌, ◌⊎◌, inl, inr, ℕ, ◌-◌, ◌<◌, ◌≤◌, ℤ, pos, Bool, true, false, not, if◌then◌else◌, List, length, refl, sym, ap, subst, arith, Option, Some}
+use Rattle.std.specs.Prelude.{int_lt, option_map}
 use Rattle.std.specs.List.{All}
-use Rattle.std.proofs.lemmas.Bool.{cases_lt}
-use Rattle.std.proofs.lemmas.Int.{ints}
-use Rattle.std.proofs.lemmas.List.{get_or_past}
-use Rattle.std.proofs.lemmas.List.Elements.{All-nil}
-use Rattle.bound_certificate.specs.Certificate.{IsWellFormed}
 use Rattle.case_file.specs.Case.{CaseContents}
-use Rattle.cash_table.specs.Points.{is_excluded, is_within_limit}
-use Rattle.dual_bound.specs.Ranges.{is_single, root_of}
-use Rattle.dual_bound.specs.Tree.{AreTrees}
+use Rattle.dual_bound.specs.Ranges.{root_of}
 use Rattle.dual_bound.specs.declared.ranges.Interval.{Interval}
-use Rattle.dual_bound.specs.declared.tree.Leaf.{Leaf}
 use Rattle.dual_bound.specs.declared.tree.TreeNode.{TreeNode}
-use Rattle.dual_bound.specs.declared.tree.TreeNode.TheVariants as node
 use Rattle.dual_bound.specs.LeafBound.{bound_of}
-use Rattle.escrow_check.specs.Acceptance.{Claim, bears_out, claim_of, costs_enough, is_closed_leaf, is_closed_point, is_weak, low_ends, placed_nodes}
-use Rattle.escrow_check.specs.Reasons.{IsProper, IsSoundTree, IsUnopposed}
-use Rattle.escrow_units.specs.declared.limits.TheConstants.{AMOUNT_LIMIT}
+use Rattle.escrow_check.specs.Acceptance.{Claim, bears_out, is_closed_leaf, is_closed_point, is_weak, placed_nodes}
 use Rattle.node_pool.specs.Pool.{IsOneTree, SplitsAreWhole, state_at}
-use Rattle.node_pool.specs.Tree.{AreEnded, IsEnded, IsTreeOf, Tree}
+use Rattle.node_pool.specs.Tree.{AreEnded, IsEnded, Tree}
 use Rattle.node_pool.specs.Way.{IsWay, Step, ranges_at}
 use Rattle.node_pool.specs.declared.node.State.{State}
 use Rattle.node_pool.specs.declared.node.State.TheVariants as state
 use Rattle.offer_book.specs.Book.{IsBook}
-use Rattle.offer_book.specs.Portfolio.{IsPermitted, Meets, cost}
-use Rattle.search_tree.proofs.EndFacts.{EndsAt, IsEndAt, IsEndTree, IsWritten, all-at, ends-end, ends_of, weak-by, well-written}
-use Rattle.search_tree.proofs.Shape.{AllAt, Below, all-placed, leaf-holds, placed-at, to-nodes, tree_nodes}
+use Rattle.search_tree.proofs.EndFacts.{IsEndAt, IsEndTree, IsWritten, all-at, ends-end, ends_of, weak-by}
+use Rattle.search_tree.proofs.Shape.{all-placed, leaf-holds, placed-at, to-nodes}
 use Rattle.search_tree.proofs.Ways.{some-way}
-use Rattle.search_tree.specs.Growing.{HasGrown, IsAt, IsBought, IsClosedBy, IsGrown, IsKept, IsNodeAt, IsPriced, IsSplitNode, claim_of_best, no_node, node_of}
-use Rattle.search_tree.specs.Shows.{IsWell}
-use Rattle.search_tree.specs.Tree.{IsBorneBy, IsLeastGap, IsNeededFor, SomeNeeds, TreeContents, end_by, end_node}
+use Rattle.search_tree.specs.Growing.{IsClosedBy, IsKept, IsNodeAt, IsPriced, claim_of_best, node_of}
+use Rattle.search_tree.specs.Tree.{SomeNeeds, TreeContents, end_by, end_node}
 use Rattle.search_tree.specs.declared.node.Closing.{Closing}
 use Rattle.search_tree.specs.declared.node.Closing.TheVariants as closing
 use Rattle.search_tree.specs.declared.node.SearchNode.{SearchNode}

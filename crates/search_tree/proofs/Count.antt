@@ -5,7 +5,6 @@ use Rattle.halving_tree.proofs.Distinct.{AreDistinct, Member, distinct-append, d
 use Rattle.node_pool.specs.Pool.{AreChildren, IsChildOf, IsOneTree, SplitsAreWhole, state_at}
 use Rattle.node_pool.specs.Tree.{IsTreeOf, Leaf, Split, Tree, preorder}
 use Rattle.node_pool.specs.Way.{IsStep, IsWay, Step}
-use Rattle.node_pool.specs.declared.node.Link.{Link}
 use Rattle.node_pool.specs.declared.node.NodeId.{NodeId}
 use Rattle.node_pool.specs.declared.node.State.{State}
 use Rattle.node_pool.specs.declared.node.State.TheVariants as state

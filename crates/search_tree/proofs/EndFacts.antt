@@ -1,32 +1,30 @@
 -- What a grown tree comes to, as the nodes of a certificate.
-use Rattle.std.proofs.Common.{◌≡◌, ◌≢◌, ◌∙◌, ◌⊎◌, inl, inr, ℕ, zero, suc, ◌+◌, ◌-◌, ◌*◌, ◌^◌, ◌<◌, ◌≤◌, ℤ, pos, ◌-ℤ◌, ◌*ℤ◌, ◌≤ℤ◌, ◌<ℤ◌, Bool, true, false, not, ◌&&◌, if◌then◌else◌, List, [], ◌∷◌, ◌++◌, length, map, get_or, refl, sym, ap, subst, arith, Option, Some, None}
-use Rattle.std.specs.Prelude.{IsTrue, int_lt, option_map}
-use Rattle.std.specs.List.{All, AllZip}
+use Rattle.std.proofs.Common.{◌≡◌, ◌∙◌, inl, inr, ℕ, ◌-◌, ◌^◌, ◌<◌, ◌≤◌, ℤ, pos, ◌<ℤ◌, Bool, true, false, not, if◌then◌else◌, List, [], ◌∷◌, length, map, get_or, refl, sym, ap, subst, arith}
+use Rattle.std.specs.Prelude.{int_lt}
+use Rattle.std.specs.List.{All}
 use Rattle.std.proofs.lemmas.Bool.{cases_lt}
 use Rattle.std.proofs.lemmas.Int.{ints}
 use Rattle.std.proofs.lemmas.List.{append-nil, get_or_past, length-map}
 use Rattle.std.proofs.Math.Nat.{mul-le-mul_left}
 use Rattle.bound_certificate.specs.Certificate.{IsNode}
 use Rattle.case_file.specs.Case.{CaseContents}
-use Rattle.cash_table.specs.Points.{is_within_limit}
 use Rattle.dual_bound.proofs.RangeFacts.{splits-at, tight-at, tight-length}
 use Rattle.dual_bound.proofs.RangeLaws.{root_is_tight, sides_are_tight}
 use Rattle.dual_bound.proofs.Soundness.{all-lines}
 use Rattle.dual_bound.specs.LeafBound.{bound_of}
-use Rattle.dual_bound.specs.Ranges.{AreTight, is_proper, is_single, root_of}
-use Rattle.dual_bound.specs.Tree.{AreTrees, IsLeaf}
+use Rattle.dual_bound.specs.Ranges.{AreTight, is_proper, root_of}
+use Rattle.dual_bound.specs.Tree.{AreTrees}
 use Rattle.dual_bound.specs.declared.ranges.Interval.{Interval}
 use Rattle.dual_bound.specs.declared.tree.Leaf.{Leaf}
 use Rattle.dual_bound.specs.declared.tree.TreeNode.{TreeNode}
 use Rattle.dual_bound.specs.declared.tree.TreeNode.TheVariants as node
-use Rattle.dual_tune.specs.Steps.{IsImproved, IsStep as IsLeafStep}
-use Rattle.escrow_check.specs.Acceptance.{Claim, bears_out, is_bad_split, is_closed_leaf, is_closed_point, is_weak, low_ends, placed_nodes}
+use Rattle.escrow_check.specs.Acceptance.{Claim, bears_out, is_bad_split, is_closed_leaf, is_closed_point, is_weak, placed_nodes}
 use Rattle.escrow_check.specs.Reasons.{IsProper}
 use Rattle.halving_tree.proofs.Reach.{reach_is_leaf}
-use Rattle.halving_tree.specs.Base.{base_leaf, reach_leaf}
+use Rattle.halving_tree.specs.Base.{reach_leaf}
 use Rattle.node_pool.proofs.WayFacts.{ways-tight}
-use Rattle.node_pool.specs.Pool.{IsChildOf, IsOneTree, SplitsAreWhole, state_at}
-use Rattle.node_pool.specs.Tree.{AreEnded, IsEnded, IsPreorderOf, IsTreeOf, Tree, preorder}
+use Rattle.node_pool.specs.Pool.{IsOneTree, SplitsAreWhole, state_at}
+use Rattle.node_pool.specs.Tree.{AreEnded, IsTreeOf, Tree, preorder}
 use Rattle.node_pool.specs.Way.{AreProper, IsStep, IsWay, Step, ranges_at}
 use Rattle.node_pool.specs.declared.node.Link.{Link}
 use Rattle.node_pool.specs.declared.node.NodeId.{NodeId}
@@ -34,10 +32,10 @@ use Rattle.node_pool.specs.declared.node.State.{State}
 use Rattle.node_pool.specs.declared.node.State.TheVariants as state
 use Rattle.offer_book.specs.Book.{AreLines, BookContents, IsBook, IsLine}
 use Rattle.offer_book.specs.CaseBook.{cash_line}
-use Rattle.offer_book.specs.Portfolio.{IsPermittedUnits, Meets}
+use Rattle.offer_book.specs.Portfolio.{IsPermittedUnits}
 use Rattle.offer_book.specs.declared.line.Line.{Line}
 use Rattle.search_tree.proofs.Count.{nodes-all}
-use Rattle.search_tree.proofs.Shape.{AllAt, HoldsBy, IsEndNode, all-nodes, all-placed, are-trees, from-nodes, leaf-holds, placed-at, to-nodes, tree-nodes, tree_nodes}
+use Rattle.search_tree.proofs.Shape.{AllAt, HoldsBy, IsEndNode, all-nodes, all-placed, are-trees, from-nodes, tree-nodes, tree_nodes}
 use Rattle.search_tree.specs.Growing.{IsPriced, IsSplitNode, node_of}
 use Rattle.search_tree.specs.Shows.{IsRaised, IsWell}
 use Rattle.search_tree.specs.Tree.{TreeContents, end_by, end_node, link_node}

@@ -1,26 +1,24 @@
 -- What a tree keeps while it grows.
-use Rattle.std.proofs.Common.{◌≡◌, ◌≢◌, ◌∙◌, ◌⊎◌, inl, inr, ℕ, zero, suc, ◌+◌, ◌-◌, ◌*◌, ◌<◌, ◌≤◌, ◌==◌, ℤ, pos, ◌+ℤ◌, ◌-ℤ◌, ◌*ℤ◌, ◌≤ℤ◌, ◌<ℤ◌, Bool, true, false, ◌&&◌, ◌||◌, if◌then◌else◌, List, [], ◌∷◌, ◌++◌, length, get_or, set, refl, sym, ap, subst, arith, length-append, Option, Some, None}
-use Rattle.std.specs.Prelude.{option_map, int_le, int_lt, IsTrue}
+use Rattle.std.proofs.Common.{◌≡◌, ◌≢◌, ◌∙◌, inl, inr, ℕ, ◌+◌, ◌-◌, ◌<◌, ◌≤◌, ◌==◌, ℤ, pos, ◌-ℤ◌, ◌≤ℤ◌, Bool, true, false, ◌&&◌, ◌||◌, List, [], ◌∷◌, ◌++◌, length, get_or, set, refl, sym, ap, subst, arith, length-append, Option, Some, None}
+use Rattle.std.specs.Prelude.{option_map}
 use Rattle.std.proofs.Math.ListN.{get_or-append, length-set}
 use Rattle.std.proofs.Math.Seq.{get_or-append_right}
 use Rattle.std.proofs.lemmas.Bool.{cases_lt}
 use Rattle.std.proofs.lemmas.Int.{ints}
-use Rattle.std.proofs.lemmas.List.{get_or-set_other, get_or-set_same, get_or_default}
+use Rattle.std.proofs.lemmas.List.{get_or-set_other, get_or-set_same}
 use Rattle.case_file.specs.Case.{CaseContents}
-use Rattle.cash_table.specs.Points.{is_excluded, is_within_limit}
-use Rattle.dual_bound.specs.LeafBound.{bound_of}
+use Rattle.cash_table.specs.Points.{is_excluded}
 use Rattle.dual_bound.specs.Ranges.{is_single, narrowed}
 use Rattle.dual_bound.specs.declared.ranges.Interval.{Interval}
-use Rattle.escrow_check.specs.Acceptance.{bears_out, costs_enough, is_closed_point, low_ends}
-use Rattle.node_pool.specs.Pool.{IsInHand, IsLeast, NoneInHand, SplitsAreWhole, Waits, state_at, with_state}
+use Rattle.escrow_check.specs.Acceptance.{bears_out, costs_enough, low_ends}
+use Rattle.node_pool.specs.Pool.{IsLeast, SplitsAreWhole, state_at, with_state}
 use Rattle.node_pool.specs.Way.{IsWay, Step, ranges_at}
 use Rattle.node_pool.specs.declared.node.State.{State}
 use Rattle.node_pool.specs.declared.node.State.TheVariants as state
-use Rattle.offer_book.specs.Portfolio.{Meets, cost}
 use Rattle.node_pool.proofs.PoolFacts.{after_split, other_state, own_state, split_of}
 use Rattle.search_tree.proofs.Ways.{IsNoSplit, WayNew, way-new, way-old, way-set}
 use Rattle.search_tree.specs.Growing.{GoesOn, HasGrown, IsAt, IsClosedBy, IsGrown, IsHalvingSplit, IsHeld, IsKept, IsLostPoint, IsNodeAt, IsPopped, IsPriced, IsSplitNode, IsStuck, claim_of_best, node_of, no_node}
-use Rattle.search_tree.specs.Best.{IsAtMost, IsNoDearer}
+use Rattle.search_tree.specs.Best.{IsNoDearer}
 use Rattle.search_tree.specs.Tree.{open_node}
 use Rattle.search_tree.specs.declared.node.Priced.{Priced}
 use Rattle.search_tree.specs.declared.node.Closing.{Closing}

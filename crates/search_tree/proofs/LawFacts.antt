@@ -1,6 +1,4 @@
 -- The laws, proved.
-use Rattle.std.proofs.Common.{◌≡◌, List}
-use Rattle.case_file.specs.Case.{CaseContents}
 use Rattle.node_pool.specs.Tree.{Tree}
 use Rattle.search_tree.proofs.ClosedFacts.{closed-all, closed-tree}
 use Rattle.search_tree.proofs.EndFacts.{IsWritten, well-written, written}

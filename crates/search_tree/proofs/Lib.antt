@@ -1,8 +1,10 @@
 pub mod ClosedFacts
 mod Count
+mod DrainFacts
 pub mod EndFacts
 pub mod GrowFacts
-mod LawFacts
+mod InsideFacts
+pub mod LawFacts
 mod Rising
 mod Shape
 pub mod SpentFacts

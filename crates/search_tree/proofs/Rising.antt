@@ -1,6 +1,6 @@
 -- The bound of a leaf doesn't fall where ranges are split.
-use Rattle.std.proofs.Common.{◌≡◌, ◌∙◌, ◌⊎◌, inl, inr, ℕ, zero, suc, ◌+◌, ◌*◌, ◌<◌, ◌≤◌, ◌==◌, Bool, true, false, ◌&&◌, if◌then◌else◌, List, [], ◌∷◌, refl, sym, ap, arith, ℤ, pos, negsuc, ◌+ℤ◌, ◌-ℤ◌, ◌*ℤ◌, ◌≤ℤ◌}
-use Rattle.std.specs.Prelude.{IsTrue, nat_le, nat_lt}
+use Rattle.std.proofs.Common.{◌≡◌, inl, inr, ℕ, zero, suc, ◌+◌, ◌<◌, ◌≤◌, ◌==◌, Bool, true, false, ◌&&◌, if◌then◌else◌, List, [], ◌∷◌, refl, arith, ℤ, pos, negsuc, ◌-ℤ◌, ◌*ℤ◌, ◌≤ℤ◌}
+use Rattle.std.specs.Prelude.{IsTrue, nat_lt}
 use Rattle.std.specs.Int.{int_min}
 use Rattle.std.specs.List.{All, zip}
 use Rattle.std.proofs.Math.Nat.{mul-le-mul_left}
@@ -11,7 +11,7 @@ use Rattle.dual_bound.proofs.LineBound.{least-le}
 use Rattle.dual_bound.proofs.RangeFacts.{sides-tight, splits-at}
 use Rattle.dual_bound.proofs.Soundness.{all-lines}
 use Rattle.dual_bound.specs.LeafBound.{bound_of, form_at, form_of, least_within, reduced_cost, signed_sum}
-use Rattle.dual_bound.specs.Ranges.{AreTight, IsTight, is_proper, narrowed, side_of, tightened}
+use Rattle.dual_bound.specs.Ranges.{AreTight, IsTight, is_proper, narrowed, side_of}
 use Rattle.dual_bound.specs.declared.form.Form.{Form}
 use Rattle.dual_bound.specs.declared.ranges.Interval.{Interval}
 use Rattle.dual_bound.specs.declared.tree.Leaf.{Leaf}

@@ -1,7 +1,7 @@
 -- A tree as the nodes of a certificate, with their ranges.
-use Rattle.std.proofs.Common.{◌≡◌, ◌∙◌, ◌⊎◌, inl, inr, ℕ, suc, ◌+◌, List, [], ◌∷◌, ◌++◌, length, map, refl, sym, ap, subst, arith, append_assoc, Bool, true, false, if◌then◌else◌}
+use Rattle.std.proofs.Common.{◌≡◌, ◌∙◌, ℕ, suc, List, [], ◌∷◌, ◌++◌, map, refl, sym, ap, subst, append_assoc, Bool, true, false, if◌then◌else◌}
 use Rattle.std.specs.List.{All}
-use Rattle.std.proofs.lemmas.List.{append-nil, length-map, map-append}
+use Rattle.std.proofs.lemmas.List.{append-nil, map-append}
 use Rattle.std.proofs.lemmas.List.Elements.{All-append, All-cons, All-head, All-nil, All-tail}
 use Rattle.dual_bound.specs.Ranges.{narrowed}
 use Rattle.dual_bound.specs.Tree.{AreTrees}
@@ -12,8 +12,6 @@ use Rattle.escrow_check.specs.Acceptance.{placed}
 use Rattle.node_pool.specs.Pool.{state_at}
 use Rattle.node_pool.specs.Tree.{IsTreeOf, Leaf, Split, Tree, preorder}
 use Rattle.node_pool.specs.Way.{IsStep, IsWay, Step, ranges_at}
-use Rattle.node_pool.specs.declared.node.Link.{Link}
-use Rattle.node_pool.specs.declared.node.Link.TheVariants as link
 use Rattle.node_pool.specs.declared.node.NodeId.{NodeId}
 use Rattle.node_pool.specs.declared.node.State.{State}
 use Rattle.node_pool.specs.declared.node.State.TheVariants as state

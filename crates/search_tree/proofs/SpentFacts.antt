@@ -1,5 +1,5 @@
 -- What a tree comes to whose budget is spent.
-use Rattle.std.proofs.Common.{◌≡◌, ◌≢◌, ◌∙◌, ◌⊎◌, inl, inr, ℕ, zero, suc, ◌+◌, ◌-◌, ◌*◌, ◌<◌, ◌≤◌, ◌==◌, ℤ, pos, ◌-ℤ◌, ◌*ℤ◌, ◌≤ℤ◌, ◌<ℤ◌, Bool, true, false, ◌&&◌, ◌||◌, if◌then◌else◌, List, [], ◌∷◌, ◌++◌, length, get_or, refl, sym, ap, subst, arith, length-append, Option, Some, None, Result, Ok, Err}
+use Rattle.std.proofs.Common.{◌≡◌, ◌∙◌, ◌⊎◌, inl, inr, ℕ, zero, suc, ◌+◌, ◌-◌, ◌*◌, ◌<◌, ◌≤◌, ◌==◌, ℤ, pos, ◌-ℤ◌, ◌≤ℤ◌, Bool, true, false, ◌&&◌, ◌||◌, if◌then◌else◌, List, [], ◌∷◌, length, refl, sym, ap, subst, arith, length-append, Option, Some, None, Result, Ok, Err}
 use Rattle.std.specs.Prelude.{option_map}
 use Rattle.std.specs.List.{All}
 use Rattle.std.proofs.lemmas.Bool.{cases_lt}
@@ -13,35 +13,29 @@ use Rattle.cash_table.proofs.PermitFacts.{position_none}
 use Rattle.cash_table.specs.Points.{is_excluded, is_within_limit}
 use Rattle.dual_bound.specs.LeafBound.{bound_of}
 use Rattle.dual_bound.specs.Ranges.{is_single, narrowed, root_of}
-use Rattle.dual_bound.specs.declared.prices.TheConstants.{PRICE_SCALE}
 use Rattle.dual_bound.specs.declared.ranges.Interval.{Interval}
-use Rattle.dual_bound.specs.declared.tree.Leaf.{Leaf}
 use Rattle.dual_bound.specs.declared.tree.TreeNode.{TreeNode}
 use Rattle.dual_bound.specs.declared.tree.TreeNode.TheVariants as node
-use Rattle.dual_tune.specs.Steps.{IsStep as IsLeafStep}
 use Rattle.escrow_check.proofs.TreeFacts.{rival-bears_out}
 use Rattle.escrow_check.specs.Acceptance.{bears_out, costs_enough, is_bad_split, is_closed_point, is_weak, low_ends, placed_nodes}
-use Rattle.escrow_check.specs.Reasons.{IsProper}
-use Rattle.halving_tree.specs.Base.{base_leaf, reach_leaf}
-use Rattle.halving_tree.specs.Halving.{End, HasMoreNodes, IsHalved, IsUpperPart, Split as Halved, Splits, backward_claim, claim_within, is_borne_out, is_end, is_unreached, node_count}
-use Rattle.node_pool.specs.Pool.{IsOneTree, NoneInHand, SplitsAreWhole, Waits, state_at}
-use Rattle.node_pool.specs.Tree.{AreEnded, IsEnded, IsTreeOf, Leaf as TreeLeaf, Split, Tree, preorder}
+use Rattle.halving_tree.specs.Base.{base_leaf}
+use Rattle.halving_tree.specs.Halving.{End, HasMoreNodes, IsUpperPart, Split as Halved, Splits, claim_within, is_borne_out, is_end, is_unreached, node_count}
+use Rattle.node_pool.specs.Pool.{IsOneTree, SplitsAreWhole, state_at}
+use Rattle.node_pool.specs.Tree.{AreEnded, IsTreeOf, Leaf as TreeLeaf, Split, Tree, preorder}
 use Rattle.node_pool.specs.Way.{IsStep, IsWay, Step, ranges_at}
-use Rattle.node_pool.specs.declared.node.Link.{Link}
 use Rattle.node_pool.specs.declared.node.NodeId.{NodeId}
 use Rattle.node_pool.specs.declared.node.State.{State}
 use Rattle.node_pool.specs.declared.node.State.TheVariants as state
 use Rattle.offer_book.specs.Book.{IsBook}
 use Rattle.offer_book.specs.Portfolio.{cost}
 use Rattle.offer_book.specs.Rival.{IsRival}
-use Rattle.offer_book.specs.declared.coefficients.TheConstants.{COEFFICIENT_SCALE}
 use Rattle.offer_book.specs.declared.line.Line.{Line}
 use Rattle.search_tree.proofs.Count.{nodes-all}
 use Rattle.search_tree.proofs.EndFacts.{EndsAt, IsEndAt, IsEndTree, IsWritten, all-at, ends-end, ends_of, split-there, weak-by, well-written}
 use Rattle.search_tree.proofs.ClosedFacts.{IsBorneNode, node-bears}
 use Rattle.search_tree.proofs.Shape.{AllAt, all-placed, leaf-holds, left-way, right-way, to-nodes}
 use Rattle.search_tree.proofs.Ways.{some-way}
-use Rattle.search_tree.specs.Growing.{GoesOn, IsBought, IsAt, IsClosedBy, IsGrown, IsHalvingSplit, IsKept, IsNodeAt, IsPriced, IsSplitNode, IsStuck, claim_of_best, no_node, node_of}
+use Rattle.search_tree.specs.Growing.{GoesOn, IsAt, IsClosedBy, IsHalvingSplit, IsKept, IsNodeAt, IsPriced, IsSplitNode, IsStuck, claim_of_best, node_of}
 use Rattle.search_tree.specs.Best.{CoversBackward, IsAtMost}
 use Rattle.search_tree.specs.Laws.{IsFull, ShowsBound}
 use Rattle.search_tree.specs.Shows.{AreStepsAtMost, HoldsBound, IsBoundOf, IsNeededSplit, IsWell, IsWorthAtMost}

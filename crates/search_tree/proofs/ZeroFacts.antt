@@ -1,5 +1,5 @@
 -- The leaf of prices of 0, which weighs the cost: its bound is never below 0.
-use Rattle.std.proofs.Common.{◌≡◌, ◌∙◌, ◌⊎◌, inl, inr, ℕ, zero, suc, ◌+◌, ◌*◌, ◌/◌, ◌^◌, ◌<◌, ◌≤◌, ◌==◌, Bool, true, false, if◌then◌else◌, List, [], ◌∷◌, replicate, length, refl, sym, ap, subst, arith, ℤ, pos, ◌+ℤ◌, ◌-ℤ◌, ◌*ℤ◌, ◌≤ℤ◌, neg_ℤ, int_le, unsigned_abs}
+use Rattle.std.proofs.Common.{◌≡◌, ◌∙◌, inl, inr, ℕ, zero, suc, ◌+◌, ◌*◌, ◌^◌, ◌≤◌, ◌==◌, Bool, true, false, if◌then◌else◌, List, [], ◌∷◌, replicate, refl, sym, ap, subst, arith, ℤ, pos, ◌+ℤ◌, ◌-ℤ◌, ◌*ℤ◌, ◌≤ℤ◌, neg_ℤ, int_le, unsigned_abs}
 use Rattle.std.specs.Int.{int_min}
 use Rattle.std.specs.List.{All, sum_by, zip}
 use Rattle.std.proofs.Math.Nat.{le-mul_of_pos_right, mul-le-mul_right}
@@ -9,7 +9,7 @@ use Rattle.std.proofs.lemmas.List.Elements.{All-head, All-tail}
 use Rattle.std.proofs.lemmas.List.Sums.{sum_by-cons}
 use Rattle.std.proofs.lemmas.Nat.{le-div}
 use Rattle.dual_bound.proofs.Soundness.{all-lines}
-use Rattle.dual_bound.specs.LeafBound.{bound_of, cost_worth, form_at, form_of, least_side, least_within, limit_price, limit_weight, paid_worth, price_on, priced_needs, reduced_cost, signed_sum}
+use Rattle.dual_bound.specs.LeafBound.{bound_of, cost_worth, form_at, form_of, least_side, least_within, limit_price, limit_weight, paid_worth, price_on, reduced_cost, signed_sum}
 use Rattle.dual_bound.specs.Ranges.{AreTight, IsTight}
 use Rattle.dual_bound.specs.declared.prices.TheConstants.{PRICE_SCALE}
 use Rattle.dual_bound.specs.declared.form.Form.{Form}
@@ -18,8 +18,7 @@ use Rattle.dual_bound.specs.declared.tree.Leaf.{Leaf}
 use Rattle.escrow_units.specs.declared.security.Flow.{Flow}
 use Rattle.offer_book.specs.Book.{BookContents, IsBook, IsLine, IsSecurity}
 use Rattle.offer_book.specs.Coefficients.{cost_coefficients, kind_costs, pay_coefficients}
-use Rattle.offer_book.specs.Portfolio.{IsPermittedUnits, line_cost, line_payments}
-use Rattle.offer_book.specs.declared.coefficients.PayCoefficients.{PayCoefficients}
+use Rattle.offer_book.specs.Portfolio.{line_cost, line_payments}
 use Rattle.offer_book.specs.declared.coefficients.TheConstants.{COEFFICIENT_SCALE}
 use Rattle.offer_book.specs.declared.line.Line.{Line}
 use Rattle.offer_book.specs.declared.line.LineKind.{LineKind}

@@ -1,5 +1,5 @@
 -- What a search's tree keeps while it grows, and what it shows in the end, as laws. This is this project's own.
-use Rattle.std.specs.Prelude.{◌≡◌, ◌⊎◌, ℕ, ◌+◌, ◌-◌, ◌<◌, ◌≤◌, false, true, List, [], ◌∷◌, ◌++◌, All, length, map, slice_set, replicate, Option, Some, option_map, IsTrue, Bool, ℤ, pos, ◌≤ℤ◌}
+use Rattle.std.specs.Prelude.{◌≡◌, ℕ, ◌+◌, ◌-◌, ◌<◌, ◌≤◌, false, true, List, All, length, replicate, Option, Some, option_map, IsTrue, Bool, ℤ, pos, ◌≤ℤ◌}
 use Rattle.case_file.specs.Case.{CaseContents}
 use Rattle.dual_bound.specs.LeafBound.{bound_of}
 use Rattle.dual_bound.specs.Ranges.{AreTight, is_proper, narrowed, root_of}

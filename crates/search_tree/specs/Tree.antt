@@ -1,5 +1,5 @@
 -- The tree of a search as its parts: the pool of its nodes, and what is known at each. This is this project's own.
-use Rattle.std.specs.Prelude.{◌≡◌, ◌⊎◌, ℕ, ◌<◌, ◌≤◌, false, true, ℤ, pos, ◌-ℤ◌, List, [], ◌∷◌, ◌++◌, length, map, slice_set, Some}
+use Rattle.std.specs.Prelude.{◌≡◌, ◌⊎◌, ℕ, ◌<◌, ◌≤◌, true, pos, ◌-ℤ◌, List, [], ◌∷◌, ◌++◌, length, map, slice_set, Some}
 use Rattle.escrow_check.specs.Acceptance.{bears_out}
 use Rattle.dual_bound.specs.declared.tree.Leaf.{Leaf}
 use Rattle.dual_bound.specs.declared.tree.TreeNode.{TreeNode}

@@ -4,15 +4,17 @@ ghost use Rattle.dual_bound.specs.Ranges.{AreTight};
 ghost use Rattle.node_pool.specs.Pool.{IsInHand, IsLeast, IsOneTree, NoneWaits, SplitsAreWhole, pool_with, split_pool};
 ghost use Rattle.node_pool.specs.Way.{AreProper, IsWay, Step, ranges_at};
 ghost use Rattle.node_pool.specs.declared.node.State.TheVariants as state;
-ghost use Rattle.search_tree.specs.Tree.{closed_tree, new_tree, split_tree, waiting_tree};
+ghost use Rattle.node_pool.specs.Tree.{AreEnded};
+ghost use Rattle.search_tree.specs.Tree.{AreNodesOf, HaveOwnNumbers, IsDrained, IsInside, closed_tree, end_node, link_node, new_tree, split_tree, waiting_tree};
 ghost use Rattle.search_tree.specs.Growing.{node_of};
 ghost use Rattle.search_tree.specs.declared.node.Closing.TheVariants as closing;
 
 use crate::node::{Closing, Priced, SearchNode};
-use dual_bound::Ranges;
+use bound_certificate::Nodes;
+use dual_bound::{Leaf, Prices, Ranges, TreeNode};
 use escrow_desk::NoMemory;
-use halving_tree::Split;
-use node_pool::{NodeId, Pool};
+use halving_tree::{Split, reach_leaf};
+use node_pool::{Link, NodeId, Pool};
 use offer_book::Book;
 use std::alloc::Global;
 use std::marker::Model;
@@ -131,5 +133,67 @@ impl SearchTree {
         ensures whole { SplitsAreWhole self.now.pool.states }
     {
         self.pool.count()
+    }
+
+    /// Closes each node that waits by its own leaf.
+    pub fn close_waiting(&mut self)
+        ensures drained { IsDrained self.old self.new }
+        ensures capacity { self.new.pool.capacity ≡ self.old.pool.capacity }
+    {
+        let _ = &self.pool;
+        while let Some(node) = self.pop() {
+            self.close(node, Closing::Borne);
+        }
+    }
+
+    /// The nodes in preorder, each closed one as it stands in a certificate.
+    ///
+    /// # Errors
+    ///
+    /// Where memory ran out.
+    pub fn nodes(&self, alloc: Global, book: &Book) -> Result<Nodes, NoMemory>
+        requires ended { AreEnded self.now.pool.states }
+        requires own { HaveOwnNumbers self.now.pool.states }
+        ensures { IfOk result (AreNodesOf book.now.needs self.now) }
+    {
+        let links = self.pool.tree(alloc)?;
+        let mut nodes = Vec::with_capacity(alloc, links.len())?;
+        for link in links.as_slice() {
+            nodes.push(self.tree_node(alloc, book, *link)?)?;
+        }
+        Ok(Nodes::new(nodes))
+    }
+
+    // A node as it stands in a certificate.
+    fn tree_node(&self, alloc: Global, book: &Book, link: Link) -> Result<TreeNode, NoMemory>
+        requires { IsInside (length self.now.nodes) link }
+        ensures { IfOk result (λ next. next ≡ link_node (λ number. end_node book.now.needs (node_of self.now.nodes number)) link) }
+    {
+        match link {
+            Link::Split { line, at } => Ok(TreeNode::Split { line, at }),
+            Link::Leaf(number) => closed_node(alloc, book, &self.nodes[number as usize]),
+        }
+    }
+}
+
+// A copy of a leaf.
+fn copied(alloc: Global, leaf: &Leaf) -> Result<Leaf, NoMemory>
+    ensures { IfOk result (λ copy. copy ≡ leaf.now) }
+{
+    Ok(Leaf {
+        whole: leaf.whole,
+        mu: leaf.mu,
+        prices: Prices::new(leaf.prices.as_slice().to_vec(alloc)?),
+    })
+}
+
+// A closed node as it stands in a certificate: a point, or the leaf that closes it.
+fn closed_node(alloc: Global, book: &Book, node: &SearchNode) -> Result<TreeNode, NoMemory>
+    ensures { IfOk result (λ next. next ≡ end_node book.now.needs node.now) }
+{
+    match node.closing {
+        Closing::Point => Ok(TreeNode::Point),
+        Closing::Unreached(day) => Ok(TreeNode::Closed(reach_leaf(alloc, book, day)?)),
+        Closing::Borne | Closing::Open => Ok(TreeNode::Closed(copied(alloc, &node.priced.leaf)?)),
     }
 }
