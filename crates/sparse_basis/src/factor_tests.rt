@@ -12,14 +12,14 @@ use std::test::Fail;
 const ONE: i128 = 1 << 40;
 
 // Adds a line, by what a cent of it pays on the two dates, in whole cents, and is worth, in hundredths.
-fn add_line(matrix: &mut Matrix, pays: [u16; 2], value: i128) -> Result<(), Fail> {
+fn add_line(matrix: &mut Matrix, pays: [u16; 2], value: i16) -> Result<(), Fail> {
     for date in 0..2u16 {
         let paid = pays[usize::from(date)];
         if paid > 0 && matrix.pay(date + 1, Price::whole(paid)).is_err() {
             return Err(Fail::new("no room for a payment"));
         }
     }
-    match matrix.end_line(Price::clamp(value * ONE / 100)) {
+    match matrix.end_line(Price::clamp(i128::from(value) * ONE / 100)) {
         Ok(()) => Ok(()),
         Err(_) => Err(Fail::new("no room for a line")),
     }
