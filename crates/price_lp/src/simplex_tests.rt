@@ -1,6 +1,6 @@
 //! Worked figures of solves. They come from another program.
 
-ghost use Rattle.std.specs.Prelude.{◌≡◌};
+ghost use Rattle.std.specs.Prelude.{◌≡◌, IfOk, length};
 
 use crate::aim::Purpose;
 use crate::line_ranges::Holding;
@@ -27,16 +27,18 @@ fn case_of(alloc: Global) -> Result<Case, Fail> {
     }
 }
 
-fn simplex_of<'a>(alloc: Global, case: &'a Case) -> Result<Simplex<'a>, Fail> {
+fn simplex_of<'a>(alloc: Global, case: &'a Case) -> Result<Simplex<'a>, Fail>
+    ensures { IfOk result (λ simplex. simplex.dates ≡ length case.now.book.needs) }
+{
     let powers = Powers::make(alloc, YieldUnits(350_100_000), Side::Low, GREATEST_INDEX)?;
     Ok(Simplex::make(alloc, &case.book, &powers)?)
 }
 
-// The leaf that a solution proposes, over two need dates.
-fn leaf_of(alloc: Global, simplex: &Simplex) -> Result<Leaf, Fail>
-    requires { simplex.now.dates ≡ 2 }
+// The leaf that a solution proposes, over so many need dates.
+fn leaf_of(alloc: Global, simplex: &Simplex, dates: u16) -> Result<Leaf, Fail>
+    requires { simplex.now.dates ≡ dates }
 {
-    let mut leaf = Leaf::of_zeros(alloc, true, 2)?;
+    let mut leaf = Leaf::of_zeros(alloc, true, dates)?;
     simplex.propose(&mut leaf);
     Ok(leaf)
 }
@@ -60,7 +62,7 @@ fn a_solve_keeps_to_the_yield_limit(rt: HostRuntime) -> Result<(), Fail> {
         assert_eq!(rt; simplex.is_basic(line), line == 1 || 3 <= line);
     }
     // 1,080,565,599,353 and 1,026,680,214,347 in units of 2^-40.
-    let leaf = leaf_of(rt.alloc(), &simplex)?;
+    let leaf = leaf_of(rt.alloc(), &simplex, case.book.need_count())?;
     assert_eq!(rt;
         leaf.prices.as_slice(),
         [982_768_687_529, 933_760_215_363].as_slice()
@@ -118,7 +120,7 @@ fn a_solve_starts_from_a_leaf_or_a_basis(rt: HostRuntime) -> Result<(), Fail> {
     let mut simplex = simplex_of(rt.alloc(), &case)?;
     let mut basis = simplex.new_basis(rt.alloc())?;
     assert_eq!(rt; simplex.solve(100, None), SolveEnd::Optimal);
-    let leaf = leaf_of(rt.alloc(), &simplex)?;
+    let leaf = leaf_of(rt.alloc(), &simplex, case.book.need_count())?;
     let solved = simplex.iterations();
     simplex.start_at(&leaf);
     assert_eq!(rt; simplex.solve(1, None), SolveEnd::Optimal);
