@@ -28,31 +28,31 @@ use Rattle.search_tree.specs.declared.node.SearchNode.{SearchNode}
 abbrev pub ClosedFor : CaseContents → Option ℕ → List Interval → SearchNode → Type 0
 ClosedFor case best ranges own = IsClosedBy case best ranges own.priced.bound own.closing
 
-end-at : (case : CaseContents) (best : Option ℕ) (popped : ℤ) (number : ℕ) (ranges : List Interval) (own : SearchNode) (s : State) → IsNodeAt case best popped number ranges own s → IsEndAt case popped (ClosedFor case best) number ranges own s
-end-at case best popped number ranges own (state.Waiting key) is = record { priced = is.priced; ends = tt }
-end-at case best popped number ranges own state.InHand is = record { priced = is.priced; ends = tt }
-end-at case best popped number ranges own (state.Closed leaf) is = record { priced = is.priced; ends = is.stands }
-end-at case best popped number ranges own (state.Split line at left right) is = record { priced = is.priced; ends = is.stands.0 }
+end-at : (case : CaseContents) (Obeys : List Interval → ℕ → ℕ → Type 0) (best : Option ℕ) (popped : ℤ) (number : ℕ) (ranges : List Interval) (own : SearchNode) (s : State) → IsNodeAt case Obeys best popped number ranges own s → IsEndAt case Obeys popped (ClosedFor case best) number ranges own s
+end-at case Obeys best popped number ranges own (state.Waiting key) is = record { priced = is.priced; ends = tt }
+end-at case Obeys best popped number ranges own state.InHand is = record { priced = is.priced; ends = tt }
+end-at case Obeys best popped number ranges own (state.Closed leaf) is = record { priced = is.priced; ends = is.stands }
+end-at case Obeys best popped number ranges own (state.Split line at left right) is = record { priced = is.priced; ends = is.stands.0 }
 
-pub closed-tree : (case : CaseContents) (best : Option ℕ) (tree : TreeContents) (popped : ℤ) → IsOneTree tree.pool.states → SplitsAreWhole tree.pool.states → AreEnded tree.pool.states → IsKept case best popped tree.pool.states tree.nodes
-    → IsEndTree case popped (ClosedFor case best) tree
-closed-tree case best tree popped one whole ended kept = record {
+pub closed-tree : (case : CaseContents) (Obeys : List Interval → ℕ → ℕ → Type 0) (best : Option ℕ) (tree : TreeContents) (popped : ℤ) → IsOneTree tree.pool.states → SplitsAreWhole tree.pool.states → AreEnded tree.pool.states → IsKept case Obeys best popped tree.pool.states tree.nodes
+    → IsEndTree case Obeys popped (ClosedFor case best) tree
+closed-tree case Obeys best tree popped one whole ended kept = record {
   one = one;
   whole = whole;
   ended = ended;
-  each = λ number way few is. end-at case best popped number (ranges_at case.book.lines way) (node_of tree.nodes number) (state_at tree.pool.states number) (kept.grown.each number way few is);
+  each = λ number way few is. end-at case Obeys best popped number (ranges_at case.book.lines way) (node_of tree.nodes number) (state_at tree.pool.states number) (kept.grown.each number way few is);
 }
 
 -- a claim that each borne leaf and each point bears out is borne out by the whole tree
-pub closed-all : (case : CaseContents) (best : Option ℕ) (claim : Claim) (popped : ℤ) (tree : TreeContents) (shape : Tree) (nodes : List TreeNode) → IsBook case.book → IsEndTree case popped (ClosedFor case best) tree
+pub closed-all : (case : CaseContents) (Obeys : List Interval → ℕ → ℕ → Type 0) (best : Option ℕ) (claim : Claim) (popped : ℤ) (tree : TreeContents) (shape : Tree) (nodes : List TreeNode) → IsBook case.book → IsEndTree case Obeys popped (ClosedFor case best) tree
     → IsWritten case tree shape nodes
     → ((number : ℕ) (ranges : List Interval) → (node_of tree.nodes number).closing ≡ closing.Borne → ClosedFor case best ranges (node_of tree.nodes number) → bears_out (node_of tree.nodes number).priced.bound claim ≡ true)
     → ((ranges : List Interval) → is_closed_point case (option_map pos best) ranges ≡ true → is_closed_point case claim ranges ≡ true)
     → All (λ p. is_weak case claim p ≡ false) (placed_nodes case.book nodes)
-closed-all case best claim popped tree shape nodes limits is made borne point =
+closed-all case Obeys best claim popped tree shape nodes limits is made borne point =
     subst (λ (ns : List TreeNode). All (λ p. is_weak case claim p ≡ false) (placed_nodes case.book ns)) (sym made.nodes_are)
     (all-placed case.book.lines (λ p. is_weak case claim p ≡ false) (ends_of case tree) shape (root_of case.book.lines) (ends-end case tree)
-    (all-at case popped (ClosedFor case best) (λ p. is_weak case claim p ≡ false) tree shape is made.shape_is (λ number ranges line at priced split tight. refl)
+    (all-at case Obeys popped (ClosedFor case best) (λ p. is_weak case claim p ≡ false) tree shape is made.shape_is (λ number ranges line at priced split tight. refl)
     (λ number ranges priced closed tight.
     let own : SearchNode = node_of tree.nodes number in
     weak-by case claim ranges own priced
@@ -90,21 +90,21 @@ pub record BearsItself (case : CaseContents) (best : Option ℕ) (tree : TreeCon
   pub own : IsBorneNode case tree number
   pub borne : bears_out (node_of tree.nodes number).priced.bound (claim_of_best case best) ≡ true
 
-borne-by-state : (case : CaseContents) (best : Option ℕ) (popped : ℤ) (tree : TreeContents) (number : ℕ) (way : List Step) (s : State) → state_at tree.pool.states number ≡ s → IsWay tree.pool.states number way → AreEnded tree.pool.states
-    → number < length tree.pool.states → (node_of tree.nodes number).closing ≡ closing.Borne → IsNodeAt case best popped number (ranges_at case.book.lines way) (node_of tree.nodes number) s → BearsItself case best tree number
-borne-by-state case best popped tree number way (state.Waiting key) is way_is ended few borne at = absurd (subst IsEnded is (ended number few))
-borne-by-state case best popped tree number way state.InHand is way_is ended few borne at = absurd (subst IsEnded is (ended number few))
-borne-by-state case best popped tree number way (state.Split line at_units left right) is way_is ended few borne at = absurd (let clash : closing.Borne ≡ closing.Open = sym borne ∙ at.stands.1 in cc)
-borne-by-state case best popped tree number way (state.Closed leaf) is way_is ended few borne at = record {
+borne-by-state : (case : CaseContents) (Obeys : List Interval → ℕ → ℕ → Type 0) (best : Option ℕ) (popped : ℤ) (tree : TreeContents) (number : ℕ) (way : List Step) (s : State) → state_at tree.pool.states number ≡ s → IsWay tree.pool.states number way → AreEnded tree.pool.states
+    → number < length tree.pool.states → (node_of tree.nodes number).closing ≡ closing.Borne → IsNodeAt case Obeys best popped number (ranges_at case.book.lines way) (node_of tree.nodes number) s → BearsItself case best tree number
+borne-by-state case Obeys best popped tree number way (state.Waiting key) is way_is ended few borne at = absurd (subst IsEnded is (ended number few))
+borne-by-state case Obeys best popped tree number way state.InHand is way_is ended few borne at = absurd (subst IsEnded is (ended number few))
+borne-by-state case Obeys best popped tree number way (state.Split line at_units left right) is way_is ended few borne at = absurd (let clash : closing.Borne ≡ closing.Open = sym borne ∙ at.stands.1 in cc)
+borne-by-state case Obeys best popped tree number way (state.Closed leaf) is way_is ended few borne at = record {
   own = record { way = way; is = way_is; closed = is ∙ ap (λ (k : ℕ). state.Closed k) at.stands.0; priced = at.priced };
   borne = subst (IsClosedBy case best (ranges_at case.book.lines way) (node_of tree.nodes number).priced.bound) borne at.stands.1;
 }
 
-pub borne-node : (case : CaseContents) (best : Option ℕ) (popped : ℤ) (tree : TreeContents) (number : ℕ) → IsOneTree tree.pool.states → AreEnded tree.pool.states → IsKept case best popped tree.pool.states tree.nodes
+pub borne-node : (case : CaseContents) (Obeys : List Interval → ℕ → ℕ → Type 0) (best : Option ℕ) (popped : ℤ) (tree : TreeContents) (number : ℕ) → IsOneTree tree.pool.states → AreEnded tree.pool.states → IsKept case Obeys best popped tree.pool.states tree.nodes
     → number < length tree.pool.states → (node_of tree.nodes number).closing ≡ closing.Borne → BearsItself case best tree number
-borne-node case best popped tree number one ended kept few borne =
+borne-node case Obeys best popped tree number one ended kept few borne =
     let way = some-way tree.pool.states number one few in
-    borne-by-state case best popped tree number way.0 (state_at tree.pool.states number) refl way.1 ended few borne (kept.grown.each number way.0 few way.1)
+    borne-by-state case Obeys best popped tree number way.0 (state_at tree.pool.states number) refl way.1 ended few borne (kept.grown.each number way.0 few way.1)
 
 -- what the whole tree bears out, its node bears out
 pub node-bears : (case : CaseContents) (claim : Claim) (tree : TreeContents) (shape : Tree) (nodes : List TreeNode) (number : ℕ) → IsWritten case tree shape nodes → IsBorneNode case tree number
@@ -116,9 +116,9 @@ node-bears case claim tree shape nodes number made own borne all =
     strong-leaf case claim (ranges_at case.book.lines own.way) (node_of tree.nodes number) own.priced borne
     (leaf-holds case.book.lines (λ p. is_weak case claim p ≡ false) (ends_of case tree) tree.pool.states number number (ranges_at case.book.lines own.way) below own.closed)
 
-pub gap-allowed : (case : CaseContents) (cents gap : ℕ) (popped : ℤ) (tree : TreeContents) → IsOneTree tree.pool.states → AreEnded tree.pool.states → IsKept case (Some cents) popped tree.pool.states tree.nodes
+pub gap-allowed : (case : CaseContents) (Obeys : List Interval → ℕ → ℕ → Type 0) (cents gap : ℕ) (popped : ℤ) (tree : TreeContents) → IsOneTree tree.pool.states → AreEnded tree.pool.states → IsKept case Obeys (Some cents) popped tree.pool.states tree.nodes
     → (gap ≡ 0) ⊎ SomeNeeds tree.nodes (length tree.nodes) cents gap → gap ≤ case.allowance
-gap-allowed case cents gap popped tree one ended kept (inl none) = omega (arith, none)
-gap-allowed case cents gap popped tree one ended kept (inr some) =
-    let own = borne-node case (Some cents) popped tree some.number one ended kept (omega (arith, some.there, kept.grown.same)) some.needs.borne in
+gap-allowed case Obeys cents gap popped tree one ended kept (inl none) = omega (arith, none)
+gap-allowed case Obeys cents gap popped tree one ended kept (inr some) =
+    let own = borne-node case Obeys (Some cents) popped tree some.number one ended kept (omega (arith, some.there, kept.grown.same)) some.needs.borne in
     some.needs.needed case.allowance own.borne

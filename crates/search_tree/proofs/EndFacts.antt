@@ -45,21 +45,21 @@ use Rattle.search_tree.specs.declared.node.SearchNode.{SearchNode}
 
 -- ---- a tree of which each node is closed or split
 -- what holds at a node, by its state
-abbrev pub EndsAt : CaseContents → ℤ → (List Interval → SearchNode → Type 0) → ℕ → List Interval → SearchNode → State → Type 0
-EndsAt case popped Closes number ranges own (state.Split line at left right) = IsSplitNode case popped ranges own.priced line at
-EndsAt case popped Closes number ranges own (state.Closed leaf) = (leaf ≡ number) × Closes ranges own
-EndsAt case popped Closes number ranges own other = Unit {0}
+abbrev pub EndsAt : CaseContents → (List Interval → ℕ → ℕ → Type 0) → ℤ → (List Interval → SearchNode → Type 0) → ℕ → List Interval → SearchNode → State → Type 0
+EndsAt case Obeys popped Closes number ranges own (state.Split line at left right) = IsSplitNode case Obeys popped ranges own.priced line at
+EndsAt case Obeys popped Closes number ranges own (state.Closed leaf) = (leaf ≡ number) × Closes ranges own
+EndsAt case Obeys popped Closes number ranges own other = Unit {0}
 
-pub record IsEndAt (case : CaseContents) (popped : ℤ) (Closes : List Interval → SearchNode → Type 0) (number : ℕ) (ranges : List Interval) (own : SearchNode) (s : State) : Type 0 where
+pub record IsEndAt (case : CaseContents) (Obeys : List Interval → ℕ → ℕ → Type 0) (popped : ℤ) (Closes : List Interval → SearchNode → Type 0) (number : ℕ) (ranges : List Interval) (own : SearchNode) (s : State) : Type 0 where
   pub priced : IsPriced case ranges own.priced
-  pub ends : EndsAt case popped Closes number ranges own s
+  pub ends : EndsAt case Obeys popped Closes number ranges own s
 
-pub record IsEndTree (case : CaseContents) (popped : ℤ) (Closes : List Interval → SearchNode → Type 0) (tree : TreeContents) : Type 0 where
+pub record IsEndTree (case : CaseContents) (Obeys : List Interval → ℕ → ℕ → Type 0) (popped : ℤ) (Closes : List Interval → SearchNode → Type 0) (tree : TreeContents) : Type 0 where
   pub one : IsOneTree tree.pool.states
   pub whole : SplitsAreWhole tree.pool.states
   pub ended : AreEnded tree.pool.states
   pub each : (number : ℕ) (way : List Step) → number < length tree.pool.states → IsWay tree.pool.states number way
-      → IsEndAt case popped Closes number (ranges_at case.book.lines way) (node_of tree.nodes number) (state_at tree.pool.states number)
+      → IsEndAt case Obeys popped Closes number (ranges_at case.book.lines way) (node_of tree.nodes number) (state_at tree.pool.states number)
 
 -- the nodes that its leaves stand for
 abbrev pub ends_of : CaseContents → TreeContents → ℕ → TreeNode
@@ -75,15 +75,15 @@ pub ends-end : (case : CaseContents) (tree : TreeContents) (number : ℕ) → Is
 ends-end case tree number = end-ends case (node_of tree.nodes number).priced.leaf (node_of tree.nodes number).closing
 
 -- what holds of each split, and of each node that is closed so, holds of the whole tree
-holds-by : (case : CaseContents) (popped : ℤ) (Closes : List Interval → SearchNode → Type 0) (P : TreeNode × List Interval → Type 0) (tree : TreeContents) (number : ℕ) (ranges : List Interval) (s : State)
-    → ((line at : ℕ) → IsPriced case ranges (node_of tree.nodes number).priced → IsSplitNode case popped ranges (node_of tree.nodes number).priced line at → P (node.Split line at, ranges))
+holds-by : (case : CaseContents) (Obeys : List Interval → ℕ → ℕ → Type 0) (popped : ℤ) (Closes : List Interval → SearchNode → Type 0) (P : TreeNode × List Interval → Type 0) (tree : TreeContents) (number : ℕ) (ranges : List Interval) (s : State)
+    → ((line at : ℕ) → IsPriced case ranges (node_of tree.nodes number).priced → IsSplitNode case Obeys popped ranges (node_of tree.nodes number).priced line at → P (node.Split line at, ranges))
     → (IsPriced case ranges (node_of tree.nodes number).priced → Closes ranges (node_of tree.nodes number) → P (ends_of case tree number, ranges))
-    → IsEndAt case popped Closes number ranges (node_of tree.nodes number) s → HoldsBy P (ends_of case tree) ranges s
-holds-by case popped Closes P tree number ranges (state.Waiting key) splits closes is = tt
-holds-by case popped Closes P tree number ranges state.InHand splits closes is = tt
-holds-by case popped Closes P tree number ranges (state.Closed leaf) splits closes is =
+    → IsEndAt case Obeys popped Closes number ranges (node_of tree.nodes number) s → HoldsBy P (ends_of case tree) ranges s
+holds-by case Obeys popped Closes P tree number ranges (state.Waiting key) splits closes is = tt
+holds-by case Obeys popped Closes P tree number ranges state.InHand splits closes is = tt
+holds-by case Obeys popped Closes P tree number ranges (state.Closed leaf) splits closes is =
     subst (λ (k : ℕ). P (ends_of case tree k, ranges)) (sym is.ends.0) (closes is.priced is.ends.1)
-holds-by case popped Closes P tree number ranges (state.Split line at left right) splits closes is = splits line at is.priced is.ends
+holds-by case Obeys popped Closes P tree number ranges (state.Split line at left right) splits closes is = splits line at is.priced is.ends
 
 -- a split is of a node that is there
 pub split-there : (states : List State) (number line at : ℕ) (left right : NodeId) → state_at states number ≡ state.Split line at left right → number < length states
@@ -92,35 +92,35 @@ split-there states number line at left right split = elim (cases_lt number (leng
   | inr past ↦ absurd (let clash : state.InHand ≡ state.Split line at left right = sym (get_or_past states number state.InHand past) ∙ split in cc)
 ]
 
-way-split : (case : CaseContents) (popped : ℤ) (Closes : List Interval → SearchNode → Type 0) (tree : TreeContents) → IsEndTree case popped Closes tree → (child parent : ℕ) (step : Step) (above : List Step)
+way-split : (case : CaseContents) (Obeys : List Interval → ℕ → ℕ → Type 0) (popped : ℤ) (Closes : List Interval → SearchNode → Type 0) (tree : TreeContents) → IsEndTree case Obeys popped Closes tree → (child parent : ℕ) (step : Step) (above : List Step)
     → (up : IsStep tree.pool.states child parent step) → IsWay tree.pool.states parent above → is_proper (ranges_at case.book.lines above) step.line step.at ≡ true
-way-split case popped Closes tree is child parent step above up way =
+way-split case Obeys popped Closes tree is child parent step above up way =
     let here = split-there tree.pool.states parent step.line step.at up.left up.right up.split in
-    let split : IsEndAt case popped Closes parent (ranges_at case.book.lines above) (node_of tree.nodes parent) (state.Split step.line step.at up.left up.right) =
-    subst (IsEndAt case popped Closes parent (ranges_at case.book.lines above) (node_of tree.nodes parent)) up.split (is.each parent above here way) in
+    let split : IsEndAt case Obeys popped Closes parent (ranges_at case.book.lines above) (node_of tree.nodes parent) (state.Split step.line step.at up.left up.right) =
+    subst (IsEndAt case Obeys popped Closes parent (ranges_at case.book.lines above) (node_of tree.nodes parent)) up.split (is.each parent above here way) in
     split.ends.proper
 
-way-proper : (case : CaseContents) (popped : ℤ) (Closes : List Interval → SearchNode → Type 0) (tree : TreeContents) → IsEndTree case popped Closes tree → (number : ℕ) (way : List Step) → number < length tree.pool.states
+way-proper : (case : CaseContents) (Obeys : List Interval → ℕ → ℕ → Type 0) (popped : ℤ) (Closes : List Interval → SearchNode → Type 0) (tree : TreeContents) → IsEndTree case Obeys popped Closes tree → (number : ℕ) (way : List Step) → number < length tree.pool.states
     → IsWay tree.pool.states number way → AreProper case.book.lines way
-way-proper case popped Closes tree is number [] few way = tt
-way-proper case popped Closes tree is number (step ∷ above) few way = (
-  way-proper case popped Closes tree is way.0 above (split-there tree.pool.states way.0 step.line step.at way.1.left way.1.right way.1.split) way.2,
-  way-split case popped Closes tree is number way.0 step above way.1 way.2,
+way-proper case Obeys popped Closes tree is number [] few way = tt
+way-proper case Obeys popped Closes tree is number (step ∷ above) few way = (
+  way-proper case Obeys popped Closes tree is way.0 above (split-there tree.pool.states way.0 step.line step.at way.1.left way.1.right way.1.split) way.2,
+  way-split case Obeys popped Closes tree is number way.0 step above way.1 way.2,
 )
 
-pub all-at : (case : CaseContents) (popped : ℤ) (Closes : List Interval → SearchNode → Type 0) (P : TreeNode × List Interval → Type 0) (tree : TreeContents) (shape : Tree)
-    → IsEndTree case popped Closes tree → IsTreeOf tree.pool.states 0 shape
-    → ((number : ℕ) (ranges : List Interval) (line at : ℕ) → IsPriced case ranges (node_of tree.nodes number).priced → IsSplitNode case popped ranges (node_of tree.nodes number).priced line at → AreTight case.book.lines ranges → P (node.Split line at, ranges))
+pub all-at : (case : CaseContents) (Obeys : List Interval → ℕ → ℕ → Type 0) (popped : ℤ) (Closes : List Interval → SearchNode → Type 0) (P : TreeNode × List Interval → Type 0) (tree : TreeContents) (shape : Tree)
+    → IsEndTree case Obeys popped Closes tree → IsTreeOf tree.pool.states 0 shape
+    → ((number : ℕ) (ranges : List Interval) (line at : ℕ) → IsPriced case ranges (node_of tree.nodes number).priced → IsSplitNode case Obeys popped ranges (node_of tree.nodes number).priced line at → AreTight case.book.lines ranges → P (node.Split line at, ranges))
     → ((number : ℕ) (ranges : List Interval) → IsPriced case ranges (node_of tree.nodes number).priced → Closes ranges (node_of tree.nodes number) → AreTight case.book.lines ranges → P (ends_of case tree number, ranges))
     → IsBook case.book → AllAt case.book.lines P (ends_of case tree) shape (root_of case.book.lines)
-all-at case popped Closes P tree shape is shape_is splits closes limits =
+all-at case Obeys popped Closes P tree shape is shape_is splits closes limits =
     from-nodes case.book.lines P (ends_of case tree) tree.pool.states shape 0 [] holds shape_is refl
   where
     holds : (child : ℕ) (up : List Step) → IsWay tree.pool.states child up → HoldsBy P (ends_of case tree) (ranges_at case.book.lines up) (state_at tree.pool.states child)
     holds child up way = elim (cases_lt child (length tree.pool.states)) [
       | inl few ↦
-          let tight = ways-tight sides_are_tight case.book.lines (root_is_tight case.book limits) up (way-proper case popped Closes tree is child up few way) in
-          holds-by case popped Closes P tree child (ranges_at case.book.lines up) (state_at tree.pool.states child)
+          let tight = ways-tight sides_are_tight case.book.lines (root_is_tight case.book limits) up (way-proper case Obeys popped Closes tree is child up few way) in
+          holds-by case Obeys popped Closes P tree child (ranges_at case.book.lines up) (state_at tree.pool.states child)
           (λ line at priced split. splits child (ranges_at case.book.lines up) line at priced split tight)
           (λ priced closed. closes child (ranges_at case.book.lines up) priced closed tight) (is.each child up few way)
       | inr past ↦ subst (HoldsBy P (ends_of case tree) (ranges_at case.book.lines up)) (sym (get_or_past tree.pool.states child state.InHand past)) tt
@@ -217,18 +217,18 @@ written case tree links nodes shape one whole shape_is links_are nodes_are = rec
   count = ap length nodes_are ∙ length-map links (link_node (ends_of case tree)) ∙ ap length links_are ∙ nodes-all tree.pool.states shape one whole shape_is;
 }
 
-pub well-written : (case : CaseContents) (popped : ℤ) (Closes : List Interval → SearchNode → Type 0) (tree : TreeContents) (shape : Tree) (nodes : List TreeNode) → IsBook case.book → IsEndTree case popped Closes tree
+pub well-written : (case : CaseContents) (Obeys : List Interval → ℕ → ℕ → Type 0) (popped : ℤ) (Closes : List Interval → SearchNode → Type 0) (tree : TreeContents) (shape : Tree) (nodes : List TreeNode) → IsBook case.book → IsEndTree case Obeys popped Closes tree
     → IsWritten case tree shape nodes → IsWell case nodes
-well-written case popped Closes tree shape nodes limits is made = record {
+well-written case Obeys popped Closes tree shape nodes limits is made = record {
   proper = subst (λ (ns : List TreeNode). All IsProper (placed_nodes case.book ns)) (sym made.nodes_are)
       (all-placed lines IsProper ends shape root (ends-end case tree)
-      (all-at case popped Closes IsProper tree shape is made.shape_is (λ number ranges line at priced split tight. ap not split.proper) (λ number ranges priced closed tight. proper-node ranges (ends number) (ends-end case tree number)) limits));
+      (all-at case Obeys popped Closes IsProper tree shape is made.shape_is (λ number ranges line at priced split tight. ap not split.proper) (λ number ranges priced closed tight. proper-node ranges (ends number) (ends-end case tree number)) limits));
   raised = subst (λ (ns : List TreeNode). All (IsRaised case) (placed_nodes case.book ns)) (sym made.nodes_are)
       (all-placed lines (IsRaised case) ends shape root (ends-end case tree)
-      (all-at case popped Closes (IsRaised case) tree shape is made.shape_is (λ number ranges line at priced split tight. tt) (λ number ranges priced closed tight. raised-by case ranges (node_of tree.nodes number) priced) limits));
+      (all-at case Obeys popped Closes (IsRaised case) tree shape is made.shape_is (λ number ranges line at priced split tight. tt) (λ number ranges priced closed tight. raised-by case ranges (node_of tree.nodes number) priced) limits));
   limited = subst (All (IsNode (length case.book.needs))) (sym made.nodes_are)
       (all-nodes lines (IsNode (length case.book.needs)) ends shape root
-      (all-at case popped Closes (λ (p : TreeNode × List Interval). IsNode (length case.book.needs) p.0) tree shape is made.shape_is
+      (all-at case Obeys popped Closes (λ (p : TreeNode × List Interval). IsNode (length case.book.needs) p.0) tree shape is made.shape_is
       (λ number ranges line at priced split tight. split-node-by case ranges line at limits tight split.proper)
       (λ number ranges priced closed tight. node-by case ranges (node_of tree.nodes number) limits priced) limits));
   trees = subst (AreTrees 1) (sym made.nodes_are) (subst (AreTrees 1) (append-nil (tree_nodes ends shape)) (are-trees ends shape 0 [] (ends-end case tree) refl));

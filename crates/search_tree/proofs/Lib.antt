@@ -5,8 +5,8 @@ pub mod EndFacts
 pub mod GrowFacts
 mod InsideFacts
 pub mod LawFacts
-mod Rising
-mod Shape
+pub mod Rising
+pub mod Shape
 pub mod SpentFacts
 pub mod Ways
-mod ZeroFacts
+pub mod ZeroFacts

@@ -150,21 +150,21 @@ waited-settled case cents ranges own priced borne =
     weak-by case (Some (pos cents)) ranges (record own { closing = closing.Borne }) priced (λ none. absurd (cc)) (λ is. borne) (λ day is. absurd (cc)) (λ is. absurd (cc))
 
 -- each node, by its state before
-node-settled : (case : CaseContents) (best : Option ℕ) (cents : ℕ) (popped : ℤ) (number : ℕ) (ranges : List Interval) (own after : SearchNode) (s t : State) → ((cost : ℕ) → best ≡ Some cost → cents + case.allowance < cost)
-    → bears_out popped (Some (pos cents)) ≡ true → (s ≡ state.InHand → ⊥) → IsNodeAt case best popped number ranges own s → IsDrainedNode number s own t after
-    → IsEndAt case popped (Settled case cents) number ranges after t
-node-settled case best cents popped number ranges own after (state.Waiting key) t over borne hand is drained =
-    subst (λ (n : SearchNode). IsEndAt case popped (Settled case cents) number ranges n t) (sym drained.1)
-    (subst (λ (u : State). IsEndAt case popped (Settled case cents) number ranges (record own { closing = closing.Borne }) u) (sym drained.0)
+node-settled : (case : CaseContents) (Obeys : List Interval → ℕ → ℕ → Type 0) (best : Option ℕ) (cents : ℕ) (popped : ℤ) (number : ℕ) (ranges : List Interval) (own after : SearchNode) (s t : State) → ((cost : ℕ) → best ≡ Some cost → cents + case.allowance < cost)
+    → bears_out popped (Some (pos cents)) ≡ true → (s ≡ state.InHand → ⊥) → IsNodeAt case Obeys best popped number ranges own s → IsDrainedNode number s own t after
+    → IsEndAt case Obeys popped (Settled case cents) number ranges after t
+node-settled case Obeys best cents popped number ranges own after (state.Waiting key) t over borne hand is drained =
+    subst (λ (n : SearchNode). IsEndAt case Obeys popped (Settled case cents) number ranges n t) (sym drained.1)
+    (subst (λ (u : State). IsEndAt case Obeys popped (Settled case cents) number ranges (record own { closing = closing.Borne }) u) (sym drained.0)
     (record { priced = is.priced; ends = (refl, waited-settled case cents ranges own is.priced (higher-borne popped own.priced.bound cents (omega (arith, ints, is.stands.0, is.stands.1)) borne)) }))
-node-settled case best cents popped number ranges own after state.InHand t over borne hand is drained = absurd (hand refl)
-node-settled case best cents popped number ranges own after (state.Closed leaf) t over borne hand is drained =
-    subst (λ (n : SearchNode). IsEndAt case popped (Settled case cents) number ranges n t) (sym drained.1)
-    (subst (λ (u : State). IsEndAt case popped (Settled case cents) number ranges own u) (sym drained.0)
+node-settled case Obeys best cents popped number ranges own after state.InHand t over borne hand is drained = absurd (hand refl)
+node-settled case Obeys best cents popped number ranges own after (state.Closed leaf) t over borne hand is drained =
+    subst (λ (n : SearchNode). IsEndAt case Obeys popped (Settled case cents) number ranges n t) (sym drained.1)
+    (subst (λ (u : State). IsEndAt case Obeys popped (Settled case cents) number ranges own u) (sym drained.0)
     (record { priced = is.priced; ends = (is.stands.0, closed-settled case cents best ranges own over is.priced is.stands.1) }))
-node-settled case best cents popped number ranges own after (state.Split line at left right) t over borne hand is drained =
-    subst (λ (n : SearchNode). IsEndAt case popped (Settled case cents) number ranges n t) (sym drained.1)
-    (subst (λ (u : State). IsEndAt case popped (Settled case cents) number ranges own u) (sym drained.0)
+node-settled case Obeys best cents popped number ranges own after (state.Split line at left right) t over borne hand is drained =
+    subst (λ (n : SearchNode). IsEndAt case Obeys popped (Settled case cents) number ranges n t) (sym drained.1)
+    (subst (λ (u : State). IsEndAt case Obeys popped (Settled case cents) number ranges own u) (sym drained.0)
     (record { priced = is.priced; ends = is.stands.0 }))
 
 -- splits are as they were
@@ -190,25 +190,25 @@ way-before before after drained number (step ∷ above) way =
       way-before before after drained way.0 above way.2,
     )
 
-pub settled-tree : (case : CaseContents) (best : Option ℕ) (cents : ℕ) (popped : ℤ) (before after : TreeContents) → ((cost : ℕ) → best ≡ Some cost → cents + case.allowance < cost) → bears_out popped (Some (pos cents)) ≡ true
-    → IsKept case best popped before.pool.states before.nodes → IsDrained before after → IsOneTree after.pool.states → SplitsAreWhole after.pool.states → AreEnded after.pool.states → IsEndTree case popped (Settled case cents) after
-settled-tree case best cents popped before after over borne kept drained one whole ended = record {
+pub settled-tree : (case : CaseContents) (Obeys : List Interval → ℕ → ℕ → Type 0) (best : Option ℕ) (cents : ℕ) (popped : ℤ) (before after : TreeContents) → ((cost : ℕ) → best ≡ Some cost → cents + case.allowance < cost) → bears_out popped (Some (pos cents)) ≡ true
+    → IsKept case Obeys best popped before.pool.states before.nodes → IsDrained before after → IsOneTree after.pool.states → SplitsAreWhole after.pool.states → AreEnded after.pool.states → IsEndTree case Obeys popped (Settled case cents) after
+settled-tree case Obeys best cents popped before after over borne kept drained one whole ended = record {
   one = one;
   whole = whole;
   ended = ended;
   each = λ number way few is. (
       let inside : number < length before.pool.states = omega (arith, few, drained.states) in
-      node-settled case best cents popped number (ranges_at case.book.lines way) (node_of before.nodes number) (node_of after.nodes number) (state_at before.pool.states number) (state_at after.pool.states number) over borne
+      node-settled case Obeys best cents popped number (ranges_at case.book.lines way) (node_of before.nodes number) (node_of after.nodes number) (state_at before.pool.states number) (state_at after.pool.states number) over borne
       (kept.none number inside) (kept.grown.each number way inside (way-before before after drained number way is)) (drained.each number inside));
 }
 
 -- ---- what the tree shows
-pub holds-bound : (case : CaseContents) (cents : ℕ) (popped : ℤ) (tree : TreeContents) (shape : Tree) (nodes : List TreeNode) → IsBook case.book → IsEndTree case popped (Settled case cents) tree → IsWritten case tree shape nodes → HoldsBound case nodes cents
-holds-bound case cents popped tree shape nodes limits is made = record {
-  proper = (well-written case popped (Settled case cents) tree shape nodes limits is made).proper;
+pub holds-bound : (case : CaseContents) (Obeys : List Interval → ℕ → ℕ → Type 0) (cents : ℕ) (popped : ℤ) (tree : TreeContents) (shape : Tree) (nodes : List TreeNode) → IsBook case.book → IsEndTree case Obeys popped (Settled case cents) tree → IsWritten case tree shape nodes → HoldsBound case nodes cents
+holds-bound case Obeys cents popped tree shape nodes limits is made = record {
+  proper = (well-written case Obeys popped (Settled case cents) tree shape nodes limits is made).proper;
   closed = subst (λ (ns : List TreeNode). All (λ p. is_weak case (Some (pos cents)) p ≡ false) (placed_nodes case.book ns)) (sym made.nodes_are)
       (all-placed case.book.lines (λ p. is_weak case (Some (pos cents)) p ≡ false) (ends_of case tree) shape (root_of case.book.lines) (ends-end case tree)
-      (all-at case popped (Settled case cents) (λ p. is_weak case (Some (pos cents)) p ≡ false) tree shape is made.shape_is (λ number ranges line at priced split tight. refl) (λ number ranges priced closed tight. closed) limits));
+      (all-at case Obeys popped (Settled case cents) (λ p. is_weak case (Some (pos cents)) p ≡ false) tree shape is made.shape_is (λ number ranges line at priced split tight. refl) (λ number ranges priced closed tight. closed) limits));
 }
 
 steps-most : (case : CaseContents) (cents : ℕ) (popped : ℤ) (ranges : List Interval) (own : SearchNode) → IsWorthAtMost cents popped → IsPriced case ranges own.priced → own.priced.bound ≤ℤ popped → AreStepsAtMost case cents ranges
@@ -226,12 +226,12 @@ end-needed case cents ranges own = by own.closing
     by (closing.Unreached day) = tt
     by closing.Point = tt
 
-pub needed-splits : (case : CaseContents) (cents : ℕ) (popped : ℤ) (tree : TreeContents) (shape : Tree) (nodes : List TreeNode) → IsBook case.book → IsWorthAtMost cents popped → IsEndTree case popped (Settled case cents) tree
+pub needed-splits : (case : CaseContents) (Obeys : List Interval → ℕ → ℕ → Type 0) (cents : ℕ) (popped : ℤ) (tree : TreeContents) (shape : Tree) (nodes : List TreeNode) → IsBook case.book → IsWorthAtMost cents popped → IsEndTree case Obeys popped (Settled case cents) tree
     → IsWritten case tree shape nodes → All (IsNeededSplit case cents) (placed_nodes case.book nodes)
-needed-splits case cents popped tree shape nodes limits most is made =
+needed-splits case Obeys cents popped tree shape nodes limits most is made =
     subst (λ (ns : List TreeNode). All (IsNeededSplit case cents) (placed_nodes case.book ns)) (sym made.nodes_are)
     (all-placed case.book.lines (IsNeededSplit case cents) (ends_of case tree) shape (root_of case.book.lines) (ends-end case tree)
-    (all-at case popped (Settled case cents) (IsNeededSplit case cents) tree shape is made.shape_is
+    (all-at case Obeys popped (Settled case cents) (IsNeededSplit case cents) tree shape is made.shape_is
     (λ number ranges line at priced split tight. steps-most case cents popped ranges (node_of tree.nodes number) most priced split.low)
     (λ number ranges priced closed tight. end-needed case cents ranges (node_of tree.nodes number)) limits))
 
@@ -251,22 +251,22 @@ root-split states number (step ∷ above) way = inr (elim (root-split states way
 ])
 
 -- at the root neither the base leaf nor any of its steps is worth more
-root-low : (case : CaseContents) (best : Option ℕ) (bound : ℤ) (tree : TreeContents) (s : State) → IsNodeAt case best bound 0 (root_of case.book.lines) (node_of tree.nodes 0) s
+root-low : (case : CaseContents) (Obeys : List Interval → ℕ → ℕ → Type 0) (best : Option ℕ) (bound : ℤ) (tree : TreeContents) (s : State) → IsNodeAt case Obeys best bound 0 (root_of case.book.lines) (node_of tree.nodes 0) s
     → ((s ≡ state.Waiting bound) ⊎ ((line : ℕ) × (at : ℕ) × (left : NodeId) × (right : NodeId) × (s ≡ state.Split line at left right))) → (node_of tree.nodes 0).priced.bound ≤ℤ bound
-root-low case best bound tree s here (inl waits) =
-    let stands = subst (IsAt case best bound 0 (root_of case.book.lines) (node_of tree.nodes 0)) waits here.stands in
+root-low case Obeys best bound tree s here (inl waits) =
+    let stands = subst (IsAt case Obeys best bound 0 (root_of case.book.lines) (node_of tree.nodes 0)) waits here.stands in
     omega (arith, ints, stands.0)
-root-low case best bound tree s here (inr split) =
-    let stands = subst (IsAt case best bound 0 (root_of case.book.lines) (node_of tree.nodes 0)) split.4 here.stands in
+root-low case Obeys best bound tree s here (inr split) =
+    let stands = subst (IsAt case Obeys best bound 0 (root_of case.book.lines) (node_of tree.nodes 0)) split.4 here.stands in
     stands.0.low
 
-pub root-steps : (case : CaseContents) (best : Option ℕ) (bound : ℤ) (cents : ℕ) (tree : TreeContents) → IsOneTree tree.pool.states → IsStuck case best bound tree.pool.states tree.nodes → IsWorthAtMost cents bound
+pub root-steps : (case : CaseContents) (Obeys : List Interval → ℕ → ℕ → Type 0) (best : Option ℕ) (bound : ℤ) (cents : ℕ) (tree : TreeContents) → IsOneTree tree.pool.states → IsStuck case Obeys best bound tree.pool.states tree.nodes → IsWorthAtMost cents bound
     → AreStepsAtMost case cents (root_of case.book.lines)
-root-steps case best bound cents tree one stuck most =
+root-steps case Obeys best bound cents tree one stuck most =
     let here = stuck.kept.grown.each 0 [] (omega (arith, one.some)) refl in
     let way = some-way tree.pool.states stuck.number one stuck.there in
     steps-most case cents bound (root_of case.book.lines) (node_of tree.nodes 0) most here.priced
-    (root-low case best bound tree (state_at tree.pool.states 0) here (elim (root-split tree.pool.states stuck.number way.0 way.1) [
+    (root-low case Obeys best bound tree (state_at tree.pool.states 0) here (elim (root-split tree.pool.states stuck.number way.0 way.1) [
       | inl root ↦ inl (ap (state_at tree.pool.states) (sym root) ∙ stuck.waits)
       | inr split ↦ inr split
     ]))
@@ -338,40 +338,41 @@ closed-there states number leaf closed = elim (cases_lt number (length states)) 
   | inr past ↦ absurd (let clash : state.InHand ≡ state.Closed leaf = sym (get_or_past states number state.InHand past) ∙ closed in cc)
 ]
 
-upper-part : (case : CaseContents) (popped : ℤ) (Closes : List Interval → SearchNode → Type 0) (tree : TreeContents) (stuck line at : ℕ) (shape : Tree) (number : ℕ) (way : List Step) → IsEndTree case popped Closes tree
-    → ((up : List Step) → IsWay tree.pool.states stuck up → IsHalvingSplit case (ranges_at case.book.lines up) line at)
+upper-part : (case : CaseContents) (Obeys : List Interval → ℕ → ℕ → Type 0) (popped : ℤ) (Closes : List Interval → SearchNode → Type 0) (tree : TreeContents) (stuck line at : ℕ) (shape : Tree) (number : ℕ) (way : List Step) → IsEndTree case Obeys popped Closes tree
+    → ((ranges : List Interval) (line at : ℕ) → Obeys ranges line at → IsHalvingSplit case ranges line at) → ((up : List Step) → IsWay tree.pool.states stuck up → Obeys (ranges_at case.book.lines up) line at)
     → IsTreeOf tree.pool.states number shape → IsWay tree.pool.states number way → IsUpperPart case (ranges_at case.book.lines way) (part_of stuck line at shape)
-upper-part case popped Closes tree stuck line at (TreeLeaf leaf) number way is halving shape_is way_is = by (leaf == stuck) refl
+upper-part case Obeys popped Closes tree stuck line at (TreeLeaf leaf) number way is halves obeys shape_is way_is = by (leaf == stuck) refl
   where
     own : leaf ≡ number
-    own = (subst (EndsAt case popped Closes number (ranges_at case.book.lines way) (node_of tree.nodes number)) shape_is
+    own = (subst (EndsAt case Obeys popped Closes number (ranges_at case.book.lines way) (node_of tree.nodes number)) shape_is
         (is.each number way (closed-there tree.pool.states number leaf shape_is) way_is).ends).0
 
     by : (b : Bool) → (leaf == stuck) ≡ b → IsUpperPart case (ranges_at case.book.lines way) (if b then Halved line at End End else End)
     by false other = tt
     by true same =
         let equal : number ≡ stuck = sym own ∙ grind (arith, nat_tests, same) in
-        let split = halving way (subst (λ (k : ℕ). IsWay tree.pool.states k way) equal way_is) in
+        let split = halves (ranges_at case.book.lines way) line at (obeys way (subst (λ (k : ℕ). IsWay tree.pool.states k way) equal way_is)) in
         (split.goes_on, split.halved, tt, tt)
-upper-part case popped Closes tree stuck line at (Split own_line own_at left right) number way is halving shape_is way_is =
+upper-part case Obeys popped Closes tree stuck line at (Split own_line own_at left right) number way is halves obeys shape_is way_is =
     let here = is.each number way (split-there tree.pool.states number own_line own_at shape_is.0 shape_is.1 shape_is.2) way_is in
-    let split : IsSplitNode case popped (ranges_at case.book.lines way) (node_of tree.nodes number).priced own_line own_at =
-    subst (EndsAt case popped Closes number (ranges_at case.book.lines way) (node_of tree.nodes number)) shape_is.2 here.ends in (
-      split.halving.goes_on,
-      split.halving.halved,
-      upper-part case popped Closes tree stuck line at left shape_is.0.0 (record { line = own_line; at = own_at; right = false } ∷ way) is halving shape_is.3 (left-way tree.pool.states number own_line own_at shape_is.0 shape_is.1 way shape_is.2 way_is),
-      upper-part case popped Closes tree stuck line at right shape_is.1.0 (record { line = own_line; at = own_at; right = true } ∷ way) is halving shape_is.4 (right-way tree.pool.states number own_line own_at shape_is.0 shape_is.1 way shape_is.2 way_is),
+    let split : IsSplitNode case Obeys popped (ranges_at case.book.lines way) (node_of tree.nodes number).priced own_line own_at =
+    subst (EndsAt case Obeys popped Closes number (ranges_at case.book.lines way) (node_of tree.nodes number)) shape_is.2 here.ends in
+    let halved = halves (ranges_at case.book.lines way) own_line own_at split.obeys in (
+      halved.goes_on,
+      halved.halved,
+      upper-part case Obeys popped Closes tree stuck line at left shape_is.0.0 (record { line = own_line; at = own_at; right = false } ∷ way) is halves obeys shape_is.3 (left-way tree.pool.states number own_line own_at shape_is.0 shape_is.1 way shape_is.2 way_is),
+      upper-part case Obeys popped Closes tree stuck line at right shape_is.1.0 (record { line = own_line; at = own_at; right = true } ∷ way) is halves obeys shape_is.4 (right-way tree.pool.states number own_line own_at shape_is.0 shape_is.1 way shape_is.2 way_is),
     )
 
-pub has-more : (case : CaseContents) (popped : ℤ) (Closes : List Interval → SearchNode → Type 0) (tree : TreeContents) (stuck line at : ℕ) (shape : Tree) (nodes : List TreeNode) → IsEndTree case popped Closes tree
+pub has-more : (case : CaseContents) (Obeys : List Interval → ℕ → ℕ → Type 0) (popped : ℤ) (Closes : List Interval → SearchNode → Type 0) (tree : TreeContents) (stuck line at : ℕ) (shape : Tree) (nodes : List TreeNode) → IsEndTree case Obeys popped Closes tree
     → IsWritten case tree shape nodes → stuck < length tree.pool.states → state_at tree.pool.states stuck ≡ state.Closed stuck
-    → ((up : List Step) → IsWay tree.pool.states stuck up → IsHalvingSplit case (ranges_at case.book.lines up) line at) → case.budget < length nodes + 2 → HasMoreNodes case case.budget
-has-more case popped Closes tree stuck line at shape nodes is made few closed halving full =
+    → ((ranges : List Interval) (line at : ℕ) → Obeys ranges line at → IsHalvingSplit case ranges line at) → ((up : List Step) → IsWay tree.pool.states stuck up → Obeys (ranges_at case.book.lines up) line at) → case.budget < length nodes + 2 → HasMoreNodes case case.budget
+has-more case Obeys popped Closes tree stuck line at shape nodes is made few closed halves obeys full =
     let way = some-way tree.pool.states stuck is.one few in
     let some = occurs-some case.book.lines tree.pool.states shape stuck way.0 made.shape_is way.1 closed in
     record {
       part = part_of stuck line at shape;
-      upper = upper-part case popped Closes tree stuck line at shape 0 [] is halving made.shape_is refl;
+      upper = upper-part case Obeys popped Closes tree stuck line at shape 0 [] is halves obeys made.shape_is refl;
       more = omega (arith, part-count stuck line at shape, some, full, made.count, nodes-all tree.pool.states shape is.one is.whole made.shape_is);
     }
 
@@ -379,23 +380,23 @@ has-more case popped Closes tree stuck line at shape nodes is made few closed ha
 drained-stuck : (number : ℕ) (key : ℤ) (s t : State) (own after : SearchNode) → s ≡ state.Waiting key → IsDrainedNode number s own t after → (t ≡ state.Closed number) × (after ≡ record own { closing = closing.Borne })
 drained-stuck number key s t own after is drained = subst (λ (u : State). IsDrainedNode number u own t after) is drained
 
-pub full-shows : (case : CaseContents) (best : Option ℕ) (bound : ℤ) (cents : ℕ) (before after : TreeContents) (shape : Tree) (nodes : List TreeNode) → IsFull case best bound before after → IsWritten case after shape nodes
-    → IsBoundOf bound cents → ShowsBound case best cents before nodes
-full-shows case best bound cents before after shape nodes full made is_bound = record {
+pub full-shows : (case : CaseContents) (Obeys : List Interval → ℕ → ℕ → Type 0) (best : Option ℕ) (bound : ℤ) (cents : ℕ) (before after : TreeContents) (shape : Tree) (nodes : List TreeNode) → IsFull case Obeys best bound before after → IsWritten case after shape nodes
+    → IsBoundOf bound cents → ShowsBound case Obeys best cents before nodes
+full-shows case Obeys best bound cents before after shape nodes full made is_bound = record {
   well = well;
   count = omega (arith, made.count, full.drained.states);
   holds = holds;
   greatest = λ more holds_more. is_bound.greatest more (subst (λ (b : ℤ). bears_out b (Some (pos more)) ≡ true) bound-same
       (node-bears case (Some (pos more)) after shape nodes stuck.number made borne (ap (λ (n : SearchNode). n.closing) at.1) holds_more.closed));
   no_rival = no-rival case cents nodes full.limits well holds;
-  needed = needed-splits case cents bound after shape nodes full.limits is_bound.most settled made;
-  root = root-steps case best bound cents before full.tree stuck is_bound.most;
+  needed = needed-splits case Obeys cents bound after shape nodes full.limits is_bound.most settled made;
+  root = root-steps case Obeys best bound cents before full.tree stuck is_bound.most;
   over = over;
-  larger = has-more case bound (Settled case cents) after stuck.number stuck.line stuck.at shape nodes settled made (omega (arith, stuck.there, full.drained.states)) at.0
-      (λ up up_is. stuck.halving up (way-before before after full.drained stuck.number up up_is)) (omega (arith, made.count, full.drained.states, full.full));
+  larger = λ halves. has-more case Obeys bound (Settled case cents) after stuck.number stuck.line stuck.at shape nodes settled made (omega (arith, stuck.there, full.drained.states)) at.0 halves
+      (λ up up_is. stuck.obeys up (way-before before after full.drained stuck.number up up_is)) (omega (arith, made.count, full.drained.states, full.full));
 }
   where
-    stuck : IsStuck case best bound before.pool.states before.nodes
+    stuck : IsStuck case Obeys best bound before.pool.states before.nodes
     stuck = full.stuck
 
     way : (w : List Step) × IsWay before.pool.states stuck.number w
@@ -407,14 +408,14 @@ full-shows case best bound cents before after shape nodes full made is_bound = r
     over : (own : ℕ) → best ≡ Some own → cents + case.allowance < own
     over own is = over-bound case bound cents own is_bound (subst (λ (b : Option ℕ). bears_out bound (claim_of_best case b) ≡ false) is not_borne)
 
-    settled : IsEndTree case bound (Settled case cents) after
-    settled = settled-tree case best cents bound before after over is_bound.borne stuck.kept full.drained full.one full.whole full.ended
+    settled : IsEndTree case Obeys bound (Settled case cents) after
+    settled = settled-tree case Obeys best cents bound before after over is_bound.borne stuck.kept full.drained full.one full.whole full.ended
 
     well : IsWell case nodes
-    well = well-written case bound (Settled case cents) after shape nodes full.limits settled made
+    well = well-written case Obeys bound (Settled case cents) after shape nodes full.limits settled made
 
     holds : HoldsBound case nodes cents
-    holds = holds-bound case cents bound after shape nodes full.limits settled made
+    holds = holds-bound case Obeys cents bound after shape nodes full.limits settled made
 
     at : (state_at after.pool.states stuck.number ≡ state.Closed stuck.number) × (node_of after.nodes stuck.number ≡ record (node_of before.nodes stuck.number) { closing = closing.Borne })
     at = drained-stuck stuck.number bound (state_at before.pool.states stuck.number) (state_at after.pool.states stuck.number) (node_of before.nodes stuck.number) (node_of after.nodes stuck.number) stuck.waits (full.drained.each stuck.number stuck.there)
@@ -422,7 +423,7 @@ full-shows case best bound cents before after shape nodes full made is_bound = r
     bound-same : (node_of after.nodes stuck.number).priced.bound ≡ bound
     bound-same =
         ap (λ (n : SearchNode). n.priced.bound) at.1
-        ∙ sym (subst (IsAt case best bound stuck.number (ranges_at case.book.lines way.0) (node_of before.nodes stuck.number)) stuck.waits (stuck.kept.grown.each stuck.number way.0 stuck.there way.1).stands).0
+        ∙ sym (subst (IsAt case Obeys best bound stuck.number (ranges_at case.book.lines way.0) (node_of before.nodes stuck.number)) stuck.waits (stuck.kept.grown.each stuck.number way.0 stuck.there way.1).stands).0
 
     after-way : (w : List Step) × IsWay after.pool.states stuck.number w
     after-way = some-way after.pool.states stuck.number full.one (omega (arith, stuck.there, full.drained.states))

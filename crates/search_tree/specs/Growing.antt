@@ -9,6 +9,8 @@ use Rattle.dual_tune.specs.Steps.{IsImproved}
 use Rattle.escrow_check.specs.Acceptance.{Claim, bears_out, is_closed_point, low_ends}
 use Rattle.halving_tree.specs.Base.{base_leaf, reach_leaf}
 use Rattle.halving_tree.specs.Halving.{IsHalved, is_end, is_unreached}
+use Rattle.halving_tree.specs.declared.rule.SplitRule.{SplitRule}
+use Rattle.halving_tree.specs.declared.rule.SplitRule.TheVariants as rules
 use Rattle.node_pool.specs.Pool.{IsInHand, NoneInHand, Waits, state_at}
 use Rattle.node_pool.specs.Way.{IsWay, Step, ranges_at}
 use Rattle.node_pool.specs.declared.node.State.{State}
@@ -68,19 +70,23 @@ pub record IsHalvingSplit (case : CaseContents) (ranges : List Interval) (line a
   pub goes_on : is_end case ranges ≡ false
   pub halved : IsHalved case.book.lines ranges line at
 
--- a split: it is proper, its node's bound isn't above the last one that was taken, and it is one of the halving tree
-pub record IsSplitNode (case : CaseContents) (popped : ℤ) (ranges : List Interval) (priced : Priced) (line at : ℕ) : Type 0 where
+-- what is known of the splits of a rule: those of the halving tree's rule are splits of that tree
+abbrev pub obeys : CaseContents → SplitRule → List Interval → ℕ → ℕ → Type 0
+obeys case rules.Halving ranges line at = IsHalvingSplit case ranges line at
+
+-- a split: it is proper, its node's bound isn't above the last one that was taken, and it obeys the rule of the search
+pub record IsSplitNode (case : CaseContents) (Obeys : List Interval → ℕ → ℕ → Type 0) (popped : ℤ) (ranges : List Interval) (priced : Priced) (line at : ℕ) : Type 0 where
   pub proper : is_proper ranges line at ≡ true
   pub few : line < length case.book.lines
   pub low : priced.bound ≤ℤ popped
-  pub halving : IsHalvingSplit case ranges line at
+  pub obeys : Obeys ranges line at
 
 -- what holds at a node's ranges, by its state, its number being given
-abbrev pub IsAt : CaseContents → Option ℕ → ℤ → ℕ → List Interval → SearchNode → State → Type 0
-IsAt case best popped number ranges node (state.Waiting key) = (key ≡ node.priced.bound) × (popped ≤ℤ key) × (node.closing ≡ closing.Open)
-IsAt case best popped number ranges node state.InHand = (node.priced.bound ≡ popped) × (node.closing ≡ closing.Open)
-IsAt case best popped number ranges node (state.Split line at left right) = IsSplitNode case popped ranges node.priced line at × (node.closing ≡ closing.Open)
-IsAt case best popped number ranges node (state.Closed leaf) = (leaf ≡ number) × IsClosedBy case best ranges node.priced.bound node.closing
+abbrev pub IsAt : CaseContents → (List Interval → ℕ → ℕ → Type 0) → Option ℕ → ℤ → ℕ → List Interval → SearchNode → State → Type 0
+IsAt case Obeys best popped number ranges node (state.Waiting key) = (key ≡ node.priced.bound) × (popped ≤ℤ key) × (node.closing ≡ closing.Open)
+IsAt case Obeys best popped number ranges node state.InHand = (node.priced.bound ≡ popped) × (node.closing ≡ closing.Open)
+IsAt case Obeys best popped number ranges node (state.Split line at left right) = IsSplitNode case Obeys popped ranges node.priced line at × (node.closing ≡ closing.Open)
+IsAt case Obeys best popped number ranges node (state.Closed leaf) = (leaf ≡ number) × IsClosedBy case best ranges node.priced.bound node.closing
 
 -- a node that stands for a number that isn't there
 abbrev pub no_node : SearchNode
@@ -89,42 +95,42 @@ no_node = record { priced = record { leaf = record { whole = true; mu = 0; price
 abbrev pub node_of : List SearchNode → ℕ → SearchNode
 node_of nodes number = slice_index_or nodes number no_node
 
-pub record IsNodeAt (case : CaseContents) (best : Option ℕ) (popped : ℤ) (number : ℕ) (ranges : List Interval) (node : SearchNode) (own : State) : Type 0 where
+pub record IsNodeAt (case : CaseContents) (Obeys : List Interval → ℕ → ℕ → Type 0) (best : Option ℕ) (popped : ℤ) (number : ℕ) (ranges : List Interval) (node : SearchNode) (own : State) : Type 0 where
   pub priced : IsPriced case ranges node.priced
-  pub stands : IsAt case best popped number ranges node own
+  pub stands : IsAt case Obeys best popped number ranges node own
 
 -- so it is at each node's ranges, which the way to the root gives
-pub record IsGrown (case : CaseContents) (best : Option ℕ) (popped : ℤ) (states : List State) (nodes : List SearchNode) : Type 0 where
+pub record IsGrown (case : CaseContents) (Obeys : List Interval → ℕ → ℕ → Type 0) (best : Option ℕ) (popped : ℤ) (states : List State) (nodes : List SearchNode) : Type 0 where
   pub same : length nodes ≡ length states
   pub each : (number : ℕ) (way : List Step) → number < length states → IsWay states number way
-      → IsNodeAt case best popped number (ranges_at case.book.lines way) (node_of nodes number) (state_at states number)
+      → IsNodeAt case Obeys best popped number (ranges_at case.book.lines way) (node_of nodes number) (state_at states number)
 
 -- a tree as a search keeps it between two nodes
-pub record IsKept (case : CaseContents) (best : Option ℕ) (popped : ℤ) (states : List State) (nodes : List SearchNode) : Type 0 where
-  pub grown : IsGrown case best popped states nodes
+pub record IsKept (case : CaseContents) (Obeys : List Interval → ℕ → ℕ → Type 0) (best : Option ℕ) (popped : ℤ) (states : List State) (nodes : List SearchNode) : Type 0 where
+  pub grown : IsGrown case Obeys best popped states nodes
   pub none : NoneInHand states
 
-abbrev pub HasGrown : CaseContents → Option ℕ → List State → List SearchNode → Type 0
-HasGrown case best states nodes = (popped : ℤ) × IsKept case best popped states nodes
+abbrev pub HasGrown : CaseContents → (List Interval → ℕ → ℕ → Type 0) → Option ℕ → List State → List SearchNode → Type 0
+HasGrown case Obeys best states nodes = (popped : ℤ) × IsKept case Obeys best popped states nodes
 
 -- a node in hand, the only one, whose bound no node that waits is below
-pub record IsPopped (case : CaseContents) (best : Option ℕ) (states : List State) (nodes : List SearchNode) (number : ℕ) : Type 0 where
-  pub grown : IsGrown case best (node_of nodes number).priced.bound states nodes
+pub record IsPopped (case : CaseContents) (Obeys : List Interval → ℕ → ℕ → Type 0) (best : Option ℕ) (states : List State) (nodes : List SearchNode) (number : ℕ) : Type 0 where
+  pub grown : IsGrown case Obeys best (node_of nodes number).priced.bound states nodes
   pub held : IsInHand states number
   pub others : (other : ℕ) → other < length states → state_at states other ≡ state.InHand → other ≡ number
 
 -- a node in hand, of the ranges at hand
-pub record IsHeld (case : CaseContents) (best : Option ℕ) (states : List State) (nodes : List SearchNode) (number : ℕ) (ranges : List Interval) : Type 0 where
-  pub popped : IsPopped case best states nodes number
+pub record IsHeld (case : CaseContents) (Obeys : List Interval → ℕ → ℕ → Type 0) (best : Option ℕ) (states : List State) (nodes : List SearchNode) (number : ℕ) (ranges : List Interval) : Type 0 where
+  pub popped : IsPopped case Obeys best states nodes number
   pub ranged : (way : List Step) → IsWay states number way → ranges ≡ ranges_at case.book.lines way
 
 -- a node waits which is to be split, and has the least bound of those that wait
-pub record IsStuck (case : CaseContents) (best : Option ℕ) (bound : ℤ) (states : List State) (nodes : List SearchNode) : Type 0 where
+pub record IsStuck (case : CaseContents) (Obeys : List Interval → ℕ → ℕ → Type 0) (best : Option ℕ) (bound : ℤ) (states : List State) (nodes : List SearchNode) : Type 0 where
   pub number : ℕ
   pub there : number < length states
   pub waits : Waits states number bound
-  pub kept : IsKept case best bound states nodes
+  pub kept : IsKept case Obeys best bound states nodes
   pub goes_on : (way : List Step) → IsWay states number way → GoesOn case best (ranges_at case.book.lines way) bound
   pub line : ℕ
   pub at : ℕ
-  pub halving : (way : List Step) → IsWay states number way → IsHalvingSplit case (ranges_at case.book.lines way) line at
+  pub obeys : (way : List Step) → IsWay states number way → Obeys (ranges_at case.book.lines way) line at

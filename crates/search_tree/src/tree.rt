@@ -69,7 +69,10 @@ impl SearchTree {
         ensures none { IsNone result → NoneWaits self.old.pool.states × (self.new ≡ self.old) }
         ensures some { IfSome result (λ node. IsLeast self.old.pool.states node.0 × (self.new ≡ record self.old { pool = pool_with self.old.pool node.0 state.InHand })) }
         ensures in_hand { IfSome result (λ node. IsInHand self.new.pool.states node.0) }
+        ensures one { IsOneTree self.old.pool.states }
     {
+        // The nodes of a pool are one tree.
+        prove!(self.pool.count() > 0);
         self.pool.pop_least()
     }
 
@@ -99,6 +102,7 @@ impl SearchTree {
         self.nodes[node.0 as usize].closing = closing;
         self.pool.close(node, node.0);
     }
+
     /// Lets a node in hand wait again, by its bound.
     pub fn put_back(&mut self, node: NodeId)
         requires { IsInHand self.old.pool.states node.0 }
@@ -140,6 +144,7 @@ impl SearchTree {
         ensures drained { IsDrained self.old self.new }
         ensures capacity { self.new.pool.capacity ≡ self.old.pool.capacity }
     {
+        // What the tree keeps is known where its fields are used.
         let _ = &self.pool;
         while let Some(node) = self.pop() {
             self.close(node, Closing::Borne);
