@@ -1,0 +1,3 @@
+pub mod DateFacts
+pub mod LengthFacts
+pub mod RowFacts
