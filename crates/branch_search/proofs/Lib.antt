@@ -1,5 +1,12 @@
+mod BestFacts
+mod EndFacts
+mod EndPlans
 pub mod FoundFacts
+mod GapFacts
+mod GrowthFacts
+mod NoneFacts
+mod PartFacts
 pub mod PlanBuys
-pub mod RootFacts
-pub mod BestFacts
-pub mod PlainFacts
+mod ResultFacts
+mod SpentFacts
+mod TakeFacts

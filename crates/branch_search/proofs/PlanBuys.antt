@@ -158,7 +158,7 @@ plan-again book plan permitted =
     one-plan book (purchases_of plan) (plan_of book (purchases_of plan)) plan (plan-buys book (purchases_of plan) rises none) (plan-bought book plan permitted)
 
 -- ---- their sizes
-most-small : (settle : ℤ) (line : Line) → IsLine settle line → line.most ≤ 10 ^ 13
+pub most-small : (settle : ℤ) (line : Line) → IsLine settle line → line.most ≤ 10 ^ 13
 most-small settle line (inl cash) = omega (arith, cash.most)
 most-small settle line (inr security) = omega (arith, mul-le-mul_left line.most security.step_at_least, security.cap)
 

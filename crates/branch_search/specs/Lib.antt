@@ -1,5 +1,7 @@
 pub mod Accepted
+pub mod Growth
+pub mod Parts
 pub mod Plain
+pub mod Plans
 pub mod Purchases
-pub mod Root
 pub mod Search

@@ -1,5 +1,5 @@
 -- A portfolio as the purchases of a certificate.
-use Rattle.std.specs.Prelude.{ℕ, ◌+◌, nat_lt, if◌then◌else◌, List, [], ◌∷◌, Some}
+use Rattle.std.specs.Prelude.{ℕ, ◌+◌, nat_lt, if◌then◌else◌, List, [], ◌∷◌, None, Some}
 use Rattle.bound_certificate.specs.declared.certificate.Buy.{Buy}
 use Rattle.bound_certificate.specs.declared.certificate.Certificate.{Certificate}
 use Rattle.dual_bound.specs.declared.tree.TreeNode.{TreeNode}
@@ -16,3 +16,7 @@ purchases_of plan = purchases_from 0 plan
 -- the certificate of a portfolio, with a gap and a tree
 abbrev pub certificate_of : List ℕ → List TreeNode → ℕ → Certificate
 certificate_of plan nodes gap = record { buys = Some (purchases_of plan); gap = gap; nodes = nodes }
+
+-- the certificate of a tree without a portfolio
+abbrev pub certificate_of_none : List TreeNode → Certificate
+certificate_of_none nodes = record { buys = None; gap = 0; nodes = nodes }

@@ -1,42 +1,31 @@
--- What a search finds, and where the root of its tree alone doesn't settle a case. The search is this project's own.
-use Rattle.std.specs.Prelude.{◌≡◌, ◌⊎◌, ℕ, ◌-◌, ◌<◌, ◌≤◌, false, true, List, [], ◌∷◌, length, Ok, Some}
+-- What a search comes to: a portfolio with a tree that shows how much cheaper others can be; a tree that shows that there is no rival;
+-- or, where its budget is spent, a tree and the bound that it shows. The search is this project's own.
+use Rattle.std.specs.Prelude.{◌≡◌, ℕ, ◌+◌, ◌<◌, ◌≤◌, false, true, List, All, length, Option, Ok, Some, None, IfSome, MatchOption}
 use Rattle.backward_build.specs.BackwardPlan.{backward_plan}
 use Rattle.backward_build.specs.Trim.{HasNoMore, IsTrimmed}
-use Rattle.bound_certificate.specs.Certificate.{IsWellFormed}
+use Rattle.bound_certificate.specs.Certificate.{IsNode, IsWellFormed}
 use Rattle.case_file.specs.Case.{CaseContents}
 use Rattle.cash_table.specs.First.{first_short_of}
 use Rattle.cash_table.specs.Points.{is_within_limit}
 use Rattle.cash_table.specs.Reach.{AreAllShort, IsInReach, plan_of_most}
 use Rattle.dual_bound.specs.Ranges.{root_of}
-use Rattle.dual_bound.specs.declared.tree.Leaf.{Leaf}
+use Rattle.dual_bound.specs.Tree.{AreTrees}
 use Rattle.dual_bound.specs.declared.tree.TreeNode.{TreeNode}
-use Rattle.dual_bound.specs.declared.tree.TreeNode.TheVariants as node
-use Rattle.dual_tune.specs.Steps.{IsImproved}
+use Rattle.escrow_check.specs.Acceptance.{placed_nodes}
 use Rattle.escrow_check.specs.Reasons.{IsSoundTree, IsUnopposed}
-use Rattle.halving_tree.specs.Base.{base_leaf}
+use Rattle.halving_tree.specs.Halving.{HasMoreNodes}
 use Rattle.offer_book.specs.Book.{BookContents}
 use Rattle.offer_book.specs.Portfolio.{IsPermitted, Meets, cost}
-use Rattle.branch_search.specs.Purchases.{certificate_of}
+use Rattle.offer_book.specs.Rival.{IsRival}
+use Rattle.search_tree.specs.Shows.{AreStepsAtMost, HoldsBound, IsNeededSplit, IsNoPlan, IsRaised}
+use Rattle.branch_search.specs.Purchases.{certificate_of, certificate_of_none}
 use Rattle.branch_search.specs.declared.found.SearchEnd.{SearchEnd}
 use Rattle.branch_search.specs.declared.found.SearchEnd.TheVariants as ended
+use Rattle.branch_search.specs.declared.found.Spent.{Spent}
 
--- a portfolio with a gap and a tree, as a certificate that is accepted; and no smaller gap is supported by the tree
-pub record IsFound (case : CaseContents) (plan : List ℕ) (nodes : List TreeNode) (gap : ℕ) : Type 0 where
-  pub permitted : IsPermitted case.book plan
-  pub meets : Meets case.book plan
-  pub within : is_within_limit case.limit case.book plan ≡ true
-  pub well_formed : IsWellFormed (length case.book.needs) (certificate_of plan nodes gap)
-  pub unopposed : IsUnopposed case (certificate_of plan nodes gap)
-  pub least : (less : ℕ) → less < gap → ¬ IsSoundTree case (certificate_of plan nodes less)
-
--- ---- the leaf at the root
--- a leaf at the root is the base leaf, improved over the root's ranges, one unit of yield below the limit
-abbrev pub IsRootLeaf : ℕ → BookContents → Leaf → Type 0
-IsRootLeaf limit book leaf = IsImproved (limit - 1) book (root_of book.lines) (base_leaf book) leaf
-
--- the tree of the root alone: one leaf
-abbrev pub leaf_alone : Leaf → List TreeNode
-leaf_alone leaf = node.Closed leaf ∷ []
+-- the case that a search is of
+abbrev pub searched : BookContents → ℕ → ℕ → ℕ → CaseContents
+searched book limit allowance budget = record { book = book; limit = limit; allowance = allowance; budget = budget }
 
 -- ---- the backward plan and the one that it is trimmed to
 -- a plan to which another is trimmed: it costs no more, and no line of it can go down alone
@@ -58,41 +47,74 @@ pub record HoldsOfBoth (Holds : List ℕ → Type 0) (book : BookContents) (buil
 abbrev pub OfBackward : (List ℕ → Type 0) → BookContents → Type 0
 OfBackward Holds book = (built : List ℕ) → backward_plan book ≡ Ok built → HoldsOfBoth Holds book built
 
--- ---- what is found at the root, and what isn't
--- a plan costs no more than another, where that one is within the limit
-abbrev pub CostsNoMore : ℕ → BookContents → List ℕ → List ℕ → Type 0
-CostsNoMore limit book plan other = is_within_limit limit book other ≡ true → cost book plan ≤ cost book other
+-- another plan costs no less than so much, where it is within the limit
+abbrev pub CostsNoLess : ℕ → BookContents → ℕ → List ℕ → Type 0
+CostsNoLess limit book cents other = is_within_limit limit book other ≡ true → cents ≤ cost book other
 
--- what is found at the root: the tree is its leaf, and the plan costs no more than the backward plan and one that it is trimmed to,
--- each where it is within the limit
-pub record IsFoundAtRoot (case : CaseContents) (plan : List ℕ) (nodes : List TreeNode) : Type 0 where
-  pub leaf : Leaf
-  pub root : IsRootLeaf case.limit case.book leaf
-  pub tree : nodes ≡ leaf_alone leaf
-  pub no_dearer : OfBackward (CostsNoMore case.limit case.book plan) case.book
+-- what the best plan costs is no more than the backward plan and one that it is trimmed to; without one, both are beyond the limit
+abbrev pub IsNoDearerThanBackward : ℕ → BookContents → Option ℕ → Type 0
+IsNoDearerThanBackward limit book None = OfBackward (λ plan. is_within_limit limit book plan ≡ false) book
+IsNoDearerThanBackward limit book (Some cents) = OfBackward (CostsNoLess limit book cents) book
 
--- a tree supports no gap that is allowed
-abbrev pub HasNoGap : CaseContents → List ℕ → List TreeNode → Type 0
-HasNoGap case plan nodes = (gap : ℕ) → gap ≤ case.allowance → ¬ IsSoundTree case (certificate_of plan nodes gap)
+-- ---- what is found
+-- a portfolio with a gap and a tree, as a certificate that is accepted; and no smaller gap is supported by the tree
+pub record IsFound (case : CaseContents) (plan : List ℕ) (nodes : List TreeNode) (gap : ℕ) : Type 0 where
+  pub permitted : IsPermitted case.book plan
+  pub meets : Meets case.book plan
+  pub within : is_within_limit case.limit case.book plan ≡ true
+  pub well_formed : IsWellFormed (length case.book.needs) (certificate_of plan nodes gap)
+  pub unopposed : IsUnopposed case (certificate_of plan nodes gap)
+  pub least : (less : ℕ) → less < gap → ¬ IsSoundTree case (certificate_of plan nodes less)
 
--- a plan doesn't settle a case with a leaf: it is beyond the limit, or the leaf supports no gap that is allowed
-abbrev pub IsLeftOpen : CaseContents → Leaf → List ℕ → Type 0
-IsLeftOpen case leaf plan = (is_within_limit case.limit case.book plan ≡ false) ⊎ HasNoGap case plan (leaf_alone leaf)
+-- how it is found: the tree keeps the budget, its leaves are raised, and the portfolio costs no more than the backward plan and one
+-- that it is trimmed to, each where it is within the limit
+pub record IsFoundBy (case : CaseContents) (plan : List ℕ) (nodes : List TreeNode) : Type 0 where
+  pub in_reach : IsInReach case.book
+  pub few : length nodes ≤ case.budget
+  pub raised : All (IsRaised case) (placed_nodes case.book nodes)
+  pub no_dearer : OfBackward (CostsNoLess case.limit case.book (cost case.book plan)) case.book
 
--- the root alone doesn't settle a case: with its leaf, neither the backward plan does nor one that it is trimmed to. How cheap another
--- plan is, if one was found, isn't said
-pub record IsOpenAtRoot (case : CaseContents) : Type 0 where
-  pub leaf : Leaf
-  pub root : IsRootLeaf case.limit case.book leaf
-  pub left_open : OfBackward (IsLeftOpen case leaf) case.book
+-- ---- no rival
+-- a tree that shows that there is no rival: as a certificate without a portfolio it is accepted. The backward plan and one that it is
+-- trimmed to are beyond the limit, and so is, or is short, the portfolio of each point
+pub record IsNoneFound (case : CaseContents) (nodes : List TreeNode) : Type 0 where
+  pub in_reach : IsInReach case.book
+  pub well_formed : IsWellFormed (length case.book.needs) (certificate_of_none nodes)
+  pub unopposed : IsUnopposed case (certificate_of_none nodes)
+  pub few : length nodes ≤ case.budget
+  pub beyond : OfBackward (λ plan. is_within_limit case.limit case.book plan ≡ false) case.book
+  pub points : All (IsNoPlan case) (placed_nodes case.book nodes)
 
--- the case that a search is of
-abbrev pub searched : BookContents → ℕ → ℕ → ℕ → CaseContents
-searched book limit allowance budget = record { book = book; limit = limit; allowance = allowance; budget = budget }
+-- ---- a budget that is spent
+-- a plan that can be bought within the limit, and costs more than the bound by more than the allowance
+pub record IsOverBound (case : CaseContents) (cents : ℕ) (plan : List ℕ) : Type 0 where
+  pub permitted : IsPermitted case.book plan
+  pub meets : Meets case.book plan
+  pub within : is_within_limit case.limit case.book plan ≡ true
+  pub over : cents + case.allowance < cost case.book plan
 
--- when each end comes: no permitted portfolio meets the needs, which shows first on this day; or one does, and the root alone
--- doesn't settle the case. Want of memory may come at any time
+-- what stands then: a tree with as many nodes as the budget has room for, the greatest bound that it holds, and the best plan. Each
+-- split was needed; so is a greater budget, as the halving tree has more nodes
+pub record IsSpent (case : CaseContents) (spent : Spent) : Type 0 where
+  pub in_reach : IsInReach case.book
+  pub trees : AreTrees 1 spent.tree
+  pub nodes : All (IsNode (length case.book.needs)) spent.tree
+  pub few : length spent.tree ≤ case.budget
+  pub full : case.budget < length spent.tree + 2
+  pub holds : HoldsBound case spent.tree spent.bound.0
+  pub greatest : (more : ℕ) → HoldsBound case spent.tree more → more ≤ spent.bound.0
+  pub no_rival : (rival : List ℕ) → IsRival case.limit case.book rival → spent.bound.0 ≤ cost case.book rival
+  pub raised : All (IsRaised case) (placed_nodes case.book spent.tree)
+  pub needed : All (IsNeededSplit case spent.bound.0) (placed_nodes case.book spent.tree)
+  pub root : AreStepsAtMost case spent.bound.0 (root_of case.book.lines)
+  pub best : IfSome spent.best (IsOverBound case spent.bound.0)
+  pub no_dearer : MatchOption spent.best (IsNoDearerThanBackward case.limit case.book None) (λ plan. IsNoDearerThanBackward case.limit case.book (Some (cost case.book plan)))
+  pub larger : HasMoreNodes case case.budget
+
+-- when each end comes: no permitted portfolio meets the needs, which shows first on this day; there is no rival; or the budget is
+-- spent. Want of memory may come at any time
 abbrev pub EndsOf : CaseContents → SearchEnd → Type 0
 EndsOf case (ended.Short day) = (first_short_of case.book (plan_of_most case.book) ≡ Some day) × AreAllShort case.book day
-EndsOf case ended.RootOnly = IsInReach case.book × IsOpenAtRoot case
+EndsOf case (ended.NoneWithinYield nodes) = IsNoneFound case nodes
+EndsOf case (ended.BudgetSpent spent) = IsSpent case spent
 EndsOf case ended.NoMemory = Unit {0}

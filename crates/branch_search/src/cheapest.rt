@@ -5,7 +5,7 @@ ghost use Rattle.backward_build.specs.BackwardPlan.{backward_plan};
 ghost use Rattle.backward_build.specs.declared.backward.BuildEnd.{BuildEnd as BuildFault};
 ghost use Rattle.offer_book.specs.Portfolio.{IsPermitted, cost as cost_of};
 ghost use Rattle.plan_finder.specs.Proposal.{IsProposal};
-ghost use Rattle.branch_search.specs.Root.{HasNone, IsBest, IsBuilt};
+ghost use Rattle.branch_search.specs.Plans.{HasNone, IsBest, IsBuilt};
 
 use crate::taken::taken;
 use backward_build::{BuildEnd, build, trim};

@@ -4,7 +4,7 @@ use crate::purchases::purchases_of;
 use bound_certificate::{Certificate, Nodes};
 use cash_table::Plan;
 use escrow_desk::NoMemory;
-use escrow_units::Day;
+use escrow_units::{Cents, Day};
 use offer_book::Book;
 use std::alloc::{AllocError, Global};
 
@@ -41,13 +41,26 @@ impl Found {
     }
 }
 
-/// Why a search found no portfolio.
-#[derive(Clone, Copy, Debug, PartialEq, Eq)]
+/// What stands where the budget of a search is spent: its tree, and what that shows.
+#[derive(Drop)]
+pub struct Spent {
+    /// The tree, in preorder.
+    pub tree: Nodes,
+    /// What no rival costs less than, in cents: the greatest number that the tree bears out.
+    pub bound: Cents,
+    /// The best plan that was found, if any.
+    pub best: Option<Plan>,
+}
+
+/// Why a search found no portfolio with a gap that is allowed.
+#[derive(Drop)]
 pub enum SearchEnd {
     /// No permitted portfolio meets the needs: the first day on which all lines at their most are short.
     Short(Day),
-    /// The root of the tree alone doesn't settle the case.
-    RootOnly,
+    /// There is no rival, as the tree shows.
+    NoneWithinYield(Nodes),
+    /// The tree has as many nodes as it may, and bears out no gap that is allowed.
+    BudgetSpent(Spent),
     /// Memory ran out.
     NoMemory,
 }

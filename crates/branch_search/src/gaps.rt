@@ -1,14 +1,13 @@
-//! The least gap that a bound supports, and the greatest cost that it supports with a gap.
+//! The least gap that a bound or a tree supports, and the greatest cost that a bound supports with a gap.
 
-ghost use Rattle.std.specs.Prelude.{◌≡◌, ◌⊎◌, ℕ, ◌*◌, ◌^◌, ◌<◌, ◌≤◌, true, Some, pos, ◌-ℤ◌, unsigned_abs};
+ghost use Rattle.std.specs.Prelude.{All, ◌≡◌, ◌⊎◌, ℕ, length, ◌*◌, ◌^◌, ◌<◌, ◌≤◌, true, Some, pos, ◌-ℤ◌, unsigned_abs};
 ghost use Rattle.escrow_check.specs.Acceptance.{bears_out};
+ghost use Rattle.search_tree.specs.Tree.{IsBorneBy, IsLeastGap, IsNeededFor};
 
-use dual_bound::PRICE_SCALE;
+use crate::best::COST_SCALE;
 use escrow_units::{AMOUNT_LIMIT, Cents};
-use offer_book::COEFFICIENT_SCALE;
-
-// A cent of cost, as a bound weighs it.
-const COST_SCALE: i128 = COEFFICIENT_SCALE as i128 * PRICE_SCALE as i128;
+use node_pool::NodeId;
+use search_tree::{Closing, SearchNode, SearchTree};
 
 /// The least gap, in cents, with which a bound bears out a cost: what the cost is above the bound, in whole cents.
 pub(crate) fn least_gap(bound: i128, cost: Cents) -> u64
@@ -39,4 +38,32 @@ pub(crate) fn greatest_cost(bound: i128, allowance: Cents) -> Cents
         let below = ((0 - bound) as u128 / COST_SCALE as u128) as u64;
         Cents(allowance.0.saturating_sub(below))
     }
+}
+
+// The greater of a gap and the least one with which a node's leaf, where that closes it, bears out a cost.
+fn greater_gap(gap: u64, node: &SearchNode, cost: Cents) -> u64
+    requires cost { cost.0 ≤ 91 * 10 ^ 12 }
+    requires bound { unsigned_abs node.now.priced.bound < 10 ^ 37 }
+    ensures no_less { gap ≤ result }
+    ensures borne { IsBorneBy node.now cost.0 result }
+    ensures least { (result ≡ gap) ⊎ IsNeededFor node.now cost.0 result }
+{
+    if node.closing != Closing::Borne {
+        return gap;
+    }
+    let own = least_gap(node.priced.bound, cost);
+    if gap < own { own } else { gap }
+}
+
+/// The least gap, in cents, with which each leaf that closes its own node bears out what a plan costs.
+pub(crate) fn tree_gap(tree: &SearchTree, cost: Cents) -> u64
+    requires cost { cost.0 ≤ 91 * 10 ^ 12 }
+    requires bounds { All (λ own. unsigned_abs own.priced.bound < 10 ^ 37) tree.now.nodes }
+    ensures { IsLeastGap tree.now.nodes (length tree.now.nodes) cost.0 result }
+{
+    let mut gap = 0;
+    for number in 0..tree.count() {
+        gap = greater_gap(gap, tree.node(NodeId(number)), cost);
+    }
+    gap
 }

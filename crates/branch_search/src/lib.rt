@@ -1,20 +1,21 @@
 //! The search for the cheapest permitted purchases, with a tree that shows how much cheaper others can be.
 #![tactic(auto)]
 
+mod best;
 mod cheapest;
-mod closing;
+mod ends;
 mod found;
 mod gaps;
+mod growing;
 mod laws;
+mod parts;
 mod purchases;
-mod root;
-mod root_leaf;
-mod starting;
+mod searching;
 mod taken;
 #[cfg(test)]
 mod tests;
 
-pub use found::{Found, SearchEnd};
+pub use found::{Found, SearchEnd, Spent};
 pub use laws::{found_laws, settled_laws};
 pub use purchases::purchases_of;
-pub use root::search;
+pub use searching::search;

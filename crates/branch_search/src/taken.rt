@@ -2,7 +2,7 @@
 
 ghost use Rattle.std.specs.Prelude.{IfOk, MatchOption};
 ghost use Rattle.offer_book.specs.Portfolio.{IsPermitted};
-ghost use Rattle.branch_search.specs.Root.{AreBeyond, IsTaken};
+ghost use Rattle.branch_search.specs.Plans.{AreBeyond, IsTaken};
 
 use cash_table::{Plan, within_limit};
 use escrow_desk::NoMemory;

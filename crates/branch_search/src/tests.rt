@@ -1,11 +1,12 @@
 //! Worked figures.
 ghost use Rattle.std.specs.Prelude.{◌≡◌, IfOk};
 ghost use Rattle.case_file.specs.Case.{HasTerms, case_view};
-ghost use Rattle.branch_search.specs.Search.{IsFound};
+ghost use Rattle.branch_search.specs.Search.{EndsOf, IsFound};
 
 use crate::{Found, SearchEnd, found_laws, search};
 use bound_certificate::{Buy, write_cert};
 use case_file::{Case, read_case};
+use cash_table::cost;
 use escrow_check::{Verdict, check};
 use escrow_desk::FILE_LIMIT;
 use escrow_units::Day;
@@ -21,7 +22,15 @@ enum Told {
         cost: u64,
         gap: u64,
     },
-    Ended(SearchEnd),
+    Short(Day),
+    None {
+        nodes: usize,
+    },
+    Spent {
+        nodes: usize,
+        bound: u64,
+        best: Option<u64>,
+    },
 }
 
 // Files, and what their case comes to.
@@ -33,6 +42,9 @@ struct Row {
 }
 
 const RATES_A: &[u8] = b"terms,1000,100\noffer,2025-04-15,0.00,,10000\n";
+
+const RATES_C: &[u8] =
+    b"terms,1000,1\nrate,2025-02-14,2026-01-15,4.00\noffer,2026-01-15,max,,10000\n";
 
 const RATES_D: &[u8] =
     b"terms,1000,1\nrate,2025-02-14,2026-01-15,4.00\noffer,2025-07-15,max,,10000000\noffer,2026-01-15,max,,10000000\n";
@@ -76,11 +88,22 @@ fn is_found(
     Ok(())
 }
 
-fn is_ended(rt: &impl Abort, end: SearchEnd, told: &Told) -> Result<(), Fail> {
-    let Told::Ended(expected) = told else {
-        return Err(Fail::new("not found"));
-    };
-    assert_eq!(rt; end, *expected);
+// What a search without a portfolio comes to, as expected.
+fn is_ended(rt: &impl Abort, case: &Case, end: SearchEnd, told: &Told) -> Result<(), Fail>
+    requires ended { EndsOf (case_view case.now) end }
+{
+    match (end, told) {
+        (SearchEnd::Short(day), Told::Short(expected)) => assert_eq!(rt; day, *expected),
+        (SearchEnd::NoneWithinYield(tree), Told::None { nodes }) => {
+            assert_eq!(rt; tree.as_slice().len(), *nodes);
+        }
+        (SearchEnd::BudgetSpent(spent), Told::Spent { nodes, bound, best }) => {
+            assert_eq!(rt; spent.tree.as_slice().len(), *nodes);
+            assert_eq!(rt; spent.bound.0, *bound);
+            assert_eq!(rt; spent.best.map(|plan| cost(&case.book, &plan).0), *best);
+        }
+        _ => return Err(Fail::new("another end")),
+    }
     Ok(())
 }
 
@@ -88,13 +111,13 @@ fn try_row(rt: &impl Abort, alloc: Global, row: &Row) -> Result<(), Fail> {
     let case = case_of(rt, alloc, row)?;
     match search(alloc, &case.book, case.limit, case.allowance, case.budget) {
         Ok(found) => is_found(rt, alloc, &case, found, &row.told),
-        Err(end) => is_ended(rt, end, &row.told),
+        Err(end) => is_ended(rt, &case, end, &row.told),
     }
 }
 
 // Of an offer without interest, of two offers at the greatest rate, and of cash alone.
 #[test]
-fn cases_close_at_the_root_or_end(rt: HostRuntime) -> Result<(), Fail> {
+fn cases_close_or_end(rt: HostRuntime) -> Result<(), Fail> {
     found_laws();
     let rows = [
         Row {
@@ -146,16 +169,43 @@ fn cases_close_at_the_root_or_end(rt: HostRuntime) -> Result<(), Fail> {
                 gap: 1,
             },
         },
+        // one node shows less than a whole dollar; the rest shows where both sides are a dollar apart
         Row {
-            issue: b"settle,2025-01-15\nneed,2026-01-15,1041.03\nrestricted,5.00\n",
-            rates: RATES_D,
-            told: Told::Ended(SearchEnd::RootOnly),
+            issue: b"settle,2025-01-15\nneed,2026-01-15,1041.03\nrestricted,5.00\nbudget,1\n",
+            rates: RATES_C,
+            told: Told::Spent {
+                nodes: 1,
+                bound: 100_099,
+                best: Some(100_100),
+            },
         },
-        // a yield above the limit
         Row {
-            issue: b"settle,2025-01-15\nneed,2026-01-15,1041.03\nrestricted,3.00\nallowance,0.01\n",
-            rates: RATES_D,
-            told: Told::Ended(SearchEnd::RootOnly),
+            issue: b"settle,2025-01-15\nneed,2026-01-15,1041.03\nrestricted,5.00\nbudget,27\n",
+            rates: RATES_C,
+            told: Told::Found {
+                buys: &[Buy {
+                    line: 1,
+                    units: 1_001,
+                }],
+                cost: 100_100,
+                gap: 0,
+            },
+        },
+        // what is cheapest yields too much
+        Row {
+            issue: b"settle,2025-01-15\nneed,2025-07-15,2030.00\nrestricted,3.00\nbudget,100\n",
+            rates: b"terms,1000,1000\nrate,2025-02-14,2026-01-15,4.00\noffer,2025-04-15,0.00,,3000\noffer,2025-07-15,4.00,,2000\n",
+            told: Told::Found {
+                buys: &[Buy { line: 1, units: 2 }, Buy { line: 2, units: 1 }],
+                cost: 300_000,
+                gap: 0,
+            },
+        },
+        // everything yields too much
+        Row {
+            issue: b"settle,2025-01-15\nneed,2025-07-15,1000.00\nrestricted,3.00\n",
+            rates: b"terms,1000,1000\nrate,2025-02-14,2026-01-15,4.00\noffer,2025-07-15,4.00,,2000\n",
+            told: Told::None { nodes: 5 },
         },
         // nothing matures on the need date, so that there is no backward plan
         Row {
@@ -170,7 +220,7 @@ fn cases_close_at_the_root_or_end(rt: HostRuntime) -> Result<(), Fail> {
         Row {
             issue: b"settle,2025-01-15\ncash,50.00\nneed,2025-01-20,100.00\nrestricted,4.00\n",
             rates: b"",
-            told: Told::Ended(SearchEnd::Short(Day::new(20_108))),
+            told: Told::Short(Day::new(20_108)),
         },
     ];
     for row in &rows {

@@ -1,5 +1,5 @@
 -- What an answer over the named files means.
-use Rattle.std.proofs.Common.{◌≡◌, ◌∙◌, ℕ, List, [], Option, Some, None, Result, Ok, Err, true, false, refl, sym, ap}
+use Rattle.std.proofs.Common.{◌≡◌, ◌∙◌, ℕ, List, [], Option, Some, None, Result, Ok, Err, refl, sym, ap}
 use Rattle.std.specs.Prelude.{IfOk, IsSomeAnd, option_and_then, is_ok, if◌then◌else◌}
 use Rattle.escrow_desk.specs.Content.{Content, Told, file_of, SaidAll, SaidPart}
 use Rattle.escrow_desk.specs.Rows.{rows_of}

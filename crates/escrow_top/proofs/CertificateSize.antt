@@ -1,5 +1,5 @@
 -- How long the text of a certificate can be: it is within the limit of its file.
-use Rattle.std.proofs.Common.{◌≡◌, ℕ, zero, suc, ◌+◌, ◌*◌, ◌^◌, ◌<◌, ◌≤◌, if◌then◌else◌, true, false, Bool, List, [], ◌∷◌, ◌++◌, length, map, Option, Some, None, refl, ap, ◌∙◌, arith, decimal}
+use Rattle.std.proofs.Common.{◌≡◌, ℕ, zero, suc, ◌+◌, ◌*◌, ◌^◌, ◌<◌, ◌≤◌, if◌then◌else◌, true, false, Bool, List, [], ◌∷◌, ◌++◌, length, map, Option, Some, None, ap, ◌∙◌, arith, decimal}
 use Rattle.std.specs.List.{All, flat_map}
 use Rattle.std.specs.Prelude.{codes}
 use Rattle.std.proofs.lemmas.Fmt.{length-decimal-le}
@@ -12,7 +12,7 @@ use Rattle.dual_bound.specs.Tree.{AreTrees, IsLeaf}
 use Rattle.dual_bound.specs.declared.tree.Leaf.{Leaf}
 use Rattle.dual_bound.specs.declared.tree.TreeNode.{TreeNode}
 use Rattle.dual_bound.specs.declared.tree.TreeNode.TheVariants as node
-use Rattle.bound_certificate.specs.Certificate.{AreBuys, IsBuy, IsNode, IsPortfolio, IsWellFormed}
+use Rattle.bound_certificate.specs.Certificate.{IsBuy, IsNode, IsPortfolio, IsWellFormed}
 use Rattle.bound_certificate.specs.Text.{Count, End, Gap, Line, Node, Portfolio, Purchase, Title, line_text, numbered, portfolio_lines, spaced_numbers, text_of}
 use Rattle.bound_certificate.specs.declared.certificate.Buy.{Buy}
 use Rattle.bound_certificate.specs.declared.certificate.Certificate.{Certificate}

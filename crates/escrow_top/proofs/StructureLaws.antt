@@ -1,17 +1,18 @@
 -- What `structure` puts out, proved.
-use Rattle.std.proofs.Common.{◌≡◌, ◌∙◌, ℕ, ◌≤◌, List, length, true, Some, None, Ok, refl, subst, sym, ap, inl, inr, arith}
+use Rattle.std.proofs.Common.{◌≡◌, ◌∙◌, ◌⊎◌, ℕ, ℤ, ◌≤◌, List, length, true, Some, None, Ok, Err, refl, subst, sym, ap, inl, inr, arith}
 use Rattle.std.specs.Prelude.{IsSomeAnd, IsTrue, Option, Result}
 use Rattle.std.proofs.lemmas.Bool.{le-ltb}
-use Rattle.escrow_desk.specs.Content.{Content, Told}
+use Rattle.escrow_desk.specs.Content.{Content, SaidPart, Told, WrotePart, with_said}
 use Rattle.escrow_desk.proofs.FilesFacts.{get_inserted}
 use Rattle.escrow_desk.specs.declared.limits.TheConstants.{CERTIFICATE_LIMIT}
 use Rattle.bound_certificate.specs.Text.{text_of}
-use Rattle.branch_search.specs.Accepted.{FoundAreAccepted, portfolio_with}
-use Rattle.branch_search.specs.Purchases.{certificate_of}
-use Rattle.branch_search.specs.Search.{EndsOf, IsFound}
-use Rattle.branch_search.specs.declared.found.SearchEnd.{SearchEnd}
-use Rattle.branch_search.specs.declared.found.SearchEnd.TheVariants as ended
-use Rattle.case_file.specs.Case.{CaseContents, HasTerms}
+use Rattle.branch_search.specs.Accepted.{FoundAreAccepted, NoneFoundAreAccepted, portfolio_with}
+use Rattle.branch_search.specs.Purchases.{certificate_of, certificate_of_none}
+use Rattle.branch_search.specs.Search.{IsFound, IsNoneFound, IsSpent}
+use Rattle.branch_search.specs.declared.found.Spent.{Spent}
+use Rattle.cash_table.specs.Reach.{AreAllShort, IsInReach}
+use Rattle.halving_tree.specs.Halving.{PartsAreFew, PartsAreWithin}
+use Rattle.case_file.specs.Case.{CaseContents, HasTerms, IsKept}
 use Rattle.dual_bound.specs.declared.tree.TreeNode.{TreeNode}
 use Rattle.escrow_check.proofs.OneVerdict.{one_verdict}
 use Rattle.escrow_check.specs.Verdicts.{verdict_of}
@@ -21,8 +22,14 @@ use Rattle.escrow_desk.specs.declared.refusal.Refusal.{Refusal}
 use Rattle.branch_search.specs.Plain.{IsPlainWithin}
 use Rattle.escrow_top.specs.Answer.{Answer, case_of, certificate_answer}
 use Rattle.escrow_top.specs.InputFiles.{FileNames, InputFiles, inputs_of}
+use Rattle.escrow_top.specs.Covered.{CoversPortfolios, CoversTree, IsCovered}
+use Rattle.escrow_top.specs.Settling.{OfCase, SaysReach, SettlesCovered, SettlesPlain}
 use Rattle.escrow_top.specs.Stopping.{is_reached, is_structured, is_unfound}
-use Rattle.escrow_top.specs.Structure.{FindsPlain, FindsPlainFor, IsAcceptedFor, IsEnd, IsEndAnswer, IsFoundDraft, IsStructuredDraft, PutsOut, SettlesPlain, WroteAccepted, accepted_with}
+use Rattle.escrow_top.specs.Structure.{FindsPlain, FindsPlainFor, IsAcceptedDraft, IsAcceptedFor, IsAcceptedText, IsDraft, IsDraftFor, IsDraftOf, IsEnd, IsFoundDraft, IsPartPutOut, IsPutOut, IsStructuredDraft, PutsOut, PutsOutPart, Structures, StructuresPart, WroteAccepted, WroteOrSaidPart, accepted_none, accepted_with, budget_spent}
+use Rattle.escrow_desk.specs.Rows.{rows_of}
+use Rattle.escrow_top.proofs.AcceptedLaws.{accepted}
+use Rattle.escrow_top.proofs.InputFacts.{read-all}
+use Rattle.escrow_top.specs.Reading.{AreRead, AreWithin}
 use Rattle.escrow_top.proofs.CertificateSize.{text_fits}
 use Rattle.escrow_top.specs.declared.draft.Draft.{Draft}
 use Rattle.escrow_top.specs.declared.draft.Draft.TheVariants as draft
@@ -32,23 +39,17 @@ use Rattle.escrow_top.specs.declared.status.Status.TheVariants as status
 pub unfound_reached : (s : Status) → IsTrue (is_unfound s) → IsTrue (is_reached s)
 unfound_reached status.Refused is = refl
 unfound_reached status.Infeasible is = refl
-unfound_reached status.Unbuilt is = refl
+unfound_reached status.BudgetSpent is = refl
 unfound_reached s is = absurd (cc)
 
 pub unfound_structured : (s : Status) → IsTrue (is_unfound s) → IsTrue (is_structured s)
 unfound_structured status.Refused is = refl
 unfound_structured status.Infeasible is = refl
-unfound_structured status.Unbuilt is = refl
+unfound_structured status.BudgetSpent is = refl
 unfound_structured s is = absurd (cc)
 
 unfound_undone : (s : Status) → IsTrue (is_unfound s) → s ≡ status.Done → ⊥
 unfound_undone s is done = let none : is_unfound status.Done ≡ true = subst (λ t. is_unfound t ≡ true) done is in absurd (cc)
-
--- the end of a search, as an answer
-pub end_of : (case : CaseContents) (e : SearchEnd) (answer : Answer) → EndsOf case e → IsEndAnswer e answer → IsEnd case answer
-end_of case (ended.Short day) answer ends is = inl (day, record { first = ends.0; all_short = ends.1 }, is)
-end_of case ended.RootOnly answer ends is = inr (record { in_reach = ends.0; at_root = ends.1 }, is)
-end_of case ended.NoMemory answer ends is = absurd is
 
 -- `check` accepts the text of the certificate of what was found
 portfolio_accepted : (case : CaseContents) (plan : List ℕ) (nodes : List TreeNode) (gap : ℕ) (cert : List ℕ) → FoundAreAccepted → IsBook case.book → HasTerms case → IsFound case plan nodes gap
@@ -63,16 +64,48 @@ text_accepted case plan nodes gap cert law book terms found is =
     let fits : length cert ≤ CERTIFICATE_LIMIT = omega (arith, ap length is, text_fits (length case.book.needs) (certificate_of plan nodes gap) (omega (arith, book.needs.few)) found.well_formed) in
     rw (le-ltb CERTIFICATE_LIMIT (length cert) fits, ← (portfolio_accepted case plan nodes gap cert law book terms found is)) refl
 
+-- and that of a tree which shows that there is no rival
+pub none_accepted : (case : CaseContents) (nodes : List TreeNode) (cert : List ℕ) → NoneFoundAreAccepted → IsBook case.book → HasTerms case → IsNoneFound case nodes → cert ≡ text_of (certificate_of_none nodes)
+    → certificate_answer case cert ≡ accepted_none
+none_accepted case nodes cert law book terms found is =
+    let fits : length cert ≤ CERTIFICATE_LIMIT = omega (arith, ap length is, text_fits (length case.book.needs) (certificate_of_none nodes) (omega (arith, book.needs.few)) found.well_formed) in
+    let told : verdict.YesNone ≡ verdict_of case cert = one_verdict case cert verdict.YesNone (omega (arith, book.needs.few))
+    (certificate_of_none nodes, record { well_formed = found.well_formed; text = is }, sym (law case nodes book terms found)) in
+    rw (le-ltb CERTIFICATE_LIMIT (length cert) fits, ← told) refl
+
 -- the certificate that was written is accepted
 pub wrote : (told new : Told) (names : FileNames) (d : Draft) (reached : Status) → IsStructuredDraft d → IsAcceptedFor told names d → PutsOut told names.cert d reached new → reached ≡ status.Done → WroteAccepted told new names
 wrote None new names d reached structured accepted put done = tt
 wrote (Some content) new names (draft.Said answer) reached structured accepted put done = absurd (unfound_undone answer.status structured (sym put.0 ∙ done))
+wrote (Some content) new names (draft.NoneWithinYield texts) reached structured accepted put done = absurd (let clash : status.NoneWithinYield ≡ status.Done = sym put.0 ∙ done in cc)
 wrote (Some content) new names (draft.Found texts) reached structured accepted put done =
-    rw put.1 (accepted.0, texts.cert.items, accepted.1, get_inserted content.files names.cert texts.cert.items, accepted.2)
+    rw put.1 (record { files = accepted.0; cert = texts.cert.items; there = accepted.1; written = get_inserted content.files names.cert texts.cert.items; is = accepted.2 })
+
+-- what is about to be written is accepted
+accepted_text : (files : InputFiles) (cert : List ℕ) (case : CaseContents) → case_of files ≡ Ok case → IsKept (rows_of files.issue) (rows_of files.rates) (rows_of files.prices) case
+    → (certificate_answer case cert).status ≡ status.Done → IsAcceptedText files cert
+accepted_text files cert case is kept done = record { answers = rw is done; accepted = accepted files cert case is kept done }
+
+pub accepted_draft : (files : InputFiles) (case : CaseContents) (d : Draft) → case_of files ≡ Ok case → IsKept (rows_of files.issue) (rows_of files.rates) (rows_of files.prices) case → IsDraftOf case d
+    → IsAcceptedDraft files d
+accepted_draft files case (draft.Found texts) is kept own = accepted_text files texts.cert.items case is kept (ap (λ (a : Answer). a.status) own.accepted)
+accepted_draft files case (draft.NoneWithinYield texts) is kept own = accepted_text files texts.cert.items case is kept (ap (λ (a : Answer). a.status) own.accepted)
+accepted_draft files case (draft.Said answer) is kept own = tt
+
+unfound_some : (s : Status) → IsTrue (is_unfound s) → s ≡ status.NoneWithinYield → ⊥
+unfound_some s is none = let clash : is_unfound status.NoneWithinYield ≡ true = subst (λ t. is_unfound t ≡ true) none is in absurd (cc)
+
+pub wrote_none : (told new : Told) (names : FileNames) (d : Draft) (reached : Status) → IsStructuredDraft d → IsAcceptedFor told names d → PutsOut told names.cert d reached new → reached ≡ status.NoneWithinYield → WroteAccepted told new names
+wrote_none None new names d reached structured accepted put none = tt
+wrote_none (Some content) new names (draft.Said answer) reached structured accepted put none = absurd (unfound_some answer.status structured (sym put.0 ∙ none))
+wrote_none (Some content) new names (draft.Found texts) reached structured accepted put none = absurd (let clash : status.Done ≡ status.NoneWithinYield = sym put.0 ∙ none in cc)
+wrote_none (Some content) new names (draft.NoneWithinYield texts) reached structured accepted put none =
+    rw put.1 (record { files = accepted.0; cert = texts.cert.items; there = accepted.1; written = get_inserted content.files names.cert texts.cert.items; is = accepted.2 })
 
 -- a plain case is settled
 found_done : (told new : Told) (name : List ℕ) (d : Draft) (reached : Status) → IsFoundDraft d → PutsOut told name d reached new → reached ≡ status.Done
 found_done told new name (draft.Found texts) reached found put = put.0
+found_done told new name (draft.NoneWithinYield texts) reached found put = absurd found
 found_done told new name (draft.Said answer) reached found put = absurd found
 
 plain_found : (content : Content) (names : FileNames) (d : Draft) (texts : InputFiles) (case : CaseContents) → FindsPlainFor (Some content) names d → inputs_of content names ≡ Some texts → case_of texts ≡ Ok case → IsPlainWithin case
@@ -81,7 +114,126 @@ plain_found content names d texts case finds read is plain =
     let here : FindsPlain (case_of texts) d = subst (λ (found : Option InputFiles). IsSomeAnd found (λ ts. FindsPlain (case_of ts) d)) read finds in
     subst (λ (found : Result CaseContents Refusal). FindsPlain found d) is here plain
 
-pub settles_plain : (told new : Told) (names : FileNames) (d : Draft) (reached : Status) → FindsPlainFor told names d → PutsOut told names.cert d reached new → SettlesPlain told reached names
+pub settles_plain : (told new : Told) (names : FileNames) (d : Draft) (reached : Status) → FindsPlainFor told names d → PutsOut told names.cert d reached new → OfCase (SettlesPlain reached) told names
 settles_plain None new names d reached finds put = tt
 settles_plain (Some content) new names d reached finds put = λ texts case read is plain.
     found_done (Some content) new names.cert d reached (plain_found content names d texts case finds read is plain) put
+
+-- ---- what a case comes to
+-- a case whose budget is spent isn't covered by it
+pub uncovered : (case : CaseContents) (spent : Spent) → PartsAreWithin → PartsAreFew → IsBook case.book → IsSpent case spent → IsCovered case → ⊥
+uncovered case spent within few limits is covered = by covered.covers
+  where
+    by : CoversTree case ⊎ CoversPortfolios case → ⊥
+    by (inl own) = omega (arith, is.larger.more, within case is.larger.part own.tree is.larger.upper own.halving, own.enough)
+    by (inr own) = omega (arith, is.larger.more, few case is.larger.part limits is.larger.upper own.portfolios own.all, own.enough)
+
+draft_of : (content : Content) (names : FileNames) (d : Draft) (texts : InputFiles) (case : CaseContents) → IsDraftFor (Some content) names d → inputs_of content names ≡ Some texts → case_of texts ≡ Ok case → IsDraftOf case d
+draft_of content names d texts case is read gives =
+    let here : IsDraft (case_of texts) d = subst (λ (found : Option InputFiles). IsSomeAnd found (λ ts. IsDraft (case_of ts) d)) read is in
+    subst (λ (found : Result CaseContents Refusal). IsDraft found d) gives here
+
+of_case : (Holds : CaseContents → Type 0) (told : Told) (names : FileNames) (d : Draft) → ((case : CaseContents) → IsDraftOf case d → Holds case) → IsDraftFor told names d → OfCase Holds told names
+of_case Holds None names d holds is = tt
+of_case Holds (Some content) names d holds is = λ texts case read gives. holds case (draft_of content names d texts case is read gives)
+
+-- where all that is permitted is short, the needs can't be met
+unreached : (case : CaseContents) (day : ℤ) → AreAllShort case.book day → IsInReach case.book → ⊥
+unreached case day short reach = omega (arith, short reach.plan reach.permitted, reach.meets day)
+
+settled : (case : CaseContents) (told new : Told) (name : List ℕ) (d : Draft) (reached : Status) → IsDraftOf case d → PutsOut told name d reached new → SettlesCovered reached case
+settled case told new name (draft.Found texts) reached is put = λ covered. inl put.0
+settled case told new name (draft.NoneWithinYield texts) reached is put = λ covered. inr put.0
+settled case told new name (draft.Said answer) reached is put = λ covered. absurd (by is covered)
+  where
+    by : IsEnd case answer → IsCovered case → ⊥
+    by (inl own) covered = unreached case own.day own.short.all_short covered.in_reach
+    by (inr own) covered = own.uncovered covered
+
+reach_said : (case : CaseContents) (told new : Told) (name : List ℕ) (d : Draft) (reached : Status) → IsDraftOf case d → PutsOut told name d reached new → SaysReach reached case
+reach_said case told new name (draft.Found texts) reached is put =
+    ((λ none. absurd (let clash : status.Done ≡ status.Infeasible = sym put.0 ∙ none in cc)), (λ lost. absurd (lost is.found_by.in_reach)))
+reach_said case told new name (draft.NoneWithinYield texts) reached is put =
+    ((λ none. absurd (let clash : status.NoneWithinYield ≡ status.Infeasible = sym put.0 ∙ none in cc)), (λ lost. absurd (lost is.none.in_reach)))
+reach_said case told new name (draft.Said answer) reached is put = by is
+  where
+    by : IsEnd case answer → SaysReach reached case
+    by (inl own) = ((λ none reach. unreached case own.day own.short.all_short reach), (λ lost. put.0 ∙ ap (λ (a : Answer). a.status) own.is_answer))
+    by (inr own) =
+        ((λ none. absurd (let clash : status.BudgetSpent ≡ status.Infeasible = sym (put.0 ∙ ap (λ (a : Answer). a.status) own.is_answer) ∙ none in cc)), (λ lost. absurd (lost own.is_spent.in_reach)))
+
+pub settles_covered : (told new : Told) (names : FileNames) (d : Draft) (reached : Status) → IsDraftFor told names d → PutsOut told names.cert d reached new → OfCase (SettlesCovered reached) told names
+settles_covered told new names d reached is put = of_case (SettlesCovered reached) told names d (λ case own. settled case told new names.cert d reached own put) is
+
+pub says_reach : (told new : Told) (names : FileNames) (d : Draft) (reached : Status) → IsDraftFor told names d → PutsOut told names.cert d reached new → OfCase (SaysReach reached) told names
+says_reach told new names d reached is put = of_case (SaysReach reached) told names d (λ case own. reach_said case told new names.cert d reached own put) is
+
+-- a spent budget, as an answer
+pub spent_end : (case : CaseContents) (spent : Spent) (answer : Answer) → PartsAreWithin → PartsAreFew → IsBook case.book → IsSpent case spent → answer ≡ budget_spent case.book spent → IsEnd case answer
+spent_end case spent answer within few limits is said = inr (record { spent = spent; is_spent = is; uncovered = uncovered case spent within few limits is; is_answer = said })
+
+-- ---- what holds of files that were read holds of those of their names
+pub draft_for : (told : Told) (names : FileNames) (texts : InputFiles) (d : Draft) → AreRead told names texts → AreWithin texts → IsDraft (case_of texts) d → IsDraftFor told names d
+draft_for None names texts d read within is = tt
+draft_for (Some content) names texts d read within is = rw (read-all content names texts read within) is
+
+pub finds_plain_for : (told : Told) (names : FileNames) (texts : InputFiles) (d : Draft) → AreRead told names texts → AreWithin texts → FindsPlain (case_of texts) d → FindsPlainFor told names d
+finds_plain_for None names texts d read within is = tt
+finds_plain_for (Some content) names texts d read within is = rw (read-all content names texts read within) is
+
+pub accepted_for : (told : Told) (names : FileNames) (texts : InputFiles) (d : Draft) → AreRead told names texts → IsAcceptedDraft texts d → IsAcceptedFor told names d
+accepted_for None names texts (draft.Found own) read is = tt
+accepted_for None names texts (draft.NoneWithinYield own) read is = tt
+accepted_for None names texts (draft.Said answer) read is = tt
+accepted_for (Some content) names texts (draft.Found own) read is = (texts, read, is)
+accepted_for (Some content) names texts (draft.NoneWithinYield own) read is = (texts, read, is)
+accepted_for (Some content) names texts (draft.Said answer) read is = tt
+
+-- ---- a draft that was put out
+put_of_case : (content : Content) (name : List ℕ) (gives : Result CaseContents Refusal) (d : Draft) (reached : Status) (new : Told) → IsDraft gives d → PutsOut (Some content) name d reached new → IsPutOut content name gives reached new
+put_of_case content name (Err refusal) (draft.Found texts) reached new is put = absurd is
+put_of_case content name (Err refusal) (draft.NoneWithinYield texts) reached new is put = absurd is
+put_of_case content name (Err refusal) (draft.Said answer) reached new is put =
+    (put.0 ∙ ap (λ (a : Answer). a.status) is, put.1 ∙ ap (λ (a : Answer). Some (with_said content a.text)) is)
+put_of_case content name (Ok case) (draft.Found texts) reached new is put = inl (texts.cert.items, texts.said.items, is, put.0, put.1)
+put_of_case content name (Ok case) (draft.NoneWithinYield texts) reached new is put = inr (inl (texts.cert.items, texts.said.items, is, put.0, put.1))
+put_of_case content name (Ok case) (draft.Said answer) reached new is put = inr (inr (answer, is, put.0, put.1))
+
+put_of_files : (content : Content) (name : List ℕ) (found : Option InputFiles) (d : Draft) (reached : Status) (new : Told) → IsSomeAnd found (λ texts. IsDraft (case_of texts) d) → PutsOut (Some content) name d reached new
+    → IsSomeAnd found (λ texts. IsPutOut content name (case_of texts) reached new)
+put_of_files content name None d reached new is put = absurd is
+put_of_files content name (Some texts) d reached new is put = put_of_case content name (case_of texts) d reached new is put
+
+pub structures : (told new : Told) (names : FileNames) (d : Draft) (reached : Status) → IsDraftFor told names d → PutsOut told names.cert d reached new → Structures told names reached new
+structures None new names (draft.Found texts) reached is put = put.1
+structures None new names (draft.NoneWithinYield texts) reached is put = put.1
+structures None new names (draft.Said answer) reached is put = put.1
+structures (Some content) new names d reached is put = put_of_files content names.cert (inputs_of content names) d reached new is put
+
+-- a part of it was put out
+part_of_case : (content : Content) (name : List ℕ) (gives : Result CaseContents Refusal) (d : Draft) (new : Told) → IsDraft gives d → PutsOutPart (Some content) name d new → IsPartPutOut content name gives new
+part_of_case content name (Err refusal) (draft.Found texts) new is part = absurd is
+part_of_case content name (Err refusal) (draft.NoneWithinYield texts) new is part = absurd is
+part_of_case content name (Err refusal) (draft.Said answer) new is part = subst (λ (a : Answer). SaidPart (Some content) a.text new) is part
+part_of_case content name (Ok case) (draft.Found texts) new is part = inl (texts.cert.items, texts.said.items, is, part)
+part_of_case content name (Ok case) (draft.NoneWithinYield texts) new is part = inr (inl (texts.cert.items, texts.said.items, is, part))
+part_of_case content name (Ok case) (draft.Said answer) new is part = inr (inr (answer, is, part))
+
+part_of_files : (content : Content) (name : List ℕ) (found : Option InputFiles) (d : Draft) (new : Told) → IsSomeAnd found (λ texts. IsDraft (case_of texts) d) → PutsOutPart (Some content) name d new
+    → IsSomeAnd found (λ texts. IsPartPutOut content name (case_of texts) new)
+part_of_files content name None d new is part = absurd is
+part_of_files content name (Some texts) d new is part = part_of_case content name (case_of texts) d new is part
+
+none_told : (name text : List ℕ) (new : Told) → WrotePart None name text new → new ≡ None
+none_told name text new (inl same) = same
+none_told name text new (inr prefix) = prefix.wrote
+
+part_untold : (name cert said : List ℕ) (new : Told) → WroteOrSaidPart None name cert said new → new ≡ None
+part_untold name cert said new (inl part) = none_told name cert new part
+part_untold name cert said new (inr part) = part.said
+
+pub structures_part : (told new : Told) (names : FileNames) (d : Draft) → IsDraftFor told names d → PutsOutPart told names.cert d new → StructuresPart told names new
+structures_part None new names (draft.Found texts) is part = part_untold names.cert texts.cert.items texts.said.items new part
+structures_part None new names (draft.NoneWithinYield texts) is part = part_untold names.cert texts.cert.items texts.said.items new part
+structures_part None new names (draft.Said answer) is part = part.said
+structures_part (Some content) new names d is part = part_of_files content names.cert (inputs_of content names) d new is part

@@ -1,5 +1,5 @@
 -- What `check` answers: a status and the text that is said. The texts are this project's own.
-use Rattle.std.specs.Prelude.{ℕ, Bool, false, nat_lt, nat_eq, if◌then◌else◌, List, [], ◌∷◌, ◌++◌, length, Option, Some, None, Result, Ok, Err, is_ok, codes, decimal}
+use Rattle.std.specs.Prelude.{ℕ, nat_lt, nat_eq, if◌then◌else◌, List, [], ◌∷◌, ◌++◌, length, Option, Some, None, Result, Ok, Err, is_ok, codes, decimal}
 use Rattle.std.specs.Bool.{then_some}
 use lib.Pointwise.{pointwise}
 use Rattle.escrow_desk.specs.Content.{Content, file_of}

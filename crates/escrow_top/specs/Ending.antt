@@ -23,7 +23,6 @@ code_of status.ReadFault = 8
 code_of status.WriteFault = 9
 code_of status.NoFile = 10
 code_of status.NoMemory = 11
-code_of status.Unbuilt = 12
 
 -- the statuses that `check` comes to
 abbrev pub is_checked : Status → Bool

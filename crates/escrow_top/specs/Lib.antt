@@ -5,5 +5,7 @@ pub mod Accepted
 pub mod NotAccepted
 pub mod Reading
 pub mod Stopping
+pub mod Covered
 pub mod Structure
+pub mod Settling
 pub mod Command

@@ -40,14 +40,15 @@ is_reached status.NoFile = false
 is_reached status.NoMemory = false
 is_reached status = true
 
--- the statuses of `structure` with which nothing was found
+-- the statuses of `structure` with which no file is written
 abbrev pub is_unfound : Status → Bool
 is_unfound status.Refused = true
 is_unfound status.Infeasible = true
-is_unfound status.Unbuilt = true
+is_unfound status.BudgetSpent = true
 is_unfound status = false
 
 -- the statuses that `structure` comes to
 abbrev pub is_structured : Status → Bool
 is_structured status.Done = true
+is_structured status.NoneWithinYield = true
 is_structured status = is_unfound status

@@ -1,21 +1,25 @@
 -- What `structure` comes to. The texts are this project's own.
-use Rattle.std.specs.Prelude.{◌≡◌, ◌⊎◌, ℕ, List, [], ◌++◌, codes, Option, Some, None, Result, Ok, Err, IsSomeAnd, IsTrue, ℤ}
+use Rattle.std.specs.Prelude.{◌≡◌, ◌⊎◌, ℕ, List, [], ◌++◌, codes, decimal, length, Option, Some, None, Result, Ok, Err, IsSomeAnd, IsTrue, ℤ}
 use Rattle.escrow_desk.specs.Content.{Content, Told, file_of, told_map, with_file, with_said, SaidAll, SaidPart, WrotePart}
 use Rattle.escrow_desk.specs.declared.refusal.Refusal.{Refusal}
 use Rattle.escrow_units.specs.DateText.{day_text}
 use Rattle.bound_certificate.specs.Text.{text_of}
 use Rattle.branch_search.specs.Plain.{IsPlainWithin}
-use Rattle.branch_search.specs.Purchases.{certificate_of}
-use Rattle.branch_search.specs.Search.{IsFound, IsOpenAtRoot}
-use Rattle.branch_search.specs.declared.found.SearchEnd.{SearchEnd}
-use Rattle.branch_search.specs.declared.found.SearchEnd.TheVariants as ended
+use Rattle.branch_search.specs.Purchases.{certificate_of, certificate_of_none}
+use Rattle.branch_search.specs.Search.{IsFound, IsFoundBy, IsNoneFound, IsSpent}
+use Rattle.branch_search.specs.declared.found.Spent.{Spent}
 use Rattle.case_file.specs.Case.{CaseContents}
 use Rattle.cash_table.specs.First.{first_short_of}
-use Rattle.cash_table.specs.Reach.{AreAllShort, IsInReach, plan_of_most}
+use Rattle.cash_table.specs.Reach.{AreAllShort, plan_of_most}
 use Rattle.dual_bound.specs.declared.tree.TreeNode.{TreeNode}
+use Rattle.escrow_units.specs.Digits.{fixed}
+use Rattle.offer_book.specs.Book.{BookContents}
+use Rattle.offer_book.specs.Portfolio.{cost}
 use Rattle.verification_report.specs.Report.{figures_of, report_text}
 use Rattle.verification_report.specs.Summary.{summary_text, text_line}
-use Rattle.escrow_top.specs.Answer.{Answer, case_of, certificate_answer, check_answer, refused_text}
+use Rattle.escrow_top.specs.Accepted.{Accepted}
+use Rattle.escrow_top.specs.Answer.{Answer, case_of, certificate_answer, check_answer, none_text, refused_text}
+use Rattle.escrow_top.specs.Covered.{IsCovered}
 use Rattle.escrow_top.specs.InputFiles.{FileNames, InputFiles, inputs_of}
 use Rattle.escrow_top.specs.Reading.{AreThere}
 use Rattle.escrow_top.specs.Stopping.{is_unfound}
@@ -28,13 +32,33 @@ use Rattle.escrow_top.specs.declared.status.Status.TheVariants as status
 abbrev pub infeasible : ℤ → Answer
 infeasible day = record { status = status.Infeasible; text = text_line (codes "infeasible ") (day_text day) }
 
--- what the root of a tree doesn't settle isn't built yet
-abbrev pub unbuilt_structure : Answer
-unbuilt_structure = record { status = status.Unbuilt; text = text_line (codes "unbuilt ") (codes "structure") }
+-- how many nodes a tree has
+abbrev pub nodes_line : List TreeNode → List ℕ
+nodes_line nodes = text_line (codes "nodes ") (decimal (length nodes))
+
+-- there is no rival, as a tree shows
+abbrev pub none_within_text : List TreeNode → List ℕ
+none_within_text nodes = text_line (codes "none within yield") [] ++ nodes_line nodes
+
+-- what the best plan costs, if there is one
+abbrev pub best_line : BookContents → Option (List ℕ) → List ℕ
+best_line book None = text_line (codes "best ") (codes "none")
+best_line book (Some plan) = text_line (codes "best ") (fixed 2 (cost book plan))
+
+-- the budget is spent: the nodes of the tree, the bound that it shows, and the best plan
+abbrev pub budget_spent : BookContents → Spent → Answer
+budget_spent book spent = record {
+  status = status.BudgetSpent;
+  text = text_line (codes "budget spent") [] ++ nodes_line spent.tree ++ text_line (codes "bound ") (fixed 2 spent.bound.0) ++ best_line book spent.best;
+}
 
 -- `check` accepts a certificate, with these figures
 abbrev pub accepted_with : CaseContents → List ℕ → ℕ → Answer
 accepted_with case plan gap = record { status = status.Done; text = text_line (codes "yes") [] ++ summary_text (figures_of case plan gap) }
+
+-- `check` accepts a certificate without a portfolio
+abbrev pub accepted_none : Answer
+accepted_none = record { status = status.Done; text = none_text }
 
 -- the texts of a portfolio that was found, with the least gap that its tree supports: its certificate, which `check` accepts, and its
 -- report
@@ -43,38 +67,52 @@ pub record AreTexts (case : CaseContents) (cert report : List ℕ) : Type 0 wher
   pub nodes : List TreeNode
   pub gap : ℕ
   pub found : IsFound case plan nodes gap
+  pub found_by : IsFoundBy case plan nodes
   pub is_cert : cert ≡ text_of (certificate_of plan nodes gap)
   pub is_report : report ≡ report_text case plan gap
   pub accepted : certificate_answer case cert ≡ accepted_with case plan gap
+
+-- the texts of a tree which shows that there is no rival: its certificate, which `check` accepts, and how many nodes it has
+pub record AreNoneTexts (case : CaseContents) (cert said : List ℕ) : Type 0 where
+  pub nodes : List TreeNode
+  pub none : IsNoneFound case nodes
+  pub is_cert : cert ≡ text_of (certificate_of_none nodes)
+  pub is_said : said ≡ none_within_text nodes
+  pub accepted : certificate_answer case cert ≡ accepted_none
 
 -- no permitted portfolio meets the needs, which shows first on a day
 pub record IsShortFrom (case : CaseContents) (day : ℤ) : Type 0 where
   pub first : first_short_of case.book (plan_of_most case.book) ≡ Some day
   pub all_short : AreAllShort case.book day
 
--- a portfolio meets the needs, and the root of a tree alone doesn't settle the case
-pub record IsUnsettled (case : CaseContents) : Type 0 where
-  pub in_reach : IsInReach case.book
-  pub at_root : IsOpenAtRoot case
+-- the needs can't be met, as an answer
+pub record IsInfeasible (case : CaseContents) (answer : Answer) : Type 0 where
+  pub day : ℤ
+  pub short : IsShortFrom case day
+  pub is_answer : answer ≡ infeasible day
 
--- why nothing is found for a case, as an answer
+-- the budget is spent, as an answer: there is a tree with as many nodes as are said, which holds the bound that is said, and no greater
+-- one; and what is said of a best plan is so. The budget doesn't cover the case
+pub record IsBudgetSpent (case : CaseContents) (answer : Answer) : Type 0 where
+  pub spent : Spent
+  pub is_spent : IsSpent case spent
+  pub uncovered : IsCovered case → ⊥
+  pub is_answer : answer ≡ budget_spent case.book spent
+
+-- why no certificate is written for a case, as an answer
 abbrev pub IsEnd : CaseContents → Answer → Type 0
-IsEnd case answer = ((day : ℤ) × IsShortFrom case day × (answer ≡ infeasible day)) ⊎ IsUnsettled case × (answer ≡ unbuilt_structure)
-
--- the same by the end of a search
-abbrev pub IsEndAnswer : SearchEnd → Answer → Type 0
-IsEndAnswer (ended.Short day) answer = answer ≡ infeasible day
-IsEndAnswer ended.RootOnly answer = answer ≡ unbuilt_structure
-IsEndAnswer ended.NoMemory answer = ⊥
+IsEnd case answer = IsInfeasible case answer ⊎ IsBudgetSpent case answer
 
 -- what is put out for a case: the texts of what was found, or the answer that nothing was
 abbrev pub IsDraftOf : CaseContents → Draft → Type 0
-IsDraftOf case (draft.Found texts) = AreTexts case texts.cert.items texts.report.items
+IsDraftOf case (draft.Found texts) = AreTexts case texts.cert.items texts.said.items
+IsDraftOf case (draft.NoneWithinYield texts) = AreNoneTexts case texts.cert.items texts.said.items
 IsDraftOf case (draft.Said answer) = IsEnd case answer
 
 -- the same of the input files
 abbrev pub IsDraft : Result CaseContents Refusal → Draft → Type 0
 IsDraft (Err refusal) (draft.Found texts) = ⊥
+IsDraft (Err refusal) (draft.NoneWithinYield texts) = ⊥
 IsDraft (Err refusal) (draft.Said answer) = answer ≡ record { status = status.Refused; text = refused_text refusal }
 IsDraft (Ok case) found = IsDraftOf case found
 
@@ -83,12 +121,14 @@ abbrev pub IsDraftFor : Told → FileNames → Draft → Type 0
 IsDraftFor None names found = Unit {0}
 IsDraftFor (Some content) names found = IsSomeAnd (inputs_of content names) (λ texts. IsDraft (case_of texts) found)
 
--- what stands after a status: the certificate was written whole and then the report said; or a text was said, and no file changed
+-- what stands after a status: the certificate was written whole, and then the report was said, or that there is no rival; or a text was
+-- said, and no file changed
 abbrev pub IsPutOut : Content → List ℕ → Result CaseContents Refusal → Status → Told → Type 0
 IsPutOut content name (Err refusal) reached new =
     (reached ≡ status.Refused) × (new ≡ Some (with_said content (refused_text refusal)))
 IsPutOut content name (Ok case) reached new =
     ((cert report : List ℕ) × AreTexts case cert report × (reached ≡ status.Done) × (new ≡ Some (with_said (with_file content name cert) report)))
+    ⊎ ((cert said : List ℕ) × AreNoneTexts case cert said × (reached ≡ status.NoneWithinYield) × (new ≡ Some (with_said (with_file content name cert) said)))
     ⊎ ((answer : Answer) × IsEnd case answer × (reached ≡ answer.status) × (new ≡ Some (with_said content answer.text)))
 
 -- what stands after a write that failed: the certificate's file is as before or holds a prefix of its text, and nothing was said; or
@@ -97,23 +137,33 @@ abbrev pub IsPartPutOut : Content → List ℕ → Result CaseContents Refusal �
 IsPartPutOut content name (Err refusal) new = SaidPart (Some content) (refused_text refusal) new
 IsPartPutOut content name (Ok case) new =
     ((cert report : List ℕ) × AreTexts case cert report × (WrotePart (Some content) name cert new ⊎ SaidPart (Some (with_file content name cert)) report new))
+    ⊎ ((cert said : List ℕ) × AreNoneTexts case cert said × (WrotePart (Some content) name cert new ⊎ SaidPart (Some (with_file content name cert)) said new))
     ⊎ ((answer : Answer) × IsEnd case answer × SaidPart (Some content) answer.text new)
+
+-- `check` accepts the bytes of a certificate for the input files, and so they are what it says: a portfolio than which no rival costs
+-- less by more than the gap, or a tree that shows that there is no rival
+pub record IsAcceptedText (files : InputFiles) (cert : List ℕ) : Type 0 where
+  pub answers : (check_answer files cert).status ≡ status.Done
+  pub accepted : Accepted files cert
 
 -- `check` accepts what is about to be written, for the input files
 abbrev pub IsAcceptedDraft : InputFiles → Draft → Type 0
-IsAcceptedDraft files (draft.Found texts) = (check_answer files texts.cert.items).status ≡ status.Done
+IsAcceptedDraft files (draft.Found texts) = IsAcceptedText files texts.cert.items
+IsAcceptedDraft files (draft.NoneWithinYield texts) = IsAcceptedText files texts.cert.items
 IsAcceptedDraft files (draft.Said answer) = Unit {0}
 
 -- the same of the input files of names on a desk that tells
 abbrev pub IsAcceptedFor : Told → FileNames → Draft → Type 0
 IsAcceptedFor told names (draft.Said answer) = Unit {0}
 IsAcceptedFor None names (draft.Found texts) = Unit {0}
-IsAcceptedFor (Some content) names (draft.Found texts) =
-    (files : InputFiles) × AreThere content names files × ((check_answer files texts.cert.items).status ≡ status.Done)
+IsAcceptedFor None names (draft.NoneWithinYield texts) = Unit {0}
+IsAcceptedFor (Some content) names (draft.Found texts) = (files : InputFiles) × AreThere content names files × IsAcceptedText files texts.cert.items
+IsAcceptedFor (Some content) names (draft.NoneWithinYield texts) = (files : InputFiles) × AreThere content names files × IsAcceptedText files texts.cert.items
 
 -- a portfolio was found
 abbrev pub IsFoundDraft : Draft → Type 0
 IsFoundDraft (draft.Found texts) = Unit {0}
+IsFoundDraft (draft.NoneWithinYield texts) = ⊥
 IsFoundDraft (draft.Said answer) = ⊥
 
 -- of a plain case, whose issue allows at least its gap, a portfolio is found
@@ -125,17 +175,11 @@ abbrev pub FindsPlainFor : Told → FileNames → Draft → Type 0
 FindsPlainFor None names found = Unit {0}
 FindsPlainFor (Some content) names found = IsSomeAnd (inputs_of content names) (λ texts. FindsPlain (case_of texts) found)
 
--- where the input files of names give such a case, `structure` comes to its certificate
-abbrev pub SettlesPlain : Told → Status → FileNames → Type 0
-SettlesPlain None reached names = Unit {0}
-SettlesPlain (Some content) reached names =
-    (texts : InputFiles) (case : CaseContents) → inputs_of content names ≡ Some texts → case_of texts ≡ Ok case → IsPlainWithin case
-    → reached ≡ status.Done
-
 -- ---- what is put out, of a desk that tells or doesn't
 -- the answer of a draft says that nothing was found
 abbrev pub IsStructuredDraft : Draft → Type 0
 IsStructuredDraft (draft.Found texts) = Unit {0}
+IsStructuredDraft (draft.NoneWithinYield texts) = Unit {0}
 IsStructuredDraft (draft.Said answer) = IsTrue (is_unfound answer.status)
 
 -- a file was written whole, and then a text was said
@@ -148,11 +192,13 @@ WroteOrSaidPart old name cert report new =
     WrotePart old name cert new ⊎ SaidPart (told_map (λ content. with_file content name cert) old) report new
 
 abbrev pub PutsOut : Told → List ℕ → Draft → Status → Told → Type 0
-PutsOut old name (draft.Found texts) reached new = (reached ≡ status.Done) × WroteAndSaid old name texts.cert.items texts.report.items new
+PutsOut old name (draft.Found texts) reached new = (reached ≡ status.Done) × WroteAndSaid old name texts.cert.items texts.said.items new
+PutsOut old name (draft.NoneWithinYield texts) reached new = (reached ≡ status.NoneWithinYield) × WroteAndSaid old name texts.cert.items texts.said.items new
 PutsOut old name (draft.Said answer) reached new = (reached ≡ answer.status) × SaidAll old answer.text new
 
 abbrev pub PutsOutPart : Told → List ℕ → Draft → Told → Type 0
-PutsOutPart old name (draft.Found texts) new = WroteOrSaidPart old name texts.cert.items texts.report.items new
+PutsOutPart old name (draft.Found texts) new = WroteOrSaidPart old name texts.cert.items texts.said.items new
+PutsOutPart old name (draft.NoneWithinYield texts) new = WroteOrSaidPart old name texts.cert.items texts.said.items new
 PutsOutPart old name (draft.Said answer) new = SaidPart old answer.text new
 
 -- the same where a desk tells, and the input files of the names are read
@@ -167,9 +213,15 @@ StructuresPart (Some content) names new =
     IsSomeAnd (inputs_of content names) (λ texts. IsPartPutOut content names.cert (case_of texts) new)
 
 -- the certificate's file of names now holds bytes that `check` accepts for the input files as they were
+pub record HoldsAccepted (content after : Content) (names : FileNames) : Type 0 where
+  pub files : InputFiles
+  pub cert : List ℕ
+  pub there : AreThere content names files
+  pub written : file_of after names.cert ≡ Some cert
+  pub is : IsAcceptedText files cert
+
+-- the same where a desk tells
 abbrev pub WroteAccepted : Told → Told → FileNames → Type 0
 WroteAccepted None new names = Unit {0}
 WroteAccepted (Some content) None names = ⊥
-WroteAccepted (Some content) (Some after) names =
-    (texts : InputFiles) × (cert : List ℕ) × AreThere content names texts × (file_of after names.cert ≡ Some cert)
-    × ((check_answer texts cert).status ≡ status.Done)
+WroteAccepted (Some content) (Some after) names = HoldsAccepted content after names

@@ -1,20 +1,24 @@
 //! Answers: their status and their text.
 
-ghost use Rattle.std.specs.Prelude.{◌≡◌, IfOk, IsTrue, decimal};
+ghost use Rattle.std.specs.Prelude.{◌≡◌, ◌++◌, IfOk, IfSome, IsTrue, OnOk, decimal, option_map};
 ghost use Rattle.escrow_check.specs.declared.verdict.Reason.TheVariants.{Grammar};
 ghost use Rattle.escrow_top.specs.Answer.{fault_word as fault_word_of, file_word as file_word_of, kind_word as kind_word_of, none_text, reason_text, refused as refused_answer, refused_text, verdict_answer as verdict_answer_of, yes_text as yes_text_of};
-ghost use Rattle.escrow_top.specs.Structure.{infeasible as infeasible_on, unbuilt_structure as unbuilt_structure_answer};
+ghost use Rattle.offer_book.specs.Portfolio.{IsPermitted};
+ghost use Rattle.escrow_top.specs.Structure.{best_line, budget_spent as budget_spent_answer, infeasible as infeasible_on, nodes_line, none_within_text};
 ghost use Rattle.verification_report.specs.Summary.{text_line};
 ghost use Rattle.row_fields.specs.RowForm.{refusal_of};
 ghost use Rattle.case_file.specs.Case.{case_view};
 ghost use Rattle.escrow_top.specs.Ending.{is_checked};
 
 use crate::status::Status;
-use bound_certificate::{CertFault, FaultKind};
+use bound_certificate::{CertFault, FaultKind, Nodes};
+use branch_search::Spent;
 use case_file::Case;
+use cash_table::{Plan, cost};
 use escrow_check::{Portfolio, Reason, Verdict};
 use escrow_desk::{FileKind, NoMemory, Refusal, RefusalKind};
-use escrow_units::{Day, print_day};
+use escrow_units::{Day, print_cents, print_day};
+use offer_book::Book;
 use std::alloc::Global;
 use std::marker::Model;
 use verification_report::{Figures, push_line, push_summary};
@@ -141,14 +145,52 @@ pub(crate) fn infeasible(alloc: Global, day: Day) -> Result<Answer, NoMemory>
     })
 }
 
-/// The answer that what would settle a case isn't built yet.
-pub(crate) fn unbuilt_structure(alloc: Global) -> Result<Answer, NoMemory>
-    ensures answer { IfOk result (λ answer. answer ≡ unbuilt_structure_answer) }
-    ensures status { IfOk result (λ answer. answer.status ≡ Status.Unbuilt) }
+// Adds how many nodes a tree has.
+fn push_nodes(alloc: Global, text: &mut Vec<u8>, nodes: &Nodes) -> Result<(), NoMemory>
+    ensures { OnOk result (text.new.items ≡ text.old.items ++ nodes_line nodes.now) }
 {
+    push_line(
+        text,
+        b"nodes ",
+        nodes.as_slice().len().to_string(alloc)?.as_bytes(),
+    )
+}
+
+/// What is said of a tree which shows that there is no rival.
+pub(crate) fn none_within(alloc: Global, nodes: &Nodes) -> Result<Vec<u8>, NoMemory>
+    ensures { IfOk result (λ text. text.items ≡ none_within_text nodes.now) }
+{
+    let mut text = Vec::new(alloc);
+    push_line(&mut text, b"none within yield", b"")?;
+    push_nodes(alloc, &mut text, nodes)?;
+    Ok(text)
+}
+
+// Adds what the best plan costs, if there is one.
+fn push_best(text: &mut Vec<u8>, book: &Book, best: Option<&Plan>) -> Result<(), NoMemory>
+    requires { IfSome best (λ plan. IsPermitted book.now plan.now) }
+    ensures { OnOk result (text.new.items ≡ text.old.items ++ best_line book.now (option_map (λ plan. plan.now) best.entry)) }
+{
+    match best {
+        Some(plan) => push_line(text, b"best ", print_cents(cost(book, plan)).as_bytes()),
+        None => push_line(text, b"best ", b"none"),
+    }
+}
+
+/// The answer that the budget is spent: the nodes of the tree, the bound that it shows, and what the best plan costs.
+pub(crate) fn budget_spent(alloc: Global, book: &Book, spent: &Spent) -> Result<Answer, NoMemory>
+    requires { IfSome spent.now.best (IsPermitted book.now) }
+    ensures answer { IfOk result (λ answer. answer ≡ budget_spent_answer book.now spent.now) }
+    ensures status { IfOk result (λ answer. answer.status ≡ Status.BudgetSpent) }
+{
+    let mut text = Vec::new(alloc);
+    push_line(&mut text, b"budget spent", b"")?;
+    push_nodes(alloc, &mut text, &spent.tree)?;
+    push_line(&mut text, b"bound ", print_cents(spent.bound).as_bytes())?;
+    push_best(&mut text, book, spent.best.as_ref())?;
     Ok(Answer {
-        status: Status::Unbuilt,
-        text: one_line(alloc, b"unbuilt ", b"structure")?,
+        status: Status::BudgetSpent,
+        text,
     })
 }
 

@@ -7,7 +7,8 @@ ghost use Rattle.escrow_top.specs.Ending.{Answers, AnswersPart, HoldsWhereTold, 
 ghost use Rattle.escrow_top.specs.Accepted.{Accepted, YesExactly};
 ghost use Rattle.escrow_top.specs.NotAccepted.{NotAccepted};
 ghost use Rattle.escrow_top.specs.Answer.{check_names, structure_names};
-ghost use Rattle.escrow_top.specs.Structure.{IsStructuredDraft, PutsOut, PutsOutPart, SettlesPlain, Structures, StructuresPart, WroteAccepted, WroteAndSaid, WroteOrSaidPart};
+ghost use Rattle.escrow_top.specs.Structure.{IsStructuredDraft, PutsOut, PutsOutPart, Structures, StructuresPart, WroteAccepted, WroteAndSaid, WroteOrSaidPart};
+ghost use Rattle.escrow_top.specs.Settling.{OfCase, SaysReach, SettlesCovered, SettlesPlain};
 ghost use Rattle.escrow_top.specs.Reading.{LacksInput, LacksNamed, names_view};
 ghost use Rattle.escrow_top.specs.Stopping.{EndedAs, is_reached, is_structured};
 
@@ -56,15 +57,16 @@ fn run_check<D: Desk>(alloc: Global, names: &FileNames<'_>, desk: &mut D) -> Sta
     }
 }
 
-// Puts out what was found: writes the certificate whole, and then says the report.
-fn put_out_texts<D: Desk>(desk: &mut D, name: &str, texts: &Texts) -> Status
-    ensures whole { IsTrue (is_reached result) → (result ≡ Status.Done) × WroteAndSaid (D.told desk.old) name.now texts.now.cert.items texts.now.report.items (D.told desk.new) }
-    ensures part { result ≡ Status.WriteFault → WroteOrSaidPart (D.told desk.old) name.now texts.now.cert.items texts.now.report.items (D.told desk.new) }
+// Writes a certificate whole, and then says the text of the status that was reached.
+fn put_out_texts<D: Desk>(desk: &mut D, name: &str, status: Status, texts: &Texts) -> Status
+    requires { IsTrue (is_reached status) }
+    ensures whole { IsTrue (is_reached result) → (result ≡ status) × WroteAndSaid (D.told desk.old) name.now texts.now.cert.items texts.now.said.items (D.told desk.new) }
+    ensures part { result ≡ Status.WriteFault → WroteOrSaidPart (D.told desk.old) name.now texts.now.cert.items texts.now.said.items (D.told desk.new) }
     ensures no_other { (result ≡ Status.ReadFault → ⊥) × (result ≡ Status.NoFile → ⊥) × (result ≡ Status.NoMemory → ⊥) }
     ensures counts { EndedAs result (D.counts desk.old) (D.counts desk.new) (D.told desk.old) (D.told desk.new) }
 {
     match write_all(desk, name, texts.cert.as_slice()) {
-        Ok(()) => say_answer(desk, Status::Done, texts.report.as_slice()),
+        Ok(()) => say_answer(desk, status, texts.said.as_slice()),
         Err(_) => Status::WriteFault,
     }
 }
@@ -80,7 +82,10 @@ fn put_out<D: Desk>(desk: &mut D, name: &str, draft: &Draft) -> Status
     ensures counts { EndedAs result (D.counts desk.old) (D.counts desk.new) (D.told desk.old) (D.told desk.new) }
 {
     match draft {
-        Draft::Found(texts) => put_out_texts(desk, name, texts),
+        Draft::Found(texts) => put_out_texts(desk, name, Status::Done, texts),
+        Draft::NoneWithinYield(texts) => {
+            put_out_texts(desk, name, Status::NoneWithinYield, texts)
+        }
         Draft::Said(answer) => say_answer(desk, answer.status, answer.text.as_slice()),
     }
 }
@@ -92,7 +97,10 @@ fn run_structure<D: Desk>(alloc: Global, names: &FileNames<'_>, desk: &mut D) ->
     ensures lacks { result ≡ Status.NoFile → LacksInput (D.told desk.old) (names_view names.now) }
     ensures structured { IsTrue (is_reached result) → IsTrue (is_structured result) }
     ensures wrote { result ≡ Status.Done → WroteAccepted (D.told desk.old) (D.told desk.new) (names_view names.now) }
-    ensures plain { IsTrue (is_reached result) → SettlesPlain (D.told desk.old) result (names_view names.now) }
+    ensures wrote_none { result ≡ Status.NoneWithinYield → WroteAccepted (D.told desk.old) (D.told desk.new) (names_view names.now) }
+    ensures plain { IsTrue (is_reached result) → OfCase (SettlesPlain result) (D.told desk.old) (names_view names.now) }
+    ensures covered { IsTrue (is_reached result) → OfCase (SettlesCovered result) (D.told desk.old) (names_view names.now) }
+    ensures reach { IsTrue (is_reached result) → OfCase (SaysReach result) (D.told desk.old) (names_view names.now) }
     ensures counts { EndedAs result (D.counts desk.old) (D.counts desk.new) (D.told desk.old) (D.told desk.new) }
 {
     match structure(alloc, desk, names) {
@@ -105,8 +113,8 @@ fn run_structure<D: Desk>(alloc: Global, names: &FileNames<'_>, desk: &mut D) ->
 ///
 /// `check ISSUE RATES PRICES CERT` answers whether the certificate is accepted for the three input files, and says why
 /// or why not. `structure ISSUE RATES PRICES CERT` searches the cheapest permitted purchases, writes their certificate and says
-/// their report; so far it looks at the root of the tree alone, and says so of what that doesn't settle. All other words are
-/// `Usage`.
+/// their report; or it writes a certificate which shows that there is no rival, and says so; or it says that the needs can't be
+/// met, or that the budget is spent, with the bound that its tree shows and the best plan. All other words are `Usage`.
 ///
 /// It returns for all words and every desk. It writes no file but the certificate of `structure`, whose texts are all built
 /// before. The texts are this project's own.
@@ -117,8 +125,13 @@ pub fn run<D: Desk>(alloc: Global, words: &[String], desk: &mut D) -> Status
     ensures yes { result ≡ Status.Done → IsAccepted (D.told desk.old) (map string_bytes words.now) }
     // `structure` writes only certificates that `check` accepts.
     ensures wrote { result ≡ Status.Done → WroteCertificate (D.told desk.old) (D.told desk.new) (map string_bytes words.now) }
-    // On a plain case, whose issue allows at least its gap, it writes one.
-    ensures plain { IsTrue (is_reached result) → IfSome (structure_names (map string_bytes words.now)) (SettlesPlain (D.told desk.old) result) }
+    ensures wrote_none { result ≡ Status.NoneWithinYield → WroteCertificate (D.told desk.old) (D.told desk.new) (map string_bytes words.now) }
+    // On a plain case, whose issue allows at least its gap, it writes one with a portfolio.
+    ensures plain { IsTrue (is_reached result) → IfSome (structure_names (map string_bytes words.now)) (OfCase (SettlesPlain result) (D.told desk.old)) }
+    // Where the budget covers the halving tree, or all permitted portfolios twice, it writes one, with a portfolio or without.
+    ensures covered { IsTrue (is_reached result) → IfSome (structure_names (map string_bytes words.now)) (OfCase (SettlesCovered result) (D.told desk.old)) }
+    // `infeasible` comes exactly where no permitted portfolio meets the needs.
+    ensures reach { IsTrue (is_reached result) → IfSome (structure_names (map string_bytes words.now)) (OfCase (SaysReach result) (D.told desk.old)) }
     // What `no` means: which reason stands, and that no earlier one does.
     ensures no { result ≡ Status.No → IsNotAccepted (D.told desk.old) (map string_bytes words.now) }
     // `yes` comes exactly where no reason stands.

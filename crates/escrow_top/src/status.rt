@@ -26,8 +26,6 @@ pub enum Status {
     NoFile,
     /// Memory ran out.
     NoMemory,
-    /// What the words or a file ask for isn't built yet.
-    Unbuilt,
 }
 
 impl Status {
@@ -50,7 +48,6 @@ impl Status {
             Status::WriteFault => 9,
             Status::NoFile => 10,
             Status::NoMemory => 11,
-            Status::Unbuilt => 12,
         }
     }
 }

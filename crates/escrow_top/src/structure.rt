@@ -1,24 +1,26 @@
 //! `structure`, from the names of its files to what it is about to put out.
 
-ghost use Rattle.std.specs.Prelude.{◌≡◌, IfOk, IsErrOf, IsTrue};
+ghost use Rattle.std.specs.Prelude.{◌≡◌, IfOk, IsErrOf};
 ghost use Rattle.case_file.specs.Case.{HasTerms, case_view};
 ghost use Rattle.branch_search.specs.Plain.{IsPlainWithin};
-ghost use Rattle.branch_search.specs.Search.{IsFound};
+ghost use Rattle.branch_search.specs.Search.{EndsOf, IsFound, IsFoundBy, IsNoneFound};
+ghost use Rattle.branch_search.specs.declared.found.SearchEnd.TheVariants.{NoMemory as OutOfMemory};
 ghost use Rattle.offer_book.specs.Book.{IsBook};
 ghost use Rattle.escrow_top.specs.Answer.{case_of};
 ghost use Rattle.escrow_top.specs.Reading.{AreWithin, LacksInput, files_view, names_view};
-ghost use Rattle.escrow_top.specs.Structure.{AreTexts, FindsPlain, FindsPlainFor, IsAcceptedDraft, IsAcceptedFor, IsDraft, IsDraftFor, IsDraftOf, IsEndAnswer, IsFoundDraft, IsStructuredDraft};
-ghost use Rattle.escrow_top.specs.Stopping.{CountsStep, is_unfound};
+ghost use Rattle.escrow_top.specs.Structure.{AreNoneTexts, AreTexts, FindsPlain, FindsPlainFor, IsAcceptedDraft, IsAcceptedFor, IsDraft, IsDraftFor, IsDraftOf, IsFoundDraft, IsStructuredDraft};
+ghost use Rattle.escrow_top.specs.Stopping.{CountsStep};
 
-use crate::answer::{Answer, infeasible, refused, too_long, unbuilt_structure};
+use crate::answer::{budget_spent, infeasible, none_within, refused, too_long};
 use crate::draft::{Draft, Texts};
 use crate::files::{FileNames, InputFiles, Inputs, read_inputs};
 use crate::stop::Stop;
-use bound_certificate::write_cert;
+use bound_certificate::{Certificate, Nodes, write_cert};
 use branch_search::{Found, SearchEnd, search};
 use case_file::{Case, read_case};
 use escrow_desk::{CaseError, Desk, NoMemory};
 use escrow_units::Cents;
+use halving_tree::halving_laws;
 use std::alloc::Global;
 use verification_report::report;
 
@@ -27,22 +29,49 @@ fn texts_of(alloc: Global, case: &Case, found: Found) -> Result<Texts, NoMemory>
     requires book { IsBook case.now.book }
     requires terms { HasTerms (case_view case.now) }
     requires found { IsFound (case_view case.now) found.plan found.tree found.gap }
-    ensures { IfOk result (λ texts. AreTexts (case_view case.now) texts.cert.items texts.report.items) }
+    requires found_by { IsFoundBy (case_view case.now) found.plan found.tree }
+    ensures { IfOk result (λ texts. AreTexts (case_view case.now) texts.cert.items texts.said.items) }
 {
     let report = report(alloc, case, &found.plan, Cents(found.gap))?;
     let certificate = found.into_certificate(alloc, &case.book)?;
     let cert = write_cert(alloc, &certificate)?;
-    Ok(Texts { cert, report })
+    Ok(Texts { cert, said: report })
 }
 
-// The answer to a search that found nothing.
-fn end_answer(alloc: Global, ended: SearchEnd) -> Result<Answer, NoMemory>
-    ensures answer { IfOk result (IsEndAnswer ended) }
-    ensures status { IfOk result (λ answer. IsTrue (is_unfound answer.status)) }
+// The texts of a tree which shows that there is no rival: its certificate, and how many nodes it has.
+fn none_texts(alloc: Global, case: &Case, nodes: Nodes) -> Result<Texts, NoMemory>
+    requires book { IsBook case.now.book }
+    requires terms { HasTerms (case_view case.now) }
+    requires none { IsNoneFound (case_view case.now) nodes }
+    ensures { IfOk result (λ texts. AreNoneTexts (case_view case.now) texts.cert.items texts.said.items) }
 {
+    let said = none_within(alloc, &nodes)?;
+    let certificate = Certificate {
+        buys: None,
+        gap: 0,
+        nodes,
+    };
+    let cert = write_cert(alloc, &certificate)?;
+    Ok(Texts { cert, said })
+}
+
+// What is put out where a search found no portfolio.
+fn draft_of_end(alloc: Global, case: &Case, ended: SearchEnd) -> Result<Draft, NoMemory>
+    requires book { IsBook case.now.book }
+    requires terms { HasTerms (case_view case.now) }
+    requires ended { EndsOf (case_view case.now) ended }
+    ensures draft { IfOk result (IsDraftOf (case_view case.now)) }
+    ensures status { IfOk result IsStructuredDraft }
+    ensures memory { ended ≡ OutOfMemory → IfOk result IsFoundDraft }
+{
+    // How large the halving tree can be.
+    halving_laws();
     match ended {
-        SearchEnd::Short(day) => infeasible(alloc, day),
-        SearchEnd::RootOnly => unbuilt_structure(alloc),
+        SearchEnd::Short(day) => Ok(Draft::Said(infeasible(alloc, day)?)),
+        SearchEnd::NoneWithinYield(nodes) => {
+            Ok(Draft::NoneWithinYield(none_texts(alloc, case, nodes)?))
+        }
+        SearchEnd::BudgetSpent(spent) => Ok(Draft::Said(budget_spent(alloc, &case.book, &spent)?)),
         SearchEnd::NoMemory => Err(NoMemory),
     }
 }
@@ -58,7 +87,7 @@ fn draft_of_case(alloc: Global, case: &Case) -> Result<Draft, NoMemory>
 {
     match search(alloc, &case.book, case.limit, case.allowance, case.budget) {
         Ok(found) => Ok(Draft::Found(texts_of(alloc, case, found)?)),
-        Err(ended) => Ok(Draft::Said(end_answer(alloc, ended)?)),
+        Err(ended) => draft_of_end(alloc, case, ended),
     }
 }
 

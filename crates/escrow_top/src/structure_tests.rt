@@ -2,6 +2,8 @@
 
 use crate::tests::{CHECK, FIRST, Files, outcome_of};
 use crate::{Status, run};
+use std::alloc::Global;
+use std::process::Abort;
 use std::test::Fail;
 
 const STRUCTURE: [&str; 5] = ["structure", "i", "r", "p", "c"];
@@ -20,10 +22,34 @@ const PLAIN: Files = Files {
     cert: b"",
 };
 
+// One need, which only what costs most meets within the limit.
+const DEAR: Files = Files {
+    issue: b"settle,2025-01-15\nneed,2025-07-15,2030.00\nrestricted,3.00\nbudget,100\n",
+    rates: b"terms,1000,1000\nrate,2025-02-14,2026-01-15,4.00\noffer,2025-04-15,0.00,,3000\noffer,2025-07-15,4.00,,2000\n",
+    prices: b"",
+    cert: b"",
+};
+
+// One need, and one offer, which yields more than the limit.
+const NONE_WITHIN: Files = Files {
+    issue: b"settle,2025-01-15\nneed,2025-07-15,1000.00\nrestricted,3.00\n",
+    rates: b"terms,1000,1000\nrate,2025-02-14,2026-01-15,4.00\noffer,2025-07-15,4.00,,2000\n",
+    prices: b"",
+    cert: b"x",
+};
+
+// One need and one offer. The bound of the root is a cent below the cheapest portfolio.
+const WHOLE_DOLLARS: Files = Files {
+    issue: b"settle,2025-01-15\nneed,2026-01-15,1041.03\nrestricted,5.00\nbudget,27\n",
+    rates: b"terms,1000,1\nrate,2025-02-14,2026-01-15,4.00\noffer,2026-01-15,max,,10000\n",
+    prices: b"",
+    cert: b"x",
+};
+
 // What `structure` comes to, and the file of the certificate after it.
 #[test]
 fn structured_cases(rt: HostRuntime) -> Result<(), Fail> {
-    let rows: [(Files, Status, &[u8], &[u8]); 5] = [
+    let rows: [(Files, Status, &[u8], &[u8]); 6] = [
         (
             Files {
                 cert: b"x",
@@ -56,14 +82,18 @@ fn structured_cases(rt: HostRuntime) -> Result<(), Fail> {
         ),
         (
             Files {
-                issue: b"settle,2025-01-15\nneed,2026-01-15,1041.03\nrestricted,5.00\n",
-                rates: b"terms,1000,1\nrate,2025-02-14,2026-01-15,4.00\noffer,2026-01-15,max,,10000\n",
-                prices: b"",
-                cert: b"x",
+                issue: b"settle,2025-01-15\nneed,2026-01-15,1041.03\nrestricted,5.00\nbudget,1\n",
+                ..WHOLE_DOLLARS
             },
-            Status::Unbuilt,
-            b"unbuilt structure\n",
+            Status::BudgetSpent,
+            b"budget spent\nnodes 1\nbound 1000.99\nbest 1001.00\n",
             b"x",
+        ),
+        (
+            NONE_WITHIN,
+            Status::NoneWithinYield,
+            b"none within yield\nnodes 5\n",
+            b"escrow-certificate 1\nportfolio none\ngap 0\nnodes 5\ns 1 1\ns 1 0\nl 0 0 1000000000000\np\np\nend\n",
         ),
         (
             Files {
@@ -84,12 +114,17 @@ fn structured_cases(rt: HostRuntime) -> Result<(), Fail> {
     Ok(())
 }
 
-// What is structured is checked, with the same summary.
-#[test]
-fn structured_and_checked(rt: HostRuntime) -> Result<(), Fail> {
-    let alloc = rt.alloc();
-    let ran = outcome_of(alloc, &STRUCTURE, &PLAIN, u64::MAX)?;
-    assert_eq!(rt; ran.status, Status::Done);
+// What `structure` comes to, and then what `check` says of what was written: its text starts and ends so.
+fn try_written(
+    rt: &impl Abort,
+    alloc: Global,
+    files: &Files,
+    reached: Status,
+    starts: &[u8],
+    ends: &[u8],
+) -> Result<(), Fail> {
+    let ran = outcome_of(alloc, &STRUCTURE, files, u64::MAX)?;
+    assert_eq!(rt; ran.status, reached);
     let mut desk = ran.desk;
     let said = desk.said().len();
     let mut words = Vec::new(alloc);
@@ -97,8 +132,42 @@ fn structured_and_checked(rt: HostRuntime) -> Result<(), Fail> {
         words.push(String::from_str(alloc, word)?)?;
     }
     assert_eq!(rt; run(alloc, words.as_slice(), &mut desk), Status::Done);
-    let text = b"yes\ncost 2903628.00\nyield 3.96206893 3.96206894\nlimit 5.00100000\ngap 0.90\n";
-    assert_eq!(rt; &desk.said()[said..], text.as_slice());
+    let whole = desk.said();
+    assert!(rt; whole.len() >= said);
+    let text = &whole[said..];
+    assert!(rt; text.len() >= starts.len() + ends.len());
+    assert_eq!(rt; &text[..starts.len()], starts);
+    assert_eq!(rt; &text[text.len() - ends.len()..], ends);
+    Ok(())
+}
+
+// What is structured is checked.
+#[test]
+fn structured_and_checked(rt: HostRuntime) -> Result<(), Fail> {
+    let rows: [(Files, Status, &[u8], &[u8]); 4] = [
+        (
+            PLAIN,
+            Status::Done,
+            b"yes\ncost 2903628.00\nyield 3.96206893 3.96206894\n",
+            b"limit 5.00100000\ngap 0.90\n",
+        ),
+        (
+            DEAR,
+            Status::Done,
+            b"yes\ncost 3000.00\n",
+            b"limit 3.00100000\ngap 0.00\n",
+        ),
+        (
+            WHOLE_DOLLARS,
+            Status::Done,
+            b"yes\ncost 1001.00\nyield 3.96078054 3.96078055\n",
+            b"limit 5.00100000\ngap 0.00\n",
+        ),
+        (NONE_WITHIN, Status::NoneWithinYield, b"yes none\n", b""),
+    ];
+    for (files, reached, starts, ends) in &rows {
+        try_written(&rt, rt.alloc(), files, *reached, starts, ends)?;
+    }
     Ok(())
 }
 

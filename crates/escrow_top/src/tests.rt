@@ -779,7 +779,6 @@ fn exit_statuses(rt: HostRuntime) {
         (Status::WriteFault, 9),
         (Status::NoFile, 10),
         (Status::NoMemory, 11),
-        (Status::Unbuilt, 12),
     ];
     for (status, code) in &rows {
         assert_eq!(rt; status.code(), *code);

@@ -1,4 +1,4 @@
-use Rattle.branch_search.proofs.PlainFacts.{plain_settled}
+use Rattle.branch_search.proofs.NoneFacts.{plain_settled}
 use Rattle.branch_search.proofs.laws.settled_laws.Goals as goal
 
 pub returns : goal.returns

@@ -13,6 +13,7 @@ returns c =
       nodes = c.args.found.tree;
       gap = c.args.found.gap;
       found = c.requires.found;
+      found_by = c.requires.found_by;
       is_cert = is;
       is_report = c.in_ok-report.ensures;
       accepted = text_accepted (case_view c.args.case.now) c.args.found.plan c.args.found.tree c.args.found.gap c.in_ok-cert.cert.items

@@ -1,0 +1,36 @@
+-- The portfolios of the ends of tight ranges are permitted.
+use Rattle.std.proofs.Common.{◌≡◌, ◌∙◌, ℕ, suc, ◌<◌, List, [], ◌∷◌, length, map, get_or, refl, ap, arith}
+use Rattle.std.specs.List.{All, zip}
+use Rattle.std.proofs.lemmas.List.{length-map}
+use Rattle.std.proofs.lemmas.List.Elements.{All-cons, All-nil}
+use Rattle.dual_bound.proofs.RangeFacts.{tight-length}
+use Rattle.dual_bound.specs.Ranges.{AreTight}
+use Rattle.dual_bound.specs.declared.ranges.Interval.{Interval}
+use Rattle.offer_book.specs.Book.{BookContents}
+use Rattle.offer_book.specs.Portfolio.{IsPermitted, IsPermittedUnits}
+use Rattle.offer_book.specs.declared.line.Line.{Line}
+
+abbrev PairIsPermitted : Line × ℕ → Type 0
+PairIsPermitted p = IsPermittedUnits p.0 p.1
+
+abbrev pub high_of : Interval → ℕ
+high_of interval = interval.high
+
+abbrev pub low_of : Interval → ℕ
+low_of interval = interval.low
+
+highs-zip : (lines : List Line) (ranges : List Interval) → AreTight lines ranges → All PairIsPermitted (zip lines (map high_of ranges))
+highs-zip [] ranges tight = All-nil PairIsPermitted
+highs-zip (line ∷ lines) [] tight = absurd tight
+highs-zip (line ∷ lines) (interval ∷ ranges) tight = All-cons PairIsPermitted (line, interval.high) (zip lines (map high_of ranges)) tight.0.high (highs-zip lines ranges tight.1)
+
+lows-zip : (lines : List Line) (ranges : List Interval) → AreTight lines ranges → All PairIsPermitted (zip lines (map low_of ranges))
+lows-zip [] ranges tight = All-nil PairIsPermitted
+lows-zip (line ∷ lines) [] tight = absurd tight
+lows-zip (line ∷ lines) (interval ∷ ranges) tight = All-cons PairIsPermitted (line, interval.low) (zip lines (map low_of ranges)) tight.0.low (lows-zip lines ranges tight.1)
+
+pub highs-permitted : (book : BookContents) (ranges : List Interval) → AreTight book.lines ranges → IsPermitted book (map high_of ranges)
+highs-permitted book ranges tight = record { same_length = omega (arith, length-map ranges high_of, tight-length book.lines ranges tight); units = highs-zip book.lines ranges tight }
+
+pub lows-permitted : (book : BookContents) (ranges : List Interval) → AreTight book.lines ranges → IsPermitted book (map low_of ranges)
+lows-permitted book ranges tight = record { same_length = omega (arith, length-map ranges low_of, tight-length book.lines ranges tight); units = lows-zip book.lines ranges tight }

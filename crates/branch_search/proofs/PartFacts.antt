@@ -1,0 +1,185 @@
+-- What a search finds at the node in hand, and how the best plan goes on.
+use Rattle.std.proofs.Common.{◌≡◌, ◌∙◌, ◌⊎◌, inl, inr, ℕ, zero, suc, ◌-◌, ◌<◌, ◌≤◌, ℤ, pos, ◌≤ℤ◌, Bool, true, false, ◌&&◌, ◌||◌, List, [], ◌∷◌, length, set, get_or, refl, sym, ap, subst, arith, Option, Some, None, Result, Ok, Err}
+use Rattle.std.specs.Prelude.{IfOk, OnOk, int_le, int_lt, option_map}
+use Rattle.std.proofs.lemmas.Bool.{cases_lt}
+use Rattle.std.proofs.lemmas.Int.{ints}
+use Rattle.std.proofs.lemmas.List.{get_or_default}
+use Rattle.backward_build.specs.BackwardPlan.{backward_plan}
+use Rattle.case_file.specs.Case.{CaseContents}
+use Rattle.cash_table.specs.First.{first_short_of}
+use Rattle.cash_table.proofs.PointFacts.{beyond_limit, excluded_tells}
+use Rattle.cash_table.specs.Points.{IsExcluded, is_excluded, is_within_limit}
+use Rattle.day_sums.specs.Summed.{total_by}
+use Rattle.dual_bound.specs.LeafBound.{bound_of}
+use Rattle.dual_bound.proofs.RangeFacts.{narrowed-set, tight-length}
+use Rattle.dual_bound.specs.Ranges.{AreTight, is_single, narrowed, side_of}
+use Rattle.dual_bound.specs.declared.ranges.Interval.{Interval}
+use Rattle.dual_bound.specs.declared.tree.Leaf.{Leaf}
+use Rattle.dual_tune.specs.Steps.{HasNoGreater, IsImproved, zeros_like}
+use Rattle.dual_tune.specs.Tuner.{TunerContents}
+use Rattle.escrow_check.specs.Acceptance.{costs_enough, is_closed_point, low_ends}
+use Rattle.halving_tree.specs.Base.{base_leaf, reach_leaf}
+use Rattle.halving_tree.specs.Halving.{high_ends, is_short_by, is_unreached}
+use Rattle.offer_book.specs.Book.{BookContents, IsBook}
+use Rattle.offer_book.specs.CaseBook.{cash_line}
+use Rattle.offer_book.specs.declared.line.Line.{Line}
+use Rattle.escrow_units.specs.declared.limits.TheConstants.{GREATEST_YIELD}
+use Rattle.offer_book.specs.Portfolio.{Meets, cost, payments}
+use Rattle.search_tree.proofs.ZeroFacts.{zeros-some}
+use Rattle.search_tree.specs.Best.{CoversBackward, IsAtMost, IsNoDearer}
+use Rattle.search_tree.specs.Growing.{IsLostPoint, IsPriced}
+use Rattle.branch_search.specs.Parts.{IsCounted}
+use Rattle.branch_search.specs.Search.{CostsNoLess, IsNoDearerThanBackward, OfBackward}
+
+-- ---- what a node's leaf is
+tuned-improved : (case : CaseContents) (tuner : TunerContents) (base leaf : Leaf) (ranges : List Interval) → tuner ≡ record { book = case.book; yield_units = case.limit - 1 } → base ≡ base_leaf case.book
+    → IsImproved tuner.yield_units tuner.book ranges base leaf → IsImproved (case.limit - 1) case.book ranges (base_leaf case.book) leaf
+tuned-improved case tuner base leaf ranges tuned based improved =
+    subst (λ (b : Leaf). IsImproved (case.limit - 1) case.book ranges b leaf) based
+    (subst (λ (t : TunerContents). IsImproved t.yield_units t.book ranges base leaf) tuned improved)
+
+tuned-zeros : (case : CaseContents) (tuner : TunerContents) (base leaf : Leaf) (ranges : List Interval) → tuner ≡ record { book = case.book; yield_units = case.limit - 1 } → base ≡ base_leaf case.book
+    → HasNoGreater tuner.yield_units tuner.book ranges (zeros_like tuner.book base) leaf → HasNoGreater (case.limit - 1) case.book ranges (zeros_like case.book (base_leaf case.book)) leaf
+tuned-zeros case tuner base leaf ranges tuned based zeros =
+    subst (λ (b : Leaf). HasNoGreater (case.limit - 1) case.book ranges (zeros_like case.book b) leaf) based
+    (subst (λ (t : TunerContents). HasNoGreater t.yield_units t.book ranges (zeros_like t.book base) leaf) tuned zeros)
+
+pub tuned-bound : (case : CaseContents) (tuner : TunerContents) (leaf : Leaf) (ranges : List Interval) → tuner ≡ record { book = case.book; yield_units = case.limit - 1 }
+    → bound_of tuner.yield_units tuner.book ranges leaf ≡ bound_of (case.limit - 1) case.book ranges leaf
+tuned-bound case tuner leaf ranges tuned = ap (λ (t : TunerContents). bound_of t.yield_units t.book ranges leaf) tuned
+
+pub priced-is : (case : CaseContents) (tuner : TunerContents) (base leaf : Leaf) (ranges : List Interval) (bound : ℤ) → tuner ≡ record { book = case.book; yield_units = case.limit - 1 } → base ≡ base_leaf case.book
+    → IsBook case.book → AreTight case.book.lines ranges → IsImproved tuner.yield_units tuner.book ranges base leaf → HasNoGreater tuner.yield_units tuner.book ranges (zeros_like tuner.book base) leaf
+    → bound ≡ bound_of tuner.yield_units tuner.book ranges leaf → IsPriced case ranges (record { leaf = leaf; bound = bound })
+priced-is case tuner base leaf ranges bound tuned based limits tight improved zeros is = record {
+  improved = own;
+  bound = is ∙ tuned-bound case tuner leaf ranges tuned;
+  some = omega (arith, ints, zeros-some (case.limit - 1) case.book (length case.book.needs) ranges limits tight, tuned-zeros case tuner base leaf ranges tuned based zeros (sym own.whole), is, tuned-bound case tuner leaf ranges tuned);
+}
+  where
+    own : IsImproved (case.limit - 1) case.book ranges (base_leaf case.book) leaf
+    own = tuned-improved case tuner base leaf ranges tuned based improved
+
+-- the parent's leaf bounds no more
+pub parent-no_more : (case : CaseContents) (tuner : TunerContents) (base parent leaf : Leaf) (ranges : List Interval) (bound : ℤ) → tuner ≡ record { book = case.book; yield_units = case.limit - 1 } → base ≡ base_leaf case.book
+    → IsImproved tuner.yield_units tuner.book ranges base leaf → HasNoGreater tuner.yield_units tuner.book ranges parent leaf → bound ≡ bound_of tuner.yield_units tuner.book ranges leaf
+    → parent.whole ≡ true → bound_of (case.limit - 1) case.book ranges parent ≤ℤ bound
+parent-no_more case tuner base parent leaf ranges bound tuned based improved start is whole =
+    omega (arith, ints, start (whole ∙ sym (tuned-improved case tuner base leaf ranges tuned based improved).whole), is, tuned-bound case tuner parent ranges tuned)
+
+-- ---- whether the needs are reached
+pub reached-is : (case : CaseContents) (ranges : List Interval) (plan : List ℕ) (day : ℤ) → plan ≡ high_ends ranges → Some day ≡ first_short_of case.book plan
+    → bound_of (case.limit - 1) case.book ranges (reach_leaf case.book.needs day) ≤ℤ pos 0 → is_unreached case ranges ≡ false
+reached-is case ranges plan day is_high short no_more =
+    ap (λ (p : List ℕ). is_short_by case ranges (first_short_of case.book p)) (sym is_high) ∙ ap (is_short_by case ranges) (sym short)
+    ∙ not-above (int_lt (pos 0) (bound_of (case.limit - 1) case.book ranges (reach_leaf case.book.needs day))) refl
+  where
+    not-above : (b : Bool) → int_lt (pos 0) (bound_of (case.limit - 1) case.book ranges (reach_leaf case.book.needs day)) ≡ b → b ≡ false
+    not-above true above = absurd (omega (arith, ints, above, no_more))
+    not-above false above = refl
+
+-- ---- a point
+-- a portfolio that doesn't count is excluded
+point-counts : (case : CaseContents) (ranges : List Interval) (best : Option ℕ) → (excluded enough : Bool) → (excluded ≡ false → enough ≡ true) → is_single ranges ≡ true → (is_single ranges && (excluded || enough)) ≡ true
+point-counts case ranges best true enough more single = rw single refl
+point-counts case ranges best false enough more single = rw single (more refl)
+
+-- what isn't excluded meets the needs within the limit
+not-excluded : (case : CaseContents) (plan : List ℕ) → IsBook case.book → is_excluded case.book (case.limit - 1) plan ≡ false → IsExcluded case.book (case.limit - 1) plan → ⊥
+not-excluded case plan limits free excluded = (let clash : false ≡ true = sym free ∙ (excluded_tells case.book (case.limit - 1) plan limits).1 excluded in cc)
+
+free-meets : (case : CaseContents) (plan : List ℕ) → IsBook case.book → is_excluded case.book (case.limit - 1) plan ≡ false → Meets case.book plan
+free-meets case plan limits free = λ t. elim (cases_lt (total_by t (payments case.book plan)) (total_by t case.book.needs)) [
+  | inl short ↦ absurd (not-excluded case plan limits free (inl (t, short)))
+  | inr enough ↦ enough
+]
+
+free-within : (case : CaseContents) (plan : List ℕ) → IsBook case.book → 1 ≤ case.limit → case.limit ≤ GREATEST_YIELD → is_excluded case.book (case.limit - 1) plan ≡ false → is_within_limit case.limit case.book plan ≡ true
+free-within case plan limits from to free = by (is_within_limit case.limit case.book plan) refl
+  where
+    by : (b : Bool) → is_within_limit case.limit case.book plan ≡ b → is_within_limit case.limit case.book plan ≡ true
+    by true within = within
+    by false beyond = absurd (not-excluded case plan limits free (beyond_limit case.limit case.book plan limits from to beyond))
+
+enough-cost : (case : CaseContents) (plan : List ℕ) (best : Option ℕ) → IsAtMost best (cost case.book plan) → costs_enough case.book (option_map pos best) plan ≡ true
+enough-cost case plan None most = absurd most
+enough-cost case plan (Some cents) most = by (int_le (pos cents) (pos (cost case.book plan))) refl
+  where
+    by : (b : Bool) → int_le (pos cents) (pos (cost case.book plan)) ≡ b → int_le (pos cents) (pos (cost case.book plan)) ≡ true
+    by true is = is
+    by false is = absurd (omega (arith, ints, is, most))
+
+-- the one portfolio of single ranges is no rival, or the best plan costs no more
+pub point-lost : (case : CaseContents) (ranges : List Interval) (best : Option ℕ) → IsBook case.book → 1 ≤ case.limit → case.limit ≤ GREATEST_YIELD → is_single ranges ≡ true → IsCounted case (low_ends ranges) best
+    → IsLostPoint case best ranges
+point-lost case ranges best limits from to single counted = record {
+  closed = point-counts case ranges best (is_excluded case.book (case.limit - 1) (low_ends ranges)) (costs_enough case.book (option_map pos best) (low_ends ranges))
+      (λ free. enough-cost case (low_ends ranges) best (counted (free-meets case (low_ends ranges) limits free) (free-within case (low_ends ranges) limits from to free))) single;
+  lost = λ none meets within. subst (λ (b : Option ℕ). IsAtMost b (cost case.book (low_ends ranges))) none (counted meets within);
+}
+
+-- ---- the best plan
+-- the backward plan is covered
+pub covers-backward : (case : CaseContents) (best : Option ℕ) → IsNoDearerThanBackward case.limit case.book best → CoversBackward case best
+covers-backward case None no_dearer = λ built is within. absurd (let clash : true ≡ false = sym within ∙ (no_dearer built is).of_built in cc)
+covers-backward case (Some cents) no_dearer = λ built is within. (no_dearer built is).of_built within
+
+-- so it stays, where the best plan gets cheaper
+pub dearer-kept : (limit : ℕ) (book : BookContents) (best after : Option ℕ) → IsNoDearer best after → IsNoDearerThanBackward limit book best → IsNoDearerThanBackward limit book after
+dearer-kept limit book None None cheaper no_dearer = no_dearer
+dearer-kept limit book None (Some cents) cheaper no_dearer = λ built is. record {
+  trimmed = (no_dearer built is).trimmed;
+  from_built = (no_dearer built is).from_built;
+  of_built = λ within. absurd (let clash : true ≡ false = sym within ∙ (no_dearer built is).of_built in cc);
+  of_trimmed = λ within. absurd (let clash : true ≡ false = sym within ∙ (no_dearer built is).of_trimmed in cc);
+}
+dearer-kept limit book (Some before) None cheaper no_dearer = absurd cheaper
+dearer-kept limit book (Some before) (Some cents) cheaper no_dearer = λ built is. record {
+  trimmed = (no_dearer built is).trimmed;
+  from_built = (no_dearer built is).from_built;
+  of_built = λ within. omega (arith, cheaper, (no_dearer built is).of_built within);
+  of_trimmed = λ within. omega (arith, cheaper, (no_dearer built is).of_trimmed within);
+}
+
+pub no_dearer-trans : (before between after : Option ℕ) → IsNoDearer before between → IsNoDearer between after → IsNoDearer before after
+no_dearer-trans None between after first second = tt
+no_dearer-trans (Some cents) None after first second = absurd first
+no_dearer-trans (Some cents) (Some other) None first second = absurd second
+no_dearer-trans (Some cents) (Some other) (Some last) first second = omega (arith, first, second)
+
+pub no_dearer-same : (best : Option ℕ) → IsNoDearer best best
+no_dearer-same None = tt
+no_dearer-same (Some cents) = omega arith
+
+at-most-cheaper : (best after : Option ℕ) (cents : ℕ) → IsNoDearer best after → IsAtMost best cents → IsAtMost after cents
+at-most-cheaper None after cents cheaper most = absurd most
+at-most-cheaper (Some own) None cents cheaper most = absurd cheaper
+at-most-cheaper (Some own) (Some less) cents cheaper most = omega (arith, cheaper, most)
+
+pub covers-cheaper : (case : CaseContents) (best after : Option ℕ) → IsNoDearer best after → CoversBackward case best → CoversBackward case after
+covers-cheaper case best after cheaper covers = λ built is within. at-most-cheaper best after (cost case.book built) cheaper (covers built is within)
+
+-- ---- ranges that are narrowed, and put back
+abbrev pub get_at : List Interval → ℕ → Interval
+get_at ranges line = get_or ranges line (record { low = 0; high = 0 })
+
+set-back : (ranges : List Interval) (line : ℕ) (own : Interval) → set (set ranges line own) line (get_at ranges line) ≡ ranges
+set-back [] line own = refl
+set-back (first ∷ ranges) zero own = refl
+set-back (first ∷ ranges) (suc line) own = ap (λ (rest : List Interval). first ∷ rest) (set-back ranges line own)
+
+pub restored : (lines : List Line) (ranges now back : List Interval) (line at : ℕ) (right : Bool) → AreTight lines ranges → line < length lines → now ≡ narrowed lines ranges line at right
+    → back ≡ set now line (get_at ranges line) → back ≡ ranges
+restored lines ranges now back line at right tight few narrow is =
+    let same = tight-length lines ranges tight in
+    let inside : line < length ranges = omega (arith, few, same) in
+    let none : Line = cash_line 0 in
+    let own : Line = get_or lines line none in
+    let side = narrowed-set lines ranges line at right own (get_at ranges line) inside same (get_or_default lines line none own few) (get_or_default ranges line (record { low = 0; high = 0 }) (get_at ranges line) inside) in
+    is ∙ ap (λ (r : List Interval). set r line (get_at ranges line)) (narrow ∙ sym side) ∙ set-back ranges line (side_of own (get_at ranges line) at right)
+
+-- ---- the node in hand
+-- what holds of a call's answer goes on to hold of what it is made to
+pub on-ok-map : {A E : Type 0} (result : Result A E) (P Q : A → Type 0) (S : Type 0) → (S → (x : A) → P x → Q x) → OnOk result S → OnOk result (IfOk result P) → OnOk result (IfOk result Q)
+on-ok-map (Ok x) P Q S f s p = f s x p
+on-ok-map (Err e) P Q S f s p = tt

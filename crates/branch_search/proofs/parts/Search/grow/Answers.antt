@@ -1,0 +1,28 @@
+use Rattle.std.proofs.Common.{◌≡◌, sym, subst, Option}
+use Rattle.case_file.specs.Case.{CaseContents}
+use Rattle.node_pool.specs.Pool.{IsInHand, with_state}
+use Rattle.node_pool.specs.declared.node.State.TheVariants as state
+use Rattle.search_tree.specs.Growing.{IsPopped, obeys}
+use Rattle.search_tree.specs.Tree.{TreeContents}
+use Rattle.branch_search.proofs.GrowthFacts.{popped-next}
+use Rattle.branch_search.specs.Growth.{IsGrowth, IsTakenTo}
+use Rattle.branch_search.specs.Parts.{best_cents}
+use Rattle.branch_search.specs.declared.growing.Growth.{Growth}
+use Rattle.branch_search.proofs.parts.Search.grow.Goals as goal
+
+pub take-requires-clause-held : goal.take-requires-clause-held
+take-requires-clause-held c =
+    let now = c.args.self.now in
+    let tree = c.loop-node.tree in
+    let best = best_cents c.loop-node.self.best in
+    let number = c.in-Some.node.0 in
+    let taken : IsInHand (with_state tree.pool.states number state.InHand) number = subst (λ (t : TreeContents). IsInHand t.pool.states number) c.in-Some.ensures.some.1 c.in-Some.ensures.in_hand in
+    subst (λ (k : CaseContents). IsPopped k (obeys k c.args.rule) best c.pop.new.self.pool.states c.pop.new.self.nodes number) (sym c.loop-node.invariant.0)
+    (subst (λ (t : TreeContents). IsPopped now.case (obeys now.case c.args.rule) best t.pool.states t.nodes number) (sym c.in-Some.ensures.some.1)
+    (popped-next now.case (obeys now.case c.args.rule) best tree.pool.states tree.nodes number c.pop.ensures.one c.loop-node.invariant.1 c.in-Some.ensures.some.0 taken))
+
+pub returns-in-Some-2-clause-growth : goal.returns-in-Some-2-clause-growth
+returns-in-Some-2-clause-growth c =
+    let best = best_cents c.take.new.self.best in
+    subst (λ (k : CaseContents). IsGrowth k (obeys k c.args.rule) best c.take.new.tree c.in-Some-2.growth) c.loop-node.invariant.0
+    (subst (λ (e : Option Growth). IsTakenTo c.loop-node.self.case (obeys c.loop-node.self.case c.args.rule) best c.take.new.tree e) c.in-Some-2.is c.in_ok-growth.ensures.taken)

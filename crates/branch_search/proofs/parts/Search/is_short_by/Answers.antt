@@ -1,0 +1,5 @@
+use Rattle.dual_bound.proofs.RangeFacts.{tight-room}
+use Rattle.branch_search.proofs.parts.Search.is_short_by.Goals as goal
+
+pub bound-requires-clause-ranges : goal.bound-requires-clause-ranges
+bound-requires-clause-ranges c = rw c.self.invariant.tuned (tight-room c.self.inside.book.now.lines c.self.inside.ranges c.self.invariant.tight)

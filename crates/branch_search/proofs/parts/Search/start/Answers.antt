@@ -1,0 +1,26 @@
+use Rattle.std.proofs.Common.{◌≡◌, ◌∙◌, ℕ, length, sym, ap, subst, None}
+use Rattle.std.proofs.lemmas.List.{length-replicate}
+use Rattle.dual_bound.proofs.RangeLaws.{root_is_tight}
+use Rattle.dual_bound.specs.Ranges.{AreTight}
+use Rattle.offer_book.specs.Book.{BookContents}
+use Rattle.branch_search.specs.Search.{searched}
+use Rattle.branch_search.proofs.parts.Search.start.Goals as goal
+
+pub invariant_of-result : goal.invariant_of-result
+invariant_of-result c =
+    let book : BookContents = c.args.book.now in
+    record {
+      limit_from = c.requires.limit_from;
+      limit_to = c.requires.limit_to;
+      allowed = c.requires.allowance;
+      tuned = c.in_ok-tuner.ensures;
+      based = c.in_ok-base.ensures.value;
+      base_is = c.in_ok-base.ensures.leaf;
+      reaches = c.in_ok-reach.ensures.leaf.every_date ∙ c.need_count.ensures.value;
+      lined = ap length c.in_ok-plan.ensures ∙ length-replicate (length book.lines) 0;
+      tight = subst (AreTight book.lines) (sym c.in_ok-ranges.ensures) (root_is_tight book c.line_count.ensures.limits);
+      bought = tt;
+    }
+
+pub returns : goal.returns
+returns c = (λ i. record { case = searched c.args.book.now c.args.limit.0 c.args.allowance.0 c.args.budget; ranges = c.in_ok-ranges.ensures i; best = None })

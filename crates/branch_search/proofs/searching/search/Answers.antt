@@ -1,0 +1,20 @@
+use Rattle.std.proofs.Common.{◌≡◌, subst}
+use Rattle.std.specs.Prelude.{IfErr, IfOk}
+use Rattle.branch_search.proofs.NoneFacts.{plain-ended}
+use Rattle.branch_search.specs.Parts.{SearchContents}
+use Rattle.branch_search.specs.Search.{EndsOf, IsFound, IsFoundBy, searched}
+use Rattle.branch_search.proofs.searching.search.Goals as goal
+
+pub returns-clause-plain : goal.returns-clause-plain
+returns-clause-plain c =
+    plain-ended (searched c.args.book.now c.args.limit.0 c.args.allowance.0 c.args.budget) c.run.result c.line_count.ensures.limits c.requires.limit_from c.requires.limit_to
+    (subst (λ (s : SearchContents). IfErr c.run.result (EndsOf s.case)) c.in_ok-search.ensures c.run.ensures.ended)
+
+pub returns-clause-found : goal.returns-clause-found
+returns-clause-found c = subst (λ (s : SearchContents). IfOk c.run.result (λ found. IsFound s.case found.plan found.tree found.gap)) c.in_ok-search.ensures c.run.ensures.found
+
+pub returns-clause-found_by : goal.returns-clause-found_by
+returns-clause-found_by c = subst (λ (s : SearchContents). IfOk c.run.result (λ found. IsFoundBy s.case found.plan found.tree)) c.in_ok-search.ensures c.run.ensures.found_by
+
+pub returns-clause-ended : goal.returns-clause-ended
+returns-clause-ended c = subst (λ (s : SearchContents). IfErr c.run.result (EndsOf s.case)) c.in_ok-search.ensures c.run.ensures.ended

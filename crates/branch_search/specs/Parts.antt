@@ -1,0 +1,47 @@
+-- What a search holds. It is this project's own.
+use Rattle.std.specs.Prelude.{◌≡◌, ℕ, ◌-◌, ◌≤◌, true, List, length, Option, Some, None, option_map, IfSome}
+use Rattle.case_file.specs.Case.{CaseContents}
+use Rattle.cash_table.specs.Points.{is_within_limit}
+use Rattle.dual_bound.specs.Ranges.{AreTight}
+use Rattle.dual_bound.specs.Tree.{IsLeaf}
+use Rattle.dual_bound.specs.declared.ranges.Interval.{Interval}
+use Rattle.dual_bound.specs.declared.tree.Leaf.{Leaf}
+use Rattle.dual_tune.specs.Tuner.{TunerContents}
+use Rattle.escrow_units.specs.declared.limits.TheConstants.{AMOUNT_LIMIT, GREATEST_YIELD}
+use Rattle.halving_tree.specs.Base.{base_leaf}
+use Rattle.offer_book.specs.Book.{BookContents}
+use Rattle.offer_book.specs.Portfolio.{Meets, cost}
+use Rattle.search_tree.specs.Best.{IsAtMost}
+use Rattle.search_tree.specs.Growing.{IsBought}
+use Rattle.branch_search.specs.declared.best.Best.{Best}
+
+pub record SearchContents : Type 0 where
+  pub case : CaseContents
+  pub ranges : List Interval
+  pub best : Option Best
+
+-- what the best plan costs
+abbrev pub best_cents : Option Best → Option ℕ
+best_cents best = option_map (λ own. own.cost.0) best
+
+-- the parts of a search are for one book and limit
+pub record AreParts (book : BookContents) (limit allowance : ℕ) (tuner : TunerContents) (base reach : Leaf) (ranges : List Interval) (plan : List ℕ) (best : Option Best) : Type 0 where
+  pub limit_from : 1 ≤ limit
+  pub limit_to : limit ≤ GREATEST_YIELD
+  pub allowed : allowance ≤ AMOUNT_LIMIT
+  pub tuned : tuner ≡ record { book = book; yield_units = limit - 1 }
+  pub based : base ≡ base_leaf book
+  pub base_is : IsLeaf (length book.needs) base
+  pub reaches : length reach.prices ≡ length book.needs
+  pub lined : length plan ≡ length book.lines
+  pub tight : AreTight book.lines ranges
+  pub bought : IfSome best (λ own. IsBought limit book own.plan own.cost.0)
+
+-- a search goes on with the same case and ranges
+pub record AreSameBut (before after : SearchContents) : Type 0 where
+  pub case : after.case ≡ before.case
+  pub ranges : after.ranges ≡ before.ranges
+
+-- a portfolio that meets the needs within the limit counts: the best plan costs no more
+abbrev pub IsCounted : CaseContents → List ℕ → Option ℕ → Type 0
+IsCounted case plan best = Meets case.book plan → is_within_limit case.limit case.book plan ≡ true → IsAtMost best (cost case.book plan)

@@ -1,0 +1,171 @@
+//! What a search holds: the case, what prices its nodes, the ranges of the node at hand, and the best plan so far.
+ghost use Rattle.std.specs.Prelude.{◌≡◌, ◌≤◌, ◌<◌, ◌-◌, ◌^◌, ◌≤ℤ◌, ◌<ℤ◌, false, true, pos, length, ℕ, IfOk, IfSome, OnOk, MatchOption, unsigned_abs};
+ghost use Rattle.case_file.specs.Case.{CaseContents};
+ghost use Rattle.dual_bound.specs.LeafBound.{bound_of};
+ghost use Rattle.dual_bound.specs.Ranges.{AreTight, is_single};
+ghost use Rattle.dual_bound.specs.Tree.{IsLeaf};
+ghost use Rattle.escrow_check.specs.Acceptance.{bears_out, low_ends};
+ghost use Rattle.halving_tree.specs.Base.{reach_leaf};
+ghost use Rattle.halving_tree.specs.Halving.{is_unreached};
+ghost use Rattle.search_tree.specs.Growing.{IsBought, IsLostPoint, IsPriced, IsTried, claim_of_best};
+ghost use Rattle.branch_search.specs.Parts.{AreSameBut, IsCounted, best_cents};
+ghost use Rattle.search_tree.specs.Best.{IsAtMost, IsNoDearer};
+
+use crate::best::Best;
+use crate::ends::{put_high_ends, put_low_ends};
+use crate::gaps::least_gap;
+use cash_table::{Plan, cost, first_short, within_limit};
+use dual_bound::{Leaf, Ranges};
+use dual_tune::Tuner;
+use escrow_desk::NoMemory;
+use escrow_units::{Cents, Day, YieldUnits};
+use halving_tree::put_reach;
+use offer_book::Book;
+use search_tree::{Closing, Priced};
+use std::alloc::Global;
+use std::marker::Model;
+
+/// What a search holds. Contracts see the case, the ranges of the node at hand, and the best plan so far.
+#[derive(Drop)]
+pub(crate) struct Search<'a> {
+    /// The book of the case.
+    pub book: &'a Book,
+    /// The limit on the yield.
+    pub limit: YieldUnits,
+    /// By how much a rival may cost less, in cents.
+    pub allowance: Cents,
+    /// The most nodes.
+    pub budget: u32,
+    /// What prices leaves.
+    pub tuner: Tuner<'a>,
+    /// The base leaf, which each node's leaf improves.
+    pub base: Leaf,
+    /// Room for a leaf that weighs needs alone.
+    pub reach: Leaf,
+    /// The ranges of the node at hand.
+    pub ranges: Ranges,
+    /// Room for a portfolio of the ranges.
+    pub plan: Plan,
+    /// The best plan so far.
+    pub best: Option<Best>,
+}
+
+impl<'a> Model for Search<'a> {
+    ghost use Rattle.branch_search.specs.Parts.{AreParts, SearchContents};
+    ghost use Rattle.branch_search.specs.Search.{searched};
+
+    ghost Value = { SearchContents };
+
+    ghost view = { λ s. record { case = searched s.book.now s.limit.0 s.allowance.0 s.budget; ranges = s.ranges; best = s.best } };
+
+    ghost invariant = { λ s. AreParts s.book.now s.limit.0 s.allowance.0 s.tuner s.base s.reach s.ranges s.plan s.best };
+}
+
+impl<'a> Search<'a> {
+    /// Prices the ranges at hand, starting from a parent's leaf where there is one.
+    pub(crate) fn price(&mut self, alloc: Global, parent: Option<&Leaf>) -> Result<Priced, NoMemory>
+        requires parent { IfSome parent (λ leaf. IsLeaf (length self.old.case.book.needs) leaf.now) }
+        ensures search { self.new ≡ self.old }
+        ensures priced { IfOk result (IsPriced self.old.case self.old.ranges) }
+        ensures parent { IfOk result (λ priced. IfSome parent.entry (λ leaf. leaf.now.whole ≡ true → bound_of (self.old.case.limit - 1) self.old.case.book self.old.ranges leaf.now ≤ℤ priced.bound)) }
+    {
+        let mut leaf = Leaf::of_zeros(alloc, true, self.book.need_count())?;
+        let bound = self.tuner.tune(&self.ranges, &self.base, parent, &mut leaf);
+        Ok(Priced { leaf, bound })
+    }
+
+    /// Whether a bound bears out that no rival costs less than the best plan by more than the allowance.
+    pub(crate) fn is_borne(&self, bound: i128) -> bool
+        requires { unsigned_abs bound < 10 ^ 37 }
+        ensures { result ≡ bears_out bound (claim_of_best self.now.case (best_cents self.now.best)) }
+    {
+        // A book keeps its limits, so that what a plan costs has room.
+        prove!(self.book.line_count() > 0);
+        match &self.best {
+            Some(best) => least_gap(bound, best.cost) <= self.allowance.0,
+            None => false,
+        }
+    }
+
+    // Whether the needs up to a day are more than all that the ranges at hand can pay by then.
+    fn is_short_by(&mut self, day: Day) -> bool
+        ensures search { self.new ≡ self.old }
+        ensures yes { result ≡ true → pos 0 <ℤ bound_of (self.old.case.limit - 1) self.old.case.book self.old.ranges (reach_leaf self.old.case.book.needs day) }
+        ensures no { result ≡ false → bound_of (self.old.case.limit - 1) self.old.case.book self.old.ranges (reach_leaf self.old.case.book.needs day) ≤ℤ pos 0 }
+    {
+        put_reach(self.book, day, &mut self.reach);
+        0 < self.tuner.bound(&self.ranges, &self.reach)
+    }
+
+    /// The first day on which even the high ends of the ranges at hand are short, where the needs up to it are more than all that
+    /// the ranges can pay by then.
+    pub(crate) fn unreached(&mut self) -> Option<Day>
+        ensures search { self.new ≡ self.old }
+        ensures some { IfSome result (λ day. pos 0 <ℤ bound_of (self.old.case.limit - 1) self.old.case.book self.old.ranges (reach_leaf self.old.case.book.needs day)) }
+        ensures none { result ≡ None → is_unreached self.old.case self.old.ranges ≡ false }
+    {
+        put_high_ends(self.book, &self.ranges, &mut self.plan);
+        let day = first_short(self.book, &self.plan)?;
+        if self.is_short_by(day) {
+            Some(day)
+        } else {
+            None
+        }
+    }
+
+    // Takes the plan of the low ends for the best, where it meets the needs within the limit and there is none as cheap.
+    fn take_plan(&mut self, alloc: Global) -> Result<(), NoMemory>
+        ensures kept { OnOk result (AreSameBut self.old self.new) }
+        ensures no_dearer { OnOk result (IsNoDearer (best_cents self.old.best) (best_cents self.new.best)) }
+        ensures taken { OnOk result (IsCounted self.old.case (low_ends self.old.ranges) (best_cents self.new.best)) }
+    {
+        put_low_ends(self.book, &self.ranges, &mut self.plan);
+        if first_short(self.book, &self.plan).is_some()
+            || !within_limit(alloc, self.book, &self.plan, self.limit)?
+        {
+            return Ok(());
+        }
+        let cost = cost(self.book, &self.plan);
+        let plan = self.plan.copy(alloc)?;
+        self.offer(Best { plan, cost });
+        Ok(())
+    }
+
+    // Takes a plan for the best, where there is none as cheap.
+    fn offer(&mut self, offered: Best)
+        requires { IsBought self.old.case.limit self.old.case.book offered.plan offered.cost.0 }
+        ensures kept { AreSameBut self.old self.new }
+        ensures no_dearer { IsNoDearer (best_cents self.old.best) (best_cents self.new.best) }
+        ensures taken { IsAtMost (best_cents self.new.best) offered.cost.0 }
+    {
+        if let Some(best) = &self.best {
+            if best.cost.0 <= offered.cost.0 {
+                return;
+            }
+        }
+        self.best = Some(offered);
+    }
+
+    /// How a node of the ranges at hand is closed, whose leaf has this bound. A portfolio that is found on the way may become the best
+    /// one.
+    pub(crate) fn closing(&mut self, alloc: Global, bound: i128) -> Result<Closing, NoMemory>
+        requires { unsigned_abs bound < 10 ^ 37 }
+        ensures kept { OnOk result (AreSameBut self.old self.new) }
+        ensures no_dearer { OnOk result (IsNoDearer (best_cents self.old.best) (best_cents self.new.best)) }
+        ensures tried { OnOk result (IfOk result (IsTried self.old.case (best_cents self.new.best) self.old.ranges bound)) }
+    {
+        if self.is_borne(bound) {
+            return Ok(Closing::Borne);
+        }
+        if let Some(day) = self.unreached() {
+            return Ok(Closing::Unreached(day));
+        }
+        if self.ranges.single() {
+            // A book keeps its limits.
+            prove!(self.book.line_count() > 0);
+            self.take_plan(alloc)?;
+            return Ok(Closing::Point);
+        }
+        Ok(Closing::Open)
+    }
+}

@@ -1,0 +1,215 @@
+//! The search, from a case to what it comes to.
+ghost use Rattle.std.specs.Prelude.{◌≡◌, ◌≤◌, ◌⊎◌, ◌<◌, ◌-◌, ◌^◌, None, unsigned_abs, IfOk, IfErr, OnOk};
+ghost use Rattle.cash_table.specs.Reach.{IsInReach};
+ghost use Rattle.dual_bound.specs.Ranges.{root_of};
+ghost use Rattle.branch_search.specs.Plain.{IsPlainWithin};
+ghost use Rattle.branch_search.specs.Growth.{IsClosedTree, IsFullTree};
+ghost use Rattle.search_tree.specs.Growing.{obeys};
+ghost use Rattle.branch_search.specs.Parts.{AreSameBut, best_cents};
+ghost use Rattle.branch_search.specs.Search.{EndsOf, IsFound, IsFoundBy, IsNoDearerThanBackward, IsSpent, searched};
+
+use crate::best::Best;
+use crate::cheapest::cheapest;
+use crate::found::{Found, SearchEnd, Spent};
+use crate::gaps::{greatest_cost, tree_gap};
+use crate::growing::Growth;
+use crate::parts::Search;
+use cash_table::{Plan, cost, out_of_reach};
+use dual_bound::{Leaf, Ranges};
+use dual_tune::Tuner;
+use escrow_desk::NoMemory;
+use escrow_units::{AMOUNT_LIMIT, Cents, GREATEST_INDEX, GREATEST_YIELD, YieldUnits};
+use fixed_powers::{Powers, Side};
+use halving_tree::{SplitRule, base_leaf};
+use offer_book::Book;
+use search_tree::SearchTree;
+use std::alloc::Global;
+
+// What prices leaves one unit below a limit.
+fn tuner_of<'a>(alloc: Global, book: &'a Book, limit: YieldUnits) -> Result<Tuner<'a>, NoMemory>
+    requires limit_from { 1 ≤ limit.0 }
+    requires limit_to { limit.0 ≤ GREATEST_YIELD }
+    ensures { IfOk result (λ tuner. tuner ≡ record { book = book.now; yield_units = limit.0 - 1 }) }
+{
+    let powers = Powers::make(alloc, YieldUnits(limit.0 - 1), Side::Low, GREATEST_INDEX)?;
+    let tuner = Tuner::make(alloc, book, &powers)?;
+    Ok(tuner)
+}
+
+impl<'a> Search<'a> {
+    // What a search of a case holds, at the ranges of the root, before there is a plan.
+    fn start(
+        alloc: Global,
+        book: &'a Book,
+        limit: YieldUnits,
+        allowance: Cents,
+        budget: u32,
+    ) -> Result<Search<'a>, NoMemory>
+        requires limit_from { 1 ≤ limit.0 }
+        requires limit_to { limit.0 ≤ GREATEST_YIELD }
+        requires allowance { allowance.0 ≤ AMOUNT_LIMIT }
+        ensures { IfOk result (λ search. search ≡ record { case = searched book.now limit.0 allowance.0 budget; ranges = root_of book.now.lines; best = None }) }
+    {
+        // A book keeps its limits.
+        prove!(book.line_count() > 0);
+        let base = base_leaf(alloc, book)?;
+        let reach = Leaf::of_zeros(alloc, false, book.need_count())?;
+        let ranges = Ranges::root(alloc, book)?;
+        let plan = Plan::zero(alloc, book)?;
+        let tuner = tuner_of(alloc, book, limit)?;
+        Ok(Search {
+            book,
+            limit,
+            allowance,
+            budget,
+            tuner,
+            base,
+            reach,
+            ranges,
+            plan,
+            best: None,
+        })
+    }
+
+    // Looks for a plan that costs no more than the backward one; it ends early where a plan costs just what the root's bound says.
+    fn find_plan(&mut self, alloc: Global, bound: i128) -> Result<(), NoMemory>
+        requires bound { unsigned_abs bound < 10 ^ 37 }
+        requires none { self.old.best ≡ None }
+        ensures kept { OnOk result (AreSameBut self.old self.new) }
+        ensures backward { OnOk result (IsNoDearerThanBackward self.old.case.limit self.old.case.book (best_cents self.new.best)) }
+    {
+        let target = greatest_cost(bound, Cents(0));
+        if let Some(plan) = cheapest(alloc, self.book, self.limit, target)? {
+            let cost = cost(self.book, &plan);
+            self.best = Some(Best { plan, cost });
+        }
+        Ok(())
+    }
+
+    // What a tree without a waiting node comes to.
+    fn closed(&mut self, alloc: Global, tree: &SearchTree) -> Result<Found, SearchEnd>
+        requires tree { (rule : SplitRule) × IsClosedTree self.old.case (obeys self.old.case rule) (best_cents self.old.best) tree.now }
+        requires backward { IsNoDearerThanBackward self.old.case.limit self.old.case.book (best_cents self.old.best) }
+        requires reach { IsInReach self.old.case.book }
+        requires capacity { tree.now.pool.capacity ≡ self.old.case.budget }
+        requires budget { self.old.case.budget ≤ 10_000 }
+        ensures found { IfOk result (λ found. IsFound self.old.case found.plan found.tree found.gap) }
+        ensures found_by { IfOk result (λ found. IsFoundBy self.old.case found.plan found.tree) }
+        ensures ended { IfErr result (EndsOf self.old.case) }
+        ensures none { IfErr result (λ ended. ended ≡ SearchEnd.NoMemory ⊎ (best_cents self.old.best ≡ None)) }
+    {
+        // The nodes of a pool are one tree, and a book keeps its limits.
+        prove!(tree.count() > 0);
+        prove!(self.book.line_count() > 0);
+        let nodes = tree.nodes(alloc, self.book)?;
+        let Some(best) = self.best.take() else {
+            return Err(SearchEnd::NoneWithinYield(nodes));
+        };
+        let gap = tree_gap(tree, best.cost);
+        Ok(Found {
+            plan: best.plan,
+            tree: nodes,
+            gap,
+        })
+    }
+
+    // What a tree comes to whose budget is spent, and whose waiting nodes have at least this bound.
+    fn spent(
+        &mut self,
+        alloc: Global,
+        tree: &mut SearchTree,
+        bound: i128,
+    ) -> Result<Spent, NoMemory>
+        requires tree { IsFullTree self.old.case (obeys self.old.case SplitRule.Halving) (best_cents self.old.best) bound tree.old }
+        requires backward { IsNoDearerThanBackward self.old.case.limit self.old.case.book (best_cents self.old.best) }
+        requires reach { IsInReach self.old.case.book }
+        requires capacity { tree.old.pool.capacity ≡ self.old.case.budget }
+        ensures { IfOk result (IsSpent self.old.case) }
+    {
+        // The nodes of a pool are one tree, before and after, and a book keeps its limits.
+        prove!(tree.count() > 0);
+        prove!(self.book.line_count() > 0);
+        tree.close_waiting();
+        prove!(tree.count() > 0);
+        let tree = tree.nodes(alloc, self.book)?;
+        let bound = greatest_cost(bound, Cents(0));
+        let Some(best) = self.best.take() else {
+            return Ok(Spent {
+                tree,
+                bound,
+                best: None,
+            });
+        };
+        Ok(Spent {
+            tree,
+            bound,
+            best: Some(best.plan),
+        })
+    }
+
+    // Searches from the ranges of the root, before there is a plan.
+    fn run(&mut self, alloc: Global) -> Result<Found, SearchEnd>
+        requires ranges { self.old.ranges ≡ root_of self.old.case.book.lines }
+        requires none { self.old.best ≡ None }
+        requires reach { IsInReach self.old.case.book }
+        requires budget_from { 1 ≤ self.old.case.budget }
+        requires budget_to { self.old.case.budget ≤ 10_000 }
+        ensures found { IfOk result (λ found. IsFound self.old.case found.plan found.tree found.gap) }
+        ensures found_by { IfOk result (λ found. IsFoundBy self.old.case found.plan found.tree) }
+        ensures ended { IfErr result (EndsOf self.old.case) }
+    {
+        // A book keeps its limits.
+        prove!(self.book.line_count() > 0);
+        let root = self.price(alloc, None)?;
+        self.find_plan(alloc, root.bound)?;
+        let mut tree = SearchTree::start(alloc, self.budget, root)?;
+        let growth = self.grow(alloc, SplitRule::Halving, &mut tree)?;
+        // The nodes of a pool are one tree.
+        prove!(tree.count() > 0);
+        match growth {
+            Growth::Closed => self.closed(alloc, &tree),
+            Growth::Spent(bound) => Err(SearchEnd::BudgetSpent(self.spent(
+                alloc, &mut tree, bound,
+            )?)),
+        }
+    }
+}
+
+/// Searches a case for its cheapest portfolio, by branch and bound.
+///
+/// The limit is from 1 to 3,000,000,000 units of 10^-10, the allowance is at most 10^13 cents, and the budget is from 1 to
+/// 10,000 nodes. What is found is accepted by `check`, with the least gap that its tree supports. The search starts with the
+/// cheapest of the backward plan, the one that it is trimmed to and one that is looked for, of those within the limit. The node of the least bound is taken
+/// next; it is closed by its leaf, by one that weighs needs alone, or as a point, and else it is split where the halving tree is. A plain case
+/// whose issue allows at least its gap is settled at the root.
+///
+/// # Errors
+///
+/// `Short` exactly where no permitted portfolio meets the needs, with the first day on which all lines at their most are short.
+/// `NoneWithinYield` where the tree shows that there is no rival. `BudgetSpent` where the halving tree has more nodes than the
+/// budget, with the bound that the search's tree holds and the best plan. `NoMemory` where memory ran out.
+pub fn search(
+    alloc: Global,
+    book: &Book,
+    limit: YieldUnits,
+    allowance: Cents,
+    budget: u32,
+) -> Result<Found, SearchEnd>
+    requires limit_from { 1 ≤ limit.0 }
+    requires limit_to { limit.0 ≤ GREATEST_YIELD }
+    requires allowance { allowance.0 ≤ AMOUNT_LIMIT }
+    requires budget_from { 1 ≤ budget }
+    requires budget_to { budget ≤ 10_000 }
+    ensures found { IfOk result (λ found. IsFound (searched book.now limit.0 allowance.0 budget) found.plan found.tree found.gap) }
+    ensures found_by { IfOk result (λ found. IsFoundBy (searched book.now limit.0 allowance.0 budget) found.plan found.tree) }
+    ensures ended { IfErr result (EndsOf (searched book.now limit.0 allowance.0 budget)) }
+    ensures plain { IsPlainWithin (searched book.now limit.0 allowance.0 budget) → IfErr result (λ ended. ended ≡ SearchEnd.NoMemory) }
+{
+    // A book keeps its limits.
+    prove!(book.line_count() > 0);
+    if let Some(day) = out_of_reach(book) {
+        return Err(SearchEnd::Short(day));
+    }
+    let mut search = Search::start(alloc, book, limit, allowance, budget)?;
+    search.run(alloc)
+}
