@@ -14,6 +14,7 @@ from .explaining.answers import Run, explain_run
 from .explaining.case_reading import read_whole_case
 from .explaining.cautions import totals
 from .speaking import Stop, put_out, tell
+from .working import wait_for
 
 PLACES = (ISSUE, RATES, PRICES, CERT)
 # Files that are larger than any that the program reads aren't read here.
@@ -62,7 +63,7 @@ def run_explained(words: list[str]) -> int:
     if _is_whole(words) and words[0] == "structure":
         # What it says is small but for a report, which comes at the very end.
         _tell_totals(running, data)
-    said = running.communicate()[0]
+    said = wait_for(running)[0]
     status = running.returncode if running.returncode >= 0 else 128 - running.returncode
     try:
         put_out(said)

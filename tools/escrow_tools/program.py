@@ -10,8 +10,10 @@ from dataclasses import dataclass
 from pathlib import Path
 from typing import Iterator
 
+from .working import wait_for
+
 DONE, NO, USAGE, REFUSED, INFEASIBLE, NONE_WITHIN, BUDGET_SPENT = 0, 1, 2, 3, 4, 5, 6
-READ_FAULT, WRITE_FAULT, NO_FILE, NO_MEMORY, UNBUILT = 8, 9, 10, 11, 12
+READ_FAULT, WRITE_FAULT, NO_FILE, NO_MEMORY = 8, 9, 10, 11
 # Statuses of ./escrow and its tools alone.
 MADE_NOTHING = 124
 NOT_BUILT = 125
@@ -39,10 +41,11 @@ def program_path() -> str:
 
 
 def run(words: list[str], standard_error=subprocess.PIPE) -> Answer:
-    done = subprocess.run(
-        [program_path()] + words, stdin=subprocess.DEVNULL, stdout=subprocess.PIPE, stderr=standard_error, check=False
-    )
-    return Answer(done.returncode, done.stdout, done.stderr or b"")
+    with subprocess.Popen(
+        [program_path()] + words, stdin=subprocess.DEVNULL, stdout=subprocess.PIPE, stderr=standard_error
+    ) as running:
+        said, complained = wait_for(running)
+    return Answer(running.returncode, said, complained or b"")
 
 
 @dataclass(frozen=True)

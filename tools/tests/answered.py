@@ -56,6 +56,8 @@ TOO_LATE = "terms,1000,100\noffer,2025-05-15,0.00,,10000\n"
 HIGH = "terms,1000,1\nrate,2025-02-14,2026-01-15,5.00\noffer,2026-01-15,max,,10000\n"
 HIGH_ISSUE = "settle,2025-01-15\nneed,2026-01-15,1041.03\nrestricted,4.00\n"
 HIGH_CERT = "escrow-certificate 1\nportfolio 1\nbuy 1 1000\ngap 0\nnodes 1\nl 1 0 0\nend\n"
+HIGH_COARSE = "terms,1000,1000\nrate,2025-02-14,2026-01-15,4.00\noffer,2025-07-15,4.00,,2000\n"
+LOW_ISSUE = "settle,2025-01-15\nneed,2025-07-15,1000.00\nrestricted,3.00\n"
 COARSE = "settle,2025-01-15\nneed,2025-04-15,5050.00\nrestricted,4.00\n"
 COARSE_CERT = CERTIFICATE.replace("buy 1 50", "buy 1 51").replace("gap 0", "gap 5000")
 
@@ -66,7 +68,11 @@ ANSWERED = (
     Answered("nothing that matures in time", case(rates=TOO_LATE), STRUCTURE, "infeasible 2025-04-15",
              ("5,000.00 is short", "nothing on offer matures by then", "`cash`")),
     Answered("nothing on offer", case(rates=""), STRUCTURE, "infeasible 2025-04-15", ("5,000.00 is short",)),
-    Answered("no allowance with coarse steps", case(issue=COARSE), STRUCTURE, "(unbuilt structure|budget spent)|escrow report", ()),
+    Answered("no allowance with coarse steps", case(issue=COARSE), STRUCTURE, "escrow report", ("no rival costs less by more than 0.00",)),
+    Answered("a budget that is too small", case(issue=COARSE + "budget,1\n"), STRUCTURE, "budget spent",
+             ("allowance,50.00", "a greater `budget`", "certificate.txt is from an earlier run")),
+    Answered("offers that yield too much alone", case(issue=LOW_ISSUE, rates=HIGH_COARSE), STRUCTURE, "none within yield",
+             ("`yes none`", "offer,DATE,0.00,,CAP")),
     Answered("a certificate of another issue file", case(issue=ISSUE.replace("5000.00", "5000.01")), CHECK, "no ShortOn 2025-04-15",
              ("needed up to then: 5,000.01", "received up to then: 5,000.00", "short by 0.01")),
     Answered("more than the cap", cert("buy 1 50", "buy 1 101"), CHECK, "no NotPermitted 1",

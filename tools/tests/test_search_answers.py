@@ -3,11 +3,13 @@
 from __future__ import annotations
 
 import os
+import pty
+import subprocess
 import sys
 import unittest
 from unittest import mock
 
-from harness import NO_RIVAL, FolderTest, run_tool
+from harness import NO_RIVAL, ROOT, FolderTest, run_tool
 
 ISSUE = "settle,2025-01-15\nneed,2025-04-15,5050.00\nrestricted,4.00\n"
 RATES = "terms,1000,100\noffer,2025-04-15,0.00,,10000\n"
@@ -47,7 +49,7 @@ class SearchAnswersTest(FolderTest):
         self.answer(6, "budget spent", "nodes 1000", "bound 5070.00", "best 5100.00")
         ran = run_tool(self.folder, "explain", "structure", *self.words)
         self.assertEqual((ran.status, ran.lines[0]), (6, "budget spent"))
-        self.assertIn("enough would be the row: allowance,30.00", ran.err)
+        self.assertIn("enough would have been the row: allowance,30.00", ran.err)
 
     def test_no_best(self) -> None:
         self.answer(6, "budget spent", "nodes 1000", "bound 5070.00", "best none")
@@ -74,6 +76,18 @@ class SearchAnswersTest(FolderTest):
         self.assertEqual(ran.status, 0, ran.err)
         self.assertIn("allowance,50.00", ran.err)
         self.assertEqual((self.folder / "calls").read_text().split().count("structure"), 2)
+
+    def test_long_search(self) -> None:
+        """Where standard error is a terminal, each second past the first is told, on a line that is gone in the end."""
+        self.write("program", "#!/bin/sh\nsleep 1.5\nprintf 'budget spent\\nnodes 1\\nbound 0.00\\nbest none\\n'\nexit 6\n")
+        master, terminal = pty.openpty()
+        words = [sys.executable, "-B", str(ROOT / "tools" / "main.py"), "explain", "structure"]
+        done = subprocess.run(words + self.words, cwd=self.folder, stdout=subprocess.PIPE, stderr=terminal, check=False)
+        os.close(terminal)
+        told = os.read(master, 65536).decode()
+        os.close(master)
+        self.assertEqual((done.returncode, done.stdout), (6, b"budget spent\nnodes 1\nbound 0.00\nbest none\n"))
+        self.assertIn("\r\x1b[Kescrow: searching, 1 s so far\r\x1b[K", told)
 
     def test_best_without_a_plan(self) -> None:
         self.answer(6, "budget spent", "nodes 1000", "bound 5050.00", "best none")

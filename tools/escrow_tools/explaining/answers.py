@@ -184,33 +184,20 @@ def _none_within(run: Run) -> list[str]:
 
 def _budget_spent(run: Run) -> list[str]:
     said = dict(line.split(" ", 1) for line in run.lines if " " in line)
-    bound, best = said.get("bound"), said.get("best")
-    lines = ["the search ended after %s nodes without a plan that the allowance covers" % said.get("nodes", "its")]
-    if best in (None, "none"):
-        lines.append("no plan was found; a greater `budget` looks longer, and more lines or some `cash` may help")
-    else:
-        gap = cents_of(best) - cents_of(bound)
-        lines.append(
-            "the best plan costs %s, and nothing permitted costs less than %s"
-            % (money_for_people(cents_of(best)), money_for_people(cents_of(bound)))
-        )
-        lines.append("enough would be the row: allowance,%s" % money(gap))
-        lines.append("`./escrow best` writes that plan's certificate whatever is allowed")
+    bound, best = cents_of(said["bound"]), said["best"]
+    lines = ["the search ended after %s nodes, and what they prove isn't within the allowance" % said["nodes"]]
+    if best == "none":
+        lines.append("no plan was found, and no rival costs less than %s" % money_for_people(bound))
+        return lines + (_needs_low_line(run.read_case()) or ["more lines on offer may help, or some `cash`"])
+    lines.append(
+        "the best plan costs %s, and no rival less than %s" % (money_for_people(cents_of(best)), money_for_people(bound))
+    )
+    lines.append(
+        "enough would have been the row: allowance,%s; or a greater `budget`, of at most 10000, may prove a smaller gap"
+        % money(cents_of(best) - bound)
+    )
+    lines.append("`./escrow best` writes the best plan's certificate, whatever is allowed")
     return lines + _needs_low_line(run.read_case())
-
-
-def _unbuilt(run: Run) -> list[str]:
-    case = run.read_case()
-    if run.command == "best":
-        return ["the needs can be met, and no plan within the yield limit was found"] + (
-            _needs_low_line(case) or ["offer more lines or lower rates, or bring `cash`"]
-        )
-    allowed = case.issue.amount("allowance", 0) if case.issue else 0
-    return [
-        "the needs can be met, and no plan was found that is proved within the allowance of %s"
-        % money_for_people(allowed),
-        "`./escrow best` finds the best plan whatever is allowed, and says the `allowance` row for it",
-    ] + _needs_low_line(case)
 
 
 def _no(run: Run) -> list[str]:
@@ -349,13 +336,5 @@ EXPLAINERS = {
     program.WRITE_FAULT: _fault,
     program.NO_FILE: _fault,
     program.NO_MEMORY: _no_memory,
-    program.UNBUILT: _unbuilt,
 }
-CASE_STATUSES = (
-    program.DONE,
-    program.NO,
-    program.INFEASIBLE,
-    program.NONE_WITHIN,
-    program.BUDGET_SPENT,
-    program.UNBUILT,
-)
+CASE_STATUSES = (program.DONE, program.NO, program.INFEASIBLE, program.NONE_WITHIN, program.BUDGET_SPENT)
