@@ -10,11 +10,15 @@ from pathlib import Path
 class Counting(unittest.TextTestResult):
     """Counts each test, and each case of a table, that passed."""
 
-    cases = 0
+    passed = 0
+
+    def addSuccess(self, test) -> None:
+        super().addSuccess(test)
+        self.passed += 1
 
     def addSubTest(self, test, subtest, outcome) -> None:
         super().addSubTest(test, subtest, outcome)
-        self.cases += outcome is None
+        self.passed += outcome is None
 
 
 def main(names: list) -> int:
@@ -23,7 +27,7 @@ def main(names: list) -> int:
     tests = loader.loadTestsFromNames(names) if names else loader.discover(folder)
     done = unittest.TextTestRunner(resultclass=Counting, verbosity=1).run(tests)
     failed = len(done.failures) + len(done.errors)
-    print("%d passed, %d failed" % (done.testsRun - len(done.errors) + done.cases, failed))
+    print("%d passed, %d failed" % (done.passed, failed))
     return 1 if failed else 0
 
 

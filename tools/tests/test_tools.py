@@ -282,9 +282,9 @@ class PricesTest(FolderTest):
 
 class BestTest(FolderTest):
     def test_allowance_row(self) -> None:
-        """The row that is said is enough, and a cent less isn't."""
+        """The row that is said is enough, and a cent less isn't: of the root alone, since two nodes more close the gap."""
         words = self.write_case(
-            "settle,2025-01-15\nneed,2025-04-15,5050.00\nrestricted,4.00\n",
+            "settle,2025-01-15\nneed,2025-04-15,5050.00\nrestricted,4.00\nbudget,1\n",
             "terms,1000,100\noffer,2025-04-15,0.00,,10000\n",
             "",
         )
