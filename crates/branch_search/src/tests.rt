@@ -1,9 +1,9 @@
 //! Worked figures.
-ghost use Rattle.std.specs.Prelude.{◌≡◌, IfOk};
+ghost use Rattle.std.specs.Prelude.{◌≡◌, IfOk, IfSome};
 ghost use Rattle.case_file.specs.Case.{HasTerms, case_view};
-ghost use Rattle.branch_search.specs.Search.{EndsOf, IsFound};
+ghost use Rattle.branch_search.specs.Search.{EndsOf, IsFound, IsOverBound};
 
-use crate::{Found, SearchEnd, found_laws, search};
+use crate::{Found, SearchEnd, Spent, found_laws, search};
 use bound_certificate::{Buy, write_cert};
 use case_file::{Case, read_case};
 use cash_table::cost;
@@ -14,6 +14,21 @@ use std::alloc::Global;
 use std::process::Abort;
 use std::test::Fail;
 
+// How a search ends without a portfolio.
+#[derive(Clone, Copy, Debug, PartialEq, Eq)]
+enum Ending {
+    Short(Day),
+    NoneWithin {
+        nodes: usize,
+    },
+    Spent {
+        nodes: usize,
+        bound: u64,
+        best: Option<u64>,
+    },
+    NoMemory,
+}
+
 // What a search comes to.
 #[derive(Clone, Copy)]
 enum Told {
@@ -22,15 +37,7 @@ enum Told {
         cost: u64,
         gap: u64,
     },
-    Short(Day),
-    None {
-        nodes: usize,
-    },
-    Spent {
-        nodes: usize,
-        bound: u64,
-        best: Option<u64>,
-    },
+    Ended(Ending),
 }
 
 // Files, and what their case comes to.
@@ -88,22 +95,40 @@ fn is_found(
     Ok(())
 }
 
-// What a search without a portfolio comes to, as expected.
-fn is_ended(rt: &impl Abort, case: &Case, end: SearchEnd, told: &Told) -> Result<(), Fail>
-    requires ended { EndsOf (case_view case.now) end }
+// What the best plan costs, if there is one.
+fn best_cents(case: &Case, spent: &Spent) -> Option<u64>
+    requires { IfSome spent.now.best (IsOverBound (case_view case.now) spent.now.bound.0) }
 {
-    match (end, told) {
-        (SearchEnd::Short(day), Told::Short(expected)) => assert_eq!(rt; day, *expected),
-        (SearchEnd::NoneWithinYield(tree), Told::None { nodes }) => {
-            assert_eq!(rt; tree.as_slice().len(), *nodes);
-        }
-        (SearchEnd::BudgetSpent(spent), Told::Spent { nodes, bound, best }) => {
-            assert_eq!(rt; spent.tree.as_slice().len(), *nodes);
-            assert_eq!(rt; spent.bound.0, *bound);
-            assert_eq!(rt; spent.best.map(|plan| cost(&case.book, &plan).0), *best);
-        }
-        _ => return Err(Fail::new("another end")),
+    match &spent.best {
+        Some(plan) => Some(cost(&case.book, plan).0),
+        None => None,
     }
+}
+
+// How a search ended.
+fn ending_of(case: &Case, end: SearchEnd) -> Ending
+    requires { EndsOf (case_view case.now) end }
+{
+    match end {
+        SearchEnd::Short(day) => Ending::Short(day),
+        SearchEnd::NoneWithinYield(tree) => Ending::NoneWithin {
+            nodes: tree.as_slice().len(),
+        },
+        SearchEnd::BudgetSpent(spent) => Ending::Spent {
+            nodes: spent.tree.as_slice().len(),
+            bound: spent.bound.0,
+            best: best_cents(case, &spent),
+        },
+        SearchEnd::NoMemory => Ending::NoMemory,
+    }
+}
+
+// A search without a portfolio ended as expected.
+fn is_ended(rt: &impl Abort, ending: Ending, told: &Told) -> Result<(), Fail> {
+    let Told::Ended(expected) = told else {
+        return Err(Fail::new("not found"));
+    };
+    assert_eq!(rt; ending, *expected);
     Ok(())
 }
 
@@ -111,7 +136,7 @@ fn try_row(rt: &impl Abort, alloc: Global, row: &Row) -> Result<(), Fail> {
     let case = case_of(rt, alloc, row)?;
     match search(alloc, &case.book, case.limit, case.allowance, case.budget) {
         Ok(found) => is_found(rt, alloc, &case, found, &row.told),
-        Err(end) => is_ended(rt, &case, end, &row.told),
+        Err(end) => is_ended(rt, ending_of(&case, end), &row.told),
     }
 }
 
@@ -173,11 +198,11 @@ fn cases_close_or_end(rt: HostRuntime) -> Result<(), Fail> {
         Row {
             issue: b"settle,2025-01-15\nneed,2026-01-15,1041.03\nrestricted,5.00\nbudget,1\n",
             rates: RATES_C,
-            told: Told::Spent {
+            told: Told::Ended(Ending::Spent {
                 nodes: 1,
                 bound: 100_099,
                 best: Some(100_100),
-            },
+            }),
         },
         Row {
             issue: b"settle,2025-01-15\nneed,2026-01-15,1041.03\nrestricted,5.00\nbudget,27\n",
@@ -205,7 +230,7 @@ fn cases_close_or_end(rt: HostRuntime) -> Result<(), Fail> {
         Row {
             issue: b"settle,2025-01-15\nneed,2025-07-15,1000.00\nrestricted,3.00\n",
             rates: b"terms,1000,1000\nrate,2025-02-14,2026-01-15,4.00\noffer,2025-07-15,4.00,,2000\n",
-            told: Told::None { nodes: 5 },
+            told: Told::Ended(Ending::NoneWithin { nodes: 5 }),
         },
         // nothing matures on the need date, so that there is no backward plan
         Row {
@@ -220,7 +245,7 @@ fn cases_close_or_end(rt: HostRuntime) -> Result<(), Fail> {
         Row {
             issue: b"settle,2025-01-15\ncash,50.00\nneed,2025-01-20,100.00\nrestricted,4.00\n",
             rates: b"",
-            told: Told::Short(Day::new(20_108)),
+            told: Told::Ended(Ending::Short(Day::new(20_108))),
         },
     ];
     for row in &rows {
