@@ -1,9 +1,9 @@
--- What a search for plans is for, and lines in an order.
+-- What dives for plans are for, and lines in an order.
 use Rattle.std.specs.Prelude.{ℕ, ◌<◌, List, All, length}
 use Rattle.offer_book.specs.Book.{BookContents}
 use Rattle.plan_finder.specs.declared.order.Ranked.{Ranked}
 
--- what contracts see of a search: the book, and the limit on the yield
+-- what contracts see of a finder, and of a search: the book, and the limit on the yield
 pub record SearchContents : Type 0 where
   pub book : BookContents
   pub limit : ℕ

@@ -14,7 +14,7 @@ use crate::neighbours::{Neighbours, next_to, permitted_below};
 use crate::order::Ranked;
 use crate::terms::Purchase;
 use cash_table::Plan;
-use dual_bound::Interval;
+use dual_bound::{Interval, Ranges};
 use escrow_desk::NoMemory;
 use fixed_powers::Powers;
 use offer_book::{Book, Line};
@@ -279,20 +279,43 @@ impl<'a> Diver<'a> {
         }
     }
 
-    // Frees a line.
+    // Gives a line a range. It isn't fixed any longer.
+    fn set_range(&mut self, line: u16, interval: Interval)
+        requires line { line < length self.old.book.now.lines }
+        ensures { self.new.book ≡ self.old.book }
+    {
+        self.simplex.set_range(line, interval);
+        self.fixed[usize::from(line)] = None;
+    }
+
+    // Frees a line: its range is every number of its units.
     fn free(&mut self, line: u16)
         requires line { line < length self.old.book.now.lines }
         ensures { self.new.book ≡ self.old.book }
     {
-        if self.fixed[usize::from(line)].is_none() {
-            return;
-        }
         let whole = Interval {
             low: 0,
             high: self.book.line(line).most,
         };
-        self.simplex.set_range(line, whole);
-        self.fixed[usize::from(line)] = None;
+        self.set_range(line, whole);
+    }
+
+    // Solves the program from the start, and gives its objective.
+    fn solve_anew(&mut self) -> i128
+        ensures { self.new.book ≡ self.old.book }
+    {
+        self.simplex.start_greedily();
+        self.solve(COLD_ITERATIONS)
+    }
+
+    // Solves the program from a basis; where that has to stop, from the start.
+    fn solve_from(&mut self, basis: &Basis)
+        ensures { self.new.book ≡ self.old.book }
+    {
+        self.simplex.start_from(basis);
+        if self.simplex.solve(COLD_ITERATIONS, None) == SolveEnd::Stopped {
+            self.solve_anew();
+        }
     }
 
     /// Solves the program of all lines from the start, and gives its objective.
@@ -302,8 +325,24 @@ impl<'a> Diver<'a> {
         for line in 0..self.book.line_count() {
             self.free(line);
         }
-        self.simplex.start_greedily();
-        self.solve(COLD_ITERATIONS)
+        self.solve_anew()
+    }
+
+    /// Solves the program in which each line has a range, from a basis where one is given, and else from the start.
+    pub(crate) fn start_within(&mut self, ranges: &Ranges, basis: Option<&Basis>)
+        requires ranges { length ranges.now ≡ length self.old.book.now.lines }
+        ensures { self.new.book ≡ self.old.book }
+    {
+        let intervals = ranges.intervals();
+        for line in 0..self.book.line_count() {
+            self.set_range(line, intervals[usize::from(line)]);
+        }
+        match basis {
+            Some(basis) => self.solve_from(basis),
+            None => {
+                self.solve_anew();
+            }
+        }
     }
 
     /// Solves the program from the start in which only some lines are free, and all others are fixed at a plan's units; it gives
@@ -321,8 +360,7 @@ impl<'a> Diver<'a> {
                 self.fix(ledger, line, plan.get(line));
             }
         }
-        self.simplex.start_greedily();
-        self.solve(COLD_ITERATIONS)
+        self.solve_anew()
     }
 
     // The units at which a line stands after a dive.

@@ -10,6 +10,7 @@ mod again;
 mod best;
 mod dive;
 mod draw;
+mod finder;
 mod finding;
 mod ledger;
 mod mend;
@@ -20,7 +21,9 @@ mod search;
 mod terms;
 mod trimming;
 
+pub use finder::Finder;
 pub use finding::{Proposal, find};
+pub use neighbours::{Neighbours, next_to};
 
 #[cfg(test)]
 mod tests;

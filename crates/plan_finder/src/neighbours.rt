@@ -6,7 +6,7 @@ use offer_book::Line;
 
 /// Permitted numbers of units on both sides of an amount.
 #[derive(Clone, Copy, Debug, PartialEq, Eq)]
-pub(crate) struct Neighbours {
+pub struct Neighbours {
     /// The greatest that comes to at most the amount.
     pub below: u64,
     /// The next one, or the same where there is none.
@@ -41,7 +41,7 @@ fn permitted_above(line: &Line, units: u64) -> u64
 }
 
 /// The permitted numbers of units next to an amount at par, in units of 2^-10 of a cent.
-pub(crate) fn next_to(line: &Line, amount: i64) -> Neighbours
+pub fn next_to(line: &Line, amount: i64) -> Neighbours
     ensures below { IsPermittedUnits line.now result.below }
     ensures above { IsPermittedUnits line.now result.above }
 {

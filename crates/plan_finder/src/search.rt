@@ -1,20 +1,16 @@
-//! Dives, and the exact plans that come of them.
+//! Chains of dives: what a search knows, and the plans that it keeps.
 ghost use Rattle.std.specs.Prelude.{◌<◌, ◌≤◌, ◌≡◌, All, IfOk, IfSome, length};
-ghost use Rattle.fixed_powers.specs.DiscountPowers.{PowerTable};
 ghost use Rattle.offer_book.specs.Portfolio.{IsPermitted};
-ghost use Rattle.plan_finder.specs.Dive.{AreLinesOf};
 ghost use Rattle.plan_finder.specs.Proposal.{IsProposal};
 
-use crate::best::{Exactness, finish, is_cheaper, offer};
-use crate::dive::{Diver, PAYMENT_WORK, Sequence};
+use crate::best::is_cheaper;
+use crate::dive::Sequence;
 use crate::draw::Draw;
+use crate::finder::Finder;
 use crate::finding::Proposal;
-use crate::ledger::Ledger;
-use crate::order::{By, Ranked, ends_of, order};
 use crate::parts::{free_most, free_part};
 use escrow_desk::NoMemory;
-use escrow_units::{Cents, GREATEST_INDEX, GREATEST_YIELD, YieldUnits};
-use fixed_powers::{Powers, Side};
+use escrow_units::{Cents, GREATEST_YIELD, YieldUnits};
 use offer_book::Book;
 use std::alloc::Global;
 use std::marker::Model;
@@ -39,21 +35,12 @@ pub(crate) struct Task<'a> {
 #[derive(Drop)]
 pub(crate) struct Search<'a> {
     task: Task<'a>,
-    // The plan at hand.
-    ledger: Ledger<'a>,
-    // The linear program.
-    diver: Diver<'a>,
-    // The orders in which lines are trimmed.
-    orders: Vec<Vec<Ranked>>,
-    // The last need date that each line's payments serve, counted from 1.
-    ends: Vec<u16>,
+    finder: Finder<'a>,
     // The lines that can be bought.
     lines: Vec<u16>,
     // Which lines are free in a dive near a plan.
     free: Vec<bool>,
     draw: Draw,
-    // How much work it was to make plans exact, in units of the program's work, up to the type's end.
-    finishing: u64,
     // The cheapest plan of the dives since the search began anew, if any was found.
     near: Option<Proposal>,
     // The cheapest plan of all.
@@ -62,26 +49,21 @@ pub(crate) struct Search<'a> {
 
 impl<'a> Model for Search<'a> {
     ghost use Rattle.std.specs.Prelude.{◌≡◌, ◌<◌, ◌≤◌, All, IfSome, length};
-    ghost use Rattle.plan_finder.specs.Dive.{AreLinesOf, SearchContents};
+    ghost use Rattle.plan_finder.specs.Dive.{SearchContents};
     ghost use Rattle.plan_finder.specs.Proposal.{IsProposal};
 
     ghost Value = { SearchContents };
 
     ghost view = { λ s. record { book = s.task.book.now; limit = s.task.limit.0 } };
 
-    ghost invariant = { λ s. (s.ledger.book ≡ s.task.book.now)
-        × (s.diver.book.now ≡ s.task.book.now)
-        × All (λ order. AreLinesOf s.task.book.now order.items) s.orders.items
-        × (length s.ends.items ≡ length s.task.book.now.lines)
+    ghost invariant = { λ s. (s.finder.book ≡ s.task.book.now)
+        × (s.finder.limit ≡ s.task.limit.0)
         × All (λ line. line < length s.task.book.now.lines) s.lines.items
         × (length s.lines.items ≤ length s.task.book.now.lines)
         × (length s.free.items ≡ length s.task.book.now.lines)
         × IfSome s.near (IsProposal s.task.limit.0 s.task.book.now)
         × IfSome s.best (IsProposal s.task.limit.0 s.task.book.now) };
 }
-
-// How much work a try is beside the purchase, in units of the program's work: running up what is paid by each need date.
-const DATES_WORK: u64 = 500;
 
 // From what number draws start.
 const SEED: u64 = 1;
@@ -96,18 +78,6 @@ fn is_hopeless(objective: i128, found: &Option<Proposal>) -> bool {
         Some(proposal) => i128::from(proposal.cost.0) * (1 << 40) - LEAST_GAIN <= objective,
         None => false,
     }
-}
-
-// The orders in which lines are trimmed.
-fn orders_of(alloc: Global, book: &Book, ends: &[u16]) -> Result<Vec<Vec<Ranked>>, NoMemory>
-    requires { length ends.now ≡ length book.now.lines }
-    ensures { IfOk result (λ orders. All (λ order. AreLinesOf book.now order.items) orders.items) }
-{
-    let mut orders = Vec::new(alloc);
-    for by in [By::CoarseFirst, By::LatestFirst, By::EarliestFirst] {
-        orders.push(order(alloc, book, ends, by)?)?;
-    }
-    Ok(orders)
 }
 
 // The lines that can be bought: their most is at least their least purchase.
@@ -147,9 +117,6 @@ fn copied(
 impl<'a> Search<'a> {
     /// What a search of a task works with. Its limit is from 1 to 3,000,000,000.
     ///
-    /// Present values are taken one unit below the limit and rounded down: what is worth at most its cost there is within the
-    /// limit.
-    ///
     /// # Errors
     ///
     /// Where memory ran out.
@@ -160,21 +127,12 @@ impl<'a> Search<'a> {
     {
         let alloc = task.alloc;
         let book = task.book;
-        let below = YieldUnits(task.limit.0 - 1);
-        let powers = Powers::make(alloc, below, Side::Low, GREATEST_INDEX)?;
-        let ledger = Ledger::make(alloc, book, &powers)?;
-        let ends = ends_of(alloc, &ledger)?;
-        let earliest = order(alloc, book, ends.as_slice(), By::EarliestFirst)?;
         Ok(Search {
             task,
-            ledger,
-            diver: Diver::make(alloc, book, &powers, earliest)?,
-            orders: orders_of(alloc, book, ends.as_slice())?,
-            ends,
+            finder: Finder::make(alloc, book, task.limit)?,
             lines: lines_on_offer(alloc, book)?,
             free: vec![in alloc; false; usize::from(book.line_count())]?,
             draw: Draw::from(SEED),
-            finishing: 0,
             near: None,
             best: None,
         })
@@ -182,27 +140,16 @@ impl<'a> Search<'a> {
 
     // How much work may be done in all, in units of the program's work.
     fn most_work(&self) -> u64 {
-        u64::from(self.task.effort).saturating_mul(self.diver.sweep())
+        self.finder.work_of_sweeps(u64::from(self.task.effort))
     }
 
     /// Whether all work is done that may be, or the best plan costs no more than the target.
     pub(crate) fn is_done(&self) -> bool {
-        let work = self.diver.work().saturating_add(self.finishing);
-        let is_spent = self.most_work() <= work;
+        let is_spent = self.most_work() <= self.finder.work();
         match &self.best {
             Some(best) => is_spent || best.cost.0 <= self.task.target.0,
             None => is_spent,
         }
-    }
-
-    // How much work it was to make a plan exact: a rise weighs two purchases of each line, and a try one and the dates.
-    fn work_of(&self, done: Exactness) -> u64 {
-        let sweep = self.diver.sweep();
-        let purchase = PAYMENT_WORK.saturating_mul(sweep / (self.ends.len() as u64).max(1));
-        let rise = (2 * PAYMENT_WORK).saturating_mul(sweep);
-        let rises = u64::from(done.rises).saturating_mul(rise);
-        let tries = u64::from(done.tries).saturating_mul(purchase.saturating_add(DATES_WORK));
-        rises.saturating_add(tries)
     }
 
     /// How much work may be done in all, in sweeps. Each dive takes more than one.
@@ -235,31 +182,15 @@ impl<'a> Search<'a> {
     pub(crate) fn offer(&mut self) -> Result<(), NoMemory>
         ensures { self.new ≡ self.old }
     {
-        offer(
-            self.task.alloc,
-            self.task.limit,
-            &self.ledger,
-            &mut self.near,
-        )
+        self.finder.offer(&mut self.near)
     }
 
     // Dives from the solution at hand, makes the plan exact, and offers it.
     fn dive(&mut self, sequence: Sequence) -> Result<(), NoMemory>
         ensures { self.new ≡ self.old }
     {
-        let most_work = self.most_work().saturating_sub(self.finishing);
-        self.diver.descend(&self.ledger, sequence, most_work);
-        self.diver.surface(&mut self.ledger);
-        let done = finish(
-            self.task.alloc,
-            self.task.limit,
-            self.orders.as_slice(),
-            &mut self.ledger,
-            &mut self.near,
-        )?;
-        let work = self.work_of(done);
-        self.finishing = self.finishing.saturating_add(work);
-        Ok(())
+        let most_work = self.most_work();
+        self.finder.descend(sequence, most_work, &mut self.near)
     }
 
     /// Dives over all lines.
@@ -270,7 +201,7 @@ impl<'a> Search<'a> {
     pub(crate) fn dive_whole(&mut self, sequence: Sequence) -> Result<(), NoMemory>
         ensures { self.new ≡ self.old }
     {
-        self.diver.start_whole();
+        self.finder.start_whole();
         self.dive(sequence)
     }
 
@@ -286,9 +217,7 @@ impl<'a> Search<'a> {
         let Some(near) = &self.near else {
             return Ok(());
         };
-        let objective = self
-            .diver
-            .start_near(&self.ledger, &near.plan, self.free.as_slice());
+        let objective = self.finder.start_near(&near.plan, self.free.as_slice());
         if is_hopeless(objective, &self.near) {
             return Ok(());
         }
@@ -308,8 +237,7 @@ impl<'a> Search<'a> {
         let Some(best) = &self.best else {
             return Ok(());
         };
-        self.diver
-            .start_near(&self.ledger, &best.plan, self.free.as_slice());
+        self.finder.start_near(&best.plan, self.free.as_slice());
         self.dive(Sequence::Drawn(number))
     }
 
@@ -368,7 +296,7 @@ impl<'a> Search<'a> {
                 self.free.as_mut_slice(),
                 &mut self.draw,
                 self.lines.as_slice(),
-                self.ends.as_slice(),
+                self.finder.ends(),
                 &near.plan,
                 dates,
             );
