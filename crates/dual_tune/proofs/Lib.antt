@@ -1,3 +1,4 @@
 pub mod AsideFacts
 pub mod PayerFacts
 pub mod SweepFacts
+pub mod TableFacts

@@ -20,8 +20,10 @@ use Rattle.dual_bound.proofs.BoundSizes.{bound-more}
 use Rattle.dual_bound.proofs.TableauFacts.{some-line}
 use Rattle.dual_bound.specs.Tree.{IsLeaf, with_price}
 use Rattle.dual_tune.specs.Payers.{ArePayers}
-use Rattle.dual_tune.specs.Steps.{price_after, price_before}
+use Rattle.dual_tune.specs.Steps.{price_after, price_before, price_beside, with_weight}
 use Rattle.dual_tune.specs.Sweep.{AreReached, lines_worth, stepped}
+use Rattle.dual_tune.specs.declared.steps.Side.{Side}
+use Rattle.dual_tune.specs.declared.steps.Side.TheVariants as side
 use Rattle.dual_tune.specs.declared.sweep.Step.{Step}
 use Rattle.dual_tune.specs.declared.sweep.Step.TheVariants as step
 use Rattle.dual_tune.proofs.AsideFacts.{least-aside, set-length}
@@ -155,15 +157,16 @@ pub behind : (payers : List ℕ) (index : ℕ) → AllPairs (λ earlier later. e
     → get_or payers index 0 + 1 ≤ get_or payers k 0
 behind payers index rising k from few = omega (arith, rising index k 0 (omega (arith, from)) few)
 
-pub set-back : (xs : List ℕ) (place v : ℕ) → set (set xs place v) place (get_or xs place 0) ≡ xs
-set-back [] place v = refl
-set-back (x ∷ xs) zero v = refl
-set-back (x ∷ xs) (suc place) v = ap (λ ys. x ∷ ys) (set-back xs place v)
+-- an item is put back
+pub set-back : {A : Type 0} (xs : List A) (place : ℕ) (v d : A) → set (set xs place v) place (get_or xs place d) ≡ xs
+set-back [] place v d = refl
+set-back (x ∷ xs) zero v d = refl
+set-back (x ∷ xs) (suc place) v d = ap (λ ys. x ∷ ys) (set-back xs place v d)
 
 -- a leaf's own price is put back
 pub put-back : (leaf : Leaf) (place price own : ℕ) → own ≡ get_or leaf.prices place 0 → with_price (with_price leaf place price) place own ≡ leaf
 put-back leaf place price own is =
-    ap (λ (q : ℕ). with_price (with_price leaf place price) place q) is ∙ (λ i. record { whole = leaf.whole; mu = leaf.mu; prices = set-back leaf.prices place price i })
+    ap (λ (q : ℕ). with_price (with_price leaf place price) place q) is ∙ (λ i. record { whole = leaf.whole; mu = leaf.mu; prices = set-back leaf.prices place price 0 i })
 
 pub set-at : (xs : List ℕ) (place v : ℕ) → place < length xs → get_or (set xs place v) place 0 ≡ v
 set-at [] place v few = absurd (omega arith)
@@ -217,7 +220,7 @@ step-leaf dates leaf place v well few small above below = record {
   falling = set-falling leaf.prices place v (omega (arith, few, well.every_date)) well.falling above below;
 }
 
-pub leaf-before : (dates : ℕ) (leaf : Leaf) (place : ℕ) → IsLeaf dates leaf → place < dates → IsLeaf dates (with_price leaf place (price_before leaf.prices place))
+leaf-before : (dates : ℕ) (leaf : Leaf) (place : ℕ) → IsLeaf dates leaf → place < dates → IsLeaf dates (with_price leaf place (price_before leaf.prices place))
 leaf-before dates leaf zero well few =
     step-leaf dates leaf 0 (2 * PRICE_SCALE) well few (omega arith) (λ k d lt. absurd (omega arith)) (λ k d lt long. well.range k d long)
 leaf-before dates leaf (suc place) well few =
@@ -230,7 +233,7 @@ leaf-before dates leaf (suc place) well few =
     ])
     (λ k d lt long. omega (arith, well.falling place k d (omega arith) long, get_or_default leaf.prices place 0 d there))
 
-pub leaf-after : (dates : ℕ) (leaf : Leaf) (place : ℕ) → IsLeaf dates leaf → place < dates → IsLeaf dates (with_price leaf place (price_after leaf.prices place))
+leaf-after : (dates : ℕ) (leaf : Leaf) (place : ℕ) → IsLeaf dates leaf → place < dates → IsLeaf dates (with_price leaf place (price_after leaf.prices place))
 leaf-after dates leaf place well few =
     elim (cases_lt (place + 1) (length leaf.prices)) [
       | inl there ↦
@@ -245,6 +248,14 @@ leaf-after dates leaf place well few =
           let none : get_or leaf.prices (place + 1) 0 ≡ 0 = get_or_past leaf.prices (place + 1) 0 last in
           step-leaf dates leaf place (get_or leaf.prices (place + 1) 0) well few (omega (arith, none)) (λ k d lt. omega (arith, none)) (λ k d lt long. absurd (omega (arith, last, lt, long)))
     ]
+
+pub leaf-beside : (dates : ℕ) (leaf : Leaf) (place : ℕ) (side : Side) → IsLeaf dates leaf → place < dates → IsLeaf dates (with_price leaf place (price_beside leaf.prices place side))
+leaf-beside dates leaf place side.Before well few = leaf-before dates leaf place well few
+leaf-beside dates leaf place side.After well few = leaf-after dates leaf place well few
+
+-- a leaf with a weight of the limit that is tried keeps its limits
+pub leaf-weighed : (dates : ℕ) (leaf : Leaf) (mu : ℕ) → IsLeaf dates leaf → mu ≤ PRICE_SCALE → IsLeaf dates (with_weight leaf mu)
+leaf-weighed dates leaf mu well small = record { limit = small; every_date = well.every_date; range = well.range; falling = well.falling }
 
 -- what is reached stays reached by more
 pub reached-more : (n : ℕ) (book : BookContents) (ranges : List Interval) (leaf : Leaf) (least most : ℤ) (place : ℕ) → least ≤ℤ most

@@ -6,6 +6,10 @@ use Rattle.dual_bound.specs.Tree.{IsLeaf, with_price}
 use Rattle.dual_bound.specs.declared.prices.TheConstants.{PRICE_SCALE}
 use Rattle.dual_bound.specs.declared.ranges.Interval.{Interval}
 use Rattle.dual_bound.specs.declared.tree.Leaf.{Leaf}
+use Rattle.dual_tune.specs.declared.steps.Side.{Side}
+use Rattle.dual_tune.specs.declared.steps.Side.TheVariants as side
+use Rattle.dual_tune.specs.declared.steps.Weight.{Weight}
+use Rattle.dual_tune.specs.declared.steps.Weight.TheVariants as weight
 
 -- the price before that of a place: 2 before the first
 abbrev pub price_before : List ℕ → ℕ → ℕ
@@ -16,9 +20,20 @@ price_before prices (suc place) = slice_index prices place
 abbrev pub price_after : List ℕ → ℕ → ℕ
 price_after prices place = slice_index_or prices (place + 1) 0
 
+-- the price beside that of a place
+abbrev pub price_beside : List ℕ → ℕ → Side → ℕ
+price_beside prices place side.Before = price_before prices place
+price_beside prices place side.After = price_after prices place
+
 -- a leaf with another weight of the limit
 abbrev pub with_weight : Leaf → ℕ → Leaf
 with_weight leaf mu = record { whole = leaf.whole; mu = mu; prices = leaf.prices }
+
+-- a weight that is tried, in units of 1 / PRICE_SCALE
+abbrev pub mu_of_weight : Weight → ℕ
+mu_of_weight weight.Nothing = 0
+mu_of_weight weight.Half = PRICE_SCALE / 2
+mu_of_weight weight.Whole = PRICE_SCALE
 
 -- the weights that are tried: 0, a half and 1
 abbrev pub IsTriedWeight : ℕ → Type 0

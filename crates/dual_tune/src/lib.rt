@@ -3,7 +3,9 @@
 
 mod parts;
 mod payers;
+mod steps;
 mod sweep;
+mod table;
 #[cfg(test)]
 mod tests;
 mod tuner;

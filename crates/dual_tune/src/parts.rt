@@ -9,13 +9,12 @@ ghost use Rattle.dual_tune.specs.Steps.{HasNoGreater, IsBetter, IsImproved, zero
 ghost use Rattle.dual_tune.specs.Sweep.{IsPlaced, stepped};
 ghost use Rattle.dual_tune.specs.Tuner.{AreParts};
 
-use crate::payers::payers_by_date;
-use crate::sweep::{LineLeast, Step, Sweep, copy_leaf};
+use crate::sweep::{Step, Sweep, copy_leaf};
 use dual_bound::{Columns, Leaf, Ranges};
 use escrow_desk::NoMemory;
 use fixed_powers::Powers;
 use offer_book::Book;
-use price_lp::{COLD_ITERATIONS, Purpose, Simplex, SolveEnd, WARM_ITERATIONS};
+use price_lp::{Basis, COLD_ITERATIONS, Purpose, Simplex, SolveEnd, WARM_ITERATIONS};
 use std::alloc::Global;
 
 /// The parts of a tuner.
@@ -29,18 +28,6 @@ pub(crate) struct Parts<'a> {
     pub proposal: Leaf,
     /// The leaf of prices of 0, without a weight of the limit.
     pub zeros: Leaf,
-}
-
-// A place for what each line adds.
-fn no_leasts(alloc: Global, count: u16) -> Result<Vec<LineLeast>, NoMemory>
-    ensures count { IfOk result (λ leasts. length leasts.items ≡ count) }
-    ensures none { IfOk result (λ leasts. All (λ least. unsigned_abs least.least ≤ 71 * 10 ^ 33) leasts.items) }
-{
-    let mut leasts = Vec::new(alloc);
-    for _ in 0..count {
-        leasts.push(LineLeast { least: 0 })?;
-    }
-    Ok(leasts)
 }
 
 // A leaf goes a step.
@@ -63,11 +50,11 @@ fn solve_anew(simplex: &mut Simplex)
     simplex.solve(COLD_ITERATIONS, None);
 }
 
-// Solves a program from a leaf's prices; where that doesn't come to an end, from nothing.
-fn solve_from(simplex: &mut Simplex, leaf: &Leaf)
+// Solves a program from a basis; where that doesn't come to an end, from nothing.
+fn solve_from(simplex: &mut Simplex, basis: &Basis)
     ensures { simplex.new ≡ simplex.old }
 {
-    simplex.start_at(leaf);
+    simplex.start_from(basis);
     if simplex.solve(WARM_ITERATIONS, None) != SolveEnd::Optimal {
         solve_anew(simplex);
     }
@@ -126,32 +113,37 @@ impl<'a> Parts<'a> {
         ensures yield_units { IfOk result (λ parts. parts.sweep.columns.yield_units ≡ powers.now.yield_units) }
     {
         Ok(Parts {
-            sweep: Sweep {
-                columns: Columns::make(alloc, book, powers)?,
-                payers: payers_by_date(alloc, book)?,
-                leasts: no_leasts(alloc, book.line_count())?,
-                trial: Leaf::of_zeros(alloc, true, book.need_count())?,
-            },
+            sweep: Sweep::make(alloc, book, powers)?,
             simplex: Simplex::make(alloc, book, powers)?,
             proposal: Leaf::of_zeros(alloc, true, book.need_count())?,
             zeros: Leaf::of_zeros(alloc, true, book.need_count())?,
         })
     }
 
+    /// Solves the linear program over ranges, from a basis where there is one.
+    pub(crate) fn solve(&mut self, book: &Book, ranges: &Ranges, whole: bool, basis: Option<&Basis>)
+        requires parts { AreParts book.now self.old }
+        requires ranges { AllZip HasRoomFor book.now.lines ranges.now }
+        ensures parts { AreParts book.now self.new }
+        ensures sweep { self.new.sweep ≡ self.old.sweep }
+    {
+        self.simplex.aim(Purpose::Bound, whole);
+        set_ranges(&mut self.simplex, book.line_count(), ranges);
+        match basis {
+            Some(basis) => solve_from(&mut self.simplex, basis),
+            None => solve_anew(&mut self.simplex),
+        }
+    }
+
     // Puts into the proposal what the linear program proposes.
-    fn solve(&mut self, book: &Book, ranges: &Ranges, whole: bool, start: Option<&Leaf>)
+    fn propose(&mut self, book: &Book, ranges: &Ranges, whole: bool, basis: Option<&Basis>)
         requires parts { AreParts book.now self.old }
         requires ranges { AllZip HasRoomFor book.now.lines ranges.now }
         ensures parts { AreParts book.now self.new }
         ensures sweep { self.new.sweep ≡ self.old.sweep }
         ensures whole { self.new.proposal.whole ≡ whole }
     {
-        self.simplex.aim(Purpose::Bound, whole);
-        set_ranges(&mut self.simplex, book.line_count(), ranges);
-        match start {
-            Some(start) => solve_from(&mut self.simplex, start),
-            None => solve_anew(&mut self.simplex),
-        }
+        self.solve(book, ranges, whole, basis);
         self.proposal.whole = whole;
         self.simplex.propose(&mut self.proposal);
     }
@@ -174,7 +166,7 @@ impl<'a> Parts<'a> {
         book: &Book,
         ranges: &Ranges,
         leaf: &Leaf,
-        start: Option<&Leaf>,
+        basis: Option<&Basis>,
         into: &mut Leaf,
     ) -> i128
         requires parts { AreParts book.now self.old }
@@ -188,7 +180,7 @@ impl<'a> Parts<'a> {
     {
         let dates = book.need_count();
         let best = self.sweep.best_step(book, ranges, leaf);
-        self.solve(book, ranges, leaf.whole, start);
+        self.propose(book, ranges, leaf.whole, basis);
         let proposed = self.proposed(book, ranges);
         if proposed > best.bound {
             copy_leaf(dates, &self.proposal, into);
@@ -228,6 +220,7 @@ impl<'a> Parts<'a> {
         ranges: &Ranges,
         leaf: &Leaf,
         start: Option<&Leaf>,
+        basis: Option<&Basis>,
         into: &mut Leaf,
     ) -> i128
         requires parts { AreParts book.now self.old }
@@ -242,7 +235,7 @@ impl<'a> Parts<'a> {
         ensures zeros { HasNoGreater self.old.sweep.columns.yield_units book.now ranges.now (zeros_like book.now leaf.now) into.new }
         ensures bound { result ≡ bound_of self.old.sweep.columns.yield_units book.now ranges.now into.new }
     {
-        let bound = self.improve(book, ranges, leaf, start, into);
+        let bound = self.improve(book, ranges, leaf, basis, into);
         let bound = self.or_zeros(book, ranges, bound, into);
         match start {
             Some(start) => better_of(&mut self.sweep.columns, book, ranges, bound, start, into),

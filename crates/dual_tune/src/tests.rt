@@ -56,7 +56,7 @@ fn improved_cents(alloc: Global, book: &Book, limit: u64, whole: bool) -> Result
     Ok(bound(book, &powers, &ranges, &leaf) / CENT)
 }
 
-// The same by a tuner that starts from the leaf that it gave before.
+// The same by a tuner that starts from the leaf and the basis that it had before, where it stands.
 fn tuned_cents(alloc: Global, book: &Book, limit: u64) -> Result<i128, Fail> {
     let powers = powers_of(alloc, limit)?;
     let ranges = Ranges::root(alloc, book)?;
@@ -64,8 +64,10 @@ fn tuned_cents(alloc: Global, book: &Book, limit: u64) -> Result<i128, Fail> {
     let mut start = Leaf::of_zeros(alloc, true, book.need_count())?;
     let mut leaf = Leaf::of_zeros(alloc, true, book.need_count())?;
     let mut tuner = Tuner::make(alloc, book, &powers)?;
-    tuner.tune(&ranges, &zeros, None, &mut start);
-    Ok(tuner.tune(&ranges, &zeros, Some(&start), &mut leaf) / CENT)
+    tuner.tune(&ranges, &zeros, None, None, &mut start);
+    let basis = tuner.basis(alloc)?;
+    tuner.stand(&ranges, &basis);
+    Ok(tuner.tune(&ranges, &zeros, Some(&start), Some(&basis), &mut leaf) / CENT)
 }
 
 #[test]

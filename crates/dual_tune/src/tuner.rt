@@ -12,6 +12,7 @@ use dual_bound::{Leaf, Ranges};
 use escrow_desk::NoMemory;
 use fixed_powers::Powers;
 use offer_book::Book;
+use price_lp::Basis;
 use std::alloc::Global;
 use std::marker::Model;
 
@@ -48,13 +49,15 @@ impl<'a> Tuner<'a> {
     }
 
     /// Puts into a leaf, which has a price for each need date, the best over ranges of a given leaf, each of its steps, the leaf of
-    /// prices of 0, and what the linear program proposes; where another leaf is given the program starts from its prices, and that
-    /// leaf counts too if it weighs the cost alike. It answers the leaf's bound, and takes no memory.
+    /// prices of 0, and what the linear program proposes; where another leaf is given, that counts too if it weighs the cost alike.
+    /// The program starts from a basis where one is given: near by, a few iterations do. It answers the leaf's bound, and takes no
+    /// memory.
     pub fn tune(
         &mut self,
         ranges: &Ranges,
         leaf: &Leaf,
         start: Option<&Leaf>,
+        basis: Option<&Basis>,
         into: &mut Leaf,
     ) -> i128
         requires ranges { AllZip HasRoomFor self.old.book.lines ranges.now }
@@ -67,7 +70,36 @@ impl<'a> Tuner<'a> {
         ensures zeros { HasNoGreater self.old.yield_units self.old.book ranges.now (zeros_like self.old.book leaf.now) into.new }
         ensures bound { result ≡ bound_of self.old.yield_units self.old.book ranges.now into.new }
     {
-        self.parts.tune(self.book, ranges, leaf, start, into)
+        self.parts.tune(self.book, ranges, leaf, start, basis, into)
+    }
+
+    /// Solves the linear program of the cost over ranges, from a basis, for [`amount`](Tuner::amount) to tell. It takes no memory.
+    pub fn stand(&mut self, ranges: &Ranges, basis: &Basis)
+        requires { AllZip HasRoomFor self.old.book.lines ranges.now }
+        ensures { self.new ≡ self.old }
+    {
+        self.parts.solve(self.book, ranges, true, Some(basis));
+    }
+
+    /// How much of a line, counted from 0, the solution that was last found buys at par, in units of 2^-10 of a cent.
+    pub fn amount(&self, line: u16) -> i64 {
+        self.parts.simplex.amount(line)
+    }
+
+    /// Whether a line, counted from 0, is in the basis of that solution: its amount may be anything within its range.
+    pub fn is_basic(&self, line: u16) -> bool {
+        self.parts.simplex.is_basic(line)
+    }
+
+    /// The basis of that solution.
+    ///
+    /// # Errors
+    ///
+    /// Where memory ran out.
+    pub fn basis(&self, alloc: Global) -> Result<Basis, NoMemory> {
+        let mut basis = self.parts.simplex.new_basis(alloc)?;
+        self.parts.simplex.save(&mut basis);
+        Ok(basis)
     }
 
     /// The bound of a leaf over ranges, scaled. It takes no memory.
@@ -104,6 +136,6 @@ pub fn improve(
 {
     let mut tuner = Tuner::make(alloc, book, powers)?;
     let mut improved = Leaf::of_zeros(alloc, true, book.need_count())?;
-    tuner.tune(ranges, leaf, None, &mut improved);
+    tuner.tune(ranges, leaf, None, None, &mut improved);
     Ok(improved)
 }

@@ -11,13 +11,13 @@ use Rattle.dual_tune.proofs.parts.Parts.improve.Goals as goal
 pub returns-then-proposed-best-clause-improved : goal.returns-then-proposed-best-clause-improved
 returns-then-proposed-best-clause-improved c =
     let dates = length c.args.book.now.needs in
-    let units = ap (λ (s : Sweep). s.columns.yield_units) c.solve.ensures.sweep ∙ c.best_step-best.ensures.kept.yield_units in
+    let units = ap (λ (s : Sweep). s.columns.yield_units) c.propose.ensures.sweep ∙ c.best_step-best.ensures.kept.yield_units in
     let same = c.copy_leaf.ensures ∙ c.proposed-proposed.ensures.proposal in
     let reached : c.proposed-proposed.result ≡ bound_of c.args.self.now.sweep.columns.yield_units c.args.book.now c.args.ranges.now c.copy_leaf.new.into =
     c.proposed-proposed.ensures.bound ∙ (λ i. bound_of (units i) c.args.book.now c.args.ranges.now (sym same i)) in
     record {
-      well_formed = subst (IsLeaf dates) (sym same) c.solve.ensures.parts.proposed;
-      whole = ap (λ (l : Leaf). l.whole) same ∙ c.solve.ensures.whole;
+      well_formed = subst (IsLeaf dates) (sym same) c.propose.ensures.parts.proposed;
+      whole = ap (λ (l : Leaf). l.whole) same ∙ c.propose.ensures.whole;
       given = omega (arith, ints, reached, c.best_step-best.ensures.best.given, c.if-proposed-best.true);
       steps = λ step is. omega (arith, ints, reached, c.best_step-best.ensures.steps step is, c.if-proposed-best.true);
     }

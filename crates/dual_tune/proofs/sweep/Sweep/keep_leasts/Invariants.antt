@@ -6,9 +6,14 @@ use Rattle.dual_tune.specs.declared.sweep.LineLeast.{LineLeast}
 use Rattle.dual_tune.proofs.sweep.Sweep.keep_leasts.Given as goal
 
 abbrev pub invariant-loop-line : goal.invariant-loop-line
-invariant-loop-line l =
-    (l.self.columns ≡ l.fn.self.columns) × (l.self.trial ≡ l.fn.self.trial) × (l.self.payers.items ≡ l.fn.self.payers.items)
-    × (length l.self.leasts.items ≡ length l.book.lines)
-    × All (λ least. unsigned_abs least.least ≤ 71 * 10 ^ 33) l.self.leasts.items
-    × ((line : ℕ) (d : Line) (e : Interval) (f : LineLeast) → line < l.line
-    → (get_or l.self.leasts.items line f).least ≡ least_within l.fn.self.columns.yield_units l.book l.fn.self.columns.leaf (get_or l.book.lines line d) (get_or l.ranges line e))
+invariant-loop-line l = record {
+  columns : l.self.columns ≡ l.fn.self.columns;
+  table : l.self.table ≡ l.fn.self.table;
+  points : l.self.points ≡ l.fn.self.points;
+  trial : l.self.trial ≡ l.fn.self.trial;
+  payers : l.self.payers.items ≡ l.fn.self.payers.items;
+  places : length l.self.leasts.items ≡ length l.book.lines;
+  small : All (λ least. unsigned_abs least.least ≤ 71 * 10 ^ 33) l.self.leasts.items;
+  leasts : (line : ℕ) (d : Line) (e : Interval) (f : LineLeast) → line < l.line
+      → (get_or l.self.leasts.items line f).least ≡ least_within l.fn.self.columns.yield_units l.book l.leaf (get_or l.book.lines line d) (get_or l.ranges line e);
+}

@@ -10,20 +10,20 @@ use Rattle.dual_tune.proofs.sweep.Sweep.try_places.Goals as goal
 
 pub try_place-best-requires-clause-bound : goal.try_place-best-requires-clause-bound
 try_place-best-requires-clause-bound c =
-    subst (λ n. to_z w128 (of_z w128 c.args.bound) ≡ bound_of n c.args.book.now c.args.ranges.now c.args.leaf.now) (sym c.loop-place.invariant.0.kept.yield_units)
+    subst (λ n. to_z w128 (of_z w128 c.args.bound) ≡ bound_of n c.args.book.now c.args.ranges.now c.args.leaf.now) (sym c.loop-place.invariant.0.ready.kept.yield_units)
     (to_z-of_z w128 c.args.bound c.ranges.bound ∙ c.requires.bound)
 
 pub try_place-best-requires-clause-kept : goal.try_place-best-requires-clause-kept
 try_place-best-requires-clause-kept c =
-    subst (λ n. IsSweepOf n c.args.book.now c.args.ranges.now c.args.leaf.now c.loop-place.self) (sym c.loop-place.invariant.0.kept.yield_units) c.loop-place.invariant.0
+    subst (λ n. IsSweepOf n c.args.book.now c.args.ranges.now c.args.leaf.now c.loop-place.self) (sym c.loop-place.invariant.0.ready.kept.yield_units) c.loop-place.invariant.0
 
 pub try_place-best-requires-clause-best : goal.try_place-best-requires-clause-best
 try_place-best-requires-clause-best c =
-    subst (λ n. IsBest n c.args.book.now c.args.ranges.now c.args.leaf.now c.loop-place.best) (sym c.loop-place.invariant.0.kept.yield_units) c.loop-place.invariant.1
+    subst (λ n. IsBest n c.args.book.now c.args.ranges.now c.args.leaf.now c.loop-place.best) (sym c.loop-place.invariant.0.ready.kept.yield_units) c.loop-place.invariant.1
 
 pub loop-place-preserved : goal.loop-place-preserved
 loop-place-preserved c =
-    let units = c.loop-place.invariant.0.kept.yield_units in
+    let units = c.loop-place.invariant.0.ready.kept.yield_units in
     let better = c.try_place-best.ensures.better in (
       subst (λ n. IsSweepOf n c.args.book.now c.args.ranges.now c.args.leaf.now c.try_place-best.new.self) units c.try_place-best.ensures.kept,
       subst (λ n. IsBest n c.args.book.now c.args.ranges.now c.args.leaf.now c.try_place-best.result) units c.try_place-best.ensures.best,

@@ -1,0 +1,137 @@
+-- The least that a line adds, from its form.
+use Rattle.std.proofs.Common.{◌≡◌, ◌∙◌, ℕ, ◌+◌, ◌*◌, ◌^◌, ◌<◌, ◌≤◌, List, [], ◌∷◌, ◌++◌, All, Bool, true, false, inl, inr, set, ap, sym, subst, refl, arith, ℤ, pos, ◌+ℤ◌, ◌-ℤ◌, ◌*ℤ◌, get_or, length, unsigned_abs}
+use Rattle.std.proofs.Math.Seq.{get_or-append_seam}
+use Rattle.std.proofs.Math.Nat.{mul-le-mul_left}
+use Rattle.std.proofs.lemmas.Bool.{cases_eq, cases_lt}
+use Rattle.std.proofs.lemmas.Grind.{get_or-set_at}
+use Rattle.std.proofs.lemmas.Int.{ints}
+use Rattle.std.proofs.lemmas.List.{get_or-set_other, get_or_append_left}
+use Rattle.std.proofs.lemmas.List.Elements.{All-head, All-tail}
+use Rattle.escrow_units.specs.declared.security.Flow.{Flow}
+use Rattle.offer_book.proofs.LineFacts.{line_cost-none, line_payments-none}
+use Rattle.offer_book.specs.Book.{BookContents, IsBook}
+use Rattle.offer_book.specs.Portfolio.{line_cost, line_payments}
+use Rattle.offer_book.specs.declared.coefficients.TheConstants.{COEFFICIENT_SCALE}
+use Rattle.offer_book.specs.declared.line.Line.{Line}
+use Rattle.dual_bound.specs.LeafBound.{cost_worth, least_within, paid_worth, priced_needs, reduced_cost, signed_sum}
+use Rattle.dual_bound.specs.declared.form.Form.{Form}
+use Rattle.dual_bound.specs.declared.prices.TheConstants.{PRICE_SCALE}
+use Rattle.dual_bound.specs.declared.ranges.Interval.{Interval}
+use Rattle.dual_bound.specs.declared.tree.Leaf.{Leaf}
+use Rattle.dual_bound.specs.Tree.{IsLeaf}
+use Rattle.dual_bound.proofs.BoundSizes.{form-slack, form-times, least-one, priced-small}
+use Rattle.dual_bound.proofs.Soundness.{all-lines}
+use Rattle.dual_bound.proofs.TableauFacts.{some-line}
+use Rattle.dual_tune.specs.Sweep.{IsFormAt, IsPoint, IsPricedFor}
+use Rattle.dual_tune.specs.Table.{AreLineForms}
+use Rattle.dual_tune.specs.declared.steps.Side.{Side}
+use Rattle.dual_tune.specs.declared.steps.Side.TheVariants as side
+use Rattle.dual_tune.specs.declared.steps.Weight.{Weight}
+use Rattle.dual_tune.specs.declared.steps.Weight.TheVariants as weight
+
+-- no units add nothing
+worth-none : (weight : ℤ → ℤ) (flows : List Flow) → All (λ flow. flow.cents.0 ≡ 0) flows → signed_sum (λ (flow : Flow). weight flow.day *ℤ pos flow.cents.0) flows ≡ pos 0
+worth-none weight [] none = refl
+worth-none weight (flow ∷ flows) none =
+    let first : weight flow.day *ℤ pos flow.cents.0 ≡ weight flow.day *ℤ pos 0 = ap (λ n. weight flow.day *ℤ pos n) (All-head (λ (f : Flow). f.cents.0 ≡ 0) flow flows none) in
+    let nothing : weight flow.day *ℤ pos 0 ≡ pos 0 = omega (arith, ints) in
+    let rest = worth-none weight flows (All-tail (λ (f : Flow). f.cents.0 ≡ 0) flow flows none) in
+    (λ i. (first ∙ nothing) i +ℤ rest i)
+
+reduced_cost-none : (n : ℕ) (book : BookContents) (leaf : Leaf) (line : Line) (units : ℕ) → units ≡ 0 → reduced_cost n book leaf line units ≡ pos 0
+unfolding reduced_cost
+reduced_cost-none n book leaf line units none =
+    let own : cost_worth leaf line.kind *ℤ pos (line_cost line units) ≡ cost_worth leaf line.kind *ℤ pos 0 = ap (λ m. cost_worth leaf line.kind *ℤ pos m) (line_cost-none line units none) in
+    let nothing : cost_worth leaf line.kind *ℤ pos 0 ≡ pos 0 = omega (arith, ints) in
+    let paid = worth-none (paid_worth n book leaf line.kind) (line_payments book.settle line units) (line_payments-none book.settle line units none) in
+    (λ i. pos COEFFICIENT_SCALE *ℤ ((own ∙ nothing) i -ℤ paid i))
+
+pub least-none : (n : ℕ) (book : BookContents) (leaf : Leaf) (line : Line) (interval : Interval) → interval.low ≤ interval.high → interval.high ≡ 0
+    → pos 0 ≡ least_within n book leaf line interval
+least-none n book leaf line interval ordered none =
+    sym (reduced_cost-none n book leaf line interval.low (omega (arith, ordered, none))) ∙ least-one n book leaf line interval (omega (arith, ordered, none))
+
+-- the form of a line at a leaf is small
+pub form-light : (n : ℕ) (book : BookContents) (priced leaf : Leaf) (line : ℕ) (interval : Interval) (form : Form) (units : ℕ) → IsBook book
+    → IsFormAt n book priced line interval leaf form → line < length book.lines → units ≤ (get_or book.lines line some-line).most → unsigned_abs form.slope * units ≤ 7 * 10 ^ 34
+form-light n book priced leaf line interval form units limits is few most =
+    omega (
+      arith,
+      ap (λ (f : Form). unsigned_abs f.slope * units) (is.value some-line),
+      form-times n book leaf (get_or book.lines line some-line) units limits.settlement is.well_formed (all-lines book.settle book.lines limits.lines line some-line few) most,
+    )
+
+pub form-thin : (n : ℕ) (book : BookContents) (priced leaf : Leaf) (line : ℕ) (interval : Interval) (form : Form) → IsBook book
+    → IsFormAt n book priced line interval leaf form → line < length book.lines → form.slack ≤ 10 ^ 24
+form-thin n book priced leaf line interval form limits is few =
+    omega (
+      arith,
+      ap (λ (f : Form). f.slack) (is.value some-line),
+      form-slack n book leaf (get_or book.lines line some-line) limits.settlement is.well_formed (all-lines book.settle book.lines limits.lines line some-line few),
+    )
+
+-- where ranges hold no point, any leaf will do
+pub priced-for : (points : Bool) (ranges : List Interval) (priced leaf : Leaf) → (points ≡ false → All (λ interval. IsPoint interval → ⊥) ranges) → (points ≡ true → priced ≡ leaf)
+    → IsPricedFor ranges priced leaf
+priced-for true ranges priced leaf none same = λ k d few point. same refl
+priced-for false ranges priced leaf none same = λ k d few point. absurd (none refl k d few point)
+
+-- a list that is put place by place
+pub set-more : {A : Type 0} (P : ℕ → A → Type 0) (xs : List A) (place : ℕ) (v : A) → place < length xs → ((k : ℕ) (d : A) → k < place → P k (get_or xs k d)) → P place v
+    → (k : ℕ) (d : A) → k < place + 1 → P k (get_or (set xs place v) k d)
+set-more P xs place v few before own k d lt =
+    elim (cases_eq k place) [
+      | inl at ↦ subst (P k) (sym (get_or-set_at xs place k v d at few)) (subst (λ j. P j v) (sym at) own)
+      | inr apart ↦ subst (P k) (sym (get_or-set_other xs place k v d apart)) (before k d (grind (arith, lt, apart)))
+    ]
+
+-- a list of which one item is changed
+pub set-kept : {A : Type 0} (P : ℕ → A → Type 0) (xs : List A) (place : ℕ) (v : A) → place < length xs → ((k : ℕ) (d : A) → k < length xs → P k (get_or xs k d)) → P place v
+    → (k : ℕ) (d : A) → k < length xs → P k (get_or (set xs place v) k d)
+set-kept P xs place v few all own k d lt =
+    elim (cases_eq k place) [
+      | inl at ↦ subst (P k) (sym (get_or-set_at xs place k v d at few)) (subst (λ j. P j v) (sym at) own)
+      | inr apart ↦ subst (P k) (sym (get_or-set_other xs place k v d apart)) (all k d lt)
+    ]
+
+-- a list to which one item is added
+pub push-more : {A : Type 0} (P : ℕ → A → Type 0) (xs : List A) (v : A) → ((k : ℕ) (d : A) → k < length xs → P k (get_or xs k d)) → P (length xs) v
+    → (k : ℕ) (d : A) → k < length xs + 1 → P k (get_or (xs ++ v ∷ []) k d)
+push-more P xs v all own k d lt =
+    elim (cases_lt k (length xs)) [
+      | inl before ↦ subst (P k) (sym (get_or_append_left xs (v ∷ []) d k before)) (all k d before)
+      | inr from ↦
+          let at : length xs ≡ k = omega (arith, lt, from) in
+          subst (λ j. P j (get_or (xs ++ v ∷ []) j d)) at (subst (P (length xs)) (sym (get_or-append_seam xs v [] d)) own)
+    ]
+
+-- the form of a line, and its interval, out of those of all
+pub form-at : (n : ℕ) (book : BookContents) (ranges : List Interval) (priced leaf : Leaf) (forms : List Form) (line : ℕ) (form : Form) (interval : Interval) → IsLeaf (length book.needs) leaf
+    → AreLineForms n book leaf forms → IsPricedFor ranges priced leaf → line < length book.lines → length book.lines ≡ length ranges
+    → form ≡ get_or forms line form → interval ≡ get_or ranges line interval → IsFormAt n book priced line interval leaf form
+form-at n book ranges priced leaf forms line form interval well are priced_is few same form_is interval_is = record {
+  well_formed = well;
+  value = λ d. form_is ∙ are line d form few;
+  point = λ point. priced_is line interval (omega (arith, few, same)) (subst IsPoint interval_is point);
+}
+
+-- what the needs are worth is small
+pub needs-small : (book : BookContents) (leaf : Leaf) → IsBook book → IsLeaf (length book.needs) leaf → COEFFICIENT_SCALE * priced_needs book.needs leaf.prices ≤ 2 * 10 ^ 34
+needs-small book leaf limits well =
+    let few = mul-le-mul_left (2 * PRICE_SCALE) limits.needs.small in
+    omega (arith, priced-small book.needs leaf.prices well.range, few)
+
+-- an item of a list that isn't empty
+pub some-item : {A : Type 0} (xs : List A) (place : ℕ) → place < length xs → A
+some-item [] place few = absurd (omega arith)
+some-item (x ∷ xs) place few = x
+
+-- by each weight, and by each side
+pub each-weight : (P : Weight → Type 0) → P weight.Nothing → P weight.Half → P weight.Whole → (w : Weight) → P w
+each-weight P nothing half whole weight.Nothing = nothing
+each-weight P nothing half whole weight.Half = half
+each-weight P nothing half whole weight.Whole = whole
+
+pub each-side : (P : Side → Type 0) → P side.Before → P side.After → (s : Side) → P s
+each-side P before after side.Before = before
+each-side P before after side.After = after
