@@ -21,6 +21,8 @@ pub struct Split {
 pub enum SplitRule {
     /// At the middle of the first line whose interval is widest, in cents: the rule of the halving tree.
     Halving,
+    /// Where the linear relaxation points, if that is a proper split; else as the halving tree.
+    Relaxation,
 }
 
 // How wide a line's interval is, in cents.
@@ -51,22 +53,50 @@ fn widest(book: &Book, ranges: &Ranges) -> u16
     line
 }
 
+// The middle of the first line of the greatest width.
+fn middle(book: &Book, ranges: &Ranges) -> Split
+    requires tight { AreTight book.now.lines ranges.now }
+    requires several { is_single ranges.now ≡ false }
+    ensures proper { IsTrue (is_proper ranges.now result.line result.at) }
+    ensures there { result.line < length book.now.lines }
+    ensures halved { IsHalved book.now.lines ranges.now result.line result.at }
+{
+    // A book keeps its limits.
+    let _count = book.line_count();
+    let line = widest(book, ranges);
+    let interval = ranges.intervals()[usize::from(line)];
+    Split {
+        line,
+        at: interval.low + (interval.high - interval.low) / 2,
+    }
+}
+
+// What the relaxation points to, where that is a proper split; else the middle of the first line of the greatest width.
+fn pointed_or_middle(book: &Book, ranges: &Ranges, pointed: Option<Split>) -> Split
+    requires tight { AreTight book.now.lines ranges.now }
+    requires several { is_single ranges.now ≡ false }
+    ensures proper { IsTrue (is_proper ranges.now result.line result.at) }
+    ensures there { result.line < length book.now.lines }
+{
+    match pointed {
+        Some(split) if ranges.proper(split.line, split.at) => split,
+        _ => middle(book, ranges),
+    }
+}
+
 impl SplitRule {
-    /// Where a node of these ranges is split, which hold more than one portfolio: the line is there, and the split is proper.
-    pub fn split(self, book: &Book, ranges: &Ranges) -> Split
+    /// Where a node of these ranges is split, which hold more than one portfolio: the line is there, and the split is proper. What the
+    /// relaxation points to is given, if anything; it is tested.
+    pub fn split(self, book: &Book, ranges: &Ranges, pointed: Option<Split>) -> Split
         requires tight { AreTight book.now.lines ranges.now }
         requires several { is_single ranges.now ≡ false }
         ensures proper { IsTrue (is_proper ranges.now result.line result.at) }
         ensures there { result.line < length book.now.lines }
         ensures halved { self ≡ SplitRule.Halving → IsHalved book.now.lines ranges.now result.line result.at }
     {
-        // A book keeps its limits.
-        let _count = book.line_count();
-        let line = widest(book, ranges);
-        let interval = ranges.intervals()[usize::from(line)];
-        Split {
-            line,
-            at: interval.low + (interval.high - interval.low) / 2,
+        match self {
+            SplitRule::Halving => middle(book, ranges),
+            SplitRule::Relaxation => pointed_or_middle(book, ranges, pointed),
         }
     }
 }

@@ -70,9 +70,10 @@ pub record IsHalvingSplit (case : CaseContents) (ranges : List Interval) (line a
   pub goes_on : is_end case ranges ≡ false
   pub halved : IsHalved case.book.lines ranges line at
 
--- what is known of the splits of a rule: those of the halving tree's rule are splits of that tree
+-- what is known of the splits of a rule: those of the halving tree's rule are splits of that tree; of others, nothing
 abbrev pub obeys : CaseContents → SplitRule → List Interval → ℕ → ℕ → Type 0
 obeys case rules.Halving ranges line at = IsHalvingSplit case ranges line at
+obeys case rules.Relaxation ranges line at = Unit {0}
 
 -- a split: it is proper, its node's bound isn't above the last one that was taken, and it obeys the rule of the search
 pub record IsSplitNode (case : CaseContents) (Obeys : List Interval → ℕ → ℕ → Type 0) (popped : ℤ) (ranges : List Interval) (priced : Priced) (line at : ℕ) : Type 0 where

@@ -5,10 +5,10 @@ use Rattle.dual_bound.specs.Ranges.{is_proper}
 use Rattle.dual_bound.specs.declared.ranges.Interval.{Interval}
 use Rattle.halving_tree.proofs.Middle.{halved-proper, middle-is}
 use Rattle.halving_tree.specs.Halving.{IsHalved}
-use Rattle.halving_tree.proofs.rule.SplitRule.split.Goals as goal
+use Rattle.halving_tree.proofs.rule.middle.Goals as goal
 
 pub returns-clause-halved : goal.returns-clause-halved
-returns-clause-halved c = λ own.
+returns-clause-halved c =
     record { widest = c.widest-line.ensures; middle = middle-is c.args.book.now.lines c.args.ranges.now c.intervals.result.now c.widest-line.result c.from.result c.requires.tight c.widest-line.ensures.there c.intervals.ensures.value c.from.ensures }
 
 pub returns-clause-proper : goal.returns-clause-proper
