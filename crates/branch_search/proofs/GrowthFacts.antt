@@ -116,6 +116,7 @@ rule-obeyed case rules.Halving best ranges priced line at covers is open_node ha
   goes_on = goes-on case best ranges priced.bound covers (omega (arith, ints, is.improved.given, is.bound)) open_node;
   halved = halved refl;
 }
+rule-obeyed case rules.Relaxation best ranges priced line at covers is open_node halved = tt
 
 -- the bound of a side isn't below its parent's
 side-above : (case : CaseContents) (ranges : List Interval) (line at : ℕ) (right : Bool) (own side : Priced) → (bound_of (case.limit - 1) case.book ranges own.leaf ≤ℤ bound_of (case.limit - 1) case.book (narrowed case.book.lines ranges line at right) own.leaf)

@@ -136,7 +136,7 @@ plain_settled case book from to p (ended.NoneWithinYield nodes) ends = absurd (
     let beyond = (ends.beyond p.plain.plan p.plain.built).of_built in
     let clash : true ≡ false = sym (plain-within case book from to p) ∙ beyond in cc)
 plain_settled case book from to p (ended.BudgetSpent spent) ends = absurd (
-    omega (arith, ends.larger.more, plain-alone case book from to p ends.larger.part ends.larger.upper, ends.few, some spent.tree ends.trees))
+    omega (arith, ends.larger.more, plain-alone case book from to p ends.larger.part ends.larger.upper, ends.shown.few, some spent.tree ends.shown.trees))
   where
     some : (nodes : List TreeNode) → AreTrees 1 nodes → 1 ≤ length nodes
     some [] are = absurd are

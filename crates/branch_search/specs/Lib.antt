@@ -4,4 +4,5 @@ pub mod Parts
 pub mod Plain
 pub mod Plans
 pub mod Purchases
+pub mod Runs
 pub mod Search

@@ -11,6 +11,7 @@ use Rattle.escrow_units.specs.declared.limits.TheConstants.{AMOUNT_LIMIT, GREATE
 use Rattle.halving_tree.specs.Base.{base_leaf}
 use Rattle.offer_book.specs.Book.{BookContents}
 use Rattle.offer_book.specs.Portfolio.{Meets, cost}
+use Rattle.plan_finder.specs.Dive.{SearchContents as FinderContents}
 use Rattle.search_tree.specs.Best.{IsAtMost}
 use Rattle.search_tree.specs.Growing.{IsBought}
 use Rattle.branch_search.specs.declared.best.Best.{Best}
@@ -25,7 +26,7 @@ abbrev pub best_cents : Option Best → Option ℕ
 best_cents best = option_map (λ own. own.cost.0) best
 
 -- the parts of a search are for one book and limit
-pub record AreParts (book : BookContents) (limit allowance : ℕ) (tuner : TunerContents) (base reach : Leaf) (ranges : List Interval) (plan : List ℕ) (best : Option Best) : Type 0 where
+pub record AreParts (book : BookContents) (limit allowance : ℕ) (tuner : TunerContents) (base reach : Leaf) (ranges : List Interval) (plan : List ℕ) (best : Option Best) (finder : FinderContents) : Type 0 where
   pub limit_from : 1 ≤ limit
   pub limit_to : limit ≤ GREATEST_YIELD
   pub allowed : allowance ≤ AMOUNT_LIMIT
@@ -36,6 +37,7 @@ pub record AreParts (book : BookContents) (limit allowance : ℕ) (tuner : Tuner
   pub lined : length plan ≡ length book.lines
   pub tight : AreTight book.lines ranges
   pub bought : IfSome best (λ own. IsBought limit book own.plan own.cost.0)
+  pub finds : finder ≡ record { book = book; limit = limit }
 
 -- a search goes on with the same case and ranges
 pub record AreSameBut (before after : SearchContents) : Type 0 where

@@ -93,20 +93,24 @@ pub record IsOverBound (case : CaseContents) (cents : ℕ) (plan : List ℕ) : T
   pub within : is_within_limit case.limit case.book plan ≡ true
   pub over : cents + case.allowance < cost case.book plan
 
--- what stands then: a tree with as many nodes as the budget has room for, the greatest bound that it holds, and the best plan. Each
--- split was needed; so is a greater budget, as the halving tree has more nodes
+-- what a tree shows whose budget is spent: it has as many nodes as the budget has room for, and in cents this is the greatest bound
+-- that it holds, so that no rival costs less; each split was needed
+pub record IsShown (case : CaseContents) (tree : List TreeNode) (cents : ℕ) : Type 0 where
+  pub trees : AreTrees 1 tree
+  pub nodes : All (IsNode (length case.book.needs)) tree
+  pub few : length tree ≤ case.budget
+  pub full : case.budget < length tree + 2
+  pub holds : HoldsBound case tree cents
+  pub greatest : (more : ℕ) → HoldsBound case tree more → more ≤ cents
+  pub no_rival : (rival : List ℕ) → IsRival case.limit case.book rival → cents ≤ cost case.book rival
+  pub raised : All (IsRaised case) (placed_nodes case.book tree)
+  pub needed : All (IsNeededSplit case cents) (placed_nodes case.book tree)
+  pub root : AreStepsAtMost case cents (root_of case.book.lines)
+
+-- what stands then: such a tree with its bound, and the best plan; and a greater budget is needed, as the halving tree has more nodes
 pub record IsSpent (case : CaseContents) (spent : Spent) : Type 0 where
   pub in_reach : IsInReach case.book
-  pub trees : AreTrees 1 spent.tree
-  pub nodes : All (IsNode (length case.book.needs)) spent.tree
-  pub few : length spent.tree ≤ case.budget
-  pub full : case.budget < length spent.tree + 2
-  pub holds : HoldsBound case spent.tree spent.bound.0
-  pub greatest : (more : ℕ) → HoldsBound case spent.tree more → more ≤ spent.bound.0
-  pub no_rival : (rival : List ℕ) → IsRival case.limit case.book rival → spent.bound.0 ≤ cost case.book rival
-  pub raised : All (IsRaised case) (placed_nodes case.book spent.tree)
-  pub needed : All (IsNeededSplit case spent.bound.0) (placed_nodes case.book spent.tree)
-  pub root : AreStepsAtMost case spent.bound.0 (root_of case.book.lines)
+  pub shown : IsShown case spent.tree spent.bound.0
   pub best : IfSome spent.best (IsOverBound case spent.bound.0)
   pub no_dearer : MatchOption spent.best (IsNoDearerThanBackward case.limit case.book None) (λ plan. IsNoDearerThanBackward case.limit case.book (Some (cost case.book plan)))
   pub larger : HasMoreNodes case case.budget

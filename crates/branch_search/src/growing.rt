@@ -41,6 +41,7 @@ impl<'a> Search<'a> {
         split: Split,
         right: bool,
         parent: &Leaf,
+        node: NodeId,
     ) -> Result<Priced, NoMemory>
         requires proper { IsTrue (is_proper self.old.ranges split.line split.at) }
         requires line { split.line < length self.old.case.book.lines }
@@ -51,13 +52,19 @@ impl<'a> Search<'a> {
         let line = usize::from(split.line);
         let whole = self.ranges.intervals()[line];
         self.ranges.narrow(self.book, split.line, split.at, right);
-        let priced = self.price(alloc, Some(parent))?;
+        let priced = self.price(alloc, Some(parent), Some(node))?;
         self.ranges.restore(split.line, whole);
         Ok(priced)
     }
 
     // Prices both sides of a split of the ranges at hand.
-    fn price_sides(&mut self, alloc: Global, split: Split, parent: &Leaf) -> Result<Sides, NoMemory>
+    fn price_sides(
+        &mut self,
+        alloc: Global,
+        split: Split,
+        parent: &Leaf,
+        node: NodeId,
+    ) -> Result<Sides, NoMemory>
         requires proper { IsTrue (is_proper self.old.ranges split.line split.at) }
         requires line { split.line < length self.old.case.book.lines }
         requires parent { IsLeaf (length self.old.case.book.needs) parent.now }
@@ -65,8 +72,8 @@ impl<'a> Search<'a> {
         ensures left { IfOk result (λ sides. IsSide self.old.case self.old.ranges split.line split.at false parent.now sides.left) }
         ensures right { IfOk result (λ sides. IsSide self.old.case self.old.ranges split.line split.at true parent.now sides.right) }
     {
-        let left = self.price_side(alloc, split, false, parent)?;
-        let right = self.price_side(alloc, split, true, parent)?;
+        let left = self.price_side(alloc, split, false, parent, node)?;
+        let right = self.price_side(alloc, split, true, parent, node)?;
         Ok(Sides { left, right })
     }
 
@@ -90,13 +97,14 @@ impl<'a> Search<'a> {
     {
         // A book keeps its limits.
         prove!(self.book.line_count() > 0);
-        let split = rule.split(self.book, &self.ranges);
+        let pointed = self.pointed(rule, node);
+        let split = rule.split(self.book, &self.ranges, pointed);
         if self.budget - tree.count() < 2 {
             let bound = tree.node(node).priced.bound;
             tree.put_back(node);
             return Ok(Some(Growth::Spent(bound)));
         }
-        let sides = self.price_sides(alloc, split, &tree.node(node).priced.leaf)?;
+        let sides = self.price_sides(alloc, split, &tree.node(node).priced.leaf, node)?;
         tree.split(node, split, sides.left, sides.right);
         Ok(None)
     }
@@ -122,7 +130,7 @@ impl<'a> Search<'a> {
         prove!(tree.count() > 0);
         prove!(self.book.line_count() > 0);
         tree.ranges_of(node, self.book, &mut self.ranges);
-        match self.closing(alloc, tree.node(node).priced.bound)? {
+        match self.closing(alloc, rule, node, tree.node(node).priced.bound)? {
             Closing::Open => self.go_on(alloc, rule, tree, node),
             closing => {
                 tree.close(node, closing);

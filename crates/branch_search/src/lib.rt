@@ -9,7 +9,9 @@ mod gaps;
 mod growing;
 mod laws;
 mod parts;
+mod pointing;
 mod purchases;
+mod runs;
 mod searching;
 mod taken;
 #[cfg(test)]

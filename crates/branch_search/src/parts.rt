@@ -19,8 +19,11 @@ use dual_bound::{Leaf, Ranges};
 use dual_tune::Tuner;
 use escrow_desk::NoMemory;
 use escrow_units::{Cents, Day, YieldUnits};
-use halving_tree::put_reach;
+use halving_tree::{SplitRule, put_reach};
+use node_pool::NodeId;
 use offer_book::Book;
+use plan_finder::Finder;
+use price_lp::Basis;
 use search_tree::{Closing, Priced};
 use std::alloc::Global;
 use std::marker::Model;
@@ -48,7 +51,14 @@ pub(crate) struct Search<'a> {
     pub plan: Plan,
     /// The best plan so far.
     pub best: Option<Best>,
+    /// Where the linear program of each node stands, by the nodes' numbers.
+    pub bases: Vec<Basis>,
+    /// What dives for plans at nodes.
+    pub finder: Finder<'a>,
 }
+
+// One node in so many is dived at.
+const NODES_A_DIVE: u32 = 50;
 
 impl<'a> Model for Search<'a> {
     ghost use Rattle.branch_search.specs.Parts.{AreParts, SearchContents};
@@ -58,19 +68,36 @@ impl<'a> Model for Search<'a> {
 
     ghost view = { λ s. record { case = searched s.book.now s.limit.0 s.allowance.0 s.budget; ranges = s.ranges; best = s.best } };
 
-    ghost invariant = { λ s. AreParts s.book.now s.limit.0 s.allowance.0 s.tuner s.base s.reach s.ranges s.plan s.best };
+    ghost invariant = { λ s. AreParts s.book.now s.limit.0 s.allowance.0 s.tuner s.base s.reach s.ranges s.plan s.best s.finder };
+}
+
+// Where the linear program of a node stands, where it is known.
+fn basis_at(bases: &[Basis], node: Option<NodeId>) -> Option<&Basis> {
+    let node = node?;
+    bases.get(node.0 as usize)
 }
 
 impl<'a> Search<'a> {
-    /// Prices the ranges at hand, starting from a parent's leaf where there is one.
-    pub(crate) fn price(&mut self, alloc: Global, parent: Option<&Leaf>) -> Result<Priced, NoMemory>
+    /// Prices the ranges at hand, those of the next node, and keeps where its linear program stands. A parent's leaf counts where there
+    /// is one, and the program starts where the parent's stands.
+    pub(crate) fn price(
+        &mut self,
+        alloc: Global,
+        parent: Option<&Leaf>,
+        node: Option<NodeId>,
+    ) -> Result<Priced, NoMemory>
         requires parent { IfSome parent (λ leaf. IsLeaf (length self.old.case.book.needs) leaf.now) }
         ensures search { self.new ≡ self.old }
         ensures priced { IfOk result (IsPriced self.old.case self.old.ranges) }
         ensures parent { IfOk result (λ priced. IfSome parent.entry (λ leaf. leaf.now.whole ≡ true → bound_of (self.old.case.limit - 1) self.old.case.book self.old.ranges leaf.now ≤ℤ priced.bound)) }
     {
         let mut leaf = Leaf::of_zeros(alloc, true, self.book.need_count())?;
-        let bound = self.tuner.tune(&self.ranges, &self.base, parent, &mut leaf);
+        let basis = basis_at(self.bases.as_slice(), node);
+        let bound = self
+            .tuner
+            .tune(&self.ranges, &self.base, parent, basis, &mut leaf);
+        let basis = self.tuner.basis(alloc)?;
+        self.bases.push(basis)?;
         Ok(Priced { leaf, bound })
     }
 
@@ -131,8 +158,8 @@ impl<'a> Search<'a> {
         Ok(())
     }
 
-    // Takes a plan for the best, where there is none as cheap.
-    fn offer(&mut self, offered: Best)
+    /// Takes a plan for the best, where there is none as cheap.
+    pub(crate) fn offer(&mut self, offered: Best)
         requires { IsBought self.old.case.limit self.old.case.book offered.plan offered.cost.0 }
         ensures kept { AreSameBut self.old self.new }
         ensures no_dearer { IsNoDearer (best_cents self.old.best) (best_cents self.new.best) }
@@ -146,9 +173,26 @@ impl<'a> Search<'a> {
         self.best = Some(offered);
     }
 
-    /// How a node of the ranges at hand is closed, whose leaf has this bound. A portfolio that is found on the way may become the best
-    /// one.
-    pub(crate) fn closing(&mut self, alloc: Global, bound: i128) -> Result<Closing, NoMemory>
+    /// Dives for a plan at one node in fifty, of the ranges at hand; a cheaper one becomes the best.
+    pub(crate) fn dive(&mut self, node: NodeId) -> Result<(), NoMemory>
+        ensures kept { OnOk result (AreSameBut self.old self.new) }
+        ensures no_dearer { OnOk result (IsNoDearer (best_cents self.old.best) (best_cents self.new.best)) }
+    {
+        if node.0 % NODES_A_DIVE > 0 {
+            return Ok(());
+        }
+        let basis = self.bases.get(node.0 as usize);
+        if let Some(found) = self.finder.dive(&self.ranges, basis)? {
+            self.offer(Best {
+                plan: found.plan,
+                cost: found.cost,
+            });
+        }
+        Ok(())
+    }
+
+    // How a node of the ranges at hand is closed, whose leaf has this bound. The portfolio of a point may become the best one.
+    fn closed_by(&mut self, alloc: Global, bound: i128) -> Result<Closing, NoMemory>
         requires { unsigned_abs bound < 10 ^ 37 }
         ensures kept { OnOk result (AreSameBut self.old self.new) }
         ensures no_dearer { OnOk result (IsNoDearer (best_cents self.old.best) (best_cents self.new.best)) }
@@ -167,5 +211,24 @@ impl<'a> Search<'a> {
             return Ok(Closing::Point);
         }
         Ok(Closing::Open)
+    }
+    /// How a node of the ranges at hand is closed, whose leaf has this bound. Where the relaxation leads, it may be dived at before. A
+    /// portfolio that is found on the way may become the best one.
+    pub(crate) fn closing(
+        &mut self,
+        alloc: Global,
+        rule: SplitRule,
+        node: NodeId,
+        bound: i128,
+    ) -> Result<Closing, NoMemory>
+        requires { unsigned_abs bound < 10 ^ 37 }
+        ensures kept { OnOk result (AreSameBut self.old self.new) }
+        ensures no_dearer { OnOk result (IsNoDearer (best_cents self.old.best) (best_cents self.new.best)) }
+        ensures tried { OnOk result (IfOk result (IsTried self.old.case (best_cents self.new.best) self.old.ranges bound)) }
+    {
+        if rule == SplitRule::Relaxation {
+            self.dive(node)?;
+        }
+        self.closed_by(alloc, bound)
     }
 }

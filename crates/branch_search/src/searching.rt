@@ -4,9 +4,11 @@ ghost use Rattle.cash_table.specs.Reach.{IsInReach};
 ghost use Rattle.dual_bound.specs.Ranges.{root_of};
 ghost use Rattle.branch_search.specs.Plain.{IsPlainWithin};
 ghost use Rattle.branch_search.specs.Growth.{IsClosedTree, IsFullTree};
-ghost use Rattle.search_tree.specs.Growing.{obeys};
+ghost use Rattle.search_tree.specs.Best.{IsNoDearer};
+ghost use Rattle.search_tree.specs.Growing.{IsPriced, obeys};
 ghost use Rattle.branch_search.specs.Parts.{AreSameBut, best_cents};
-ghost use Rattle.branch_search.specs.Search.{EndsOf, IsFound, IsFoundBy, IsNoDearerThanBackward, IsSpent, searched};
+ghost use Rattle.branch_search.specs.Runs.{IsNoLessThan, IsRunEnd, IsSpentRun};
+ghost use Rattle.branch_search.specs.Search.{EndsOf, IsFound, IsFoundBy, IsNoDearerThanBackward, IsShown, searched};
 
 use crate::best::Best;
 use crate::cheapest::cheapest;
@@ -14,6 +16,7 @@ use crate::found::{Found, SearchEnd, Spent};
 use crate::gaps::{greatest_cost, tree_gap};
 use crate::growing::Growth;
 use crate::parts::Search;
+use crate::runs::{RunEnd, Shown, greater};
 use cash_table::{Plan, cost, out_of_reach};
 use dual_bound::{Leaf, Ranges};
 use dual_tune::Tuner;
@@ -22,8 +25,13 @@ use escrow_units::{AMOUNT_LIMIT, Cents, GREATEST_INDEX, GREATEST_YIELD, YieldUni
 use fixed_powers::{Powers, Side};
 use halving_tree::{SplitRule, base_leaf};
 use offer_book::Book;
-use search_tree::SearchTree;
+use plan_finder::{Finder, find};
+use search_tree::{Priced, SearchTree};
 use std::alloc::Global;
+
+// How much work the search for a cheaper plan between two trees is at most for each node of the budget, in sweeps: each goes once
+// through all columns of the linear program.
+const SWEEPS_A_NODE: u32 = 30;
 
 // What prices leaves one unit below a limit.
 fn tuner_of<'a>(alloc: Global, book: &'a Book, limit: YieldUnits) -> Result<Tuner<'a>, NoMemory>
@@ -32,8 +40,7 @@ fn tuner_of<'a>(alloc: Global, book: &'a Book, limit: YieldUnits) -> Result<Tune
     ensures { IfOk result (λ tuner. tuner ≡ record { book = book.now; yield_units = limit.0 - 1 }) }
 {
     let powers = Powers::make(alloc, YieldUnits(limit.0 - 1), Side::Low, GREATEST_INDEX)?;
-    let tuner = Tuner::make(alloc, book, &powers)?;
-    Ok(tuner)
+    Tuner::make(alloc, book, &powers)
 }
 
 impl<'a> Search<'a> {
@@ -56,6 +63,7 @@ impl<'a> Search<'a> {
         let reach = Leaf::of_zeros(alloc, false, book.need_count())?;
         let ranges = Ranges::root(alloc, book)?;
         let plan = Plan::zero(alloc, book)?;
+        let finder = Finder::make(alloc, book, limit)?;
         let tuner = tuner_of(alloc, book, limit)?;
         Ok(Search {
             book,
@@ -68,6 +76,8 @@ impl<'a> Search<'a> {
             ranges,
             plan,
             best: None,
+            bases: Vec::new(alloc),
+            finder,
         })
     }
 
@@ -87,44 +97,46 @@ impl<'a> Search<'a> {
     }
 
     // What a tree without a waiting node comes to.
-    fn closed(&mut self, alloc: Global, tree: &SearchTree) -> Result<Found, SearchEnd>
-        requires tree { (rule : SplitRule) × IsClosedTree self.old.case (obeys self.old.case rule) (best_cents self.old.best) tree.now }
+    fn closed(
+        &mut self,
+        alloc: Global,
+        rule: SplitRule,
+        tree: &SearchTree,
+    ) -> Result<RunEnd, NoMemory>
+        requires tree { IsClosedTree self.old.case (obeys self.old.case rule) (best_cents self.old.best) tree.now }
         requires backward { IsNoDearerThanBackward self.old.case.limit self.old.case.book (best_cents self.old.best) }
         requires reach { IsInReach self.old.case.book }
         requires capacity { tree.now.pool.capacity ≡ self.old.case.budget }
         requires budget { self.old.case.budget ≤ 10_000 }
-        ensures found { IfOk result (λ found. IsFound self.old.case found.plan found.tree found.gap) }
-        ensures found_by { IfOk result (λ found. IsFoundBy self.old.case found.plan found.tree) }
-        ensures ended { IfErr result (EndsOf self.old.case) }
-        ensures none { IfErr result (λ ended. ended ≡ SearchEnd.NoMemory ⊎ (best_cents self.old.best ≡ None)) }
+        ensures case { OnOk result (self.new.case ≡ self.old.case) }
+        ensures ended { IfOk result (IsRunEnd self.old.case rule (best_cents self.old.best) (best_cents self.new.best)) }
     {
         // The nodes of a pool are one tree, and a book keeps its limits.
         prove!(tree.count() > 0);
         prove!(self.book.line_count() > 0);
         let nodes = tree.nodes(alloc, self.book)?;
         let Some(best) = self.best.take() else {
-            return Err(SearchEnd::NoneWithinYield(nodes));
+            return Ok(RunEnd::NoRival(nodes));
         };
         let gap = tree_gap(tree, best.cost);
-        Ok(Found {
+        Ok(RunEnd::Found(Found {
             plan: best.plan,
             tree: nodes,
             gap,
-        })
+        }))
     }
 
-    // What a tree comes to whose budget is spent, and whose waiting nodes have at least this bound.
-    fn spent(
-        &mut self,
+    // What a tree shows whose budget is spent, and whose waiting nodes have at least this bound.
+    fn shown(
+        &self,
         alloc: Global,
+        rule: SplitRule,
         tree: &mut SearchTree,
         bound: i128,
-    ) -> Result<Spent, NoMemory>
-        requires tree { IsFullTree self.old.case (obeys self.old.case SplitRule.Halving) (best_cents self.old.best) bound tree.old }
-        requires backward { IsNoDearerThanBackward self.old.case.limit self.old.case.book (best_cents self.old.best) }
-        requires reach { IsInReach self.old.case.book }
-        requires capacity { tree.old.pool.capacity ≡ self.old.case.budget }
-        ensures { IfOk result (IsSpent self.old.case) }
+    ) -> Result<Shown, NoMemory>
+        requires tree { IsFullTree self.now.case (obeys self.now.case rule) (best_cents self.now.best) bound tree.old }
+        requires capacity { tree.old.pool.capacity ≡ self.now.case.budget }
+        ensures { IfOk result (IsSpentRun self.now.case rule (best_cents self.now.best)) }
     {
         // The nodes of a pool are one tree, before and after, and a book keeps its limits.
         prove!(tree.count() > 0);
@@ -132,22 +144,121 @@ impl<'a> Search<'a> {
         tree.close_waiting();
         prove!(tree.count() > 0);
         let tree = tree.nodes(alloc, self.book)?;
-        let bound = greatest_cost(bound, Cents(0));
-        let Some(best) = self.best.take() else {
-            return Ok(Spent {
-                tree,
-                bound,
-                best: None,
-            });
-        };
-        Ok(Spent {
+        Ok(Shown {
             tree,
-            bound,
-            best: Some(best.plan),
+            bound: greatest_cost(bound, Cents(0)),
         })
     }
 
-    // Searches from the ranges of the root, before there is a plan.
+    // Grows a tree by a rule, from its root on, and says how that ends.
+    fn grow_by(&mut self, alloc: Global, rule: SplitRule, root: Priced) -> Result<RunEnd, NoMemory>
+        requires root { IsPriced self.old.case (root_of self.old.case.book.lines) root }
+        requires backward { IsNoDearerThanBackward self.old.case.limit self.old.case.book (best_cents self.old.best) }
+        requires reach { IsInReach self.old.case.book }
+        requires budget_from { 1 ≤ self.old.case.budget }
+        requires budget_to { self.old.case.budget ≤ 10_000 }
+        ensures case { OnOk result (self.new.case ≡ self.old.case) }
+        ensures ended { IfOk result (IsRunEnd self.old.case rule (best_cents self.old.best) (best_cents self.new.best)) }
+    {
+        let mut tree = SearchTree::start(alloc, self.budget, root)?;
+        let growth = self.grow(alloc, rule, &mut tree)?;
+        // The nodes of a pool are one tree, and a book keeps its limits.
+        prove!(tree.count() > 0);
+        prove!(self.book.line_count() > 0);
+        match growth {
+            Growth::Closed => self.closed(alloc, rule, &tree),
+            Growth::Spent(bound) => Ok(RunEnd::Spent(self.shown(alloc, rule, &mut tree, bound)?)),
+        }
+    }
+
+    // Prices the root again, for a tree from it on.
+    fn start_again(&mut self, alloc: Global) -> Result<Priced, NoMemory>
+        ensures case { OnOk result (self.new.case ≡ self.old.case) }
+        ensures best { OnOk result (self.new.best ≡ self.old.best) }
+        ensures root { IfOk result (IsPriced self.old.case (root_of self.old.case.book.lines)) }
+    {
+        // A book keeps its limits.
+        prove!(self.book.line_count() > 0);
+        self.ranges.reset(self.book);
+        self.bases.clear();
+        self.price(alloc, None, None)
+    }
+
+    // What two trees come to whose budgets are spent: the greater bound, and the best plan. Where that bound bears the plan out, it is
+    // found.
+    fn settle(&mut self, first: Shown, second: Shown) -> Result<Found, SearchEnd>
+        requires first { IsShown self.old.case first.tree first.bound.0 }
+        requires second { IsSpentRun self.old.case SplitRule.Halving (best_cents self.old.best) second }
+        requires backward { IsNoDearerThanBackward self.old.case.limit self.old.case.book (best_cents self.old.best) }
+        requires reach { IsInReach self.old.case.book }
+        requires budget { self.old.case.budget ≤ 10_000 }
+        ensures found { IfOk result (λ found. IsFound self.old.case found.plan found.tree found.gap) }
+        ensures found_by { IfOk result (λ found. IsFoundBy self.old.case found.plan found.tree) }
+        ensures ended { IfErr result (EndsOf self.old.case) }
+        ensures greater { IfErr result (IsNoLessThan first.bound.0 second.bound.0) }
+    {
+        // A book keeps its limits.
+        prove!(self.book.line_count() > 0);
+        let Shown { tree, bound } = greater(first, second);
+        let Some(best) = self.best.take() else {
+            return Err(SearchEnd::BudgetSpent(Spent {
+                tree,
+                bound,
+                best: None,
+            }));
+        };
+        let gap = best.cost.0.saturating_sub(bound.0);
+        if gap <= self.allowance.0 {
+            return Ok(Found {
+                plan: best.plan,
+                tree,
+                gap,
+            });
+        }
+        Err(SearchEnd::BudgetSpent(Spent {
+            tree,
+            bound,
+            best: Some(best.plan),
+        }))
+    }
+
+    // Looks for a cheaper plan, by the work of so many sweeps for each node of the budget; it ends early where a plan costs just a
+    // bound.
+    fn find_cheaper(&mut self, alloc: Global, bound: Cents) -> Result<(), NoMemory>
+        ensures kept { OnOk result (AreSameBut self.old self.new) }
+        ensures no_dearer { OnOk result (IsNoDearer (best_cents self.old.best) (best_cents self.new.best)) }
+    {
+        let effort = SWEEPS_A_NODE.saturating_mul(self.budget);
+        if let Some(found) = find(alloc, self.book, self.limit, effort, bound)? {
+            self.offer(Best {
+                plan: found.plan,
+                cost: found.cost,
+            });
+        }
+        Ok(())
+    }
+
+    // Searches once more, by the halving tree with the whole budget, after a tree whose budget is spent.
+    fn run_again(&mut self, alloc: Global, first: Shown) -> Result<Found, SearchEnd>
+        requires first { IsShown self.old.case first.tree first.bound.0 }
+        requires backward { IsNoDearerThanBackward self.old.case.limit self.old.case.book (best_cents self.old.best) }
+        requires reach { IsInReach self.old.case.book }
+        requires budget_from { 1 ≤ self.old.case.budget }
+        requires budget_to { self.old.case.budget ≤ 10_000 }
+        ensures found { IfOk result (λ found. IsFound self.old.case found.plan found.tree found.gap) }
+        ensures found_by { IfOk result (λ found. IsFoundBy self.old.case found.plan found.tree) }
+        ensures ended { IfErr result (EndsOf self.old.case) }
+    {
+        self.find_cheaper(alloc, first.bound)?;
+        let root = self.start_again(alloc)?;
+        match self.grow_by(alloc, SplitRule::Halving, root)? {
+            RunEnd::Found(found) => Ok(found),
+            RunEnd::NoRival(nodes) => Err(SearchEnd::NoneWithinYield(nodes)),
+            RunEnd::Spent(second) => self.settle(first, second),
+        }
+    }
+
+    // Searches from the ranges of the root, before there is a plan: first by the tree whose splits the relaxation points to.
     fn run(&mut self, alloc: Global) -> Result<Found, SearchEnd>
         requires ranges { self.old.ranges ≡ root_of self.old.case.book.lines }
         requires none { self.old.best ≡ None }
@@ -160,17 +271,12 @@ impl<'a> Search<'a> {
     {
         // A book keeps its limits.
         prove!(self.book.line_count() > 0);
-        let root = self.price(alloc, None)?;
+        let root = self.price(alloc, None, None)?;
         self.find_plan(alloc, root.bound)?;
-        let mut tree = SearchTree::start(alloc, self.budget, root)?;
-        let growth = self.grow(alloc, SplitRule::Halving, &mut tree)?;
-        // The nodes of a pool are one tree.
-        prove!(tree.count() > 0);
-        match growth {
-            Growth::Closed => self.closed(alloc, &tree),
-            Growth::Spent(bound) => Err(SearchEnd::BudgetSpent(self.spent(
-                alloc, &mut tree, bound,
-            )?)),
+        match self.grow_by(alloc, SplitRule::Relaxation, root)? {
+            RunEnd::Found(found) => Ok(found),
+            RunEnd::NoRival(nodes) => Err(SearchEnd::NoneWithinYield(nodes)),
+            RunEnd::Spent(first) => self.run_again(alloc, first),
         }
     }
 }
@@ -179,15 +285,17 @@ impl<'a> Search<'a> {
 ///
 /// The limit is from 1 to 3,000,000,000 units of 10^-10, the allowance is at most 10^13 cents, and the budget is from 1 to
 /// 10,000 nodes. What is found is accepted by `check`, with the least gap that its tree supports. The search starts with the
-/// cheapest of the backward plan, the one that it is trimmed to and one that is looked for, of those within the limit. The node of the least bound is taken
-/// next; it is closed by its leaf, by one that weighs needs alone, or as a point, and else it is split where the halving tree is. A plain case
-/// whose issue allows at least its gap is settled at the root.
+/// cheapest of the backward plan, the one that it is trimmed to and one that is looked for, of those within the limit. In a tree the
+/// node of the least bound is taken next; it is closed by its leaf, by one that weighs needs alone, or as a point, and else it is
+/// split. First a tree grows whose splits the linear relaxation points to, with dives for cheaper plans. Where its budget is spent a
+/// cheaper plan is looked for once more, and then the halving tree grows, with the whole budget. A plain case whose issue allows at
+/// least its gap is settled at the root.
 ///
 /// # Errors
 ///
 /// `Short` exactly where no permitted portfolio meets the needs, with the first day on which all lines at their most are short.
-/// `NoneWithinYield` where the tree shows that there is no rival. `BudgetSpent` where the halving tree has more nodes than the
-/// budget, with the bound that the search's tree holds and the best plan. `NoMemory` where memory ran out.
+/// `NoneWithinYield` where a tree shows that there is no rival. `BudgetSpent` where the halving tree has more nodes than the
+/// budget, with the greater bound that the two trees hold and the best plan. `NoMemory` where memory ran out.
 pub fn search(
     alloc: Global,
     book: &Book,

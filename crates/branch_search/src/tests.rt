@@ -194,7 +194,7 @@ fn cases_close_or_end(rt: HostRuntime) -> Result<(), Fail> {
                 gap: 1,
             },
         },
-        // one node shows less than a whole dollar; the rest shows where both sides are a dollar apart
+        // one node shows less than a whole dollar; three do where both sides are a dollar apart
         Row {
             issue: b"settle,2025-01-15\nneed,2026-01-15,1041.03\nrestricted,5.00\nbudget,1\n",
             rates: RATES_C,
@@ -205,7 +205,7 @@ fn cases_close_or_end(rt: HostRuntime) -> Result<(), Fail> {
             }),
         },
         Row {
-            issue: b"settle,2025-01-15\nneed,2026-01-15,1041.03\nrestricted,5.00\nbudget,27\n",
+            issue: b"settle,2025-01-15\nneed,2026-01-15,1041.03\nrestricted,5.00\nbudget,3\n",
             rates: RATES_C,
             told: Told::Found {
                 buys: &[Buy {

@@ -1,5 +1,6 @@
-use Rattle.std.proofs.Common.{◌≡◌, subst}
-use Rattle.std.specs.Prelude.{IfErr, IfOk}
+use Rattle.std.proofs.Common.{◌≡◌, refl, sym, subst, Option, Some, None}
+use Rattle.std.specs.Prelude.{IfErr, IfOk, IsNone}
+use Rattle.cash_table.specs.Reach.{IsInReach}
 use Rattle.branch_search.proofs.NoneFacts.{plain-ended}
 use Rattle.branch_search.specs.Parts.{SearchContents}
 use Rattle.branch_search.specs.Search.{EndsOf, IsFound, IsFoundBy, searched}
@@ -18,3 +19,10 @@ returns-clause-found_by c = subst (λ (s : SearchContents). IfOk c.run.result (�
 
 pub returns-clause-ended : goal.returns-clause-ended
 returns-clause-ended c = subst (λ (s : SearchContents). IfErr c.run.result (EndsOf s.case)) c.in_ok-search.ensures c.run.ensures.ended
+
+pub run-requires-clause-reach : goal.run-requires-clause-reach
+run-requires-clause-reach c = subst (λ (s : SearchContents). IsInReach s.case.book) (sym c.in_ok-search.ensures) (c.out_of_reach.ensures.none.0 (is-none c.out_of_reach.result c.in_default.not-Some))
+  where
+    is-none : {X : Type 0} → (o : Option X) → ((x : X) → o ≡ Some x → ⊥) → IsNone o
+    is-none None not-some = refl
+    is-none (Some x) not-some = absurd (not-some x refl)

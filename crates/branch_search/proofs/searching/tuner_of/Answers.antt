@@ -1,4 +1,5 @@
-use Rattle.std.proofs.Common.{◌≡◌, ◌∙◌, ◌-◌, ap}
+use Rattle.std.proofs.Common.{◌≡◌, ◌-◌, ℕ, ap, subst}
+use Rattle.std.specs.Prelude.{IfOk}
 use Rattle.fixed_powers.specs.DiscountPowers.{PowerTable}
 use Rattle.branch_search.proofs.searching.tuner_of.Goals as goal
 
@@ -11,4 +12,5 @@ make-requires-2 c = record {
 }
 
 pub returns : goal.returns
-returns c = c.in_ok-tuner.ensures ∙ ap (λ (t : PowerTable). record { book = c.args.book.now; yield_units = t.yield_units }) c.in_ok-powers.ensures.table
+returns c =
+    subst (λ (n : ℕ). IfOk c.make-2.result (λ tuner. tuner ≡ record { book = c.args.book.now; yield_units = n })) (ap (λ (t : PowerTable). t.yield_units) c.in_ok-powers.ensures.table) c.make-2.ensures

@@ -19,21 +19,21 @@ pub nodes-requires-clause-own : goal.nodes-requires-clause-own
 nodes-requires-clause-own c =
     let now = c.args.self.now in
     let tree = c.args.tree.now in
-    own-numbers now.case (obeys now.case c.requires.tree.0) (best_cents now.best) c.requires.tree.1.grown.0 tree.pool.states tree.nodes c.count.ensures.one c.requires.tree.1.grown.1.grown
+    own-numbers now.case (obeys now.case c.args.rule) (best_cents now.best) c.requires.tree.grown.0 tree.pool.states tree.nodes c.count.ensures.one c.requires.tree.grown.1.grown
 
 pub returns-in_default-clause-ended : goal.returns-in_default-clause-ended
 returns-in_default-clause-ended c =
     let now = c.args.self.now in
     let tree = c.args.tree.now in
-    let rule = c.requires.tree.0 in
-    let popped = c.requires.tree.1.grown.0 in
+    let rule = c.args.rule in
+    let popped = c.requires.tree.grown.0 in
     let limits : IsBook now.case.book = subst (λ (s : SearchContents). IsBook s.case.book) c.self.view_is c.line_count.ensures.limits in
     let written : AreNodesOf now.case.book.needs tree c.in_ok-nodes.nodes = subst (λ (s : SearchContents). AreNodesOf s.case.book.needs tree c.in_ok-nodes.nodes) c.self.view_is c.in_ok-nodes.ensures in
     let none : now.best ≡ None = sym (ap (λ (s : SearchContents). s.best) c.self.view_is) ∙ sym c.take.ensures.value ∙ none-by c.take.result c.in_default.not-Some in
     let cents : best_cents now.best ≡ None = ap best_cents none in
     let is : IsClosedTree now.case (obeys now.case rule) None popped tree c.in_ok-nodes.nodes =
     subst (λ (b : Option ℕ). IsClosedTree now.case (obeys now.case rule) b popped tree c.in_ok-nodes.nodes) cents
-    (closed-is now.case (obeys now.case rule) (best_cents now.best) tree c.in_ok-nodes.nodes limits c.count.ensures.one c.count.ensures.whole c.requires.tree.1 written) in
+    (closed-is now.case (obeys now.case rule) (best_cents now.best) tree c.in_ok-nodes.nodes limits c.count.ensures.one c.count.ensures.whole c.requires.tree written) in
     none-is now.case rule popped tree c.in_ok-nodes.nodes is c.requires.reach
     (omega (arith, c.count.ensures.value, c.count.ensures.few, c.requires.capacity, c.requires.budget))
     (omega (arith, c.count.ensures.value, c.count.ensures.few, c.requires.capacity))
@@ -50,14 +50,14 @@ tree_gap-gap-requires-clause-bounds c =
     let now = c.args.self.now in
     let tree = c.args.tree.now in
     let limits : IsBook now.case.book = subst (λ (s : SearchContents). IsBook s.case.book) c.self.view_is c.line_count.ensures.limits in
-    bounds-small now.case (obeys now.case c.requires.tree.0) (best_cents now.best) c.requires.tree.1.grown.0 tree.pool.states tree.nodes limits c.count.ensures.one c.requires.tree.1.grown.1.grown
+    bounds-small now.case (obeys now.case c.args.rule) (best_cents now.best) c.requires.tree.grown.0 tree.pool.states tree.nodes limits c.count.ensures.one c.requires.tree.grown.1.grown
 
-pub returns-clause-found : goal.returns-clause-found
-returns-clause-found c =
+pub returns-clause-ended : goal.returns-clause-ended
+returns-clause-ended c =
     let now = c.args.self.now in
     let tree = c.args.tree.now in
-    let rule = c.requires.tree.0 in
-    let popped = c.requires.tree.1.grown.0 in
+    let rule = c.args.rule in
+    let popped = c.requires.tree.grown.0 in
     let best = c.in-Some.best in
     let limits : IsBook now.case.book = subst (λ (s : SearchContents). IsBook s.case.book) c.self.view_is c.line_count.ensures.limits in
     let written : AreNodesOf now.case.book.needs tree c.in_ok-nodes.nodes = subst (λ (s : SearchContents). AreNodesOf s.case.book.needs tree c.in_ok-nodes.nodes) c.self.view_is c.in_ok-nodes.ensures in
@@ -67,31 +67,14 @@ returns-clause-found c =
     subst (λ (b : Option Best). IfSome b (λ own. IsBought c.self.inside.limit.0 c.self.inside.book.now own.plan own.cost.0)) some c.self.invariant.bought in
     let is : IsClosedTree now.case (obeys now.case rule) (Some best.cost.0) popped tree c.in_ok-nodes.nodes =
     subst (λ (b : Option ℕ). IsClosedTree now.case (obeys now.case rule) b popped tree c.in_ok-nodes.nodes) cents
-    (closed-is now.case (obeys now.case rule) (best_cents now.best) tree c.in_ok-nodes.nodes limits c.count.ensures.one c.count.ensures.whole c.requires.tree.1 written) in
-    let least : IsLeastGap tree.nodes (length tree.nodes) best.cost.0 c.tree_gap-gap.result = record { borne = c.tree_gap-gap.ensures.borne; least = c.tree_gap-gap.ensures.least } in
-    found-closed now.case rule best.plan best.cost.0 c.tree_gap-gap.result popped tree c.in_ok-nodes.nodes is
-    (subst (λ (s : SearchContents). s.case.allowance ≤ AMOUNT_LIMIT) c.self.view_is c.self.invariant.allowed)
-    (subst (λ (s : SearchContents). IsBought s.case.limit s.case.book best.plan best.cost.0) c.self.view_is own)
-    (omega (arith, c.count.ensures.value, c.count.ensures.few, c.requires.capacity, c.requires.budget)) least
-
-pub returns-clause-found_by : goal.returns-clause-found_by
-returns-clause-found_by c =
-    let now = c.args.self.now in
-    let tree = c.args.tree.now in
-    let rule = c.requires.tree.0 in
-    let popped = c.requires.tree.1.grown.0 in
-    let best = c.in-Some.best in
-    let limits : IsBook now.case.book = subst (λ (s : SearchContents). IsBook s.case.book) c.self.view_is c.line_count.ensures.limits in
-    let written : AreNodesOf now.case.book.needs tree c.in_ok-nodes.nodes = subst (λ (s : SearchContents). AreNodesOf s.case.book.needs tree c.in_ok-nodes.nodes) c.self.view_is c.in_ok-nodes.ensures in
-    let some : c.self.inside.best ≡ Some best = sym c.take.ensures.value ∙ c.in-Some.is in
-    let cents : best_cents now.best ≡ Some best.cost.0 = ap best_cents (sym (ap (λ (s : SearchContents). s.best) c.self.view_is) ∙ some) in
-    let own : IsBought c.self.inside.limit.0 c.self.inside.book.now best.plan best.cost.0 =
-    subst (λ (b : Option Best). IfSome b (λ own. IsBought c.self.inside.limit.0 c.self.inside.book.now own.plan own.cost.0)) some c.self.invariant.bought in
-    let is : IsClosedTree now.case (obeys now.case rule) (Some best.cost.0) popped tree c.in_ok-nodes.nodes =
-    subst (λ (b : Option ℕ). IsClosedTree now.case (obeys now.case rule) b popped tree c.in_ok-nodes.nodes) cents
-    (closed-is now.case (obeys now.case rule) (best_cents now.best) tree c.in_ok-nodes.nodes limits c.count.ensures.one c.count.ensures.whole c.requires.tree.1 written) in
-    let least : IsLeastGap tree.nodes (length tree.nodes) best.cost.0 c.tree_gap-gap.result = record { borne = c.tree_gap-gap.ensures.borne; least = c.tree_gap-gap.ensures.least } in
-    found-by now.case rule best.plan best.cost.0 c.tree_gap-gap.result popped tree c.in_ok-nodes.nodes is c.requires.reach
-    (subst (λ (s : SearchContents). IsBought s.case.limit s.case.book best.plan best.cost.0) c.self.view_is own)
-    (omega (arith, c.count.ensures.value, c.count.ensures.few, c.requires.capacity)) least
-    (subst (IsNoDearerThanBackward now.case.limit now.case.book) cents c.requires.backward)
+    (closed-is now.case (obeys now.case rule) (best_cents now.best) tree c.in_ok-nodes.nodes limits c.count.ensures.one c.count.ensures.whole c.requires.tree written) in
+    let least : IsLeastGap tree.nodes (length tree.nodes) best.cost.0 c.tree_gap-gap.result = record { borne = c.tree_gap-gap.ensures.borne; least = c.tree_gap-gap.ensures.least } in (
+      found-closed now.case rule best.plan best.cost.0 c.tree_gap-gap.result popped tree c.in_ok-nodes.nodes is
+          (subst (λ (s : SearchContents). s.case.allowance ≤ AMOUNT_LIMIT) c.self.view_is c.self.invariant.allowed)
+          (subst (λ (s : SearchContents). IsBought s.case.limit s.case.book best.plan best.cost.0) c.self.view_is own)
+          (omega (arith, c.count.ensures.value, c.count.ensures.few, c.requires.capacity, c.requires.budget)) least,
+      found-by now.case rule best.plan best.cost.0 c.tree_gap-gap.result popped tree c.in_ok-nodes.nodes is c.requires.reach
+          (subst (λ (s : SearchContents). IsBought s.case.limit s.case.book best.plan best.cost.0) c.self.view_is own)
+          (omega (arith, c.count.ensures.value, c.count.ensures.few, c.requires.capacity)) least
+          (subst (IsNoDearerThanBackward now.case.limit now.case.book) cents c.requires.backward),
+    )

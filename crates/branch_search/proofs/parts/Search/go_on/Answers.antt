@@ -28,8 +28,8 @@ returns-then-self-count-lt2-clause-taken c =
     let priced : IsPriced now.case now.ranges own.priced = held-priced now.case Obeys (best_cents now.best) tree.pool.states tree.nodes c.args.node.0 now.ranges c.count.ensures.one c.requires.held in
     let obeyed : Obeys now.ranges line at =
     rule-obeyed now.case c.args.rule (best_cents now.best) now.ranges own.priced line at c.requires.backward priced c.requires.several
-    (λ is. subst (λ (s : SearchContents). IsHalved s.case.book.lines s.ranges line at) c.self.view_is (c.split-split.ensures.halved is)) in
-    let full : now.case.budget < length tree.pool.states + 2 = omega (arith, c.if-self-count-lt2.true, c.count.ensures.value, c.count.ensures.few, c.requires.capacity, ap (λ (s : SearchContents). s.case.budget) c.self.view_is) in
+    (λ is. subst (λ (s : SearchContents). IsHalved s.case.book.lines s.ranges line at) (c.self-2.view_is ∙ c.pointed-pointed.ensures) (c.split-split.ensures.halved is)) in
+    let full : now.case.budget < length tree.pool.states + 2 = omega (arith, c.if-self-count-lt2.true, c.count.ensures.value, c.count.ensures.few, c.requires.capacity, ap (λ (s : SearchContents). s.case.budget) (c.self-2.view_is ∙ c.pointed-pointed.ensures)) in
     let read : c.node.result.now.priced.bound ≡ own.priced.bound = ap (λ (n : SearchNode). n.priced.bound) c.node.ensures in
     let small : unsigned_abs c.node.result.now.priced.bound < 10 ^ 37 = subst (λ (b : ℤ). unsigned_abs b < 10 ^ 37) (sym read) (priced-small now.case now.ranges own.priced limits tight priced) in
     let same : to_z w128 (of_z w128 c.node.result.now.priced.bound) ≡ own.priced.bound = to_z-of_z w128 c.node.result.now.priced.bound (record { sfits = omega (arith, ints, small) }) ∙ read in
@@ -41,8 +41,9 @@ pub price_sides-requires-clause-parent : goal.price_sides-requires-clause-parent
 price_sides-requires-clause-parent c =
     let now = c.args.self.now in
     let tree = c.args.tree.now in
-    subst (λ (n : SearchNode). IsLeaf (length now.case.book.needs) n.priced.leaf) (sym c.node-2.ensures)
-    (held-priced now.case (obeys now.case c.args.rule) (best_cents now.best) tree.pool.states tree.nodes c.args.node.0 now.ranges c.count.ensures.one c.requires.held).improved.well_formed
+    subst (λ (s : SearchContents). IsLeaf (length s.case.book.needs) c.node-2.result.now.priced.leaf) (sym c.pointed-pointed.ensures)
+    (subst (λ (n : SearchNode). IsLeaf (length now.case.book.needs) n.priced.leaf) (sym c.node-2.ensures)
+    (held-priced now.case (obeys now.case c.args.rule) (best_cents now.best) tree.pool.states tree.nodes c.args.node.0 now.ranges c.count.ensures.one c.requires.held).improved.well_formed)
 
 pub returns-clause-taken : goal.returns-clause-taken
 returns-clause-taken c =
@@ -59,10 +60,12 @@ returns-clause-taken c =
     let priced : IsPriced now.case now.ranges own.priced = held-priced now.case Obeys (best_cents now.best) tree.pool.states tree.nodes c.args.node.0 now.ranges c.count.ensures.one c.requires.held in
     let obeyed : Obeys now.ranges line at =
     rule-obeyed now.case c.args.rule (best_cents now.best) now.ranges own.priced line at c.requires.backward priced c.requires.several
-    (λ is. subst (λ (s : SearchContents). IsHalved s.case.book.lines s.ranges line at) c.self.view_is (c.split-split.ensures.halved is)) in
-    let proper : is_proper now.ranges line at ≡ true = subst (λ (s : SearchContents). is_proper s.ranges line at ≡ true) c.self.view_is c.split-split.ensures.proper in
-    let few : line < length now.case.book.lines = subst (λ (s : SearchContents). line < length s.case.book.lines) c.self.view_is c.split-split.ensures.there in
+    (λ is. subst (λ (s : SearchContents). IsHalved s.case.book.lines s.ranges line at) (c.self-2.view_is ∙ c.pointed-pointed.ensures) (c.split-split.ensures.halved is)) in
+    let proper : is_proper now.ranges line at ≡ true = subst (λ (s : SearchContents). is_proper s.ranges line at ≡ true) (c.self-2.view_is ∙ c.pointed-pointed.ensures) c.split-split.ensures.proper in
+    let few : line < length now.case.book.lines = subst (λ (s : SearchContents). line < length s.case.book.lines) (c.self-2.view_is ∙ c.pointed-pointed.ensures) c.split-split.ensures.there in
     subst (λ (t : TreeContents). HasGrown now.case Obeys (best_cents now.best) t.pool.states t.nodes) (sym c.split.ensures)
     (split-next now.case Obeys (best_cents now.best) tree c.args.node.0 line at now.ranges left right limits tight c.count.ensures.one c.count.ensures.whole c.requires.held proper few obeyed
-    (subst (λ (n : SearchNode). IsSide now.case now.ranges line at false n.priced.leaf left) c.node-2.ensures c.in_ok-sides.ensures.left)
-    (subst (λ (n : SearchNode). IsSide now.case now.ranges line at true n.priced.leaf right) c.node-2.ensures c.in_ok-sides.ensures.right))
+    (subst (λ (n : SearchNode). IsSide now.case now.ranges line at false n.priced.leaf left) c.node-2.ensures
+    (subst (λ (s : SearchContents). IsSide s.case s.ranges line at false c.node-2.result.now.priced.leaf left) c.pointed-pointed.ensures c.in_ok-sides.ensures.left))
+    (subst (λ (n : SearchNode). IsSide now.case now.ranges line at true n.priced.leaf right) c.node-2.ensures
+    (subst (λ (s : SearchContents). IsSide s.case s.ranges line at true c.node-2.result.now.priced.leaf right) c.pointed-pointed.ensures c.in_ok-sides.ensures.right)))

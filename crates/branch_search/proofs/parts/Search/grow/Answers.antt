@@ -1,10 +1,12 @@
-use Rattle.std.proofs.Common.{◌≡◌, sym, subst, Option}
+use Rattle.std.proofs.Common.{◌≡◌, ◌∙◌, sym, ap, subst, Option}
 use Rattle.case_file.specs.Case.{CaseContents}
 use Rattle.node_pool.specs.Pool.{IsInHand, with_state}
 use Rattle.node_pool.specs.declared.node.State.TheVariants as state
-use Rattle.search_tree.specs.Growing.{IsPopped, obeys}
+use Rattle.search_tree.specs.Growing.{HasGrown, IsPopped, obeys}
 use Rattle.search_tree.specs.Tree.{TreeContents}
+use Rattle.branch_search.proofs.EndFacts.{none-by}
 use Rattle.branch_search.proofs.GrowthFacts.{popped-next}
+use Rattle.branch_search.proofs.PartFacts.{covers-cheaper, no_dearer-trans}
 use Rattle.branch_search.specs.Growth.{IsGrowth, IsTakenTo}
 use Rattle.branch_search.specs.Parts.{best_cents}
 use Rattle.branch_search.specs.declared.growing.Growth.{Growth}
@@ -26,3 +28,17 @@ returns-in-Some-2-clause-growth c =
     let best = best_cents c.take.new.self.best in
     subst (λ (k : CaseContents). IsGrowth k (obeys k c.args.rule) best c.take.new.tree c.in-Some-2.growth) c.loop-node.invariant.0
     (subst (λ (e : Option Growth). IsTakenTo c.loop-node.self.case (obeys c.loop-node.self.case c.args.rule) best c.take.new.tree e) c.in-Some-2.is c.in_ok-growth.ensures.taken)
+
+pub loop-node-preserved : goal.loop-node-preserved
+loop-node-preserved c =
+    let now = c.args.self.now in
+    let before = c.loop-node.self in
+    let tree = c.take.new.tree in
+    let best = best_cents c.take.new.self.best in (
+      c.in_ok-growth.ensures.case ∙ c.loop-node.invariant.0,
+      subst (λ (k : CaseContents). HasGrown k (obeys k c.args.rule) best tree.pool.states tree.nodes) c.loop-node.invariant.0
+          (subst (λ (e : Option Growth). IsTakenTo before.case (obeys before.case c.args.rule) best tree e) (none-by c.in_ok-growth.field-0 c.in_default-2.not-Some) c.in_ok-growth.ensures.taken),
+      covers-cheaper now.case (best_cents before.best) best c.in_ok-growth.ensures.no_dearer c.loop-node.invariant.2,
+      no_dearer-trans (best_cents now.best) (best_cents before.best) best c.loop-node.invariant.3 c.in_ok-growth.ensures.no_dearer,
+      c.in_ok-growth.ensures.capacity ∙ ap (λ (t : TreeContents). t.pool.capacity) c.in-Some.ensures.some.1 ∙ c.loop-node.invariant.4,
+    )

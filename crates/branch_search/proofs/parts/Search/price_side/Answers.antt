@@ -39,6 +39,7 @@ invariant_of-self-2 c =
       lined = c.self-2.invariant.lined;
       tight = subst (AreTight c.self-2.inside.book.now.lines) (sym back) (subst (λ (s : SearchContents). AreTight s.case.book.lines c.self.inside.ranges) (sym kept) c.self.invariant.tight);
       bought = c.self-2.invariant.bought;
+      finds = c.self-2.invariant.finds;
     }
 
 pub returns-clause-search : goal.returns-clause-search

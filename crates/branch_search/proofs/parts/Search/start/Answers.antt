@@ -20,6 +20,7 @@ invariant_of-result c =
       lined = ap length c.in_ok-plan.ensures ∙ length-replicate (length book.lines) 0;
       tight = subst (AreTight book.lines) (sym c.in_ok-ranges.ensures) (root_is_tight book c.line_count.ensures.limits);
       bought = tt;
+      finds = c.in_ok-finder.ensures;
     }
 
 pub returns : goal.returns

@@ -5,7 +5,7 @@ use Rattle.search_tree.specs.Growing.{IsLostPoint}
 use Rattle.branch_search.proofs.PartFacts.{point-lost}
 use Rattle.branch_search.specs.Parts.{IsCounted, SearchContents, best_cents}
 use Rattle.branch_search.specs.Search.{searched}
-use Rattle.branch_search.proofs.parts.Search.closing.Goals as goal
+use Rattle.branch_search.proofs.parts.Search.closed_by.Goals as goal
 
 pub returns-then-single-clause-tried : goal.returns-then-single-clause-tried
 returns-then-single-clause-tried c =
