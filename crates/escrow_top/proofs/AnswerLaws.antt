@@ -12,6 +12,8 @@ use Rattle.escrow_top.specs.Answer.{Answer, answer_to, case_answer, case_of, cer
 use Rattle.escrow_top.specs.Accepted.{Accepted}
 use Rattle.escrow_top.specs.NotAccepted.{NotAccepted}
 use Rattle.escrow_top.specs.Ending.{Answers, AnswersPart, HoldsWhereTold, IsAccepted, IsNotAccepted, IsNoCommand, LacksFile, NamedAnswers, NamedAnswersPart}
+use Rattle.escrow_top.specs.MakeWords.{Making, make_words}
+use Rattle.escrow_top.specs.Making.{Makes, MakesPart}
 use Rattle.escrow_top.specs.Structure.{Structures, StructuresPart}
 use Rattle.escrow_top.specs.Reading.{AreRead, AreWithin, CertificateAnswers, FilesAnswer, IsTooLong, LacksCertificate, LacksInput, LacksNamed}
 use Rattle.escrow_desk.specs.declared.refusal.Refusal.{Refusal}
@@ -21,6 +23,7 @@ use Rattle.escrow_top.proofs.AcceptedLaws.{accepted}
 use Rattle.escrow_top.proofs.NotAcceptedLaws.{not_accepted}
 use Rattle.escrow_top.specs.declared.stop.Stop.{Stop}
 use Rattle.escrow_top.proofs.InputFacts.{read-all, rows_alone}
+use Rattle.escrow_top.proofs.WordLaws.{check-makes_none, structure-makes_none}
 
 answered : (found : Option (List ℕ)) (case : CaseContents) (answer : Answer) → IsSomeAnd found (λ file. answer ≡ certificate_answer case file) → option_and_then (λ cert. Some (certificate_answer case cert)) found ≡ Some answer
 answered None case answer said = absurd said
@@ -95,35 +98,42 @@ no_command words content none =
 
 -- the usage was said to words that are no command
 pub usage_said : (told new : Told) (words : List (List ℕ)) → IsNoCommand words → SaidAll told usage_text new → Answers told words status.Usage new
-usage_said None new words none said = rw none.no_structure said
-usage_said (Some content) new words none said = rw (none.no_structure, no_command words content none) (refl, said)
+usage_said None new words none said = rw (none.no_make, none.no_structure) said
+usage_said (Some content) new words none said = rw (none.no_make, none.no_structure, no_command words content none) (refl, said)
 
 pub usage_said_part : (told new : Told) (words : List (List ℕ)) → IsNoCommand words → SaidPart told usage_text new → AnswersPart told words new
-usage_said_part None new words none part = rw none.no_structure part.said
-usage_said_part (Some content) new words none part = rw (none.no_structure, no_command words content none) part
+usage_said_part None new words none part = rw (none.no_make, none.no_structure) part.said
+usage_said_part (Some content) new words none part = rw (none.no_make, none.no_structure, no_command words content none) part
 
 -- what was said of named files was said to the words of `check`
 pub check_said : (told new : Told) (words : List (List ℕ)) (names : FileNames) (status : Status) → structure_names words ≡ None → check_names words ≡ Some names → NamedAnswers told names status new → Answers told words status new
-check_said None new words names status other is said = rw other said
-check_said (Some content) new words names status other is said = rw (other, is) said
+check_said None new words names status other is said = rw (check-makes_none words names is, other) said
+check_said (Some content) new words names status other is said = rw (check-makes_none words names is, other, is) said
 
 pub check_said_part : (told new : Told) (words : List (List ℕ)) (names : FileNames) → structure_names words ≡ None → check_names words ≡ Some names → NamedAnswersPart told names new → AnswersPart told words new
-check_said_part None new words names other is part = rw other part
-check_said_part (Some content) new words names other is part = rw (other, is) part
+check_said_part None new words names other is part = rw (check-makes_none words names is, other) part
+check_said_part (Some content) new words names other is part = rw (check-makes_none words names is, other, is) part
 
 pub check_lacks : (told : Told) (words : List (List ℕ)) (names : FileNames) → structure_names words ≡ None → check_names words ≡ Some names → LacksNamed told names → LacksFile told words
-check_lacks None words names other is lacks = rw other tt
-check_lacks (Some content) words names other is lacks = rw (other, is) lacks
+check_lacks None words names other is lacks = rw (check-makes_none words names is, other) tt
+check_lacks (Some content) words names other is lacks = rw (check-makes_none words names is, other, is) lacks
 
 -- what was put out for named files was put out to the words of `structure`
 pub structure_put_out : (told new : Told) (words : List (List ℕ)) (names : FileNames) (status : Status) → structure_names words ≡ Some names → Structures told names status new → Answers told words status new
-structure_put_out told new words names status is put = rw is put
+structure_put_out told new words names status is put = rw (structure-makes_none words names is, is) put
 
 pub structure_put_out_part : (told new : Told) (words : List (List ℕ)) (names : FileNames) → structure_names words ≡ Some names → StructuresPart told names new → AnswersPart told words new
-structure_put_out_part told new words names is part = rw is part
+structure_put_out_part told new words names is part = rw (structure-makes_none words names is, is) part
 
 pub structure_lacks : (told : Told) (words : List (List ℕ)) (names : FileNames) → structure_names words ≡ Some names → LacksInput told names → LacksFile told words
-structure_lacks told words names is lacks = rw is lacks
+structure_lacks told words names is lacks = rw (structure-makes_none words names is, is) lacks
+
+-- what was put out for a number was put out to the words of `make`
+pub make_put_out : (told new : Told) (words : List (List ℕ)) (making : Making) (status : Status) → make_words words ≡ Some making → Makes told making status new → Answers told words status new
+make_put_out told new words making status is put = rw is put
+
+pub make_put_out_part : (told new : Told) (words : List (List ℕ)) (making : Making) → make_words words ≡ Some making → MakesPart told making new → AnswersPart told words new
+make_put_out_part told new words making is part = rw is part
 
 pub check_accepted : (told : Told) (words : List (List ℕ)) (names : FileNames) → check_names words ≡ Some names → HoldsWhereTold Accepted told names → IsAccepted told words
 check_accepted told words names is holds = rw is holds

@@ -17,6 +17,7 @@ use Rattle.escrow_top.specs.InputFiles.{InputFiles, FileNames, first_too_long, i
 use Rattle.escrow_top.specs.Answer.{Answer, case_of, check_answer, check_names, named_answer, refused, structure_names}
 use Rattle.escrow_top.specs.Accepted.{YesExactly}
 use Rattle.escrow_top.specs.Ending.{IsAnswerTo, IsNoCommand, NamedAnswers, OfFiles, OfNamedFiles}
+use Rattle.escrow_top.specs.MakeWords.{Making, make_words}
 use Rattle.escrow_top.specs.Stopping.{is_reached}
 use Rattle.escrow_top.specs.Reading.{AreRead, AreThere, AreWithin, FilesAnswer, IsTooLong}
 use Rattle.escrow_top.specs.Stopping.{EndedAs}
@@ -25,6 +26,7 @@ use Rattle.escrow_top.specs.declared.status.Status.{Status}
 use Rattle.escrow_top.specs.declared.status.Status.TheVariants as status
 use Rattle.escrow_top.proofs.AcceptedLaws.{KeepsLimits, yes_exactly}
 use Rattle.escrow_top.proofs.AnswerLaws.{long_named, named_by}
+use Rattle.escrow_top.proofs.WordLaws.{make-checks_none}
 use Rattle.escrow_top.proofs.InputFacts.{read-all, read-long_issue, read-long_rates, read-long_prices, over-issue, over-rates, over-prices, rows_alone, texts_of, within-all}
 
 -- files that are there are one and the same, however they were found
@@ -206,3 +208,8 @@ structure-checks_none words names is = absurd (cc)
 
 pub structure_names_none : (Holds : InputFiles → List ℕ → Type 0) (told : Told) (words : List (List ℕ)) (names : FileNames) → structure_names words ≡ Some names → OfFiles Holds told words
 structure_names_none Holds told words names is = λ others named. let none = structure-checks_none words names is in absurd (cc)
+
+-- nor do the words of `make`
+
+pub make_names_none : (Holds : InputFiles → List ℕ → Type 0) (told : Told) (words : List (List ℕ)) (making : Making) → make_words words ≡ Some making → OfFiles Holds told words
+make_names_none Holds told words making is = λ others named. let none = make-checks_none words making is in absurd (cc)

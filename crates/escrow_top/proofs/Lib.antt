@@ -1,9 +1,12 @@
 pub mod InputFacts
+pub mod NumberFacts
+pub mod WordLaws
 pub mod AcceptedLaws
 pub mod NotAcceptedLaws
 pub mod AnswerLaws
 pub mod ExactLaws
 pub mod HearingFacts
 pub mod StructureLaws
+pub mod MakingLaws
 pub mod CertificateSize
 pub mod YieldFacts

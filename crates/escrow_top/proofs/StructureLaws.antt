@@ -82,7 +82,7 @@ wrote (Some content) new names (draft.Found texts) reached structured accepted p
     rw put.1 (record { files = accepted.0; cert = texts.cert.items; there = accepted.1; written = get_inserted content.files names.cert texts.cert.items; is = accepted.2 })
 
 -- what is about to be written is accepted
-accepted_text : (files : InputFiles) (cert : List ℕ) (case : CaseContents) → case_of files ≡ Ok case → IsKept (rows_of files.issue) (rows_of files.rates) (rows_of files.prices) case
+pub accepted_text : (files : InputFiles) (cert : List ℕ) (case : CaseContents) → case_of files ≡ Ok case → IsKept (rows_of files.issue) (rows_of files.rates) (rows_of files.prices) case
     → (certificate_answer case cert).status ≡ status.Done → IsAcceptedText files cert
 accepted_text files cert case is kept done = record { answers = rw is done; accepted = accepted files cert case is kept done }
 
@@ -138,7 +138,7 @@ of_case Holds None names d holds is = tt
 of_case Holds (Some content) names d holds is = λ texts case read gives. holds case (draft_of content names d texts case is read gives)
 
 -- where all that is permitted is short, the needs can't be met
-unreached : (case : CaseContents) (day : ℤ) → AreAllShort case.book day → IsInReach case.book → ⊥
+pub unreached : (case : CaseContents) (day : ℤ) → AreAllShort case.book day → IsInReach case.book → ⊥
 unreached case day short reach = omega (arith, short reach.plan reach.permitted, reach.meets day)
 
 settled : (case : CaseContents) (told new : Told) (name : List ℕ) (d : Draft) (reached : Status) → IsDraftOf case d → PutsOut told name d reached new → SettlesCovered reached case

@@ -131,7 +131,7 @@ named_answer content names = do
   Some (check_answer texts cert)
 
 abbrev pub usage_text : List ℕ
-usage_text = text_line (codes "usage: structure ISSUE RATES PRICES CERT | check ISSUE RATES PRICES CERT") []
+usage_text = text_line (codes "usage: structure ISSUE RATES PRICES CERT | check ISSUE RATES PRICES CERT | make NUMBER ISSUE RATES PRICES") []
 
 abbrev pub usage : Answer
 usage = record { status = status.Usage; text = usage_text }
@@ -154,6 +154,6 @@ abbrev pub answer_to_check : Content → Option FileNames → Option Answer
 answer_to_check content None = Some usage
 answer_to_check content (Some names) = named_answer content names
 
--- the answer to words that aren't those of `structure`; None where a file that is read isn't there
+-- the answer to words that aren't those of `structure` or `make`; None where a file that is read isn't there
 abbrev pub answer_to : List (List ℕ) → Content → Option Answer
 answer_to words content = answer_to_check content (check_names words)

@@ -5,6 +5,8 @@ use Rattle.escrow_top.specs.Accepted.{Accepted}
 use Rattle.escrow_top.specs.NotAccepted.{NotAccepted}
 use Rattle.escrow_top.specs.InputFiles.{InputFiles, FileNames}
 use Rattle.escrow_top.specs.Answer.{Answer, answer_to, check_answer, check_names, named_answer, structure_names}
+use Rattle.escrow_top.specs.MakeWords.{Making, make_words}
+use Rattle.escrow_top.specs.Making.{Makes, MakesPart}
 use Rattle.escrow_top.specs.Reading.{AreThere, LacksInput}
 use Rattle.escrow_top.specs.Structure.{Structures, StructuresPart, WroteAccepted}
 use Rattle.escrow_top.specs.declared.status.Status.{Status}
@@ -49,14 +51,20 @@ abbrev pub NamedAnswersPart : Told → FileNames → Told → Type 0
 NamedAnswersPart None names new = new ≡ None
 NamedAnswersPart (Some content) names new = IsSaidPart content (named_answer content names) new
 
--- the status, and what stands then, are the answer to the words over the content that the desk tells. Only `structure` writes a file
+-- the status, and what stands then, are the answer to the words over the content that the desk tells, where they aren't those of
+-- `make`. Only `structure` writes a file
 abbrev pub AnswersBy : Option FileNames → Told → List (List ℕ) → Status → Told → Type 0
 AnswersBy (Some names) told words status new = Structures told names status new
 AnswersBy None None words status new = new ≡ None
 AnswersBy None (Some content) words status new = IsSaid content (answer_to words content) status new
 
+-- the same of all words: `make` reads no file, and writes three
+abbrev pub AnswersOf : Option Making → Told → List (List ℕ) → Status → Told → Type 0
+AnswersOf (Some making) told words status new = Makes told making status new
+AnswersOf None told words status new = AnswersBy (structure_names words) told words status new
+
 abbrev pub Answers : Told → List (List ℕ) → Status → Told → Type 0
-Answers told words status new = AnswersBy (structure_names words) told words status new
+Answers told words status new = AnswersOf (make_words words) told words status new
 
 -- what stands where a write failed: a part of what the answer puts out
 abbrev pub AnswersPartBy : Option FileNames → Told → List (List ℕ) → Told → Type 0
@@ -64,8 +72,12 @@ AnswersPartBy (Some names) told words new = StructuresPart told names new
 AnswersPartBy None None words new = new ≡ None
 AnswersPartBy None (Some content) words new = IsSaidPart content (answer_to words content) new
 
+abbrev pub AnswersPartOf : Option Making → Told → List (List ℕ) → Told → Type 0
+AnswersPartOf (Some making) told words new = MakesPart told making new
+AnswersPartOf None told words new = AnswersPartBy (structure_names words) told words new
+
 abbrev pub AnswersPart : Told → List (List ℕ) → Told → Type 0
-AnswersPart told words new = AnswersPartBy (structure_names words) told words new
+AnswersPart told words new = AnswersPartOf (make_words words) told words new
 
 -- a file that the words have read isn't there
 abbrev pub LacksFileBy : Option FileNames → Told → List (List ℕ) → Type 0
@@ -73,13 +85,19 @@ LacksFileBy (Some names) told words = LacksInput told names
 LacksFileBy None None words = Unit {0}
 LacksFileBy None (Some content) words = answer_to words content ≡ None
 
+-- `make` reads none
+abbrev pub LacksFileOf : Option Making → Told → List (List ℕ) → Type 0
+LacksFileOf (Some making) told words = ⊥
+LacksFileOf None told words = LacksFileBy (structure_names words) told words
+
 abbrev pub LacksFile : Told → List (List ℕ) → Type 0
-LacksFile told words = LacksFileBy (structure_names words) told words
+LacksFile told words = LacksFileOf (make_words words) told words
 
 -- the words are no command
 pub record IsNoCommand (words : List (List ℕ)) : Type 0 where
   pub no_structure : structure_names words ≡ None
   pub no_check : check_names words ≡ None
+  pub no_make : make_words words ≡ None
 
 -- the four files of these names are there, and this holds of their bytes
 abbrev pub HoldsOfFiles : (InputFiles → List ℕ → Type 0) → Content → FileNames → Type 0

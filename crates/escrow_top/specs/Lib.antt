@@ -1,4 +1,5 @@
 pub mod InputFiles
+pub mod MakeWords
 pub mod Answer
 pub mod Ending
 pub mod Accepted
@@ -8,4 +9,5 @@ pub mod Stopping
 pub mod Covered
 pub mod Structure
 pub mod Settling
+pub mod Making
 pub mod Command

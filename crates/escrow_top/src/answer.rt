@@ -145,8 +145,8 @@ pub(crate) fn infeasible(alloc: Global, day: Day) -> Result<Answer, NoMemory>
     })
 }
 
-// Adds how many nodes a tree has.
-fn push_nodes(alloc: Global, text: &mut Vec<u8>, nodes: &Nodes) -> Result<(), NoMemory>
+/// Adds how many nodes a tree has.
+pub(crate) fn push_nodes(alloc: Global, text: &mut Vec<u8>, nodes: &Nodes) -> Result<(), NoMemory>
     ensures { OnOk result (text.new.items ≡ text.old.items ++ nodes_line nodes.now) }
 {
     push_line(

@@ -1,10 +1,13 @@
 //! The words of a command line.
 
-ghost use Rattle.std.specs.Prelude.{map, string_bytes, MatchOption};
+ghost use Rattle.std.specs.Prelude.{◌≡◌, map, string_bytes, MatchOption};
 ghost use Rattle.escrow_top.specs.Command.{IsCommand};
 ghost use Rattle.escrow_top.specs.Ending.{IsNoCommand};
+ghost use Rattle.escrow_top.specs.MakeWords.{number_of_word};
 
 use crate::files::FileNames;
+use crate::making::{MadeNames, Making};
+use itoa::Buffer;
 
 /// What the words of a command line ask for.
 #[derive(Clone, Copy)]
@@ -13,6 +16,21 @@ pub(crate) enum Command<'a> {
     Structure(FileNames<'a>),
     /// `check`, of the files of these names.
     Check(FileNames<'a>),
+    /// `make`, of the case of a number, in files of these names.
+    Make(Making<'a>),
+}
+
+// The number that a word writes in decimal digits, without a sign or a leading zero: it is printed again and compared.
+fn number_of(word: &str) -> Option<u64>
+    ensures { result ≡ number_of_word word.now }
+{
+    let number = word.parse::<u64>().ok()?;
+    let mut digits = Buffer::new();
+    if digits.format(number) == word {
+        Some(number)
+    } else {
+        None
+    }
 }
 
 /// The command of words, which are read by their places; None where they are no command.
@@ -20,14 +38,23 @@ pub(crate) fn command_of(words: &[String]) -> Option<Command<'_>>
     ensures { MatchOption result (IsNoCommand (map string_bytes words.now))
         (λ command. IsCommand command (map string_bytes words.now)) }
 {
-    let [word, issue, rates, prices, cert] = words else {
+    let [word, first, second, third, last] = words else {
         return None;
     };
+    if word.as_str() == "make" {
+        let number = number_of(first.as_str())?;
+        let names = MadeNames {
+            issue: second.as_str(),
+            rates: third.as_str(),
+            prices: last.as_str(),
+        };
+        return Some(Command::Make(Making { number, names }));
+    }
     let names = FileNames {
-        issue: issue.as_str(),
-        rates: rates.as_str(),
-        prices: prices.as_str(),
-        cert: cert.as_str(),
+        issue: first.as_str(),
+        rates: second.as_str(),
+        prices: third.as_str(),
+        cert: last.as_str(),
     };
     if word.as_str() == "structure" {
         return Some(Command::Structure(names));

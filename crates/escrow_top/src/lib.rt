@@ -7,6 +7,7 @@ mod command;
 mod draft;
 mod files;
 mod hearing;
+mod making;
 mod program;
 mod status;
 mod stop;
@@ -17,6 +18,8 @@ pub use status::Status;
 
 #[cfg(test)]
 mod bound_tests;
+#[cfg(test)]
+mod make_tests;
 #[cfg(test)]
 mod structure_tests;
 #[cfg(test)]

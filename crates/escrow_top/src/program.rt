@@ -1,27 +1,31 @@
 //! The one call, from words to a status.
 
-ghost use Rattle.std.specs.Prelude.{◌≡◌, ◌≢◌, ◌↔◌, map, string_bytes, IfSome, IsTrue};
-ghost use Rattle.escrow_desk.specs.Content.{SaidAll, SaidPart};
-ghost use Rattle.escrow_desk.specs.Counts.{AllSteady};
+ghost use Rattle.std.specs.Prelude.{◌≡◌, ◌≢◌, ◌↔◌, map, string_bytes, IfSome, IsTrue, OnErr, OnOk};
+ghost use Rattle.escrow_desk.specs.Content.{SaidAll, SaidPart, told_map};
+ghost use Rattle.escrow_desk.specs.Counts.{AllSteady, CountsWrite};
 ghost use Rattle.escrow_top.specs.Ending.{Answers, AnswersPart, HoldsWhereTold, IsAccepted, IsAnswerTo, IsNoCommand, IsNotAccepted, LacksFile, NamedAnswers, NamedAnswersPart, OfFiles, OfNamedFiles, WroteCertificate, is_checked};
 ghost use Rattle.escrow_top.specs.Accepted.{Accepted, YesExactly};
 ghost use Rattle.escrow_top.specs.NotAccepted.{NotAccepted};
 ghost use Rattle.escrow_top.specs.Answer.{check_names, structure_names};
 ghost use Rattle.escrow_top.specs.Structure.{IsStructuredDraft, PutsOut, PutsOutPart, Structures, StructuresPart, WroteAccepted, WroteAndSaid, WroteOrSaidPart};
 ghost use Rattle.escrow_top.specs.Settling.{OfCase, SaysReach, SettlesCovered, SettlesPlain};
-ghost use Rattle.escrow_top.specs.Reading.{LacksInput, LacksNamed, names_view};
+ghost use Rattle.escrow_top.specs.MakeWords.{make_words};
+ghost use Rattle.escrow_top.specs.Making.{HasAcceptedText, Makes, MakesPart, OfMadeCase, WroteFilesAndSaid, WroteFilesOrSaidPart, WroteSome, made_files, made_names_view, making_view, named_files, with_files};
+ghost use Rattle.escrow_top.specs.Reading.{LacksInput, LacksNamed, files_view, names_view};
 ghost use Rattle.escrow_top.specs.Stopping.{EndedAs, is_reached, is_structured};
 
 use crate::check::check;
 use crate::command::{Command, command_of};
 use crate::draft::{Draft, Texts};
-use crate::files::FileNames;
+use crate::files::{FileNames, InputFiles};
+use crate::making::{MadeDraft, MadeNames, Making, made};
 use crate::status::Status;
 use crate::structure::structure;
-use escrow_desk::{Desk, say_all, write_all};
+use escrow_desk::{Desk, Failed, say_all, write_all};
 use std::alloc::Global;
 
-const USAGE: &[u8] = b"usage: structure ISSUE RATES PRICES CERT | check ISSUE RATES PRICES CERT\n";
+const USAGE: &[u8] =
+    b"usage: structure ISSUE RATES PRICES CERT | check ISSUE RATES PRICES CERT | make NUMBER ISSUE RATES PRICES\n";
 
 // Says the text of a status that was reached, and answers the status; `WriteFault` where a call of the desk failed.
 fn say_answer<D: Desk>(desk: &mut D, status: Status, text: &[u8]) -> Status
@@ -109,15 +113,66 @@ fn run_structure<D: Desk>(alloc: Global, names: &FileNames<'_>, desk: &mut D) ->
     }
 }
 
+// Writes the files of a case whole, one after another.
+fn write_files<D: Desk>(
+    desk: &mut D,
+    names: &MadeNames<'_>,
+    files: &InputFiles,
+) -> Result<(), Failed>
+    ensures whole { OnOk result (D.told desk.new ≡ told_map (with_files (named_files (made_names_view names.now) (files_view files.now))) (D.told desk.old)) }
+    ensures part { OnErr result (WroteSome (D.told desk.old) (named_files (made_names_view names.now) (files_view files.now)) (D.told desk.new)) }
+    ensures counts { CountsWrite result (D.counts desk.old) (D.counts desk.new) }
+{
+    write_all(desk, names.issue, files.issue.as_slice())?;
+    write_all(desk, names.rates, files.rates.as_slice())?;
+    write_all(desk, names.prices, files.prices.as_slice())
+}
+
+// Writes the files of a case whole, and then says the answer.
+fn put_out_made<D: Desk>(desk: &mut D, names: &MadeNames<'_>, draft: &MadeDraft) -> Status
+    requires { IsTrue (is_reached draft.now.answer.status) }
+    ensures whole { IsTrue (is_reached result) → (result ≡ draft.now.answer.status) × WroteFilesAndSaid (D.told desk.old) (named_files (made_names_view names.now) (files_view draft.now.files)) draft.now.answer.text (D.told desk.new) }
+    ensures part { result ≡ Status.WriteFault → WroteFilesOrSaidPart (D.told desk.old) (named_files (made_names_view names.now) (files_view draft.now.files)) draft.now.answer.text (D.told desk.new) }
+    ensures no_other { (result ≡ Status.ReadFault → ⊥) × (result ≡ Status.NoFile → ⊥) × (result ≡ Status.NoMemory → ⊥) }
+    ensures counts { EndedAs result (D.counts desk.old) (D.counts desk.new) (D.told desk.old) (D.told desk.new) }
+{
+    match write_files(desk, names, &draft.files) {
+        Ok(()) => say_answer(desk, draft.answer.status, draft.answer.text.as_slice()),
+        Err(_) => Status::WriteFault,
+    }
+}
+
+// Carries `make` out.
+fn run_make<D: Desk>(alloc: Global, making: &Making<'_>, desk: &mut D) -> Status
+    ensures answers { IsTrue (is_reached result) → Makes (D.told desk.old) (making_view making.now) result (D.told desk.new) }
+    ensures part { result ≡ Status.WriteFault → MakesPart (D.told desk.old) (making_view making.now) (D.told desk.new) }
+    ensures no_read { (result ≡ Status.ReadFault → ⊥) × (result ≡ Status.NoFile → ⊥) }
+    ensures structured { IsTrue (is_reached result) → IsTrue (is_structured result) }
+    ensures made { result ≡ Status.Done → HasAcceptedText (made_files making.now.number) }
+    ensures made_none { result ≡ Status.NoneWithinYield → HasAcceptedText (made_files making.now.number) }
+    ensures plain { IsTrue (is_reached result) → OfMadeCase (SettlesPlain result) (making_view making.now) }
+    ensures covered { IsTrue (is_reached result) → OfMadeCase (SettlesCovered result) (making_view making.now) }
+    ensures reach { IsTrue (is_reached result) → OfMadeCase (SaysReach result) (making_view making.now) }
+    ensures counts { EndedAs result (D.counts desk.old) (D.counts desk.new) (D.told desk.old) (D.told desk.new) }
+{
+    match made(alloc, making.number) {
+        Ok(draft) => put_out_made(desk, &making.names, &draft),
+        Err(_) => Status::NoMemory,
+    }
+}
+
 /// Carries out the words of a command line, which are those after the program's name, over a desk.
 ///
 /// `check ISSUE RATES PRICES CERT` answers whether the certificate is accepted for the three input files, and says why
 /// or why not. `structure ISSUE RATES PRICES CERT` searches the cheapest permitted purchases, writes their certificate and says
 /// their report; or it writes a certificate which shows that there is no rival, and says so; or it says that the needs can't be
-/// met, or that the budget is spent, with the bound that its tree shows and the best plan. All other words are `Usage`.
+/// met, or that the budget is spent, with the bound that its tree shows and the best plan. `make NUMBER ISSUE RATES PRICES`
+/// structures the made-up case of a number from 0 to 2^64 - 1, written in decimal digits without a leading zero; it writes the
+/// three files of the case, in this order, and then says the number, the summary of what was found and how many nodes the tree
+/// has, or what `structure` says where it finds no portfolio. All other words are `Usage`.
 ///
-/// It returns for all words and every desk. It writes no file but the certificate of `structure`, whose texts are all built
-/// before. The texts are this project's own.
+/// It returns for all words and every desk. It writes no file but the certificate of `structure` and the files of `make`, and
+/// all texts are built before. The texts are this project's own.
 pub fn run<D: Desk>(alloc: Global, words: &[String], desk: &mut D) -> Status
     // Where the run wasn't cut off, the status and what was said are the answer to the words over the desk's content.
     ensures answers { IsTrue (is_reached result) → Answers (D.told desk.old) (map string_bytes words.now) result (D.told desk.new) }
@@ -132,6 +187,13 @@ pub fn run<D: Desk>(alloc: Global, words: &[String], desk: &mut D) -> Status
     ensures covered { IsTrue (is_reached result) → IfSome (structure_names (map string_bytes words.now)) (OfCase (SettlesCovered result) (D.told desk.old)) }
     // `infeasible` comes exactly where no permitted portfolio meets the needs.
     ensures reach { IsTrue (is_reached result) → IfSome (structure_names (map string_bytes words.now)) (OfCase (SaysReach result) (D.told desk.old)) }
+    // Of what `make` finds there is a certificate that `check` accepts for the files of the number.
+    ensures made { result ≡ Status.Done → IfSome (make_words (map string_bytes words.now)) (λ making. HasAcceptedText (made_files making.number)) }
+    ensures made_none { result ≡ Status.NoneWithinYield → IfSome (make_words (map string_bytes words.now)) (λ making. HasAcceptedText (made_files making.number)) }
+    // It answers as `structure` would on these files.
+    ensures made_plain { IsTrue (is_reached result) → IfSome (make_words (map string_bytes words.now)) (OfMadeCase (SettlesPlain result)) }
+    ensures made_covered { IsTrue (is_reached result) → IfSome (make_words (map string_bytes words.now)) (OfMadeCase (SettlesCovered result)) }
+    ensures made_reach { IsTrue (is_reached result) → IfSome (make_words (map string_bytes words.now)) (OfMadeCase (SaysReach result)) }
     // What `no` means: which reason stands, and that no earlier one does.
     ensures no { result ≡ Status.No → IsNotAccepted (D.told desk.old) (map string_bytes words.now) }
     // `yes` comes exactly where no reason stands.
@@ -144,7 +206,9 @@ pub fn run<D: Desk>(alloc: Global, words: &[String], desk: &mut D) -> Status
     // Whatever the desk tells: which statuses a command comes to.
     ensures structured { IsTrue (is_reached result) → IfSome (structure_names (map string_bytes words.now)) (λ _. IsTrue (is_structured result)) }
     ensures checked { IsTrue (is_reached result) → IfSome (check_names (map string_bytes words.now)) (λ _. IsTrue (is_checked result)) }
-
+    ensures makes { IsTrue (is_reached result) → IfSome (make_words (map string_bytes words.now)) (λ _. IsTrue (is_structured result)) }
+    // `make` reads no file.
+    ensures no_read { IfSome (make_words (map string_bytes words.now)) (λ _. (result ≡ Status.ReadFault → ⊥) × (result ≡ Status.NoFile → ⊥)) }
     // Each way of being cut off has its cause: a count of the desk that rose in this call, or stands at its last value.
     ensures counts { EndedAs result (D.counts desk.old) (D.counts desk.new) (D.told desk.old) (D.told desk.new) }
 {
@@ -152,5 +216,6 @@ pub fn run<D: Desk>(alloc: Global, words: &[String], desk: &mut D) -> Status
         None => say_answer(desk, Status::Usage, USAGE),
         Some(Command::Structure(names)) => run_structure(alloc, &names, desk),
         Some(Command::Check(names)) => run_check(alloc, &names, desk),
+        Some(Command::Make(making)) => run_make(alloc, &making, desk),
     }
 }

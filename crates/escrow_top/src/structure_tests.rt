@@ -40,7 +40,7 @@ const NONE_WITHIN: Files = Files {
 
 // One need and one offer. The bound of the root is a cent below the cheapest portfolio.
 const WHOLE_DOLLARS: Files = Files {
-    issue: b"settle,2025-01-15\nneed,2026-01-15,1041.03\nrestricted,5.00\nbudget,27\n",
+    issue: b"settle,2025-01-15\nneed,2026-01-15,1041.03\nrestricted,5.00\nbudget,3\n",
     rates: b"terms,1000,1\nrate,2025-02-14,2026-01-15,4.00\noffer,2026-01-15,max,,10000\n",
     prices: b"",
     cert: b"x",
@@ -93,7 +93,7 @@ fn structured_cases(rt: HostRuntime) -> Result<(), Fail> {
             NONE_WITHIN,
             Status::NoneWithinYield,
             b"none within yield\nnodes 5\n",
-            b"escrow-certificate 1\nportfolio none\ngap 0\nnodes 5\ns 1 1\ns 1 0\nl 0 0 1000000000000\np\np\nend\n",
+            b"escrow-certificate 1\nportfolio none\ngap 0\nnodes 5\ns 1 0\nl 0 0 1000000000000\ns 1 1\np\np\nend\n",
         ),
         (
             Files {

@@ -39,7 +39,9 @@ const SECOND: Files = Files {
 /// The words of `check`.
 pub(crate) const CHECK: [&str; 5] = ["check", "i", "r", "p", "c"];
 
-const USAGE: &[u8] = b"usage: structure ISSUE RATES PRICES CERT | check ISSUE RATES PRICES CERT\n";
+/// What is said to words that are no command.
+pub(crate) const USAGE: &[u8] =
+    b"usage: structure ISSUE RATES PRICES CERT | check ISSUE RATES PRICES CERT | make NUMBER ISSUE RATES PRICES\n";
 
 fn named(alloc: Global, name: &str, bytes: &[u8]) -> Result<NamedBytes, Fail>
     ensures { IfOk result (λ file. string_bytes file.name ≡ name.now) }
@@ -732,7 +734,7 @@ fn words_that_read_nothing(rt: HostRuntime) -> Result<(), Fail> {
     let rows: [(&[&str], Status, &[u8]); 3] = [
         (&[], Status::Usage, USAGE),
         (&["check", "a", "b"], Status::Usage, USAGE),
-        (&["make", "7", "a", "b", "c"], Status::Usage, USAGE),
+        (&["make", "7", "a", "b"], Status::Usage, USAGE),
     ];
     for (words, status, said) in &rows {
         let ran = outcome_of(rt.alloc(), words, &FIRST, u64::MAX)?;

@@ -1,5 +1,6 @@
 use Rattle.std.proofs.Common.{map, string_bytes}
-use Rattle.escrow_top.proofs.ExactLaws.{check_exactly, structure-checks_none, structure_names_none}
+use Rattle.escrow_top.proofs.ExactLaws.{check_exactly, make_names_none, structure-checks_none, structure_names_none}
+use Rattle.escrow_top.proofs.WordLaws.{make-checks_none, make-structures_none}
 use Rattle.escrow_top.proofs.program.run.Goals as goal
 
 pub returns-in-Some-Structure-clause-exactly : goal.returns-in-Some-Structure-clause-exactly
@@ -17,3 +18,49 @@ pub returns-in-Some-Structure-clause-checked : goal.returns-in-Some-Structure-cl
 returns-in-Some-Structure-clause-checked g c = λ reached.
     let is = rw c.in-Some-Structure.field-0-is at c.in-Some-Structure.ensures in
     rw (structure-checks_none (map string_bytes c.args.words.now) _ is) tt
+
+pub returns-in-Some-Make-clause-exactly : goal.returns-in-Some-Make-clause-exactly
+returns-in-Some-Make-clause-exactly g c = λ reached. make_names_none _ (g.D.Desk.told c.args.desk.now) (map string_bytes c.args.words.now) _ (rw c.in-Some-Make.field-0-is at c.in-Some-Make.ensures)
+
+pub returns-in-Some-Make-clause-bytes : goal.returns-in-Some-Make-clause-bytes
+returns-in-Some-Make-clause-bytes g c = λ steady lasts. make_names_none _ (g.D.Desk.told c.args.desk.now) (map string_bytes c.args.words.now) _ (rw c.in-Some-Make.field-0-is at c.in-Some-Make.ensures)
+
+pub returns-in-Some-Make-clause-yes : goal.returns-in-Some-Make-clause-yes
+returns-in-Some-Make-clause-yes g c = λ done.
+    let is = rw c.in-Some-Make.field-0-is at c.in-Some-Make.ensures in
+    rw (make-checks_none (map string_bytes c.args.words.now) _ is) tt
+
+pub returns-in-Some-Make-clause-wrote : goal.returns-in-Some-Make-clause-wrote
+returns-in-Some-Make-clause-wrote g c = λ done.
+    let is = rw c.in-Some-Make.field-0-is at c.in-Some-Make.ensures in
+    rw (make-structures_none (map string_bytes c.args.words.now) _ is) tt
+
+pub returns-in-Some-Make-clause-wrote_none : goal.returns-in-Some-Make-clause-wrote_none
+returns-in-Some-Make-clause-wrote_none g c = λ none.
+    let is = rw c.in-Some-Make.field-0-is at c.in-Some-Make.ensures in
+    rw (make-structures_none (map string_bytes c.args.words.now) _ is) tt
+
+pub returns-in-Some-Make-clause-plain : goal.returns-in-Some-Make-clause-plain
+returns-in-Some-Make-clause-plain g c = λ reached.
+    let is = rw c.in-Some-Make.field-0-is at c.in-Some-Make.ensures in
+    rw (make-structures_none (map string_bytes c.args.words.now) _ is) tt
+
+pub returns-in-Some-Make-clause-covered : goal.returns-in-Some-Make-clause-covered
+returns-in-Some-Make-clause-covered g c = λ reached.
+    let is = rw c.in-Some-Make.field-0-is at c.in-Some-Make.ensures in
+    rw (make-structures_none (map string_bytes c.args.words.now) _ is) tt
+
+pub returns-in-Some-Make-clause-reach : goal.returns-in-Some-Make-clause-reach
+returns-in-Some-Make-clause-reach g c = λ reached.
+    let is = rw c.in-Some-Make.field-0-is at c.in-Some-Make.ensures in
+    rw (make-structures_none (map string_bytes c.args.words.now) _ is) tt
+
+pub returns-in-Some-Make-clause-made : goal.returns-in-Some-Make-clause-made
+returns-in-Some-Make-clause-made g c = λ done.
+    let is = rw c.in-Some-Make.field-0-is at c.in-Some-Make.ensures in
+    rw is (c.run_make.ensures.made done)
+
+pub returns-in-Some-Make-clause-made_none : goal.returns-in-Some-Make-clause-made_none
+returns-in-Some-Make-clause-made_none g c = λ none.
+    let is = rw c.in-Some-Make.field-0-is at c.in-Some-Make.ensures in
+    rw is (c.run_make.ensures.made_none none)

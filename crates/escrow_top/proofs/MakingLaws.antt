@@ -1,0 +1,103 @@
+-- What `make` comes to, proved.
+use Rattle.std.proofs.Common.{◌≡◌, ◌∙◌, ℕ, List, Ok, Err, Result, refl, subst, sym, ap, inl, inr}
+use Rattle.std.specs.Prelude.{IfOk}
+use Rattle.escrow_desk.specs.Rows.{rows_of}
+use Rattle.escrow_desk.specs.declared.refusal.Refusal.{Refusal}
+use Rattle.bound_certificate.specs.Text.{text_of}
+use Rattle.branch_search.proofs.FoundFacts.{found_are_accepted, none_found_are_accepted}
+use Rattle.branch_search.specs.Purchases.{certificate_of, certificate_of_none}
+use Rattle.branch_search.specs.Search.{IsFound, IsFoundBy, IsNoneFound}
+use Rattle.case_file.specs.Case.{CaseContents, HasTerms, IsKept}
+use Rattle.dual_bound.specs.declared.tree.TreeNode.{TreeNode}
+use Rattle.offer_book.specs.Book.{IsBook}
+use Rattle.escrow_top.specs.Answer.{Answer, case_of}
+use Rattle.escrow_top.specs.Covered.{IsCovered}
+use Rattle.escrow_top.specs.InputFiles.{InputFiles}
+use Rattle.escrow_top.specs.Making.{HasAcceptedText, IsAnswerToNumber, IsMadeAnswer, IsMadeNone, IsMadeOf, made_answer, made_files, none_answer}
+use Rattle.escrow_top.specs.Settling.{SaysReach, SettlesCovered}
+use Rattle.escrow_top.specs.Structure.{IsEnd}
+use Rattle.escrow_top.specs.declared.status.Status.{Status}
+use Rattle.escrow_top.specs.declared.status.Status.TheVariants as status
+use Rattle.escrow_top.proofs.StructureLaws.{accepted_text, none_accepted, text_accepted, unreached}
+
+-- what was found is what is answered
+pub made_of : (number : ℕ) (case : CaseContents) (plan : List ℕ) (nodes : List TreeNode) (gap : ℕ) (answer : Answer) → IsBook case.book → HasTerms case → IsFound case plan nodes gap → IsFoundBy case plan nodes
+    → answer ≡ made_answer number case plan gap nodes → IsMadeOf number case answer
+made_of number case plan nodes gap answer book terms found found_by is = record {
+  plan = plan;
+  nodes = nodes;
+  gap = gap;
+  found = found;
+  found_by = found_by;
+  accepted = text_accepted case plan nodes gap (text_of (certificate_of plan nodes gap)) found_are_accepted book terms found refl;
+  is_answer = is;
+}
+
+pub made_none : (case : CaseContents) (nodes : List TreeNode) (answer : Answer) → IsBook case.book → HasTerms case → IsNoneFound case nodes → answer ≡ none_answer nodes → IsMadeNone case answer
+made_none case nodes answer book terms none is = record {
+  nodes = nodes;
+  none = none;
+  accepted = none_accepted case nodes (text_of (certificate_of_none nodes)) none_found_are_accepted book terms none refl;
+  is_answer = is;
+}
+
+-- a certificate of it is accepted for the files
+end_undone : (case : CaseContents) (answer : Answer) → IsEnd case answer → (reached : Status) → answer.status ≡ reached → (status.Infeasible ≡ reached → ⊥) → (status.BudgetSpent ≡ reached → ⊥) → ⊥
+end_undone case answer (inl own) reached is short spent = short (sym (ap (λ (a : Answer). a.status) own.is_answer) ∙ is)
+end_undone case answer (inr own) reached is short spent = spent (sym (ap (λ (a : Answer). a.status) own.is_answer) ∙ is)
+
+has_accepted : (files : InputFiles) (number : ℕ) (case : CaseContents) (answer : Answer) → case_of files ≡ Ok case → IsKept (rows_of files.issue) (rows_of files.rates) (rows_of files.prices) case
+    → IsMadeAnswer number (Ok case) answer → (reached : Status) → answer.status ≡ reached → (status.Infeasible ≡ reached → ⊥) → (status.BudgetSpent ≡ reached → ⊥) → HasAcceptedText files
+has_accepted files number case answer is kept (inl own) reached ends short spent = record {
+  cert = text_of (certificate_of own.plan own.nodes own.gap);
+  is = accepted_text files (text_of (certificate_of own.plan own.nodes own.gap)) case is kept (ap (λ (a : Answer). a.status) own.accepted);
+}
+has_accepted files number case answer is kept (inr (inl own)) reached ends short spent = record {
+  cert = text_of (certificate_of_none own.nodes);
+  is = accepted_text files (text_of (certificate_of_none own.nodes)) case is kept (ap (λ (a : Answer). a.status) own.accepted);
+}
+has_accepted files number case answer is kept (inr (inr own)) reached ends short spent = absurd (end_undone case answer own reached ends short spent)
+
+pub made_accepted : (files : InputFiles) (number : ℕ) (case : CaseContents) (answer : Answer) → case_of files ≡ Ok case → IsKept (rows_of files.issue) (rows_of files.rates) (rows_of files.prices) case
+    → IsMadeAnswer number (Ok case) answer → answer.status ≡ status.Done → HasAcceptedText files
+made_accepted files number case answer is kept own done = has_accepted files number case answer is kept own status.Done done (λ clash. cc) (λ clash. cc)
+
+pub made_accepted_none : (files : InputFiles) (number : ℕ) (case : CaseContents) (answer : Answer) → case_of files ≡ Ok case → IsKept (rows_of files.issue) (rows_of files.rates) (rows_of files.prices) case
+    → IsMadeAnswer number (Ok case) answer → answer.status ≡ status.NoneWithinYield → HasAcceptedText files
+made_accepted_none files number case answer is kept own none = has_accepted files number case answer is kept own status.NoneWithinYield none (λ clash. cc) (λ clash. cc)
+
+-- a case that its budget covers is settled
+covers_case : (number : ℕ) (gives : Result CaseContents Refusal) (answer : Answer) → IsMadeAnswer number gives answer → IfOk gives (SettlesCovered answer.status)
+covers_case number (Err refusal) answer is = tt
+covers_case number (Ok case) answer (inl own) = λ covered. inl (ap (λ (a : Answer). a.status) own.is_answer)
+covers_case number (Ok case) answer (inr (inl own)) = λ covered. inr (ap (λ (a : Answer). a.status) own.is_answer)
+covers_case number (Ok case) answer (inr (inr end)) = λ covered. absurd (by end covered)
+  where
+    by : IsEnd case answer → IsCovered case → ⊥
+    by (inl own) covered = unreached case own.day own.short.all_short covered.in_reach
+    by (inr own) covered = own.uncovered covered
+
+pub made_covered : (number : ℕ) (answer : Answer) (reached : Status) → IsAnswerToNumber number answer → reached ≡ answer.status → IfOk (case_of (made_files number)) (SettlesCovered reached)
+made_covered number answer reached is ends =
+    subst (λ (s : Status). IfOk (case_of (made_files number)) (SettlesCovered s)) (sym ends) (covers_case number (case_of (made_files number)) answer is)
+
+-- and that the needs can't be met is said where it is so
+reach_case : (number : ℕ) (gives : Result CaseContents Refusal) (answer : Answer) → IsMadeAnswer number gives answer → IfOk gives (SaysReach answer.status)
+reach_case number (Err refusal) answer is = tt
+reach_case number (Ok case) answer (inl own) =
+    let done : answer.status ≡ status.Done = ap (λ (a : Answer). a.status) own.is_answer in
+    ((λ none. absurd (let clash : status.Done ≡ status.Infeasible = sym done ∙ none in cc)), (λ lost. absurd (lost own.found_by.in_reach)))
+reach_case number (Ok case) answer (inr (inl own)) =
+    let within : answer.status ≡ status.NoneWithinYield = ap (λ (a : Answer). a.status) own.is_answer in
+    ((λ none. absurd (let clash : status.NoneWithinYield ≡ status.Infeasible = sym within ∙ none in cc)), (λ lost. absurd (lost own.none.in_reach)))
+reach_case number (Ok case) answer (inr (inr end)) = by end
+  where
+    by : IsEnd case answer → SaysReach answer.status case
+    by (inl own) = ((λ none reach. unreached case own.day own.short.all_short reach), (λ lost. ap (λ (a : Answer). a.status) own.is_answer))
+    by (inr own) =
+        let spent : answer.status ≡ status.BudgetSpent = ap (λ (a : Answer). a.status) own.is_answer in
+        ((λ none. absurd (let clash : status.BudgetSpent ≡ status.Infeasible = sym spent ∙ none in cc)), (λ lost. absurd (lost own.is_spent.in_reach)))
+
+pub made_reach : (number : ℕ) (answer : Answer) (reached : Status) → IsAnswerToNumber number answer → reached ≡ answer.status → IfOk (case_of (made_files number)) (SaysReach reached)
+made_reach number answer reached is ends =
+    subst (λ (s : Status). IfOk (case_of (made_files number)) (SaysReach s)) (sym ends) (reach_case number (case_of (made_files number)) answer is)

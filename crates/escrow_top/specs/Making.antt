@@ -1,0 +1,127 @@
+-- What `make` comes to: the files of the case of a number, and the answer to it. The texts are this project's own.
+use Rattle.std.specs.Prelude.{◌≡◌, ◌⊎◌, ℕ, List, [], ◌∷◌, ◌++◌, codes, decimal, Result, Ok, Err, IfOk}
+use Rattle.escrow_desk.specs.Content.{Content, SaidPart, Told, WrotePart, told_map, with_file, with_said}
+use Rattle.escrow_desk.specs.declared.refusal.Refusal.{Refusal}
+use Rattle.bound_certificate.specs.Text.{text_of}
+use Rattle.branch_search.specs.Purchases.{certificate_of, certificate_of_none}
+use Rattle.branch_search.specs.Search.{IsFound, IsFoundBy, IsNoneFound}
+use Rattle.case_file.specs.Case.{CaseContents}
+use Rattle.case_maker.specs.Files.{issue_text, prices_text, rates_text}
+use Rattle.dual_bound.specs.declared.tree.TreeNode.{TreeNode}
+use Rattle.verification_report.specs.Report.{figures_of}
+use Rattle.verification_report.specs.Summary.{summary_text, text_line}
+use Rattle.escrow_top.specs.Answer.{Answer, case_of, certificate_answer, refused}
+use Rattle.escrow_top.specs.InputFiles.{InputFiles}
+use Rattle.escrow_top.specs.MakeWords.{MadeNames, Making}
+use Rattle.escrow_top.specs.Structure.{IsAcceptedText, IsEnd, accepted_none, accepted_with, nodes_line, none_within_text}
+use Rattle.escrow_top.specs.declared.making.MadeNames.{MadeNames as CodeNames}
+use Rattle.escrow_top.specs.declared.making.Making.{Making as CodeMaking}
+use Rattle.escrow_top.specs.declared.status.Status.{Status}
+use Rattle.escrow_top.specs.declared.status.Status.TheVariants as status
+
+-- ---- the words as they were read
+abbrev pub made_names_view : CodeNames → MadeNames
+made_names_view names = record { issue = names.issue.now; rates = names.rates.now; prices = names.prices.now }
+
+abbrev pub making_view : CodeMaking → Making
+making_view making = record { number = making.number; names = made_names_view making.names }
+
+-- ---- the answer
+-- the files of the case of a number
+abbrev pub made_files : ℕ → InputFiles
+made_files number = record { issue = issue_text number; rates = rates_text number; prices = prices_text number }
+
+-- what is said of a portfolio that is found for the case of a number: the number, the summary, and how many nodes the tree has
+abbrev pub made_text : ℕ → CaseContents → List ℕ → ℕ → List TreeNode → List ℕ
+made_text number case plan gap nodes =
+    text_line (codes "number ") (decimal number) ++ summary_text (figures_of case plan gap) ++ nodes_line nodes
+
+-- a portfolio is found for the case of a number
+abbrev pub made_answer : ℕ → CaseContents → List ℕ → ℕ → List TreeNode → Answer
+made_answer number case plan gap nodes = record { status = status.Done; text = made_text number case plan gap nodes }
+
+-- there is no rival, as a tree shows
+abbrev pub none_answer : List TreeNode → Answer
+none_answer nodes = record { status = status.NoneWithinYield; text = none_within_text nodes }
+
+-- a portfolio is found, with the least gap that its tree supports, and `check` accepts their certificate; this is said of it
+pub record IsMadeOf (number : ℕ) (case : CaseContents) (answer : Answer) : Type 0 where
+  pub plan : List ℕ
+  pub nodes : List TreeNode
+  pub gap : ℕ
+  pub found : IsFound case plan nodes gap
+  pub found_by : IsFoundBy case plan nodes
+  pub accepted : certificate_answer case (text_of (certificate_of plan nodes gap)) ≡ accepted_with case plan gap
+  pub is_answer : answer ≡ made_answer number case plan gap nodes
+
+-- there is no rival, as a tree shows, and `check` accepts its certificate; this is said of it
+pub record IsMadeNone (case : CaseContents) (answer : Answer) : Type 0 where
+  pub nodes : List TreeNode
+  pub none : IsNoneFound case nodes
+  pub accepted : certificate_answer case (text_of (certificate_of_none nodes)) ≡ accepted_none
+  pub is_answer : answer ≡ none_answer nodes
+
+-- the answer to the case of a number: what was found, or that nothing was; or the files of the number are refused
+abbrev pub IsMadeAnswer : ℕ → Result CaseContents Refusal → Answer → Type 0
+IsMadeAnswer number (Err refusal) answer = answer ≡ refused refusal
+IsMadeAnswer number (Ok case) answer = IsMadeOf number case answer ⊎ IsMadeNone case answer ⊎ IsEnd case answer
+
+-- the same by the number alone
+abbrev pub IsAnswerToNumber : ℕ → Answer → Type 0
+IsAnswerToNumber number answer = IsMadeAnswer number (case_of (made_files number)) answer
+
+-- there is a certificate that `check` accepts for input files
+pub record HasAcceptedText (files : InputFiles) : Type 0 where
+  pub cert : List ℕ
+  pub is : IsAcceptedText files cert
+
+-- where the files of a number give a case: this holds of it
+abbrev pub OfMadeCase : (CaseContents → Type 0) → Making → Type 0
+OfMadeCase Holds making = IfOk (case_of (made_files making.number)) Holds
+
+-- ---- what is put out
+-- a name, and the bytes that its file is to hold
+pub record NamedFile : Type 0 where
+  pub name : List ℕ
+  pub bytes : List ℕ
+
+-- input files under the names of `make`, in the order in which they are written
+abbrev pub named_files : MadeNames → InputFiles → List NamedFile
+named_files names files =
+    record { name = names.issue; bytes = files.issue }
+    ∷ record { name = names.rates; bytes = files.rates }
+    ∷ record { name = names.prices; bytes = files.prices }
+    ∷ []
+
+-- the content after files were written whole, one after another: of equal names the later bytes stand
+abbrev pub with_files : List NamedFile → Content → Content
+with_files [] content = content
+with_files (file ∷ files) content = with_files files (with_file content file.name file.bytes)
+
+-- a call failed while they were written: the file at fault is as before, or holds a prefix of its bytes; those before it are whole,
+-- and those after it as before
+abbrev pub WroteSome : Told → List NamedFile → Told → Type 0
+WroteSome old [] new = ⊥
+WroteSome old (file ∷ files) new =
+    WrotePart old file.name file.bytes new ⊎ WroteSome (told_map (λ content. with_file content file.name file.bytes) old) files new
+
+-- files were written whole, and then a text was said
+abbrev pub WroteFilesAndSaid : Told → List NamedFile → List ℕ → Told → Type 0
+WroteFilesAndSaid old files text new = new ≡ told_map (λ content. with_said (with_files files content) text) old
+
+-- a part of that: some of the files, or all of them and a prefix of the text
+abbrev pub WroteFilesOrSaidPart : Told → List NamedFile → List ℕ → Told → Type 0
+WroteFilesOrSaidPart old files text new = WroteSome old files new ⊎ SaidPart (told_map (with_files files) old) text new
+
+-- the status, and what stands then: the three files of the case were written whole, and then the text of the answer was said
+pub record Makes (told : Told) (making : Making) (reached : Status) (new : Told) : Type 0 where
+  pub answer : Answer
+  pub is : IsAnswerToNumber making.number answer
+  pub status : reached ≡ answer.status
+  pub put : WroteFilesAndSaid told (named_files making.names (made_files making.number)) answer.text new
+
+-- what stands where a write failed: a part of that
+pub record MakesPart (told : Told) (making : Making) (new : Told) : Type 0 where
+  pub answer : Answer
+  pub is : IsAnswerToNumber making.number answer
+  pub put : WroteFilesOrSaidPart told (named_files making.names (made_files making.number)) answer.text new
