@@ -33,10 +33,21 @@ def _snapshot(path: str) -> Optional[bytes]:
     return None
 
 
-def _files(words: list[str]) -> tuple[dict, dict]:
-    names = dict(zip(PLACES, words[1:5]))
+def _names(words: list[str]) -> dict:
+    """The names of a command's files; of words that are no command none."""
+    if len(words) != 5:
+        return {}
+    if words[0] in ("check", "structure"):
+        return dict(zip(PLACES, words[1:]))
+    return dict(zip(PLACES, words[2:])) if words[0] == "make" else {}
+
+
+def _data(command: str, names: dict) -> dict:
+    """What the files hold that a command reads; `make` reads none."""
+    if command == "make":
+        return {}
     read = {file: _snapshot(name) for file, name in names.items()}
-    return names, {file: data for file, data in read.items() if data is not None}
+    return {file: data for file, data in read.items() if data is not None}
 
 
 def _tell_totals(running: subprocess.Popen, data: dict) -> None:
@@ -51,16 +62,13 @@ def _tell_totals(running: subprocess.Popen, data: dict) -> None:
         tell(*totals(case))
 
 
-def _is_whole(words: list[str]) -> bool:
-    return len(words) == 5 and words[0] in ("check", "structure")
-
-
 def run_explained(words: list[str]) -> int:
     """The program's status, after its own words and what they mean."""
-    names, data = _files(words) if _is_whole(words) else ({}, {})
-    old_certificate = bool(names) and os.path.isfile(names[CERT])
+    names = _names(words)
+    data = _data(words[0], names) if names else {}
+    old_certificate = CERT in names and os.path.isfile(names[CERT])
     running = subprocess.Popen([program.program_path()] + words, stdout=subprocess.PIPE)
-    if _is_whole(words) and words[0] == "structure":
+    if names and words[0] == "structure":
         # What it says is small but for a report, which comes at the very end.
         _tell_totals(running, data)
     said = wait_for(running)[0]

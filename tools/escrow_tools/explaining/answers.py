@@ -60,7 +60,7 @@ def explain_run(run: Run) -> list[str]:
     """All that is said of a run, on standard error, after the program's own answer."""
     explainer = EXPLAINERS.get(run.status)
     lines = explainer(run) if explainer else []
-    if run.status in CASE_STATUSES:
+    if run.status in CASE_STATUSES and run.command != "make":
         lines += Cautions(run.read_case(), run.names).all()
     if (
         run.command == "structure"
@@ -92,6 +92,8 @@ def _done(run: Run) -> list[str]:
             "%s is written; `./escrow check` tries it, and `./escrow page` makes what a verifier signs"
             % run.names[CERT]
         )
+    if run.command == "make":
+        lines.append("a made-up case: its files are written, for `./escrow structure` to be tried on; no certificate is")
     return lines
 
 
@@ -104,10 +106,13 @@ def _usage(run: Run) -> list[str]:
     form = next((form for form in forms if form[0] == command), None)
     if form is None:
         return ["`%s` is no command; `./escrow --help` lists them" % shown(command)]
+    if command == "make" and given == len(form) - 1:
+        number = shown(run.words[1])
+        return ["NUMBER is `%s`: it is from 0 to 18446744073709551615, in digits alone, and without a leading zero" % number]
     lines = ["`%s` takes %d words, %s, and here are %d" % (command, len(form) - 1, " ".join(form[1:]), given)]
     if given > len(form) - 1:
         lines.append("a name with blanks in it stands in quotes")
-    elif given < len(form) - 1:
+    elif command != "make":
         lines.append("where no notes or no SLGS securities are offered, an empty file stands in that place")
     return lines
 
@@ -176,6 +181,8 @@ def _needs_low_line(case: CaseRead) -> list[str]:
 
 
 def _none_within(run: Run) -> list[str]:
+    if run.command == "make":
+        return ["no permitted purchases meet the needs of this made-up case within the yield limit"]
     return [
         "no permitted purchases meet the needs within the yield limit; %s holds the proof, and `check` says `yes none` to it"
         % run.names.get(CERT, "CERT")

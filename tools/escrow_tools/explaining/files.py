@@ -60,6 +60,8 @@ def _write_fault(path: str) -> list[str]:
 
 def explain_fault(status: int, names: dict, command: str) -> list[str]:
     """Of a status that says that a file is missing or can't be read or written."""
+    if status == program.WRITE_FAULT and command == "make":
+        return ["ISSUE, RATES, PRICES or standard output couldn't be written whole: of the files, in their order, one may be a part"]
     if status == program.WRITE_FAULT:
         return _write_fault(names[CERT]) if command == "structure" else ["standard output couldn't be written whole"]
     words = {ISSUE: "ISSUE", RATES: "RATES", PRICES: "PRICES", CERT: "CERT"}
