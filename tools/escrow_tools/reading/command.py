@@ -1,0 +1,121 @@
+"""`tools/reading_path`: what a reader of the clauses of `run` reads, and whether docs/DEFINITIONS.md explains it."""
+
+from __future__ import annotations
+
+import argparse
+from pathlib import Path
+
+from .clauses import Clauses, reached_from
+from .definitions_page import Compared, compare, read_page
+from .library import Library
+from .spec_files import Definition, Place
+
+ROOT = Path(__file__).resolve().parents[3]
+PAGE = ROOT / "docs" / "DEFINITIONS.md"
+USUAL = (("yes",), ("yes", "no", "wrote"))
+WHAT = """\
+Follows the names in specs from clauses of `run` down. The lines of a definition are those of the comment above it, of
+its signature, and of its equations or fields. What stands in sources, types and constants, is counted apart. Names of
+the kit aren't followed. Without clauses: `yes`; `yes`, `no` and `wrote`; and all, by totals alone."""
+
+
+def words() -> argparse.ArgumentParser:
+    parser = argparse.ArgumentParser(
+        prog="tools/reading_path",
+        description=WHAT,
+        allow_abbrev=False,
+        formatter_class=argparse.RawDescriptionHelpFormatter,
+    )
+    parser.add_argument("clauses", nargs="*", metavar="CLAUSE", help="clauses of `run`, taken together; or `all`")
+    kinds = parser.add_mutually_exclusive_group()
+    kinds.add_argument("--list", action="store_true", help="each definition with its lines, in the order of reading")
+    kinds.add_argument(
+        "--costs", action="store_true", help="the definitions without which most lines wouldn't be reached"
+    )
+    kinds.add_argument(
+        "--compare", action="store_true", help="compare with docs/DEFINITIONS.md; ends with 1 where they differ"
+    )
+    return parser
+
+
+def run(arguments: list[str]) -> int:
+    parser = words()
+    chosen = parser.parse_args(arguments)
+    library = Library(ROOT)
+    clauses = Clauses(ROOT, library)
+    for name in chosen.clauses:
+        if name != "all" and name not in clauses.texts:
+            parser.error("`run` has no clause %s; it has %s" % (name, ", ".join(clauses.texts)))
+    every = list(clauses.texts)
+    names = every if "all" in chosen.clauses or not chosen.clauses else chosen.clauses
+    if chosen.compare:
+        compared = compare(clauses.reached(names), library.defined(), read_page(PAGE))
+        print("\n".join(_comparison(compared)))
+        return 1 if any(vars(compared).values()) else 0
+    if chosen.costs:
+        lines = _costs(library, clauses.first_of(names))
+    elif chosen.list or chosen.clauses:
+        lines = _by_file(clauses.reached(names), chosen.list)
+    else:
+        lines = [_total(" ".join(some), clauses.reached(list(some))) for some in USUAL]
+        lines.append(_total("all", clauses.reached(every)))
+    print("\n".join(lines))
+    return 0
+
+
+def is_declared(definition: Definition) -> bool:
+    """A type or constant of the sources."""
+    return definition.place.file.startswith("src/")
+
+
+def _sum(definitions) -> int:
+    return sum(definition.lines for definition in definitions)
+
+
+def _total(name: str, reached: list[Definition]) -> str:
+    specs = [found for found in reached if not is_declared(found)]
+    sources = [found for found in reached if is_declared(found)]
+    return "%s: %d definitions of %d lines; %d types and constants of %d lines" % (
+        name,
+        len(specs),
+        _sum(specs),
+        len(sources),
+        _sum(sources),
+    )
+
+
+def _by_file(reached: list[Definition], each: bool) -> list[str]:
+    """A line for each file, and where asked for one for each definition."""
+    files: dict[Place, list[Definition]] = {}
+    for found in reached:
+        files.setdefault(found.place, []).append(found)
+    lines = []
+    for place, found in files.items():
+        lines.append("%-36s %4d %5d" % (place, len(found), _sum(found)))
+        lines += ["    %-32s      %5d" % (definition.name, definition.lines) for definition in found] if each else []
+    return lines + [_total("in all", reached)]
+
+
+def _costs(library: Library, first: list[Definition], most: int = 60) -> list[str]:
+    """What is reached through one definition alone, with itself; the greatest first."""
+    whole = _specs_of(reached_from(library, first))
+    costs = [
+        (len(lost), _sum(lost), found)
+        for found in whole
+        for lost in [whole - _specs_of(reached_from(library, first, found))]
+    ]
+    costs.sort(key=lambda cost: (-cost[1], str(cost[2].place), cost[2].name))
+    return ["%5d lines of %3d: %s (%s)" % (cost[1], cost[0], cost[2].name, cost[2].place) for cost in costs[:most]]
+
+
+def _specs_of(reached: list[Definition]) -> set[Definition]:
+    return {found for found in reached if not is_declared(found)}
+
+
+def _comparison(compared: Compared) -> list[str]:
+    missing = ["    %s (%s)" % (found.name, found.place) for found in compared.missing]
+    unknown = ["    line %d: %s" % (row.line, row.name) for row in compared.in_no_spec]
+    elsewhere = ["    line %d: %s" % (row.line, row.name) for row in compared.elsewhere]
+    lines = ["%d names that are reached aren't explained" % len(missing)] + missing
+    lines += ["%d names that are explained stand nowhere" % len(unknown)] + unknown
+    return lines + ["%d names stand in other files than those beside them" % len(elsewhere)] + elsewhere

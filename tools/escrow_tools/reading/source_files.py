@@ -1,0 +1,54 @@
+"""Types and constants that stand in sources, and that specs speak of as `declared`."""
+
+from __future__ import annotations
+
+import re
+from pathlib import Path
+
+from .mentions import NAME, Mention
+from .spec_files import Definition, Imports, Place, SpecFile, Taken
+
+ITEM = re.compile(r"^(?:pub(?:\(crate\))? )?(struct|enum|const) (\w+)")
+USE = re.compile(r"^\s*(?:pub(?:\(crate\))? )?use ([\w:]+?)(?:::\{([^}]*)\})?;", re.MULTILINE)
+TYPE = re.compile(r"\b[A-Z]\w*")
+
+
+def read_source(path: Path, place: Place) -> SpecFile:
+    """The types and constants of a source, each with its lines and those of the comment above it."""
+    text = path.read_text(encoding="utf-8")
+    read = SpecFile(place, _imports_of(text, place.crate))
+    above = 0
+    lines = text.splitlines()
+    for number, line in enumerate(lines):
+        found = ITEM.match(line)
+        if found:
+            body = _item_at(lines, number)
+            read.definitions[found[2]] = Definition(place, found[2], above + len(body), _types_in(body, found[1]))
+        above = above + 1 if line.startswith("//") else above if line.startswith("#[") else 0
+    return read
+
+
+def _imports_of(text: str, crate: str) -> Imports:
+    imports = Imports()
+    for path, names in USE.findall(text):
+        own = path.split("::")[0]
+        module = crate if own in ("crate", "super", "self") else own
+        for name in re.findall(NAME, names) if names else [path.rsplit("::", 1)[-1]]:
+            imports.names[name] = Taken(module, name)
+    return imports
+
+
+def _item_at(lines: list[str], start: int) -> list[str]:
+    """From its first line to the one that closes it."""
+    for end in range(start, len(lines)):
+        if lines[end].rstrip().endswith(";") or lines[end].startswith("}"):
+            return lines[start : end + 1]
+    return lines[start:]
+
+
+def _types_in(body: list[str], kind: str) -> tuple[Mention, ...]:
+    """The types of its fields."""
+    if kind == "const":
+        return ()
+    text = "\n".join(line for line in body[1:] or body if not line.strip().startswith("//"))
+    return tuple(Mention(name) for name in TYPE.findall(text))
