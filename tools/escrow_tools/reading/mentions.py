@@ -6,7 +6,7 @@ import re
 from dataclasses import dataclass
 
 NAME = r"[^\W\d][\w×]*"
-KEYWORDS = frozenset("record where if then else do let in pub abbrev unfoldable data infixl infixr infix Type λ".split())
+KEYWORDS = frozenset("record where if then else do let in pub abbrev unfoldable data infixl infixr Type λ".split())
 TOKEN = re.compile(r"(?<![\w.])(?P<name>%s)(?:\.(?P<member>%s))?|(?P<sign>>>=)" % (NAME, NAME))
 LABEL = re.compile(r"(?<=[{;])(\s*)%s(?=\s*=\s)" % NAME)
 TEXT = re.compile(r'"[^"]*"|[«»]')

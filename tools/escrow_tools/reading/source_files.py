@@ -11,6 +11,7 @@ from .spec_files import Definition, Imports, Place, SpecFile, Taken
 ITEM = re.compile(r"^(?:pub(?:\(crate\))? )?(struct|enum|const) (\w+)")
 USE = re.compile(r"^\s*(?:pub(?:\(crate\))? )?use ([\w:]+?)(?:::\{([^}]*)\})?;", re.MULTILINE)
 TYPE = re.compile(r"\b[A-Z]\w*")
+VARIANT = re.compile(r"^ {4}\w+")
 
 
 def read_source(path: Path, place: Place) -> SpecFile:
@@ -47,8 +48,10 @@ def _item_at(lines: list[str], start: int) -> list[str]:
 
 
 def _types_in(body: list[str], kind: str) -> tuple[Mention, ...]:
-    """The types of its fields."""
+    """The types of its fields. A variant's own name isn't one."""
     if kind == "const":
         return ()
-    text = "\n".join(line for line in body[1:] or body if not line.strip().startswith("//"))
-    return tuple(Mention(name) for name in TYPE.findall(text))
+    lines = [line for line in body[1:] or body if not line.strip().startswith("//")]
+    if kind == "enum":
+        lines = [VARIANT.sub("", line) for line in lines]
+    return tuple(Mention(name) for line in lines for name in TYPE.findall(line))
