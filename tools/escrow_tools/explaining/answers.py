@@ -296,7 +296,7 @@ def _bad_split(run: Run, words: list[str]) -> list[str]:
 
 def _weak_leaf(run: Run, words: list[str]) -> list[str]:
     return [
-        "node %s of the certificate's tree doesn't bear out that nothing is cheaper by more than the gap" % words[0],
+        "node %s of the certificate's tree doesn't bear out that no rival is cheaper by more than the gap" % words[0],
         "is it the certificate of these files, rates and prices? write a greater `gap`, in cents, or let `./escrow best` write one anew",
     ]
 
