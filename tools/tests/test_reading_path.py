@@ -99,6 +99,9 @@ class SmallTest(FolderTest):
         reached = self.clauses.reached(["yes"])
         self.assertEqual([(found.name, found.lines) for found in reached], REACHED)
         self.assertEqual([found.name for found in self.clauses.reached(["no"])], ["Status"])
+        without = {found for found in self.library.defined() if found.name == "Bought"}
+        names = [found.name for found in self.clauses.reached(["yes"], without)]
+        self.assertEqual(names, ["Status", "IsAccepted", "MOST", "Kind"])
 
     def test_compared(self) -> None:
         page = read_page(self.folder / "docs" / "DEFINITIONS.md")

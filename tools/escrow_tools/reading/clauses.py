@@ -30,18 +30,18 @@ class Clauses:
         mentions = [found for piece in pieces for found in mentions_of(piece, self._file.imports.names)]
         return self._library.meant(mentions, self._file)
 
-    def reached(self, names: list[str]) -> list[Definition]:
+    def reached(self, names: list[str], without=frozenset()) -> list[Definition]:
         """All that they lead to, in the order of reading: what is nearest to `run`, and mentioned first, is first."""
-        return reached_from(self._library, self.first_of(names))
+        return reached_from(self._library, self.first_of(names), without)
 
 
-def reached_from(library: Library, first: list[Definition], without: Definition | None = None) -> list[Definition]:
-    """All that these lead to, level by level, and without what only one of them leads to."""
+def reached_from(library: Library, first: list[Definition], without=frozenset()) -> list[Definition]:
+    """All that these lead to, level by level, but for some definitions and what they alone lead to."""
     seen: dict[Definition, None] = {}
     waiting = deque(first)
     while waiting:
         definition = waiting.popleft()
-        if definition not in seen and definition != without:
+        if definition not in seen and definition not in without:
             seen[definition] = None
             waiting.extend(library.next_of(definition))
     return list(seen)

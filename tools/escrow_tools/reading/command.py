@@ -27,6 +27,13 @@ def words() -> argparse.ArgumentParser:
         formatter_class=argparse.RawDescriptionHelpFormatter,
     )
     parser.add_argument("clauses", nargs="*", metavar="CLAUSE", help="clauses of `run`, taken together; or `all`")
+    parser.add_argument(
+        "--without",
+        action="append",
+        default=[],
+        metavar="NAME",
+        help="count as though a definition, and what it alone leads to, weren't there; as often as wanted",
+    )
     kinds = parser.add_mutually_exclusive_group()
     kinds.add_argument("--list", action="store_true", help="each definition with its lines, in the order of reading")
     kinds.add_argument(
@@ -43,24 +50,36 @@ def run(arguments: list[str]) -> int:
     chosen = parser.parse_args(arguments)
     library = Library(ROOT)
     clauses = Clauses(ROOT, library)
-    for name in chosen.clauses:
-        if name != "all" and name not in clauses.texts:
-            parser.error("`run` has no clause %s; it has %s" % (name, ", ".join(clauses.texts)))
-    every = list(clauses.texts)
-    names = every if "all" in chosen.clauses or not chosen.clauses else chosen.clauses
+    _try_names(parser, chosen.clauses, ["all"] + list(clauses.texts))
+    _try_names(parser, chosen.without, [found.name for found in library.defined()])
     if chosen.compare:
-        compared = compare(clauses.reached(names), library.defined(), read_page(PAGE))
+        compared = compare(clauses.reached(_names(chosen, clauses)), library.defined(), read_page(PAGE))
         print("\n".join(_comparison(compared)))
         return 1 if any(vars(compared).values()) else 0
-    if chosen.costs:
-        lines = _costs(library, clauses.first_of(names))
-    elif chosen.list or chosen.clauses:
-        lines = _by_file(clauses.reached(names), chosen.list)
-    else:
-        lines = [_total(" ".join(some), clauses.reached(list(some))) for some in USUAL]
-        lines.append(_total("all", clauses.reached(every)))
-    print("\n".join(lines))
+    print("\n".join(_counted(chosen, library, clauses)))
     return 0
+
+
+def _try_names(parser: argparse.ArgumentParser, names: list[str], known: list[str]) -> None:
+    for name in names:
+        if name not in known:
+            parser.error("there is no %s" % name)
+
+
+def _names(chosen: argparse.Namespace, clauses: Clauses) -> list[str]:
+    """The clauses that are asked for."""
+    return chosen.clauses if chosen.clauses and "all" not in chosen.clauses else list(clauses.texts)
+
+
+def _counted(chosen: argparse.Namespace, library: Library, clauses: Clauses) -> list[str]:
+    names = _names(chosen, clauses)
+    without = frozenset(found for found in library.defined() if found.name in chosen.without)
+    if chosen.costs:
+        return _costs(library, clauses.first_of(names))
+    if chosen.list or chosen.clauses:
+        return _by_file(clauses.reached(names, without), chosen.list)
+    usual = [_total(" ".join(some), clauses.reached(list(some), without)) for some in USUAL]
+    return usual + [_total("all", clauses.reached(names, without))]
 
 
 def is_declared(definition: Definition) -> bool:
@@ -102,7 +121,7 @@ def _costs(library: Library, first: list[Definition], most: int = 60) -> list[st
     costs = [
         (len(lost), _sum(lost), found)
         for found in whole
-        for lost in [whole - _specs_of(reached_from(library, first, found))]
+        for lost in [whole - _specs_of(reached_from(library, first, {found}))]
     ]
     costs.sort(key=lambda cost: (-cost[1], str(cost[2].place), cost[2].name))
     return ["%5d lines of %3d: %s (%s)" % (cost[1], cost[0], cost[2].name, cost[2].place) for cost in costs[:most]]
