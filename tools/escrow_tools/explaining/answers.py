@@ -85,7 +85,7 @@ def _done(run: Run) -> list[str]:
     )
     lines = [
         "%s, cost %s, and keep to the yield limit of %s percent" % (what, cost, limit),
-        "no rival costs less by more than %s: a rival is permitted, pays every need and keeps to the limit" % gap,
+        "no rival costs less by more than %s: a rival is permitted, pays every need and keeps below the limit" % gap,
     ]
     if run.command == "structure":
         lines.append(
