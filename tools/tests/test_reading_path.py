@@ -21,7 +21,14 @@ pub fn run(words: &[String]) -> Status
 {
 }
 """,
-    "crates/escrow_top/src/status.rt": "/// How a run ends.\n#[derive(Debug)]\npub enum Status {\n    Done,\n    No,\n}\n",
+    "crates/escrow_top/src/status.rt": """\
+/// How a run ends.
+#[derive(Debug)]
+pub enum Status {
+    Done,
+    No,
+}
+""",
     "crates/escrow_top/specs/Ending.antt": """\
 -- How a run ends.
 use Rattle.std.specs.Prelude.{◌≡◌, ℕ, List, Some}
