@@ -1,4 +1,4 @@
-use Rattle.std.proofs.Common.{◌<◌, ◌≤◌, ◌+◌, ◌*◌, ◌-◌, ◌/◌, ℕ, arith}
+use Rattle.std.proofs.Common.{◌<◌, ◌≤◌, ◌+◌, ◌*◌, ℕ, arith}
 use Rattle.fixed_powers.proofs.WholeNumbers.{pow-one}
 use Rattle.escrow_units.specs.PresentValue.{half_year, two_hundred_percent}
 use Rattle.fixed_powers.specs.DiscountPowers.{one, down}
@@ -15,7 +15,7 @@ loop-least-init c = record {
 
 pub loop-least-preserved : goal.loop-least-preserved
 loop-least-preserved c =
-    let middle : ℕ = c.loop-least.least + (c.loop-least.enough - c.loop-least.least) / 2 in
+    let middle : ℕ = c.next_try-middle.result in
     let no : one * two_hundred_percent ≤ down middle half_year * (two_hundred_percent + c.args.n.0) → ⊥ = λ enough. cc (c.if-is_high_enough.ensures.1 enough) in
     let fails : down middle half_year * (two_hundred_percent + c.args.n.0) < one * two_hundred_percent = omega arith in
     record {

@@ -1,4 +1,4 @@
-use Rattle.std.proofs.Common.{◌<◌, ◌≤◌, ◌+◌, ◌*◌, ◌-◌, ◌/◌, ℕ, arith}
+use Rattle.std.proofs.Common.{◌<◌, ◌≤◌, ◌+◌, ◌*◌, ℕ, arith}
 use Rattle.fixed_powers.proofs.WholeNumbers.{pow-one}
 use Rattle.escrow_units.specs.PresentValue.{half_year, two_hundred_percent}
 use Rattle.fixed_powers.specs.DiscountPowers.{one, up}
@@ -15,7 +15,7 @@ loop-enough-init c = record {
 
 pub loop-enough-preserved : goal.loop-enough-preserved
 loop-enough-preserved c =
-    let middle : ℕ = c.loop-enough.most - (c.loop-enough.most - c.loop-enough.enough) / 2 in
+    let middle : ℕ = c.next_try-middle.result in
     let no : up middle half_year * (two_hundred_percent + c.args.n.0) ≤ one * two_hundred_percent → ⊥ = λ enough. cc (c.if-is_low_enough.ensures.1 enough) in
     let fails : one * two_hundred_percent < up middle half_year * (two_hundred_percent + c.args.n.0) = omega arith in
     record {
