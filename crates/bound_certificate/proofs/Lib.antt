@@ -8,6 +8,7 @@ pub mod TextFacts
 pub mod FirstFacts
 pub mod CertFacts
 pub mod DigitFacts
+pub mod EightFacts
 pub mod LawFacts
 pub mod LineFacts
 pub mod ReadingFacts

@@ -2,6 +2,7 @@
 use Rattle.std.specs.Prelude.{◌≡◌, ℕ, ◌+◌, ◌-◌, ◌*◌, ◌≤◌, ◌<◌, Bool, true, false, ◌==◌, ◌&&◌, ◌||◌, not, nat_lt, nat_le, if◌then◌else◌, List, All, length, take, slice_index, slice_set, Option, Some, None}
 use Rattle.std.specs.Char.{is_ascii_digit}
 use Rattle.std.specs.List.{fold}
+use Rattle.std.specs.Str.Parse.{digits_value}
 use Rattle.dual_bound.specs.declared.prices.TheConstants.{PRICE_SCALE}
 use Rattle.dual_bound.specs.declared.tree.Leaf.{Leaf}
 use Rattle.bound_certificate.specs.declared.due.Due.{Due}
@@ -212,6 +213,11 @@ pub record IsFirstDigit (piece : List ℕ) (digits : Digits) : Type 0 where
   pub number : digits.number ≡ slice_index piece 0 - 48
   pub some : 1 ≤ digits.number
   pub count : digits.count ≡ 1
+
+-- the first eight bytes of a piece are digits, and write a number
+pub record IsEightDigits (piece : List ℕ) (number : ℕ) : Type 0 where
+  pub all : All (λ byte. is_ascii_digit byte ≡ true) (take 8 piece)
+  pub written : number ≡ digits_value 10 (take 8 piece)
 
 -- digits at the front of a piece make a word a number above 0
 pub record MakeNumber (scan : Scan) (piece : List ℕ) (digits : Digits) : Type 0 where

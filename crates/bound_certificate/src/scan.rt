@@ -1,12 +1,13 @@
 //! A line, byte by byte.
 ghost use Rattle.std.specs.Prelude.{◌≡◌, ◌≢◌, ◌||◌, ◌≤◌, ℕ, All, IfSome, Some, length, take, true};
 ghost use Rattle.std.specs.Char.{is_ascii_digit};
+ghost use Rattle.std.specs.Int.Digits.{number_from_digits};
 ghost use Rattle.std.specs.List.{fold};
 ghost use Rattle.bound_certificate.specs.declared.due.Due.{Due as DueOf};
 ghost use Rattle.bound_certificate.specs.declared.scan.Word.{Word as WordOf};
 ghost use Rattle.bound_certificate.specs.declared.scan.Word.TheVariants as word_of;
 ghost use Rattle.bound_certificate.specs.Due.{is_in, range_at as range_at_of};
-ghost use Rattle.bound_certificate.specs.Scan.{IsAtPrice, IsFirstDigit, IsFirstNumber, IsFirstPrice, IsScan, MakeNumber, after_byte, after_word, begun as begun_of, fault_of, is_disordered as is_disordered_of, item_of, kept_leaf, leaf_with, longer as longer_of, longer_name as longer_name_of, longer_number as longer_number_of, name_of, new_scan, number_of, with_number, with_value};
+ghost use Rattle.bound_certificate.specs.Scan.{IsAtPrice, IsEightDigits, IsFirstDigit, IsFirstNumber, IsFirstPrice, IsScan, MakeNumber, after_byte, after_word, begun as begun_of, fault_of, is_disordered as is_disordered_of, item_of, kept_leaf, leaf_with, longer as longer_of, longer_name as longer_name_of, longer_number as longer_number_of, name_of, new_scan, number_of, with_number, with_value};
 
 use crate::certificate::Buy;
 use crate::due::{Due, Name, name_starting, range_at};
@@ -14,6 +15,7 @@ use crate::fault::FaultKind;
 use crate::item::Item;
 use crate::limits::{GREATEST_GAP, MOST_DATES, MOST_WORDS};
 use dual_bound::{Leaf, PRICE_SCALE};
+use std::simd::prelude::*;
 
 /// What has come of a word.
 #[derive(Clone, Copy, Debug, PartialEq, Eq)]
@@ -148,11 +150,52 @@ fn more_digits(piece: &[u8], begun: Digits) -> Digits
     }
 }
 
+// The number that eight digits write, the first of them the highest.
+fn eight_together(digits: [u8; 8]) -> u64
+    requires { All (λ digit. digit ≤ 9) digits }
+    ensures { result ≡ number_from_digits 10 digits }
+{
+    // Each second byte of the sum is the number of a pair of digits.
+    let word = u64::from_le_bytes(digits);
+    let pairs = 10 * word + (word >> 8);
+    1_000_000 * (pairs & 0xff)
+        + 10_000 * ((pairs >> 16) & 0xff)
+        + 100 * ((pairs >> 32) & 0xff)
+        + ((pairs >> 48) & 0xff)
+}
+
+// The number that the first eight bytes of a piece write, where all of them are digits.
+fn eight_digits(piece: &[u8]) -> Option<u64>
+    requires { 8 ≤ length piece.now }
+    ensures { IfSome result (IsEightDigits piece.now) }
+{
+    let digits = u8x8::from_slice(piece) - u8x8::splat(b'0');
+    if digits.simd_gt(u8x8::splat(9)).to_bitmask() != 0 {
+        return None;
+    }
+    Some(eight_together(digits.to_array()))
+}
+
+// Digits at the front of a piece that begin a number above 0: eight where so many stand there, or else one.
+fn first_digits(piece: &[u8]) -> Option<Digits>
+    ensures number { IfSome result (IsFirstNumber piece.now) }
+    ensures some { IfSome result (λ digits. 1 ≤ digits.number) }
+{
+    let one = first_digit(piece)?;
+    if piece.len() < 8 {
+        return Some(one);
+    }
+    match eight_digits(piece) {
+        Some(number) => Some(Digits { number, count: 8 }),
+        None => Some(one),
+    }
+}
+
 // The digits of the number at the front of a piece, behind which more of them may stand where it isn't 0.
 fn first_number(piece: &[u8]) -> Option<Digits>
     ensures { IfSome result (IsFirstNumber piece.now) }
 {
-    match first_digit(piece) {
+    match first_digits(piece) {
         Some(begun) => Some(more_digits(piece, begun)),
         None if !piece.is_empty() && piece[0] == b'0' => Some(Digits {
             number: 0,
@@ -292,7 +335,9 @@ impl Scan {
     }
 
     // Takes the prices of a leaf at the front of a piece that end there, each with the space behind it, and says how many bytes
-    // they are. What may be at fault in a way that a price isn't, comes byte by byte.
+    // they are. What may be at fault in a way that a price isn't, comes byte by byte. It stays a function of its own when it is
+    // built, so that its loop has the registers.
+    #[inline(never)]
     fn take_prices(&mut self, due: Due, piece: &[u8]) -> usize
         requires kept { IsScan self.old }
         requires leaf { IsAtPrice due self.old }

@@ -343,6 +343,49 @@ fn faults_are_the_first(rt: HostRuntime) -> Result<(), Fail> {
     are_found(&rt, rt.alloc(), &rows)
 }
 
+// Prices of seven digits to fourteen, whose first eight are read together where so many stand there.
+#[test]
+fn many_digits_are_read(rt: HostRuntime) -> Result<(), Fail> {
+    use FaultKind::{Number, Order};
+    let rows = [
+        good(
+            b"escrow-certificate 1\nportfolio none\ngap 0\nnodes 1\nl 0 0 123456789012 12345678 1234567 0\nend\n",
+            4,
+        ),
+        bad(
+            b"escrow-certificate 1\nportfolio none\ngap 0\nnodes 1\nl 0 0 12345678 12345679 1\n",
+            3,
+            5,
+            Order,
+        ),
+        bad(
+            b"escrow-certificate 1\nportfolio none\ngap 0\nnodes 1\nl 0 0 20000000000000 1 1\n",
+            3,
+            5,
+            Number,
+        ),
+        bad(
+            b"escrow-certificate 1\nportfolio none\ngap 0\nnodes 1\nl 0 0 01234567 1 1\n",
+            3,
+            5,
+            Number,
+        ),
+        bad(
+            b"escrow-certificate 1\nportfolio none\ngap 0\nnodes 1\nl 0 0 1234567: 1 1\n",
+            3,
+            5,
+            Number,
+        ),
+        bad(
+            b"escrow-certificate 1\nportfolio none\ngap 0\nnodes 1\nl 0 0 1234/678 1 1\n",
+            3,
+            5,
+            Number,
+        ),
+    ];
+    are_found(&rt, rt.alloc(), &rows)
+}
+
 // A leaf of one price.
 fn leaf(alloc: Global, whole: bool, price: u64) -> Result<TreeNode, Fail>
     ensures { IfOk result (λ node. node ≡ TreeNode.Closed (record { whole = whole; mu = 0; prices = price ∷ [] })) }

@@ -1,7 +1,6 @@
-use Rattle.std.proofs.Common.{◌≡◌, ◌∙◌, ◌+◌, ◌-◌, ◌<◌, ◌||◌, Bool, length, ap, arith, drop, List, ℕ, length-drop}
+use Rattle.std.proofs.Common.{◌∙◌, ◌+◌, ◌-◌, ◌||◌, Bool, length, ap, arith, drop, List, ℕ, length-drop}
 use Rattle.std.proofs.lemmas.List.{length-set}
 use Rattle.dual_bound.specs.declared.tree.Leaf.{Leaf}
-use Rattle.bound_certificate.specs.declared.due.Name.TheVariants as name
 use Rattle.bound_certificate.specs.declared.scan.Scan.{Scan}
 use Rattle.bound_certificate.specs.Scan.{IsFirstPrice}
 use Rattle.bound_certificate.proofs.PriceFacts.{more-no-feed, price_scan, prices-more, rest-of}

@@ -1,6 +1,6 @@
 use Rattle.std.proofs.Common.{◌≡◌, ◌≢◌, ◌+◌, ◌≤◌, ◌-◌, All, length, take}
 use Rattle.std.specs.List.{fold}
-use Rattle.bound_certificate.specs.Scan.{IsAtPrice, IsScan, after_byte}
+use Rattle.bound_certificate.specs.Scan.{after_byte}
 use Rattle.bound_certificate.proofs.PriceFacts.{price_scan}
 use Rattle.bound_certificate.proofs.scan.Scan.take_prices.Given as goal
 
