@@ -6,7 +6,7 @@ ghost use Rattle.offer_book.specs.Book.{IsCashLine};
 ghost use Rattle.dual_bound.specs.Ranges.{AreTight};
 ghost use Rattle.dual_bound.specs.Tree.{IsLeaf};
 
-use crate::{Columns, Leaf, PRICE_SCALE, Prices, Ranges, bound, range_laws};
+use crate::{Columns, Leaf, PRICE_SCALE, Prices, Ranges, bound, priced_needs, range_laws};
 use escrow_units::{
     Cents, Day, Flow, GREATEST_INDEX, Rate, Slgs, SlgsKind, YieldUnits, years_after,
 };
@@ -155,5 +155,15 @@ fn columns_give_the_bound(rt: HostRuntime) -> Result<(), Fail> {
         &cost,
         100_100_000_000_000_000_000_000_000,
     )?;
+    Ok(())
+}
+
+#[test]
+fn needs_are_worth_their_prices(rt: HostRuntime) -> Result<(), Fail> {
+    let book = sample(&rt, rt.alloc())?;
+    assert!(rt; book.need_count() == 1);
+    let prices = [PRICE_SCALE / 2];
+    let worth = priced_needs(book.needs(), prices.as_slice());
+    assert_eq!(rt; worth, 52_051_500_000_000_000);
     Ok(())
 }

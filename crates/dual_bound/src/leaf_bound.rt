@@ -161,8 +161,10 @@ fn least(book: &Book, powers: &Powers, leaf: &Leaf, line: &Line, interval: Inter
     form(book, powers, leaf, line).least_within(line, interval)
 }
 
-/// What the needs are worth at a leaf's prices.
-pub(crate) fn priced_needs(needs: &[Flow], prices: &[u64]) -> u128
+/// What needs are worth at a leaf's prices, in cents over [`PRICE_SCALE`](crate::PRICE_SCALE): the sum of each need, in cents,
+/// times the price of its date. There are as many prices as needs, none above twice the scale, and the needs come to at most
+/// the limit of amounts in all.
+pub fn priced_needs(needs: &[Flow], prices: &[u64]) -> u128
     requires same { length needs.now ≡ length prices.now }
     requires prices { All (λ price. price ≤ 2 * PRICE_SCALE) prices.now }
     requires needs { total needs.now ≤ AMOUNT_LIMIT }

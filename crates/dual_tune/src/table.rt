@@ -1,7 +1,6 @@
 //! The forms of lines at a leaf and at its steps.
 ghost use Rattle.std.specs.Prelude.{All, ◌≡◌, ◌*◌, ◌/◌, ◌^◌, ◌<◌, ◌≤◌, pos, IfOk, false, true, length, slice_index_or, unsigned_abs};
-ghost use Rattle.escrow_units.specs.Flows.{total};
-ghost use Rattle.dual_bound.specs.LeafBound.{priced_needs};
+ghost use Rattle.dual_bound.specs.LeafBound.{priced_needs as priced_needs_of};
 ghost use Rattle.dual_bound.specs.Tree.{IsLeaf, with_price};
 ghost use Rattle.dual_tune.specs.Payers.{ArePayersByDate};
 ghost use Rattle.dual_tune.specs.Steps.{mu_of_weight, price_beside as price_beside_of, with_weight};
@@ -13,9 +12,8 @@ ghost use Rattle.dual_tune.specs.declared.table.DateForms.{DateForms as DateForm
 use crate::payers::Payers;
 use crate::steps::{Side, Weight, mu_of, price_beside};
 use crate::sweep::copy_leaf;
-use dual_bound::{Columns, Form, Leaf, PRICE_SCALE};
+use dual_bound::{Columns, Form, Leaf, PRICE_SCALE, priced_needs};
 use escrow_desk::NoMemory;
-use escrow_units::{AMOUNT_LIMIT, Flow};
 use offer_book::{Book, COEFFICIENT_SCALE};
 use std::alloc::Global;
 
@@ -47,27 +45,12 @@ pub(crate) struct Table {
     pub dates: Vec<DateForms>,
 }
 
-// What needs are worth at prices.
-fn priced(needs: &[Flow], prices: &[u64]) -> u128
-    requires same { length needs.now ≡ length prices.now }
-    requires prices { All (λ price. price ≤ 2 * PRICE_SCALE) prices.now }
-    requires needs { total needs.now ≤ AMOUNT_LIMIT }
-    ensures value { result ≡ priced_needs needs.now prices.now }
-    ensures size { result ≤ 2 * 10 ^ 25 }
-{
-    let mut worth = 0;
-    for place in 0..needs.len() {
-        worth += u128::from(needs[place].cents.0) * u128::from(prices[place]);
-    }
-    worth
-}
-
 // What the needs of a book are worth at a leaf's prices, scaled.
 fn needs_worth(book: &Book, leaf: &Leaf) -> i128
     requires leaf { IsLeaf (length book.now.needs) leaf.now }
-    ensures { result ≡ pos (COEFFICIENT_SCALE * priced_needs book.now.needs leaf.now.prices) }
+    ensures { result ≡ pos (COEFFICIENT_SCALE * priced_needs_of book.now.needs leaf.now.prices) }
 {
-    let worth = priced(book.needs(), leaf.prices.as_slice());
+    let worth = priced_needs(book.needs(), leaf.prices.as_slice());
     COEFFICIENT_SCALE as i128 * worth as i128
 }
 
