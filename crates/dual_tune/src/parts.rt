@@ -14,8 +14,13 @@ use dual_bound::{Columns, Leaf, Ranges};
 use escrow_desk::NoMemory;
 use fixed_powers::Powers;
 use offer_book::Book;
-use price_lp::{Basis, COLD_ITERATIONS, Purpose, Simplex, SolveEnd, WARM_ITERATIONS};
+use price_lp::{Basis, COLD_ITERATIONS, Purpose, Simplex, SolveEnd};
 use std::alloc::Global;
+
+// The most iterations of a solve that starts from a basis. Ranges near by take one to three as a rule; where steps are coarse and the
+// limit binds they may take forty, of which the last ones hardly raise the bound. The prices so far bound as well as any, and a solve
+// from the basis so far goes on where this one ended.
+const NEAR_ITERATIONS: u32 = 12;
 
 /// The parts of a tuner.
 #[derive(Drop)]
@@ -50,12 +55,12 @@ fn solve_anew(simplex: &mut Simplex)
     simplex.solve(COLD_ITERATIONS, None);
 }
 
-// Solves a program from a basis; where that doesn't come to an end, from nothing.
+// Solves a program from a basis; where that isn't as it should be, from nothing.
 fn solve_from(simplex: &mut Simplex, basis: &Basis)
     ensures { simplex.new ≡ simplex.old }
 {
     simplex.start_from(basis);
-    if simplex.solve(WARM_ITERATIONS, None) != SolveEnd::Optimal {
+    if simplex.solve(NEAR_ITERATIONS, None) == SolveEnd::Stopped {
         solve_anew(simplex);
     }
 }

@@ -50,8 +50,8 @@ impl<'a> Tuner<'a> {
 
     /// Puts into a leaf, which has a price for each need date, the best over ranges of a given leaf, each of its steps, the leaf of
     /// prices of 0, and what the linear program proposes; where another leaf is given, that counts too if it weighs the cost alike.
-    /// The program starts from a basis where one is given: near by, a few iterations do. It answers the leaf's bound, and takes no
-    /// memory.
+    /// Where a basis is given, the program starts from it and takes twelve iterations at most; else it is solved from nothing. It
+    /// answers the leaf's bound, and takes no memory.
     pub fn tune(
         &mut self,
         ranges: &Ranges,
@@ -73,7 +73,8 @@ impl<'a> Tuner<'a> {
         self.parts.tune(self.book, ranges, leaf, start, basis, into)
     }
 
-    /// Solves the linear program of the cost over ranges, from a basis, for [`amount`](Tuner::amount) to tell. It takes no memory.
+    /// Solves the linear program of the cost over ranges, from a basis and by twelve iterations at most, for
+    /// [`amount`](Tuner::amount) to tell. It takes no memory.
     pub fn stand(&mut self, ranges: &Ranges, basis: &Basis)
         requires { AllZip HasRoomFor self.old.book.lines ranges.now }
         ensures { self.new ≡ self.old }
