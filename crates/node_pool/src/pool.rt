@@ -58,6 +58,15 @@ fn node_in_hand(parent: Option<NodeId>) -> Node
     }
 }
 
+// The root of a pool, which waits with a key.
+fn waiting_root(key: i128) -> Node
+    ensures { result ≡ record { parent = None; state = state.Waiting key; links = record { left = None; right = None; rank = 1 } } }
+{
+    let mut root = node_in_hand(None);
+    root.state = State::Waiting(key);
+    root
+}
+
 // One more node, the child of a split, which waits with a key; the link to all that wait.
 fn add_waiting(
     nodes: &mut Vec<Node>,
@@ -90,15 +99,24 @@ impl Pool {
         ensures { IfOk result (λ pool. pool ≡ new_pool capacity key) }
     {
         let mut nodes = Vec::with_capacity(alloc, capacity as usize)?;
-        let mut root = node_in_hand(None);
-        root.state = State::Waiting(key);
-        nodes.push(root)?;
+        nodes.push(waiting_root(key))?;
         Ok(Pool {
             nodes,
             first: Some(NodeId(0)),
             waiting: 1,
             capacity,
         })
+    }
+
+    /// Begins again with a root alone, which waits with a key. The capacity stays, and the memory for the nodes.
+    pub fn restart(&mut self, key: i128)
+        ensures { self.new ≡ new_pool self.old.capacity key }
+    {
+        self.nodes.clear();
+        // There is room for it.
+        let _pushed = self.nodes.push(waiting_root(key));
+        self.first = Some(NodeId(0));
+        self.waiting = 1;
     }
 
     /// Takes the waiting node of the least key, and of the lowest number among equals, into the hand; None where none waits.

@@ -12,9 +12,7 @@ pub invariant_of-result : goal.invariant_of-result
 invariant_of-result c =
     let key : ℤ = to_z w128 (of_z w128 c.args.key) in
     let items : c.push.new.self.items ≡ record { parent = None; state = state.Waiting key; links = lone_links } ∷ [] =
-    c.in_ok-push.ensures.items
-    ∙ ap (λ (ns : List Node). ns ++ record { parent = c.node_in_hand-root.result.parent; state = state.Waiting key; links = c.node_in_hand-root.result.links } ∷ []) c.in_ok-nodes.ensures.items
-    ∙ ap (λ (n : Node). record { parent = n.parent; state = state.Waiting key; links = n.links } ∷ []) c.node_in_hand-root.ensures in
+    c.in_ok-push.ensures.items ∙ ap (λ (ns : List Node). ns ++ c.waiting_root.result ∷ []) c.in_ok-nodes.ensures.items ∙ ap (λ (n : Node). n ∷ []) c.waiting_root.ensures in
     let P : List Node → Type 0 = λ ns. IsPool ns (Some (record { 0 = 0 })) 1 c.args.capacity in
     let bounded : c.args.capacity ≤ 4_294_967_295 = omega (arith, c.ranges.capacity.fits) in (
       subst P (sym items) (root-pool c.args.capacity key None c.requires bounded),
