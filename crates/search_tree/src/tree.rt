@@ -64,6 +64,17 @@ impl SearchTree {
         Ok(SearchTree { pool, nodes })
     }
 
+    /// Begins again with a root alone, which waits. The capacity stays, and the memory for the nodes; the leaves are given back.
+    pub fn restart(&mut self, root: Priced)
+        ensures { self.new ≡ new_tree self.old.pool.capacity root }
+    {
+        self.nodes.clear();
+        self.pool.restart(root.bound);
+        // A pool has room for its nodes, and so has the list of them.
+        prove!(self.pool.count() > 0);
+        let _pushed = self.nodes.push(open_node(root));
+    }
+
     /// Takes the waiting node of the least bound.
     pub fn pop(&mut self) -> Option<NodeId>
         ensures none { IsNone result → NoneWaits self.old.pool.states × (self.new ≡ self.old) }
