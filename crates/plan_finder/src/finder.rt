@@ -1,7 +1,7 @@
 //! What dives for plans.
-ghost use Rattle.std.specs.Prelude.{◌≡◌, ◌<◌, ◌≤◌, All, IfOk, IfSome, length};
+ghost use Rattle.std.specs.Prelude.{◌≡◌, ◌<◌, ◌≤◌, ◌↔◌, All, IfOk, IfSome, IsTrue, length};
 ghost use Rattle.std.specs.List.{AllZip};
-ghost use Rattle.offer_book.specs.Portfolio.{IsPermitted};
+ghost use Rattle.offer_book.specs.Portfolio.{IsPermitted, Meets};
 ghost use Rattle.dual_bound.specs.Ranges.{HasRoomFor};
 ghost use Rattle.plan_finder.specs.Dive.{AreLinesOf};
 ghost use Rattle.plan_finder.specs.Proposal.{IsProposal};
@@ -129,6 +129,17 @@ impl<'a> Finder<'a> {
         let rises = u64::from(done.rises).saturating_mul(rise);
         let tries = u64::from(done.tries).saturating_mul(purchase.saturating_add(DATES_WORK));
         rises.saturating_add(tries)
+    }
+
+    /// Whether a plan meets the needs. Of the lines it reads those alone whose units are others than those of the plan at hand,
+    /// which it becomes. It takes no memory.
+    pub fn meets(&mut self, plan: &Plan) -> bool
+        requires { IsPermitted self.old.book plan.now }
+        ensures finder { self.new ≡ self.old }
+        ensures met { IsTrue result ↔ Meets self.old.book plan.now }
+    {
+        self.ledger.put_plan(plan);
+        self.ledger.shortage().is_none()
     }
 
     /// Offers the plan at hand as it stands.

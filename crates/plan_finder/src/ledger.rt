@@ -1,5 +1,5 @@
 //! The plan at hand, with its book and its exact account.
-ghost use Rattle.std.specs.Prelude.{◌≡◌, ℕ, ◌+◌, ◌*◌, ◌/◌, ◌^◌, ◌<◌, ◌≤◌, ◌↔◌, IfOk, IfNone, IsTrue, length, slice_index, slice_index_or, slice_set};
+ghost use Rattle.std.specs.Prelude.{◌≡◌, ℕ, ◌+◌, ◌*◌, ◌/◌, ◌^◌, ◌<◌, ◌≤◌, ◌↔◌, IfOk, IfNone, IfSome, IsTrue, length, slice_index, slice_index_or, slice_set};
 ghost use Rattle.escrow_units.specs.Flows.{total};
 ghost use Rattle.fixed_powers.specs.DiscountPowers.{IsLowTable, PowerTable, one};
 ghost use Rattle.offer_book.specs.Portfolio.{IsPermitted, IsPermittedUnits, Meets, cost as cost_of, line_payments, payments, security_cost};
@@ -125,6 +125,16 @@ impl<'a> Ledger<'a> {
         self.account.change(self.book, line, units);
     }
 
+    /// Changes the plan to another one: the lines alone are read whose units are others, and the need dates for each.
+    pub(crate) fn put_plan(&mut self, plan: &Plan)
+        requires { IsPermitted self.old.book plan.now }
+        ensures { self.new ≡ record { book = self.old.book; yield_units = self.old.yield_units; plan = plan.now } }
+    {
+        for line in 0..self.book.line_count() {
+            self.put(line, plan.get(line));
+        }
+    }
+
     /// What a line has to pay up to each need date, in cents, so that nothing is short.
     pub(crate) fn due(&self, line: u16) -> [u64; MOST_NEED_DATES]
         requires { line < length self.now.book.lines }
@@ -135,9 +145,10 @@ impl<'a> Ledger<'a> {
         self.account.due(self.book, line)
     }
 
-    /// What is short on the first need date on which the plan is short.
+    /// What is short on the first need date on which the plan is short; None where it meets the needs.
     pub(crate) fn shortage(&self) -> Option<Shortage>
-        ensures { IfNone result (Meets self.now.book self.now.plan) }
+        ensures none { IfNone result (Meets self.now.book self.now.plan) }
+        ensures some { IfSome result (λ lack. ¬ Meets self.now.book self.now.plan) }
     {
         let place = self.account.first_short(self.book)?;
         Some(Shortage {
