@@ -1,12 +1,13 @@
 -- What a search finds at the node in hand, and how the best plan goes on.
 use Rattle.std.proofs.Common.{◌≡◌, ◌∙◌, ◌⊎◌, inl, inr, ℕ, zero, suc, ◌-◌, ◌<◌, ◌≤◌, ℤ, pos, ◌≤ℤ◌, Bool, true, false, ◌&&◌, ◌||◌, List, [], ◌∷◌, length, set, get_or, refl, sym, ap, subst, arith, Option, Some, None, Result, Ok, Err}
-use Rattle.std.specs.Prelude.{IfOk, OnOk, int_le, int_lt, option_map}
+use Rattle.std.specs.Prelude.{IfOk, MatchOption, OnOk, int_le, int_lt, option_map}
 use Rattle.std.proofs.lemmas.Bool.{cases_lt}
 use Rattle.std.proofs.lemmas.Int.{ints}
 use Rattle.std.proofs.lemmas.List.{get_or_default}
 use Rattle.backward_build.specs.BackwardPlan.{backward_plan}
 use Rattle.case_file.specs.Case.{CaseContents}
 use Rattle.cash_table.specs.First.{first_short_of}
+use Rattle.cash_table.proofs.DayFacts.{first_short_is}
 use Rattle.cash_table.proofs.PointFacts.{beyond_limit, excluded_tells}
 use Rattle.cash_table.specs.Points.{IsExcluded, is_excluded, is_within_limit}
 use Rattle.day_sums.specs.Summed.{total_by}
@@ -24,7 +25,7 @@ use Rattle.offer_book.specs.Book.{BookContents, IsBook}
 use Rattle.offer_book.specs.CaseBook.{cash_line}
 use Rattle.offer_book.specs.declared.line.Line.{Line}
 use Rattle.escrow_units.specs.declared.limits.TheConstants.{GREATEST_YIELD}
-use Rattle.offer_book.specs.Portfolio.{Meets, cost, payments}
+use Rattle.offer_book.specs.Portfolio.{IsFirstShort, Meets, cost, payments}
 use Rattle.search_tree.proofs.ZeroFacts.{zeros-some}
 use Rattle.search_tree.specs.Best.{CoversBackward, IsAtMost, IsNoDearer}
 use Rattle.search_tree.specs.Growing.{IsLostPoint, IsPriced}
@@ -77,6 +78,16 @@ reached-is case ranges plan day is_high short no_more =
     not-above : (b : Bool) → int_lt (pos 0) (bound_of (case.limit - 1) case.book ranges (reach_leaf case.book.needs day)) ≡ b → b ≡ false
     not-above true above = absurd (omega (arith, ints, above, no_more))
     not-above false above = refl
+
+-- where the high ends meet the needs, there is no day on which they are short
+pub met-reaches : (case : CaseContents) (ranges : List Interval) (plan : List ℕ) → IsBook case.book → plan ≡ high_ends ranges → Meets case.book plan → is_unreached case ranges ≡ false
+met-reaches case ranges plan limits is_high meets =
+    ap (λ (p : List ℕ). is_short_by case ranges (first_short_of case.book p)) (sym is_high)
+    ∙ ap (is_short_by case ranges) (by (first_short_of case.book plan) (first_short_is case.book plan limits.needs.rising))
+  where
+    by : (found : Option ℤ) → MatchOption found (Meets case.book plan) (IsFirstShort case.book plan) → found ≡ None
+    by None told = refl
+    by (Some day) told = absurd (omega (arith, told.short, meets day))
 
 -- ---- a point
 -- a portfolio that doesn't count is excluded

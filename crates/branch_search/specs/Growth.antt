@@ -3,13 +3,13 @@ use Rattle.std.specs.Prelude.{◌≡◌, ℕ, ◌+◌, ◌-◌, ◌*◌, ◌<◌
 use Rattle.std.specs.List.{count_by}
 use Rattle.case_file.specs.Case.{CaseContents}
 use Rattle.dual_bound.specs.LeafBound.{bound_of}
-use Rattle.dual_bound.specs.Ranges.{narrowed}
+use Rattle.dual_bound.specs.Ranges.{narrowed, root_of}
 use Rattle.dual_bound.specs.declared.ranges.Interval.{Interval}
 use Rattle.dual_bound.specs.declared.tree.Leaf.{Leaf}
 use Rattle.node_pool.specs.Pool.{PoolContents, is_waiting}
 use Rattle.node_pool.specs.Tree.{AreEnded}
 use Rattle.search_tree.specs.Growing.{HasGrown, IsPriced, IsStuck}
-use Rattle.search_tree.specs.Tree.{TreeContents}
+use Rattle.search_tree.specs.Tree.{TreeContents, new_tree}
 use Rattle.branch_search.specs.declared.growing.Growth.{Growth}
 use Rattle.branch_search.specs.declared.growing.Growth.TheVariants as growth
 use Rattle.search_tree.specs.declared.node.Priced.{Priced}
@@ -18,6 +18,12 @@ use Rattle.search_tree.specs.declared.node.Priced.{Priced}
 pub record IsSide (case : CaseContents) (ranges : List Interval) (line at : ℕ) (right : Bool) (parent : Leaf) (priced : Priced) : Type 0 where
   pub own : IsPriced case (narrowed case.book.lines ranges line at right) priced
   pub no_less : parent.whole ≡ true → bound_of (case.limit - 1) case.book (narrowed case.book.lines ranges line at right) parent ≤ℤ priced.bound
+
+-- a tree of a case begins: its root alone stands, with room for the budget
+pub record IsBegun (case : CaseContents) (tree : TreeContents) : Type 0 where
+  pub root : Priced
+  pub priced : IsPriced case (root_of case.book.lines) root
+  pub alone : tree ≡ new_tree case.budget root
 
 -- what is left to do: each node that waits, and two more for each node that there is room for
 abbrev pub left_to_do : PoolContents → ℕ

@@ -131,7 +131,13 @@ impl<'a> Search<'a> {
         ensures some { IfSome result (λ day. pos 0 <ℤ bound_of (self.old.case.limit - 1) self.old.case.book self.old.ranges (reach_leaf self.old.case.book.needs day)) }
         ensures none { result ≡ None → is_unreached self.old.case self.old.ranges ≡ false }
     {
+        // A book keeps its limits.
+        prove!(self.book.line_count() > 0);
         put_high_ends(self.book, &self.ranges, &mut self.plan);
+        // Hardly ever is a node short, and the finder tells at once that it isn't.
+        if self.finder.meets(&self.plan) {
+            return None;
+        }
         let day = first_short(self.book, &self.plan)?;
         if self.is_short_by(day) {
             Some(day)

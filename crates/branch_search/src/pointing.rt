@@ -63,7 +63,7 @@ fn fraction_of(number: u16, line: &Line, amount: i64) -> Option<Fraction> {
 // one that pays last.
 fn comes_before(own: &Fraction, other: &Fraction) -> bool {
     match (own.under_least, other.under_least) {
-        (Some(miss), Some(least)) => least < miss,
+        (Some(own_miss), Some(other_miss)) => other_miss < own_miss,
         (Some(_), None) => true,
         (None, Some(_)) => false,
         (None, None) => other.matures <= own.matures,

@@ -3,9 +3,9 @@ ghost use Rattle.std.specs.Prelude.{◌≡◌, ◌≤◌, ◌⊎◌, ◌<◌, �
 ghost use Rattle.cash_table.specs.Reach.{IsInReach};
 ghost use Rattle.dual_bound.specs.Ranges.{root_of};
 ghost use Rattle.branch_search.specs.Plain.{IsPlainWithin};
-ghost use Rattle.branch_search.specs.Growth.{IsClosedTree, IsFullTree};
+ghost use Rattle.branch_search.specs.Growth.{IsBegun, IsClosedTree, IsFullTree};
 ghost use Rattle.search_tree.specs.Best.{IsNoDearer};
-ghost use Rattle.search_tree.specs.Growing.{IsPriced, obeys};
+ghost use Rattle.search_tree.specs.Growing.{obeys};
 ghost use Rattle.branch_search.specs.Parts.{AreSameBut, best_cents};
 ghost use Rattle.branch_search.specs.Runs.{IsNoLessThan, IsRunEnd, IsSpentRun};
 ghost use Rattle.branch_search.specs.Search.{EndsOf, IsFound, IsFoundBy, IsNoDearerThanBackward, IsShown, searched};
@@ -26,7 +26,7 @@ use fixed_powers::{Powers, Side};
 use halving_tree::{SplitRule, base_leaf};
 use offer_book::Book;
 use plan_finder::{Finder, find};
-use search_tree::{Priced, SearchTree};
+use search_tree::SearchTree;
 use std::alloc::Global;
 
 // How much work the search for a cheaper plan between two trees is at most for each node of the budget, in sweeps: each goes once
@@ -136,7 +136,8 @@ impl<'a> Search<'a> {
     ) -> Result<Shown, NoMemory>
         requires tree { IsFullTree self.now.case (obeys self.now.case rule) (best_cents self.now.best) bound tree.old }
         requires capacity { tree.old.pool.capacity ≡ self.now.case.budget }
-        ensures { IfOk result (IsSpentRun self.now.case rule (best_cents self.now.best)) }
+        ensures shown { IfOk result (IsSpentRun self.now.case rule (best_cents self.now.best)) }
+        ensures capacity { OnOk result (tree.new.pool.capacity ≡ tree.old.pool.capacity) }
     {
         // The nodes of a pool are one tree, before and after, and a book keeps its limits.
         prove!(tree.count() > 0);
@@ -150,38 +151,46 @@ impl<'a> Search<'a> {
         })
     }
 
-    // Grows a tree by a rule, from its root on, and says how that ends.
-    fn grow_by(&mut self, alloc: Global, rule: SplitRule, root: Priced) -> Result<RunEnd, NoMemory>
-        requires root { IsPriced self.old.case (root_of self.old.case.book.lines) root }
+    // Grows a tree by a rule, whose root alone stands, and says how that ends.
+    fn grow_by(
+        &mut self,
+        alloc: Global,
+        rule: SplitRule,
+        tree: &mut SearchTree,
+    ) -> Result<RunEnd, NoMemory>
+        requires tree { IsBegun self.old.case tree.old }
         requires backward { IsNoDearerThanBackward self.old.case.limit self.old.case.book (best_cents self.old.best) }
         requires reach { IsInReach self.old.case.book }
         requires budget_from { 1 ≤ self.old.case.budget }
         requires budget_to { self.old.case.budget ≤ 10_000 }
         ensures case { OnOk result (self.new.case ≡ self.old.case) }
+        ensures capacity { OnOk result (tree.new.pool.capacity ≡ self.old.case.budget) }
         ensures ended { IfOk result (IsRunEnd self.old.case rule (best_cents self.old.best) (best_cents self.new.best)) }
     {
-        let mut tree = SearchTree::start(alloc, self.budget, root)?;
-        let growth = self.grow(alloc, rule, &mut tree)?;
+        let growth = self.grow(alloc, rule, tree)?;
         // The nodes of a pool are one tree, and a book keeps its limits.
         prove!(tree.count() > 0);
         prove!(self.book.line_count() > 0);
         match growth {
-            Growth::Closed => self.closed(alloc, rule, &tree),
-            Growth::Spent(bound) => Ok(RunEnd::Spent(self.shown(alloc, rule, &mut tree, bound)?)),
+            Growth::Closed => self.closed(alloc, rule, tree),
+            Growth::Spent(bound) => Ok(RunEnd::Spent(self.shown(alloc, rule, tree, bound)?)),
         }
     }
 
-    // Prices the root again, for a tree from it on.
-    fn start_again(&mut self, alloc: Global) -> Result<Priced, NoMemory>
+    // Prices the root again, and begins a tree anew from it on. It has the memory of the tree before.
+    fn start_again(&mut self, alloc: Global, tree: &mut SearchTree) -> Result<(), NoMemory>
+        requires { tree.old.pool.capacity ≡ self.old.case.budget }
         ensures case { OnOk result (self.new.case ≡ self.old.case) }
         ensures best { OnOk result (self.new.best ≡ self.old.best) }
-        ensures root { IfOk result (IsPriced self.old.case (root_of self.old.case.book.lines)) }
+        ensures tree { OnOk result (IsBegun self.old.case tree.new) }
     {
         // A book keeps its limits.
         prove!(self.book.line_count() > 0);
         self.ranges.reset(self.book);
         self.bases.clear();
-        self.price(alloc, None, None)
+        let root = self.price(alloc, None, None)?;
+        tree.restart(root);
+        Ok(())
     }
 
     // What two trees come to whose budgets are spent: the greater bound, and the best plan. Where that bound bears the plan out, it is
@@ -238,8 +247,14 @@ impl<'a> Search<'a> {
         Ok(())
     }
 
-    // Searches once more, by the halving tree with the whole budget, after a tree whose budget is spent.
-    fn run_again(&mut self, alloc: Global, first: Shown) -> Result<Found, SearchEnd>
+    // Searches once more, by the halving tree with the whole budget, after a tree whose budget is spent, and in its memory.
+    fn run_again(
+        &mut self,
+        alloc: Global,
+        first: Shown,
+        tree: &mut SearchTree,
+    ) -> Result<Found, SearchEnd>
+        requires capacity { tree.old.pool.capacity ≡ self.old.case.budget }
         requires first { IsShown self.old.case first.tree first.bound.0 }
         requires backward { IsNoDearerThanBackward self.old.case.limit self.old.case.book (best_cents self.old.best) }
         requires reach { IsInReach self.old.case.book }
@@ -250,8 +265,8 @@ impl<'a> Search<'a> {
         ensures ended { IfErr result (EndsOf self.old.case) }
     {
         self.find_cheaper(alloc, first.bound)?;
-        let root = self.start_again(alloc)?;
-        match self.grow_by(alloc, SplitRule::Halving, root)? {
+        self.start_again(alloc, tree)?;
+        match self.grow_by(alloc, SplitRule::Halving, tree)? {
             RunEnd::Found(found) => Ok(found),
             RunEnd::NoRival(nodes) => Err(SearchEnd::NoneWithinYield(nodes)),
             RunEnd::Spent(second) => self.settle(first, second),
@@ -273,10 +288,11 @@ impl<'a> Search<'a> {
         prove!(self.book.line_count() > 0);
         let root = self.price(alloc, None, None)?;
         self.find_plan(alloc, root.bound)?;
-        match self.grow_by(alloc, SplitRule::Relaxation, root)? {
+        let mut tree = SearchTree::start(alloc, self.budget, root)?;
+        match self.grow_by(alloc, SplitRule::Relaxation, &mut tree)? {
             RunEnd::Found(found) => Ok(found),
             RunEnd::NoRival(nodes) => Err(SearchEnd::NoneWithinYield(nodes)),
-            RunEnd::Spent(first) => self.run_again(alloc, first),
+            RunEnd::Spent(first) => self.run_again(alloc, first, &mut tree),
         }
     }
 }

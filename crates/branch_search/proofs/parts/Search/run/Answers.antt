@@ -7,6 +7,7 @@ use Rattle.dual_bound.specs.declared.ranges.Interval.{Interval}
 use Rattle.halving_tree.specs.declared.rule.SplitRule.TheVariants as rules
 use Rattle.offer_book.specs.Book.{IsBook}
 use Rattle.search_tree.specs.Growing.{IsPriced}
+use Rattle.search_tree.specs.Tree.{new_tree}
 use Rattle.branch_search.proofs.EndFacts.{priced-small}
 use Rattle.branch_search.proofs.PartFacts.{dearer-kept}
 use Rattle.branch_search.specs.Parts.{SearchContents, best_cents}
@@ -25,14 +26,18 @@ find_plan-requires-clause-bound c =
     let same : to_z w128 (of_z w128 root.bound) ≡ root.bound = to_z-of_z w128 root.bound (record { sfits = omega (arith, ints, small) }) in
     subst (λ (b : ℤ). unsigned_abs b < 10 ^ 37) (sym same) small
 
-pub grow_by-requires-clause-root : goal.grow_by-requires-clause-root
-grow_by-requires-clause-root c =
+pub grow_by-requires-clause-tree : goal.grow_by-requires-clause-tree
+grow_by-requires-clause-tree c =
     let now = c.args.self.now in
     let next = c.find_plan.new.self in
     let root = c.in_ok-root.root in
     let same : next.case ≡ now.case = c.in_ok-find_plan.ensures.kept.case ∙ ap (λ (s : SearchContents). s.case) c.in_ok-root.ensures.search in
-    subst (λ (k : CaseContents). IsPriced k (root_of k.book.lines) root) (sym same)
-    (subst (λ (r : List Interval). IsPriced now.case r root) c.requires.ranges c.in_ok-root.ensures.priced)
+    record {
+      root = root;
+      priced = subst (λ (k : CaseContents). IsPriced k (root_of k.book.lines) root) (sym same)
+          (subst (λ (r : List Interval). IsPriced now.case r root) c.requires.ranges c.in_ok-root.ensures.priced);
+      alone = c.in_ok-tree.ensures ∙ ap (λ (s : SearchContents). new_tree s.case.budget root) c.self-2.view_is;
+    }
 
 pub grow_by-requires-clause-backward : goal.grow_by-requires-clause-backward
 grow_by-requires-clause-backward c =

@@ -1,9 +1,8 @@
-use Rattle.std.proofs.Common.{◌≡◌, ◌∙◌, sym, subst, Option}
+use Rattle.std.proofs.Common.{◌≡◌, ◌∙◌, sym, ap, subst, Option}
 use Rattle.case_file.specs.Case.{CaseContents}
-use Rattle.dual_bound.specs.Ranges.{root_of}
 use Rattle.halving_tree.specs.declared.rule.SplitRule.TheVariants as rules
-use Rattle.search_tree.specs.Growing.{IsPriced}
 use Rattle.branch_search.proofs.PartFacts.{dearer-kept}
+use Rattle.branch_search.specs.Growth.{IsBegun}
 use Rattle.branch_search.specs.Parts.{best_cents}
 use Rattle.branch_search.specs.Runs.{IsRunEnd}
 use Rattle.branch_search.specs.Search.{IsNoDearerThanBackward}
@@ -11,17 +10,20 @@ use Rattle.branch_search.specs.declared.best.Best.{Best}
 use Rattle.branch_search.specs.declared.runs.RunEnd.{RunEnd}
 use Rattle.branch_search.proofs.parts.Search.run_again.Goals as goal
 
-pub grow_by-requires-clause-root : goal.grow_by-requires-clause-root
-grow_by-requires-clause-root c =
-    subst (λ (k : CaseContents). IsPriced k (root_of k.book.lines) c.in_ok-root.root) (sym c.in_ok-root.ensures.case) c.in_ok-root.ensures.root
+pub start_again-requires : goal.start_again-requires
+start_again-requires c = c.requires.capacity ∙ ap (λ (k : CaseContents). k.budget) (sym c.in_ok-find_cheaper.ensures.kept.case)
+
+pub grow_by-requires-clause-tree : goal.grow_by-requires-clause-tree
+grow_by-requires-clause-tree c =
+    subst (λ (k : CaseContents). IsBegun k c.start_again.new.tree) (sym c.in_ok-start_again.ensures.case) c.in_ok-start_again.ensures.tree
 
 pub grow_by-requires-clause-backward : goal.grow_by-requires-clause-backward
 grow_by-requires-clause-backward c =
     let now = c.args.self.now in
     let cheaper = c.find_cheaper.new.self in
     let next = c.start_again.new.self in
-    subst (λ (k : CaseContents). IsNoDearerThanBackward k.limit k.book (best_cents next.best)) (sym (c.in_ok-root.ensures.case ∙ c.in_ok-find_cheaper.ensures.kept.case))
-    (subst (λ (b : Option Best). IsNoDearerThanBackward now.case.limit now.case.book (best_cents b)) (sym c.in_ok-root.ensures.best)
+    subst (λ (k : CaseContents). IsNoDearerThanBackward k.limit k.book (best_cents next.best)) (sym (c.in_ok-start_again.ensures.case ∙ c.in_ok-find_cheaper.ensures.kept.case))
+    (subst (λ (b : Option Best). IsNoDearerThanBackward now.case.limit now.case.book (best_cents b)) (sym c.in_ok-start_again.ensures.best)
     (dearer-kept now.case.limit now.case.book (best_cents now.best) (best_cents cheaper.best) c.in_ok-find_cheaper.ensures.no_dearer c.requires.backward))
 
 pub settle-requires-clause-backward : goal.settle-requires-clause-backward
@@ -30,10 +32,10 @@ settle-requires-clause-backward c =
     let cheaper = c.find_cheaper.new.self in
     let next = c.start_again.new.self in
     let last = c.grow_by.new.self in
-    let same : next.case ≡ now.case = c.in_ok-root.ensures.case ∙ c.in_ok-find_cheaper.ensures.kept.case in
+    let same : next.case ≡ now.case = c.in_ok-start_again.ensures.case ∙ c.in_ok-find_cheaper.ensures.kept.case in
     let started : IsNoDearerThanBackward next.case.limit next.case.book (best_cents next.best) =
     subst (λ (k : CaseContents). IsNoDearerThanBackward k.limit k.book (best_cents next.best)) (sym same)
-    (subst (λ (b : Option Best). IsNoDearerThanBackward now.case.limit now.case.book (best_cents b)) (sym c.in_ok-root.ensures.best)
+    (subst (λ (b : Option Best). IsNoDearerThanBackward now.case.limit now.case.book (best_cents b)) (sym c.in_ok-start_again.ensures.best)
     (dearer-kept now.case.limit now.case.book (best_cents now.best) (best_cents cheaper.best) c.in_ok-find_cheaper.ensures.no_dearer c.requires.backward)) in
     let spent = subst (λ (e : RunEnd). IsRunEnd next.case rules.Halving (best_cents next.best) (best_cents last.best) e) c.in-Spent.is c.in_ok-found.ensures.ended in
     subst (λ (k : CaseContents). IsNoDearerThanBackward k.limit k.book (best_cents last.best)) (sym c.in_ok-found.ensures.case)

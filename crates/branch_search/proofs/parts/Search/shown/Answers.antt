@@ -29,8 +29,8 @@ greatest_cost-requires-clause-bound c =
     let same : to_z w128 (of_z w128 c.args.bound) ≡ c.args.bound = to_z-of_z w128 c.args.bound (record { sfits = omega (arith, ints, small.small) }) in
     subst (λ (b : ℤ). unsigned_abs b < 10 ^ 37) (sym same) small.small
 
-pub returns : goal.returns
-returns c =
+pub returns-clause-shown : goal.returns-clause-shown
+returns-clause-shown c =
     let now = c.args.self.now in
     let tree = c.args.tree.now in
     let after = c.close_waiting.new.self in

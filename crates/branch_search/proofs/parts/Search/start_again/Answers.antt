@@ -1,4 +1,5 @@
 use Rattle.std.proofs.Common.{◌≡◌, ◌∙◌, List, length, sym, ap, subst}
+use Rattle.search_tree.specs.Tree.{new_tree}
 use Rattle.dual_bound.proofs.RangeFacts.{tight-length}
 use Rattle.dual_bound.proofs.RangeLaws.{root_is_tight}
 use Rattle.dual_bound.specs.Ranges.{AreTight}
