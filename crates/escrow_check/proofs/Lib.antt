@@ -10,3 +10,4 @@ pub mod PurchaseFacts
 pub mod ReasonFacts
 pub mod TreeFacts
 pub mod VerdictFacts
+pub mod TextFacts

@@ -1,6 +1,7 @@
 pub mod Acceptance
 pub mod Meaning
 pub mod Reasons
+pub mod TextMeaning
 pub mod Verdicts
 pub mod Walk
 pub mod Trial

@@ -1,6 +1,7 @@
 //! A checker of certificates that come in pieces.
 ghost use Rattle.std.specs.Prelude.{◌≡◌, ◌++◌, ◌≤◌, ◌⊎◌, IfErr, IfOk, List, [], false, length, true, ℕ};
 ghost use Rattle.case_file.specs.Case.{HasTerms, case_view};
+ghost use Rattle.offer_book.specs.Book.{IsBook};
 ghost use Rattle.escrow_check.specs.Acceptance.{IsVerdict};
 ghost use Rattle.escrow_check.specs.Checking.{Heard};
 ghost use Rattle.escrow_check.specs.Heard.{EndsGap};
@@ -42,6 +43,7 @@ impl<'a> Checker<'a> {
     pub fn make(alloc: Global, case: &'a Case) -> Result<Checker<'a>, NoMemory>
         requires { HasTerms (case_view case.now) }
         ensures case { IfOk result (λ checker. checker.case ≡ case_view case.now) }
+        ensures book { IfOk result (λ checker. IsBook checker.case.book) }
         ensures heard { IfOk result (λ checker. Heard checker []) }
     {
         let hearing = Hearing::make(alloc, case)?;
