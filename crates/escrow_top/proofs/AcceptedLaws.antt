@@ -4,31 +4,27 @@ use Rattle.std.proofs.lemmas.Bool.Decides.{nat_tests}
 use Rattle.escrow_desk.specs.declared.limits.TheConstants.{CERTIFICATE_LIMIT}
 use Rattle.escrow_desk.specs.declared.refusal.FileKind.TheVariants as file
 use Rattle.escrow_desk.specs.declared.refusal.RefusalKind.TheVariants as kind
-use Rattle.escrow_desk.specs.Rows.{rows_of}
 use Rattle.row_fields.specs.RowForm.{refusal_of}
-use Rattle.offer_book.specs.Book.{IsBook}
 use Rattle.bound_certificate.specs.Text.{IsTextOf}
 use Rattle.bound_certificate.specs.declared.certificate.Buy.{Buy}
 use Rattle.bound_certificate.specs.declared.certificate.Certificate.{Certificate}
 use Rattle.bound_certificate.specs.declared.limits.TheConstants.{MOST_DATES}
-use Rattle.case_file.specs.Case.{CaseContents, HasTerms, IsKept}
+use Rattle.case_file.specs.Case.{CaseContents}
 use Rattle.escrow_check.specs.Acceptance.{IsVerdict, judged, reason_of, verdict_by, yes_of}
-use Rattle.escrow_check.specs.Meaning.{IsHeard}
 use Rattle.escrow_check.specs.Verdicts.{verdict_of}
 use Rattle.escrow_check.specs.declared.verdict.Verdict.{Verdict}
 use Rattle.escrow_check.specs.declared.verdict.Verdict.TheVariants as verdict
+use Rattle.escrow_check.proofs.TextFacts.{KeepsLimits, heard}
 use Rattle.escrow_check.proofs.OneVerdict.{bytes_have, judged-by, one_verdict}
 use Rattle.escrow_check.proofs.ReasonFacts.{yes_where_unopposed}
 use Rattle.escrow_check.proofs.VerdictFacts.{none-told, yes-told, yes_is_right, yes_none_is_right}
 use Rattle.escrow_top.specs.InputFiles.{InputFiles}
 use Rattle.escrow_top.specs.Answer.{Answer, case_of, certificate_answer, check_answer, refused, verdict_answer}
 use Rattle.escrow_top.proofs.YieldFacts.{printed_yield}
-use Rattle.escrow_top.specs.Accepted.{Accepted, HasNoReason, HasNoRival, HasPortfolio, YesExactly}
+use Rattle.escrow_top.specs.Accepted.{Accepted, HasNoReason, HasNoRival, HasPortfolio, IsAcceptedText, YesExactly}
+use Rattle.escrow_top.specs.CaseOf.{GiveCase}
+use Rattle.escrow_top.proofs.CaseLaws.{gives_is}
 use Rattle.escrow_top.specs.declared.status.Status.TheVariants as status
-
--- a case that keeps its limits
-abbrev pub KeepsLimits : CaseContents → Type 0
-KeepsLimits case = IsBook case.book × HasTerms case
 
 few-dates : (case : CaseContents) → KeepsLimits case → length case.book.needs ≤ MOST_DATES
 few-dates case keeps = let few = keeps.0.needs.few in omega (arith, few)
@@ -53,10 +49,6 @@ answered-by case cert keeps = by (nat_lt CERTIFICATE_LIMIT (length cert)) refl
       is = answer-within case cert short;
       on = bytes_have case cert (few-dates case keeps);
     })
-
--- a certificate of a text may be judged for a case
-pub heard : (case : CaseContents) (cert : List ℕ) (certificate : Certificate) → KeepsLimits case → IsTextOf (length case.book.needs) certificate cert → IsHeard case certificate
-heard case cert certificate keeps text = record { book = keeps.0; terms = keeps.1; written = text.well_formed }
 
 -- the bytes are a text that is accepted, and this is said
 record IsTaken (case : CaseContents) (cert : List ℕ) (text : List ℕ) : Type 0 where
@@ -104,21 +96,19 @@ taken case cert keeps done =
         subst (λ (a : Answer). IsTaken case cert a.text) (sym found.is)
         (taken-by case cert found.told keeps found.on (sym (ap (λ (a : Answer). a.status) found.is) ∙ done))
 
-pub accepted : (files : InputFiles) (cert : List ℕ) (case : CaseContents) → case_of files ≡ Ok case
-    → IsKept (rows_of files.issue) (rows_of files.rates) (rows_of files.prices) case → (certificate_answer case cert).status ≡ status.Done → Accepted files cert
-accepted files cert case is_case kept done =
-    let yes = taken case cert (kept.book, kept.terms) done in
-    let same : check_answer files cert ≡ certificate_answer case cert = rw is_case refl in
-    record {
-      read = record { issue = kept.issue; rates = kept.rates; notes = kept.notes };
-      case = case;
-      certificate = yes.certificate;
-      is_case = is_case;
-      is_read = record { issue = kept.is_issue; rates = kept.is_rates; notes = kept.is_notes };
-      obeys = record { limits = kept.book; rows = kept.rows; limit = kept.limit };
-      is_certificate = yes.is_certificate;
-      right = subst (λ (a : Answer). HasPortfolio case yes.certificate a.text ⊎ HasNoRival case yes.certificate a.text) (sym same) yes.right;
-    }
+-- a certificate that is answered with yes has no more bytes than its limit
+fits : (case : CaseContents) (cert : List ℕ) → (certificate_answer case cert).status ≡ status.Done → length cert ≤ CERTIFICATE_LIMIT
+fits case cert done = by (nat_lt CERTIFICATE_LIMIT (length cert)) refl
+  where
+    by : (long : Bool) → nat_lt CERTIFICATE_LIMIT (length cert) ≡ long → length cert ≤ CERTIFICATE_LIMIT
+    by true long = absurd (let clash : status.Refused ≡ status.Done = rw long at done in cc)
+    by false short = grind (arith, nat_tests)
+
+pub accepted : (files : InputFiles) (cert : List ℕ) (case : CaseContents) → GiveCase files case → KeepsLimits case → (certificate_answer case cert).status ≡ status.Done
+    → Accepted files cert (certificate_answer case cert).text
+accepted files cert case gives keeps done =
+    let yes = taken case cert keeps done in
+    record { case = case; gives = gives; certificate = yes.certificate; is_certificate = yes.is_certificate; right = yes.right }
 
 -- where no reason stands, `yes` is said
 
@@ -157,8 +147,19 @@ none-where_done case cert keeps done =
       unopposed = (yes_where_unopposed case yes.certificate (heard case cert yes.certificate keeps yes.is_certificate)).0 yes.none;
     }
 
+-- so is a certificate accepted that is written
+pub accepted_text : (files : InputFiles) (cert : List ℕ) (case : CaseContents) → GiveCase files case → KeepsLimits case → (certificate_answer case cert).status ≡ status.Done → IsAcceptedText files cert
+unfolding accepted
+accepted_text files cert case gives keeps done = record {
+  text = (certificate_answer case cert).text;
+  accepted = accepted files cert case gives keeps done;
+  fits = fits case cert done;
+  unopposed = none-where_done case cert keeps done;
+}
+
 -- `yes` exactly where no reason stands, of files that give a case
 pub yes_exactly : (files : InputFiles) (cert : List ℕ) → ((case : CaseContents) → case_of files ≡ Ok case → KeepsLimits case) → YesExactly (check_answer files cert).status files cert
-yes_exactly files cert keep case is_case within =
+yes_exactly files cert keep case gives within =
+    let is_case = gives_is files case gives in
     let keeps = keep case is_case in
     rw is_case ((λ done. none-where_done case cert keeps done), (λ found. done-where_none case cert keeps within found))

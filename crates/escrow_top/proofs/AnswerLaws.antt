@@ -1,5 +1,5 @@
 -- What an answer over the named files means.
-use Rattle.std.proofs.Common.{◌≡◌, ◌∙◌, ℕ, List, [], Option, Some, None, Result, Ok, Err, refl, sym, ap}
+use Rattle.std.proofs.Common.{◌≡◌, ◌∙◌, ℕ, List, [], Option, Some, None, Result, Ok, Err, refl, sym, ap, subst}
 use Rattle.std.specs.Prelude.{IfOk, IsSomeAnd, option_and_then, is_ok, if◌then◌else◌}
 use Rattle.escrow_desk.specs.Content.{Content, Told, file_of, SaidAll, SaidPart}
 use Rattle.escrow_desk.specs.Rows.{rows_of}
@@ -11,15 +11,17 @@ use Rattle.case_file.specs.Case.{CaseContents, IsKept, rows_case}
 use Rattle.escrow_top.specs.Answer.{Answer, answer_to, case_answer, case_of, certificate_answer, check_names, named_answer, refused, structure_names, usage, usage_text}
 use Rattle.escrow_top.specs.Accepted.{Accepted}
 use Rattle.escrow_top.specs.NotAccepted.{NotAccepted}
-use Rattle.escrow_top.specs.Ending.{Answers, AnswersPart, HoldsWhereTold, IsAccepted, IsNotAccepted, IsNoCommand, LacksFile, NamedAnswers, NamedAnswersPart}
+use Rattle.escrow_top.specs.Ending.{Answers, AnswersPart, HoldsWhereTold, IsAccepted, IsNotAccepted, IsNoCommand, LacksFile, NamedAnswers, NamedAnswersPart, SaidOfFiles}
 use Rattle.escrow_top.specs.MakeWords.{Making, make_words}
 use Rattle.escrow_top.specs.Making.{Makes, MakesPart}
 use Rattle.escrow_top.specs.Structure.{Structures, StructuresPart}
-use Rattle.escrow_top.specs.Reading.{AreRead, AreWithin, CertificateAnswers, FilesAnswer, IsTooLong, LacksCertificate, LacksInput, LacksNamed}
+use Rattle.escrow_top.specs.CaseOf.{AreWithin}
+use Rattle.escrow_top.specs.Reading.{AreRead, CertificateAnswers, FilesAnswer, IsTooLong, LacksCertificate, LacksInput, LacksNamed}
 use Rattle.escrow_desk.specs.declared.refusal.Refusal.{Refusal}
 use Rattle.escrow_top.specs.declared.status.Status.{Status}
 use Rattle.escrow_top.specs.declared.status.Status.TheVariants as status
 use Rattle.escrow_top.proofs.AcceptedLaws.{accepted}
+use Rattle.escrow_top.proofs.CaseLaws.{given}
 use Rattle.escrow_top.proofs.NotAcceptedLaws.{not_accepted}
 use Rattle.escrow_top.specs.declared.stop.Stop.{Stop}
 use Rattle.escrow_top.proofs.InputFacts.{read-all, rows_alone}
@@ -66,11 +68,16 @@ inputs_lack None names none = tt
 inputs_lack (Some content) names none = rw none refl
 
 -- what a status of the answer to a certificate means, of a certificate that was read
-found_means : (Holds : List ℕ → Type 0) (case : CaseContents) (answer : Answer) (reached : Status) (found : Option (List ℕ)) → ((cert : List ℕ) → (certificate_answer case cert).status ≡ reached → Holds cert) → IsSomeAnd found (λ file. answer ≡ certificate_answer case file) → answer.status ≡ reached → IsSomeAnd found Holds
+found_means : (Holds : List ℕ → List ℕ → Type 0) (case : CaseContents) (answer : Answer) (reached : Status) (found : Option (List ℕ))
+    → ((cert : List ℕ) → (certificate_answer case cert).status ≡ reached → Holds cert (certificate_answer case cert).text)
+    → IsSomeAnd found (λ file. answer ≡ certificate_answer case file) → answer.status ≡ reached → IsSomeAnd found (λ cert. Holds cert answer.text)
 found_means Holds case answer reached None means said is = said
-found_means Holds case answer reached (Some cert) means said is = means cert (rw said at is)
+found_means Holds case answer reached (Some cert) means said is =
+    subst (λ (a : Answer). Holds cert a.text) (sym said) (means cert (sym (ap (λ (a : Answer). a.status) said) ∙ is))
 
-certificate_means : (Holds : InputFiles → List ℕ → Type 0) (told : Told) (names : FileNames) (texts : InputFiles) (case : CaseContents) (answer : Answer) (reached : Status) → AreRead told names texts → ((cert : List ℕ) → (certificate_answer case cert).status ≡ reached → Holds texts cert) → CertificateAnswers told names.cert case answer → answer.status ≡ reached → HoldsWhereTold Holds told names
+certificate_means : (Holds : InputFiles → List ℕ → List ℕ → Type 0) (told : Told) (names : FileNames) (texts : InputFiles) (case : CaseContents) (answer : Answer) (reached : Status) → AreRead told names texts
+    → ((cert : List ℕ) → (certificate_answer case cert).status ≡ reached → Holds texts cert (certificate_answer case cert).text) → CertificateAnswers told names.cert case answer → answer.status ≡ reached
+    → HoldsWhereTold (λ files cert. Holds files cert answer.text) told names
 certificate_means Holds None names texts case answer reached read means said is = tt
 certificate_means Holds (Some content) names texts case answer reached read means said is =
     let issue = read.issue in
@@ -79,18 +86,29 @@ certificate_means Holds (Some content) names texts case answer reached read mean
     rw (issue, rates, prices) (found_means (Holds texts) case answer reached (file_of content names.cert) means said is)
 
 -- the same of a reply
-answer_means : (Holds : InputFiles → List ℕ → Type 0) (told : Told) (names : FileNames) (texts : InputFiles) (case : CaseContents) (result : Result Answer Stop) (reached : Status) → AreRead told names texts → ((cert : List ℕ) → (certificate_answer case cert).status ≡ reached → Holds texts cert) → IfOk result (λ reply. CertificateAnswers told names.cert case (reply)) → IfOk result (λ reply. reply.status ≡ reached → HoldsWhereTold Holds told names)
+answer_means : (Holds : InputFiles → List ℕ → List ℕ → Type 0) (told : Told) (names : FileNames) (texts : InputFiles) (case : CaseContents) (result : Result Answer Stop) (reached : Status) → AreRead told names texts
+    → ((cert : List ℕ) → (certificate_answer case cert).status ≡ reached → Holds texts cert (certificate_answer case cert).text) → IfOk result (λ reply. CertificateAnswers told names.cert case (reply))
+    → IfOk result (λ reply. reply.status ≡ reached → HoldsWhereTold (λ files cert. Holds files cert reply.text) told names)
 answer_means Holds told names texts case (Err stop) reached read means said = said
 answer_means Holds told names texts case (Ok reply) reached read means said =
     λ is. certificate_means Holds told names texts case (reply) reached read means said is
 
-pub answer_accepted : (told : Told) (names : FileNames) (texts : InputFiles) (case : CaseContents) (result : Result Answer Stop) → AreRead told names texts → AreWithin texts → rows_case (rows_of texts.issue) (rows_of texts.rates) (rows_of texts.prices) ≡ Ok case → IsKept (rows_of texts.issue) (rows_of texts.rates) (rows_of texts.prices) case → IfOk result (λ reply. CertificateAnswers told names.cert case (reply)) → IfOk result (λ reply. reply.status ≡ status.Done → HoldsWhereTold Accepted told names)
+pub answer_accepted : (told : Told) (names : FileNames) (texts : InputFiles) (case : CaseContents) (result : Result Answer Stop) → AreRead told names texts → AreWithin texts → rows_case (rows_of texts.issue) (rows_of texts.rates) (rows_of texts.prices) ≡ Ok case → IsKept (rows_of texts.issue) (rows_of texts.rates) (rows_of texts.prices) case → IfOk result (λ reply. CertificateAnswers told names.cert case (reply))
+    → IfOk result (λ reply. reply.status ≡ status.Done → HoldsWhereTold (λ files cert. Accepted files cert reply.text) told names)
 answer_accepted told names texts case result read within is kept said =
-    answer_means Accepted told names texts case result status.Done read (λ cert done. accepted texts cert case (rows_alone texts within ∙ is) kept done) said
+    let gives = given texts case within (rows_alone texts within ∙ is) kept in
+    answer_means Accepted told names texts case result status.Done read (λ cert done. accepted texts cert case gives (kept.book, kept.terms) done) said
 
-pub answer_not_accepted : (told : Told) (names : FileNames) (texts : InputFiles) (case : CaseContents) (result : Result Answer Stop) → AreRead told names texts → AreWithin texts → rows_case (rows_of texts.issue) (rows_of texts.rates) (rows_of texts.prices) ≡ Ok case → IsKept (rows_of texts.issue) (rows_of texts.rates) (rows_of texts.prices) case → IfOk result (λ reply. CertificateAnswers told names.cert case (reply)) → IfOk result (λ reply. reply.status ≡ status.No → HoldsWhereTold NotAccepted told names)
+pub answer_not_accepted : (told : Told) (names : FileNames) (texts : InputFiles) (case : CaseContents) (result : Result Answer Stop) → AreRead told names texts → AreWithin texts → rows_case (rows_of texts.issue) (rows_of texts.rates) (rows_of texts.prices) ≡ Ok case → IsKept (rows_of texts.issue) (rows_of texts.rates) (rows_of texts.prices) case → IfOk result (λ reply. CertificateAnswers told names.cert case (reply))
+    → IfOk result (λ reply. reply.status ≡ status.No → HoldsWhereTold (λ files cert. NotAccepted files cert reply.text) told names)
 answer_not_accepted told names texts case result read within is kept said =
-    answer_means NotAccepted told names texts case result status.No read (λ cert denied. not_accepted texts cert case (rows_alone texts within ∙ is) (kept.book, kept.terms) denied) said
+    let gives = given texts case within (rows_alone texts within ∙ is) kept in
+    answer_means NotAccepted told names texts case result status.No read (λ cert denied. not_accepted texts cert case gives (kept.book, kept.terms) denied) said
+
+-- the answer to named files was said
+pub named_said : (told new : Told) (names : FileNames) (reply : Answer) (reached : Status) → FilesAnswer told names reply → reached ≡ reply.status → SaidAll told reply.text new → NamedAnswers told names reached new
+named_said None new names reply reached is ends said = said
+named_said (Some content) new names reply reached is ends said = rw is (ends, said)
 
 no_command : (words : List (List ℕ)) (content : Content) → IsNoCommand words → answer_to words content ≡ Some usage
 no_command words content none =
@@ -135,8 +153,8 @@ make_put_out told new words making status is put = rw is put
 pub make_put_out_part : (told new : Told) (words : List (List ℕ)) (making : Making) → make_words words ≡ Some making → MakesPart told making new → AnswersPart told words new
 make_put_out_part told new words making is part = rw is part
 
-pub check_accepted : (told : Told) (words : List (List ℕ)) (names : FileNames) → check_names words ≡ Some names → HoldsWhereTold Accepted told names → IsAccepted told words
-check_accepted told words names is holds = rw is holds
+pub check_accepted : (told new : Told) (words : List (List ℕ)) (names : FileNames) → check_names words ≡ Some names → SaidOfFiles Accepted told names new → IsAccepted told words new
+check_accepted told new words names is said = rw is said
 
-pub check_not_accepted : (told : Told) (words : List (List ℕ)) (names : FileNames) → check_names words ≡ Some names → HoldsWhereTold NotAccepted told names → IsNotAccepted told words
-check_not_accepted told words names is holds = rw is holds
+pub check_not_accepted : (told new : Told) (words : List (List ℕ)) (names : FileNames) → check_names words ≡ Some names → SaidOfFiles NotAccepted told names new → IsNotAccepted told words new
+check_not_accepted told new words names is said = rw is said

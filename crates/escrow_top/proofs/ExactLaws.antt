@@ -19,12 +19,14 @@ use Rattle.escrow_top.specs.Accepted.{YesExactly}
 use Rattle.escrow_top.specs.Ending.{IsAnswerTo, IsNoCommand, NamedAnswers, OfFiles, OfNamedFiles}
 use Rattle.escrow_top.specs.MakeWords.{Making, make_words}
 use Rattle.escrow_top.specs.Stopping.{is_reached}
-use Rattle.escrow_top.specs.Reading.{AreRead, AreThere, AreWithin, FilesAnswer, IsTooLong}
+use Rattle.escrow_top.specs.CaseOf.{AreWithin}
+use Rattle.escrow_top.specs.Reading.{AreRead, AreThere, FilesAnswer, IsTooLong}
 use Rattle.escrow_top.specs.Stopping.{EndedAs}
 use Rattle.escrow_top.specs.declared.stop.Stop.{Stop}
 use Rattle.escrow_top.specs.declared.status.Status.{Status}
 use Rattle.escrow_top.specs.declared.status.Status.TheVariants as status
-use Rattle.escrow_top.proofs.AcceptedLaws.{KeepsLimits, yes_exactly}
+use Rattle.escrow_check.proofs.TextFacts.{KeepsLimits}
+use Rattle.escrow_top.proofs.AcceptedLaws.{yes_exactly}
 use Rattle.escrow_top.proofs.AnswerLaws.{long_named, named_by}
 use Rattle.escrow_top.proofs.WordLaws.{make-checks_none}
 use Rattle.escrow_top.proofs.InputFacts.{read-all, read-long_issue, read-long_rates, read-long_prices, over-issue, over-rates, over-prices, rows_alone, texts_of, within-all}

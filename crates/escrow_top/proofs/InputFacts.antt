@@ -9,7 +9,8 @@ use Rattle.escrow_desk.specs.declared.refusal.FileKind.TheVariants as file
 use Rattle.escrow_top.specs.InputFiles.{InputFiles, FileNames, first_too_long, inputs_of}
 use Rattle.case_file.specs.Case.{rows_case}
 use Rattle.escrow_top.specs.Answer.{case_of}
-use Rattle.escrow_top.specs.Reading.{AreThere, AreWithin}
+use Rattle.escrow_top.specs.CaseOf.{AreWithin}
+use Rattle.escrow_top.specs.Reading.{AreThere}
 
 under : (n : ℕ) → n ≤ FILE_LIMIT → nat_lt FILE_LIMIT n ≡ false
 under n h = grind arith

@@ -1,4 +1,5 @@
 pub mod InputFacts
+pub mod CaseLaws
 pub mod NumberFacts
 pub mod WordLaws
 pub mod AcceptedLaws

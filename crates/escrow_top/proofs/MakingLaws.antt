@@ -1,24 +1,27 @@
 -- What `make` comes to, proved.
 use Rattle.std.proofs.Common.{◌≡◌, ◌∙◌, ℕ, List, Ok, Err, Result, refl, subst, sym, ap, inl, inr}
 use Rattle.std.specs.Prelude.{IfOk}
-use Rattle.escrow_desk.specs.Rows.{rows_of}
 use Rattle.escrow_desk.specs.declared.refusal.Refusal.{Refusal}
 use Rattle.bound_certificate.specs.Text.{text_of}
 use Rattle.branch_search.proofs.FoundFacts.{found_are_accepted, none_found_are_accepted}
 use Rattle.branch_search.specs.Purchases.{certificate_of, certificate_of_none}
 use Rattle.branch_search.specs.Search.{IsFound, IsFoundBy, IsNoneFound}
-use Rattle.case_file.specs.Case.{CaseContents, HasTerms, IsKept}
+use Rattle.case_file.specs.Case.{CaseContents, HasTerms}
 use Rattle.dual_bound.specs.declared.tree.TreeNode.{TreeNode}
 use Rattle.offer_book.specs.Book.{IsBook}
 use Rattle.escrow_top.specs.Answer.{Answer, case_of}
 use Rattle.escrow_top.specs.Covered.{IsCovered}
 use Rattle.escrow_top.specs.InputFiles.{InputFiles}
-use Rattle.escrow_top.specs.Making.{HasAcceptedText, IsAnswerToNumber, IsMadeAnswer, IsMadeNone, IsMadeOf, made_answer, made_files, none_answer}
-use Rattle.escrow_top.specs.Settling.{SaysReach, SettlesCovered}
+use Rattle.escrow_top.specs.CaseOf.{GiveCase}
+use Rattle.escrow_top.specs.MakeWords.{Making}
+use Rattle.escrow_top.specs.Making.{HasAcceptedText, IsAnswerToNumber, IsMadeAnswer, IsMadeNone, IsMadeOf, OfMadeCase, made_answer, made_files, none_answer}
+use Rattle.escrow_top.specs.Settling.{SaysReach, SettlesCovered, SettlesPlain}
 use Rattle.escrow_top.specs.Structure.{IsEnd}
 use Rattle.escrow_top.specs.declared.status.Status.{Status}
 use Rattle.escrow_top.specs.declared.status.Status.TheVariants as status
-use Rattle.escrow_top.proofs.StructureLaws.{accepted_text, none_accepted, text_accepted, unreached}
+use Rattle.escrow_top.proofs.AcceptedLaws.{accepted_text}
+use Rattle.escrow_top.proofs.CaseLaws.{gives_is}
+use Rattle.escrow_top.proofs.StructureLaws.{none_accepted, text_accepted, unreached}
 
 -- what was found is what is answered
 pub made_of : (number : ℕ) (case : CaseContents) (plan : List ℕ) (nodes : List TreeNode) (gap : ℕ) (answer : Answer) → IsBook case.book → HasTerms case → IsFound case plan nodes gap → IsFoundBy case plan nodes
@@ -46,25 +49,29 @@ end_undone : (case : CaseContents) (answer : Answer) → IsEnd case answer → (
 end_undone case answer (inl own) reached is short spent = short (sym (ap (λ (a : Answer). a.status) own.is_answer) ∙ is)
 end_undone case answer (inr own) reached is short spent = spent (sym (ap (λ (a : Answer). a.status) own.is_answer) ∙ is)
 
-has_accepted : (files : InputFiles) (number : ℕ) (case : CaseContents) (answer : Answer) → case_of files ≡ Ok case → IsKept (rows_of files.issue) (rows_of files.rates) (rows_of files.prices) case
+has_accepted : (files : InputFiles) (number : ℕ) (case : CaseContents) (answer : Answer) → GiveCase files case → IsBook case.book → HasTerms case
     → IsMadeAnswer number (Ok case) answer → (reached : Status) → answer.status ≡ reached → (status.Infeasible ≡ reached → ⊥) → (status.BudgetSpent ≡ reached → ⊥) → HasAcceptedText files
-has_accepted files number case answer is kept (inl own) reached ends short spent = record {
+has_accepted files number case answer gives book terms (inl own) reached ends short spent = record {
   cert = text_of (certificate_of own.plan own.nodes own.gap);
-  is = accepted_text files (text_of (certificate_of own.plan own.nodes own.gap)) case is kept (ap (λ (a : Answer). a.status) own.accepted);
+  is = accepted_text files (text_of (certificate_of own.plan own.nodes own.gap)) case gives (book, terms) (ap (λ (a : Answer). a.status) own.accepted);
 }
-has_accepted files number case answer is kept (inr (inl own)) reached ends short spent = record {
+has_accepted files number case answer gives book terms (inr (inl own)) reached ends short spent = record {
   cert = text_of (certificate_of_none own.nodes);
-  is = accepted_text files (text_of (certificate_of_none own.nodes)) case is kept (ap (λ (a : Answer). a.status) own.accepted);
+  is = accepted_text files (text_of (certificate_of_none own.nodes)) case gives (book, terms) (ap (λ (a : Answer). a.status) own.accepted);
 }
-has_accepted files number case answer is kept (inr (inr own)) reached ends short spent = absurd (end_undone case answer own reached ends short spent)
+has_accepted files number case answer gives book terms (inr (inr own)) reached ends short spent = absurd (end_undone case answer own reached ends short spent)
 
-pub made_accepted : (files : InputFiles) (number : ℕ) (case : CaseContents) (answer : Answer) → case_of files ≡ Ok case → IsKept (rows_of files.issue) (rows_of files.rates) (rows_of files.prices) case
+pub made_accepted : (files : InputFiles) (number : ℕ) (case : CaseContents) (answer : Answer) → GiveCase files case → IsBook case.book → HasTerms case
     → IsMadeAnswer number (Ok case) answer → answer.status ≡ status.Done → HasAcceptedText files
-made_accepted files number case answer is kept own done = has_accepted files number case answer is kept own status.Done done (λ clash. cc) (λ clash. cc)
+made_accepted files number case answer gives book terms own done = has_accepted files number case answer gives book terms own status.Done done (λ clash. cc) (λ clash. cc)
 
-pub made_accepted_none : (files : InputFiles) (number : ℕ) (case : CaseContents) (answer : Answer) → case_of files ≡ Ok case → IsKept (rows_of files.issue) (rows_of files.rates) (rows_of files.prices) case
+pub made_accepted_none : (files : InputFiles) (number : ℕ) (case : CaseContents) (answer : Answer) → GiveCase files case → IsBook case.book → HasTerms case
     → IsMadeAnswer number (Ok case) answer → answer.status ≡ status.NoneWithinYield → HasAcceptedText files
-made_accepted_none files number case answer is kept own none = has_accepted files number case answer is kept own status.NoneWithinYield none (λ clash. cc) (λ clash. cc)
+made_accepted_none files number case answer gives book terms own none = has_accepted files number case answer gives book terms own status.NoneWithinYield none (λ clash. cc) (λ clash. cc)
+
+-- what holds of the case that is worked out of the files of a number holds of the one that they give
+of_made : (Holds : CaseContents → Type 0) (making : Making) → IfOk (case_of (made_files making.number)) Holds → OfMadeCase Holds making
+of_made Holds making is case gives = subst (λ (found : Result CaseContents Refusal). IfOk found Holds) (gives_is (made_files making.number) case gives) is
 
 -- a case that its budget covers is settled
 covers_case : (number : ℕ) (gives : Result CaseContents Refusal) (answer : Answer) → IsMadeAnswer number gives answer → IfOk gives (SettlesCovered answer.status)
@@ -77,9 +84,9 @@ covers_case number (Ok case) answer (inr (inr end)) = λ covered. absurd (by end
     by (inl own) covered = unreached case own.day own.short.all_short covered.in_reach
     by (inr own) covered = own.uncovered covered
 
-pub made_covered : (number : ℕ) (answer : Answer) (reached : Status) → IsAnswerToNumber number answer → reached ≡ answer.status → IfOk (case_of (made_files number)) (SettlesCovered reached)
-made_covered number answer reached is ends =
-    subst (λ (s : Status). IfOk (case_of (made_files number)) (SettlesCovered s)) (sym ends) (covers_case number (case_of (made_files number)) answer is)
+pub made_covered : (making : Making) (answer : Answer) (reached : Status) → IsAnswerToNumber making.number answer → reached ≡ answer.status → OfMadeCase (SettlesCovered reached) making
+made_covered making answer reached is ends =
+    subst (λ (s : Status). OfMadeCase (SettlesCovered s) making) (sym ends) (of_made (SettlesCovered answer.status) making (covers_case making.number (case_of (made_files making.number)) answer is))
 
 -- and that the needs can't be met is said where it is so
 reach_case : (number : ℕ) (gives : Result CaseContents Refusal) (answer : Answer) → IsMadeAnswer number gives answer → IfOk gives (SaysReach answer.status)
@@ -98,6 +105,11 @@ reach_case number (Ok case) answer (inr (inr end)) = by end
         let spent : answer.status ≡ status.BudgetSpent = ap (λ (a : Answer). a.status) own.is_answer in
         ((λ none. absurd (let clash : status.BudgetSpent ≡ status.Infeasible = sym spent ∙ none in cc)), (λ lost. absurd (lost own.is_spent.in_reach)))
 
-pub made_reach : (number : ℕ) (answer : Answer) (reached : Status) → IsAnswerToNumber number answer → reached ≡ answer.status → IfOk (case_of (made_files number)) (SaysReach reached)
-made_reach number answer reached is ends =
-    subst (λ (s : Status). IfOk (case_of (made_files number)) (SaysReach s)) (sym ends) (reach_case number (case_of (made_files number)) answer is)
+pub made_reach : (making : Making) (answer : Answer) (reached : Status) → IsAnswerToNumber making.number answer → reached ≡ answer.status → OfMadeCase (SaysReach reached) making
+made_reach making answer reached is ends =
+    subst (λ (s : Status). OfMadeCase (SaysReach s) making) (sym ends) (of_made (SaysReach answer.status) making (reach_case making.number (case_of (made_files making.number)) answer is))
+
+-- and a plain case is settled
+pub made_plain : (making : Making) (answer : Answer) (reached : Status) → IfOk (case_of (made_files making.number)) (SettlesPlain answer.status) → reached ≡ answer.status → OfMadeCase (SettlesPlain reached) making
+made_plain making answer reached is ends =
+    subst (λ (s : Status). OfMadeCase (SettlesPlain s) making) (sym ends) (of_made (SettlesPlain answer.status) making is)

@@ -8,11 +8,13 @@ use Rattle.escrow_desk.specs.declared.limits.TheConstants.{CERTIFICATE_LIMIT}
 use Rattle.bound_certificate.specs.Text.{text_of}
 use Rattle.branch_search.specs.Accepted.{FoundAreAccepted, NoneFoundAreAccepted, portfolio_with}
 use Rattle.branch_search.specs.Purchases.{certificate_of, certificate_of_none}
-use Rattle.branch_search.specs.Search.{IsFound, IsNoneFound, IsSpent}
+use Rattle.branch_search.specs.Search.{EndsOf, IsFound, IsNoneFound, IsSpent}
+use Rattle.branch_search.specs.declared.found.SearchEnd.TheVariants.{Short}
 use Rattle.branch_search.specs.declared.found.Spent.{Spent}
-use Rattle.cash_table.specs.Reach.{AreAllShort, IsInReach}
+use Rattle.cash_table.specs.Reach.{AreAllShort, IsInReach, plan_of_most}
+use Rattle.cash_table.proofs.DayFacts.{first_short_is}
 use Rattle.halving_tree.specs.Halving.{PartsAreFew, PartsAreWithin}
-use Rattle.case_file.specs.Case.{CaseContents, HasTerms, IsKept}
+use Rattle.case_file.specs.Case.{CaseContents, HasTerms}
 use Rattle.dual_bound.specs.declared.tree.TreeNode.{TreeNode}
 use Rattle.escrow_check.proofs.OneVerdict.{one_verdict}
 use Rattle.escrow_check.specs.Verdicts.{verdict_of}
@@ -25,11 +27,12 @@ use Rattle.escrow_top.specs.InputFiles.{FileNames, InputFiles, inputs_of}
 use Rattle.escrow_top.specs.Covered.{CoversPortfolios, CoversTree, IsCovered}
 use Rattle.escrow_top.specs.Settling.{OfCase, SaysReach, SettlesCovered, SettlesPlain}
 use Rattle.escrow_top.specs.Stopping.{is_reached, is_structured, is_unfound}
-use Rattle.escrow_top.specs.Structure.{FindsPlain, FindsPlainFor, IsAcceptedDraft, IsAcceptedFor, IsAcceptedText, IsDraft, IsDraftFor, IsDraftOf, IsEnd, IsFoundDraft, IsPartPutOut, IsPutOut, IsStructuredDraft, PutsOut, PutsOutPart, Structures, StructuresPart, WroteAccepted, WroteOrSaidPart, accepted_none, accepted_with, budget_spent}
-use Rattle.escrow_desk.specs.Rows.{rows_of}
-use Rattle.escrow_top.proofs.AcceptedLaws.{accepted}
+use Rattle.escrow_top.specs.Structure.{FindsPlain, FindsPlainFor, IsAcceptedDraft, IsAcceptedFor, IsDraft, IsDraftFor, IsDraftOf, IsEnd, IsFoundDraft, IsPartPutOut, IsPutOut, IsStructuredDraft, PutsOut, PutsOutPart, Structures, StructuresPart, WroteAccepted, WroteOrSaidPart, accepted_none, accepted_with, budget_spent, infeasible}
+use Rattle.escrow_top.proofs.AcceptedLaws.{accepted_text}
+use Rattle.escrow_top.proofs.CaseLaws.{gives_is}
 use Rattle.escrow_top.proofs.InputFacts.{read-all}
-use Rattle.escrow_top.specs.Reading.{AreRead, AreWithin}
+use Rattle.escrow_top.specs.CaseOf.{AreWithin, GiveCase}
+use Rattle.escrow_top.specs.Reading.{AreRead}
 use Rattle.escrow_top.proofs.CertificateSize.{text_fits}
 use Rattle.escrow_top.specs.declared.draft.Draft.{Draft}
 use Rattle.escrow_top.specs.declared.draft.Draft.TheVariants as draft
@@ -82,15 +85,10 @@ wrote (Some content) new names (draft.Found texts) reached structured accepted p
     rw put.1 (record { files = accepted.0; cert = texts.cert.items; there = accepted.1; written = get_inserted content.files names.cert texts.cert.items; is = accepted.2 })
 
 -- what is about to be written is accepted
-pub accepted_text : (files : InputFiles) (cert : List ℕ) (case : CaseContents) → case_of files ≡ Ok case → IsKept (rows_of files.issue) (rows_of files.rates) (rows_of files.prices) case
-    → (certificate_answer case cert).status ≡ status.Done → IsAcceptedText files cert
-accepted_text files cert case is kept done = record { answers = rw is done; accepted = accepted files cert case is kept done }
-
-pub accepted_draft : (files : InputFiles) (case : CaseContents) (d : Draft) → case_of files ≡ Ok case → IsKept (rows_of files.issue) (rows_of files.rates) (rows_of files.prices) case → IsDraftOf case d
-    → IsAcceptedDraft files d
-accepted_draft files case (draft.Found texts) is kept own = accepted_text files texts.cert.items case is kept (ap (λ (a : Answer). a.status) own.accepted)
-accepted_draft files case (draft.NoneWithinYield texts) is kept own = accepted_text files texts.cert.items case is kept (ap (λ (a : Answer). a.status) own.accepted)
-accepted_draft files case (draft.Said answer) is kept own = tt
+pub accepted_draft : (files : InputFiles) (case : CaseContents) (d : Draft) → GiveCase files case → IsBook case.book → HasTerms case → IsDraftOf case d → IsAcceptedDraft files d
+accepted_draft files case (draft.Found texts) gives book terms own = accepted_text files texts.cert.items case gives (book, terms) (ap (λ (a : Answer). a.status) own.accepted)
+accepted_draft files case (draft.NoneWithinYield texts) gives book terms own = accepted_text files texts.cert.items case gives (book, terms) (ap (λ (a : Answer). a.status) own.accepted)
+accepted_draft files case (draft.Said answer) gives book terms own = tt
 
 unfound_some : (s : Status) → IsTrue (is_unfound s) → s ≡ status.NoneWithinYield → ⊥
 unfound_some s is none = let clash : is_unfound status.NoneWithinYield ≡ true = subst (λ t. is_unfound t ≡ true) none is in absurd (cc)
@@ -116,8 +114,9 @@ plain_found content names d texts case finds read is plain =
 
 pub settles_plain : (told new : Told) (names : FileNames) (d : Draft) (reached : Status) → FindsPlainFor told names d → PutsOut told names.cert d reached new → OfCase (SettlesPlain reached) told names
 settles_plain None new names d reached finds put = tt
-settles_plain (Some content) new names d reached finds put = λ texts case read is plain.
-    found_done (Some content) new names.cert d reached (plain_found content names d texts case finds read is plain) put
+settles_plain (Some content) new names d reached finds put = λ files case there gives plain.
+    found_done (Some content) new names.cert d reached
+    (plain_found content names d files case finds (read-all content names files there gives.within) (gives_is files case gives) plain) put
 
 -- ---- what a case comes to
 -- a case whose budget is spent isn't covered by it
@@ -135,7 +134,8 @@ draft_of content names d texts case is read gives =
 
 of_case : (Holds : CaseContents → Type 0) (told : Told) (names : FileNames) (d : Draft) → ((case : CaseContents) → IsDraftOf case d → Holds case) → IsDraftFor told names d → OfCase Holds told names
 of_case Holds None names d holds is = tt
-of_case Holds (Some content) names d holds is = λ texts case read gives. holds case (draft_of content names d texts case is read gives)
+of_case Holds (Some content) names d holds is = λ files case there gives.
+    holds case (draft_of content names d files case is (read-all content names files there gives.within) (gives_is files case gives))
 
 -- where all that is permitted is short, the needs can't be met
 pub unreached : (case : CaseContents) (day : ℤ) → AreAllShort case.book day → IsInReach case.book → ⊥
@@ -171,6 +171,14 @@ says_reach told new names d reached is put = of_case (SaysReach reached) told na
 -- a spent budget, as an answer
 pub spent_end : (case : CaseContents) (spent : Spent) (answer : Answer) → PartsAreWithin → PartsAreFew → IsBook case.book → IsSpent case spent → answer ≡ budget_spent case.book spent → IsEnd case answer
 spent_end case spent answer within few limits is said = inr (record { spent = spent; is_spent = is; uncovered = uncovered case spent within few limits is; is_answer = said })
+
+-- and needs that can't be met
+pub short_end : (case : CaseContents) (day : ℤ) (answer : Answer) → IsBook case.book → EndsOf case (Short day) → answer ≡ infeasible day → IsEnd case answer
+short_end case day answer limits is said = inl (record {
+  day = day;
+  short = record { first = rw is.0 at (first_short_is case.book (plan_of_most case.book) limits.needs.rising); all_short = is.1 };
+  is_answer = said;
+})
 
 -- ---- what holds of files that were read holds of those of their names
 pub draft_for : (told : Told) (names : FileNames) (texts : InputFiles) (d : Draft) → AreRead told names texts → AreWithin texts → IsDraft (case_of texts) d → IsDraftFor told names d

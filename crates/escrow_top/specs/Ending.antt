@@ -125,14 +125,21 @@ abbrev pub IsAnswerTo : Told → Status → Told → InputFiles → List ℕ →
 IsAnswerTo told reached told_new files cert =
     (reached ≡ (check_answer files cert).status) × SaidAll told (check_answer files cert).text told_new
 
--- where the words are those of `check`, and the desk tells, the four files that they name are there and accepted
-abbrev pub IsAccepted : Told → List (List ℕ) → Type 0
-IsAccepted told words = IfSome (check_names words) (HoldsWhereTold Accepted told)
+-- a text was said, and no file changed; where the desk tells, the four files of these names are there, and this holds of their bytes
+-- and the text
+pub record SaidOfFiles (Holds : InputFiles → List ℕ → List ℕ → Type 0) (told : Told) (names : FileNames) (new : Told) : Type 0 where
+  pub text : List ℕ
+  pub said : SaidAll told text new
+  pub holds : HoldsWhereTold (λ files cert. Holds files cert text) told names
+
+-- where the words are those of `check`: the four files that they name are accepted, and this was said
+abbrev pub IsAccepted : Told → List (List ℕ) → Told → Type 0
+IsAccepted told words new = IfSome (check_names words) (λ names. SaidOfFiles Accepted told names new)
 
 -- where they are those of `structure`, `check` accepts the certificate that was written
 abbrev pub WroteCertificate : Told → Told → List (List ℕ) → Type 0
 WroteCertificate told new words = IfSome (structure_names words) (WroteAccepted told new)
 
--- the words are those of `check`, and where the desk tells, the four files that they name are there and aren't accepted
-abbrev pub IsNotAccepted : Told → List (List ℕ) → Type 0
-IsNotAccepted told words = IsSomeAnd (check_names words) (HoldsWhereTold NotAccepted told)
+-- the words are those of `check`: the four files that they name aren't accepted, and this was said
+abbrev pub IsNotAccepted : Told → List (List ℕ) → Told → Type 0
+IsNotAccepted told words new = IsSomeAnd (check_names words) (λ names. SaidOfFiles NotAccepted told names new)

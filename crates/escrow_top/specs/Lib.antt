@@ -1,6 +1,7 @@
 pub mod InputFiles
 pub mod MakeWords
 pub mod Answer
+pub mod CaseOf
 pub mod Ending
 pub mod Accepted
 pub mod NotAccepted

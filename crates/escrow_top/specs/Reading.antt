@@ -1,6 +1,6 @@
 -- What was read of the files that a desk tells.
 use Rattle.std.specs.Prelude.{◌≡◌, ℕ, ◌≤◌, ◌<◌, List, length, Some, None, MatchOption, IsSomeAnd}
-use Rattle.escrow_desk.specs.declared.limits.TheConstants.{CERTIFICATE_LIMIT, FILE_LIMIT}
+use Rattle.escrow_desk.specs.declared.limits.TheConstants.{CERTIFICATE_LIMIT}
 use Rattle.escrow_desk.specs.Content.{Content, Told, file_of}
 use Rattle.escrow_desk.specs.declared.refusal.FileKind.{FileKind}
 use Rattle.escrow_top.specs.declared.files.FileNames.{FileNames as CodeNames}
@@ -13,6 +13,7 @@ use Rattle.escrow_top.specs.InputFiles.{InputFiles, FileNames, first_too_long, i
 use Rattle.case_file.specs.Case.{CaseContents}
 use Rattle.escrow_check.specs.Verdicts.{verdict_of}
 use Rattle.escrow_top.specs.Answer.{Answer, certificate_answer, named_answer}
+use Rattle.escrow_top.specs.CaseOf.{AreWithin}
 use Rattle.escrow_top.specs.declared.hearing.Heard.{Heard}
 use Rattle.escrow_top.specs.declared.hearing.Heard.TheVariants as heard
 
@@ -38,12 +39,6 @@ KeepsTo limit (text.Within bytes) = length bytes.items ≤ limit
 abbrev pub IsRead : Told → List ℕ → ℕ → FileText → Type 0
 IsRead told name limit found =
     MatchOption told (Unit {0}) (λ content. IsSomeAnd (file_of content name) (λ file. IsBounded limit file found))
-
--- each of the input files has at most as many bytes as its limit
-pub record AreWithin (texts : InputFiles) : Type 0 where
-  pub issue : length texts.issue ≤ FILE_LIMIT
-  pub rates : length texts.rates ≤ FILE_LIMIT
-  pub prices : length texts.prices ≤ FILE_LIMIT
 
 -- the three input files of these names are there, with these bytes
 pub record AreThere (content : Content) (names : FileNames) (texts : InputFiles) : Type 0 where

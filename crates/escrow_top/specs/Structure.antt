@@ -9,16 +9,15 @@ use Rattle.branch_search.specs.Purchases.{certificate_of, certificate_of_none}
 use Rattle.branch_search.specs.Search.{IsFound, IsFoundBy, IsNoneFound, IsSpent}
 use Rattle.branch_search.specs.declared.found.Spent.{Spent}
 use Rattle.case_file.specs.Case.{CaseContents}
-use Rattle.cash_table.specs.First.{first_short_of}
 use Rattle.cash_table.specs.Reach.{AreAllShort, plan_of_most}
 use Rattle.dual_bound.specs.declared.tree.TreeNode.{TreeNode}
 use Rattle.escrow_units.specs.Digits.{fixed}
 use Rattle.offer_book.specs.Book.{BookContents}
-use Rattle.offer_book.specs.Portfolio.{cost}
+use Rattle.offer_book.specs.Portfolio.{IsFirstShort, cost}
 use Rattle.verification_report.specs.Report.{figures_of, report_text}
 use Rattle.verification_report.specs.Summary.{summary_text, text_line}
-use Rattle.escrow_top.specs.Accepted.{Accepted}
-use Rattle.escrow_top.specs.Answer.{Answer, case_of, certificate_answer, check_answer, none_text, refused_text}
+use Rattle.escrow_top.specs.Accepted.{IsAcceptedText}
+use Rattle.escrow_top.specs.Answer.{Answer, case_of, certificate_answer, none_text, refused_text}
 use Rattle.escrow_top.specs.Covered.{IsCovered}
 use Rattle.escrow_top.specs.InputFiles.{FileNames, InputFiles, inputs_of}
 use Rattle.escrow_top.specs.Reading.{AreThere}
@@ -80,9 +79,10 @@ pub record AreNoneTexts (case : CaseContents) (cert said : List ℕ) : Type 0 wh
   pub is_said : said ≡ none_within_text nodes
   pub accepted : certificate_answer case cert ≡ accepted_none
 
--- no permitted portfolio meets the needs, which shows first on a day
+-- no permitted portfolio meets the needs: of all day numbers this is the first on which the most of all lines is short, and by it
+-- every permitted portfolio is
 pub record IsShortFrom (case : CaseContents) (day : ℤ) : Type 0 where
-  pub first : first_short_of case.book (plan_of_most case.book) ≡ Some day
+  pub first : IsFirstShort case.book (plan_of_most case.book) day
   pub all_short : AreAllShort case.book day
 
 -- the needs can't be met, as an answer
@@ -139,12 +139,6 @@ IsPartPutOut content name (Ok case) new =
     ((cert report : List ℕ) × AreTexts case cert report × (WrotePart (Some content) name cert new ⊎ SaidPart (Some (with_file content name cert)) report new))
     ⊎ ((cert said : List ℕ) × AreNoneTexts case cert said × (WrotePart (Some content) name cert new ⊎ SaidPart (Some (with_file content name cert)) said new))
     ⊎ ((answer : Answer) × IsEnd case answer × SaidPart (Some content) answer.text new)
-
--- `check` accepts the bytes of a certificate for the input files, and so they are what it says: a portfolio than which no rival costs
--- less by more than the gap, or a tree that shows that there is no rival
-pub record IsAcceptedText (files : InputFiles) (cert : List ℕ) : Type 0 where
-  pub answers : (check_answer files cert).status ≡ status.Done
-  pub accepted : Accepted files cert
 
 -- `check` accepts what is about to be written, for the input files
 abbrev pub IsAcceptedDraft : InputFiles → Draft → Type 0

@@ -3,7 +3,8 @@
 ghost use Rattle.std.specs.Prelude.{◌≡◌, IfOk, IsErrOf, IsTrue};
 ghost use Rattle.offer_book.specs.Book.{IsBook};
 ghost use Rattle.case_file.specs.Case.{HasTerms, case_view};
-ghost use Rattle.escrow_top.specs.Reading.{AreRead, AreWithin, CertificateAnswers, FilesAnswer, LacksCertificate, LacksNamed, files_view, names_view};
+ghost use Rattle.escrow_top.specs.CaseOf.{AreWithin};
+ghost use Rattle.escrow_top.specs.Reading.{AreRead, CertificateAnswers, FilesAnswer, LacksCertificate, LacksNamed, files_view, names_view};
 ghost use Rattle.escrow_top.specs.Ending.{HoldsWhereTold, OfNamedFiles, is_checked};
 ghost use Rattle.escrow_top.specs.Accepted.{Accepted, YesExactly};
 ghost use Rattle.escrow_top.specs.NotAccepted.{NotAccepted};
@@ -51,8 +52,8 @@ fn answer_to_files<D: Desk>(
     requires within { AreWithin (files_view files.now) }
     ensures answer { IfOk result (λ answer. FilesAnswer (D.told desk.old) (names_view names.now) answer) }
     ensures status { IfOk result (λ answer. IsTrue (is_checked answer.status)) }
-    ensures yes { IfOk result (λ answer. answer.status ≡ Status.Done → HoldsWhereTold Accepted (D.told desk.old) (names_view names.now)) }
-    ensures no { IfOk result (λ answer. answer.status ≡ Status.No → HoldsWhereTold NotAccepted (D.told desk.old) (names_view names.now)) }
+    ensures yes { IfOk result (λ answer. answer.status ≡ Status.Done → HoldsWhereTold (λ files cert. Accepted files cert answer.text) (D.told desk.old) (names_view names.now)) }
+    ensures no { IfOk result (λ answer. answer.status ≡ Status.No → HoldsWhereTold (λ files cert. NotAccepted files cert answer.text) (D.told desk.old) (names_view names.now)) }
     ensures exactly { IfOk result (λ answer. OfNamedFiles (YesExactly answer.status) (D.told desk.old) (names_view names.now)) }
     ensures absent { IsErrOf result Stop.NoFile → LacksNamed (D.told desk.old) (names_view names.now) }
     ensures told { D.told desk.new ≡ D.told desk.old }
@@ -79,8 +80,8 @@ pub(crate) fn check<D: Desk>(
 ) -> Result<Answer, Stop>
     ensures answer { IfOk result (λ answer. FilesAnswer (D.told desk.old) (names_view names.now) answer) }
     ensures status { IfOk result (λ answer. IsTrue (is_checked answer.status)) }
-    ensures yes { IfOk result (λ answer. answer.status ≡ Status.Done → HoldsWhereTold Accepted (D.told desk.old) (names_view names.now)) }
-    ensures no { IfOk result (λ answer. answer.status ≡ Status.No → HoldsWhereTold NotAccepted (D.told desk.old) (names_view names.now)) }
+    ensures yes { IfOk result (λ answer. answer.status ≡ Status.Done → HoldsWhereTold (λ files cert. Accepted files cert answer.text) (D.told desk.old) (names_view names.now)) }
+    ensures no { IfOk result (λ answer. answer.status ≡ Status.No → HoldsWhereTold (λ files cert. NotAccepted files cert answer.text) (D.told desk.old) (names_view names.now)) }
     ensures exactly { IfOk result (λ answer. OfNamedFiles (YesExactly answer.status) (D.told desk.old) (names_view names.now)) }
     ensures absent { IsErrOf result Stop.NoFile → LacksNamed (D.told desk.old) (names_view names.now) }
     ensures told { D.told desk.new ≡ D.told desk.old }

@@ -7,12 +7,14 @@ mod command;
 mod draft;
 mod files;
 mod hearing;
+mod laws;
 mod making;
 mod program;
 mod status;
 mod stop;
 mod structure;
 
+pub use laws::case_laws;
 pub use program::run;
 pub use status::Status;
 

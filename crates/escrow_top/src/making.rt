@@ -9,7 +9,8 @@ ghost use Rattle.offer_book.specs.Book.{IsBook};
 ghost use Rattle.offer_book.specs.Portfolio.{IsPermitted};
 ghost use Rattle.escrow_top.specs.Answer.{case_of};
 ghost use Rattle.escrow_top.specs.Making.{HasAcceptedText, IsAnswerToNumber, IsMadeAnswer, made_answer, made_files, made_text as made_text_of, none_answer as none_answer_of};
-ghost use Rattle.escrow_top.specs.Reading.{AreWithin, files_view};
+ghost use Rattle.escrow_top.specs.CaseOf.{AreWithin};
+ghost use Rattle.escrow_top.specs.Reading.{files_view};
 ghost use Rattle.escrow_top.specs.Settling.{SettlesPlain};
 ghost use Rattle.escrow_top.specs.Stopping.{is_structured};
 

@@ -3,7 +3,7 @@
 ghost use Rattle.std.specs.Prelude.{◌≡◌, ◌≢◌, ◌↔◌, map, string_bytes, IfSome, IsTrue, OnErr, OnOk};
 ghost use Rattle.escrow_desk.specs.Content.{SaidAll, SaidPart, told_map};
 ghost use Rattle.escrow_desk.specs.Counts.{AllSteady, CountsWrite};
-ghost use Rattle.escrow_top.specs.Ending.{Answers, AnswersPart, HoldsWhereTold, IsAccepted, IsAnswerTo, IsNoCommand, IsNotAccepted, LacksFile, NamedAnswers, NamedAnswersPart, OfFiles, OfNamedFiles, WroteCertificate, is_checked};
+ghost use Rattle.escrow_top.specs.Ending.{Answers, AnswersPart, IsAccepted, IsAnswerTo, IsNoCommand, IsNotAccepted, LacksFile, NamedAnswers, NamedAnswersPart, OfFiles, OfNamedFiles, SaidOfFiles, WroteCertificate, is_checked};
 ghost use Rattle.escrow_top.specs.Accepted.{Accepted, YesExactly};
 ghost use Rattle.escrow_top.specs.NotAccepted.{NotAccepted};
 ghost use Rattle.escrow_top.specs.Answer.{check_names, structure_names};
@@ -48,8 +48,8 @@ fn run_check<D: Desk>(alloc: Global, names: &FileNames<'_>, desk: &mut D) -> Sta
     ensures part { result ≡ Status.WriteFault → NamedAnswersPart (D.told desk.old) (names_view names.now) (D.told desk.new) }
     ensures lacks { result ≡ Status.NoFile → LacksNamed (D.told desk.old) (names_view names.now) }
     ensures checked { IsTrue (is_reached result) → IsTrue (is_checked result) }
-    ensures yes { result ≡ Status.Done → HoldsWhereTold Accepted (D.told desk.old) (names_view names.now) }
-    ensures no { result ≡ Status.No → HoldsWhereTold NotAccepted (D.told desk.old) (names_view names.now) }
+    ensures yes { result ≡ Status.Done → SaidOfFiles Accepted (D.told desk.old) (names_view names.now) (D.told desk.new) }
+    ensures no { result ≡ Status.No → SaidOfFiles NotAccepted (D.told desk.old) (names_view names.now) (D.told desk.new) }
     ensures exactly { IsTrue (is_reached result) → OfNamedFiles (YesExactly result) (D.told desk.old) (names_view names.now) }
     ensures bytes { AllSteady (D.counts desk.old) (D.counts desk.new) → result ≢ Status.NoMemory → OfNamedFiles (IsAnswerTo (D.told desk.old) result (D.told desk.new)) (D.told desk.old) (names_view names.now) }
 
@@ -177,7 +177,7 @@ pub fn run<D: Desk>(alloc: Global, words: &[String], desk: &mut D) -> Status
     // Where the run wasn't cut off, the status and what was said are the answer to the words over the desk's content.
     ensures answers { IsTrue (is_reached result) → Answers (D.told desk.old) (map string_bytes words.now) result (D.told desk.new) }
     // What `yes` means, of the bytes of the four files.
-    ensures yes { result ≡ Status.Done → IsAccepted (D.told desk.old) (map string_bytes words.now) }
+    ensures yes { result ≡ Status.Done → IsAccepted (D.told desk.old) (map string_bytes words.now) (D.told desk.new) }
     // `structure` writes only certificates that `check` accepts.
     ensures wrote { result ≡ Status.Done → WroteCertificate (D.told desk.old) (D.told desk.new) (map string_bytes words.now) }
     ensures wrote_none { result ≡ Status.NoneWithinYield → WroteCertificate (D.told desk.old) (D.told desk.new) (map string_bytes words.now) }
@@ -195,7 +195,7 @@ pub fn run<D: Desk>(alloc: Global, words: &[String], desk: &mut D) -> Status
     ensures made_covered { IsTrue (is_reached result) → IfSome (make_words (map string_bytes words.now)) (OfMadeCase (SettlesCovered result)) }
     ensures made_reach { IsTrue (is_reached result) → IfSome (make_words (map string_bytes words.now)) (OfMadeCase (SaysReach result)) }
     // What `no` means: which reason stands, and that no earlier one does.
-    ensures no { result ≡ Status.No → IsNotAccepted (D.told desk.old) (map string_bytes words.now) }
+    ensures no { result ≡ Status.No → IsNotAccepted (D.told desk.old) (map string_bytes words.now) (D.told desk.new) }
     // `yes` comes exactly where no reason stands.
     ensures exactly { IsTrue (is_reached result) → OfFiles (YesExactly result) (D.told desk.old) (map string_bytes words.now) }
     // Where no call of the desk failed and memory lasted, `check` of four files that are there says the answer to their bytes.

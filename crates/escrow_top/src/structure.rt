@@ -7,7 +7,8 @@ ghost use Rattle.branch_search.specs.Search.{EndsOf, IsFound, IsFoundBy, IsNoneF
 ghost use Rattle.branch_search.specs.declared.found.SearchEnd.TheVariants.{NoMemory as OutOfMemory};
 ghost use Rattle.offer_book.specs.Book.{IsBook};
 ghost use Rattle.escrow_top.specs.Answer.{case_of};
-ghost use Rattle.escrow_top.specs.Reading.{AreWithin, LacksInput, files_view, names_view};
+ghost use Rattle.escrow_top.specs.CaseOf.{AreWithin};
+ghost use Rattle.escrow_top.specs.Reading.{LacksInput, files_view, names_view};
 ghost use Rattle.escrow_top.specs.Structure.{AreNoneTexts, AreTexts, FindsPlain, FindsPlainFor, IsAcceptedDraft, IsAcceptedFor, IsDraft, IsDraftFor, IsDraftOf, IsFoundDraft, IsStructuredDraft};
 ghost use Rattle.escrow_top.specs.Stopping.{CountsStep};
 

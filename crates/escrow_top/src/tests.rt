@@ -2,7 +2,7 @@
 
 ghost use Rattle.std.specs.Prelude.{◌≡◌, IfOk, string_bytes};
 
-use crate::{Status, run};
+use crate::{Status, case_laws, run};
 use escrow_desk::{MemoryDesk, NamedBytes};
 use std::alloc::Global;
 use std::process::Abort;
@@ -103,6 +103,7 @@ fn try_rows(rt: &impl Abort, alloc: Global, rows: &[Row]) -> Result<(), Fail> {
 
 #[test]
 fn accepted_certificates(rt: HostRuntime) -> Result<(), Fail> {
+    case_laws();
     let rows = [
         Row {
             files: FIRST,

@@ -1,9 +1,9 @@
-use Rattle.std.proofs.Common.{◌∙◌}
+use Rattle.std.proofs.Common.{◌∙◌, Ok}
 use Rattle.std.proofs.lemmas.Result.{IfOk-weaker}
 use Rattle.case_file.specs.Case.{case_view}
 use Rattle.escrow_top.specs.Reading.{CertificateAnswers, FilesAnswer, files_view, names_view}
-use Rattle.escrow_top.proofs.AnswerLaws.{certificate_said, answer_accepted, answer_not_accepted}
-use Rattle.escrow_top.proofs.ExactLaws.{answer_exactly}
+use Rattle.escrow_top.proofs.AnswerLaws.{certificate_said, answer_accepted, answer_not_accepted, no_case_said}
+use Rattle.escrow_top.proofs.ExactLaws.{answer_exactly, no_case_exactly}
 use Rattle.escrow_top.proofs.InputFacts.{rows_alone}
 use Rattle.escrow_top.proofs.check.answer_to_files.Goals as goal
 
@@ -41,3 +41,17 @@ returns-in-Ok-clause-exactly g c =
     answer_exactly told names files case c.answer_to_certificate.result c.requires.read c.requires.within is kept
     (IfOk-weaker c.answer_to_certificate.result (λ reply. CertificateAnswers told names.cert case (reply)) (λ reply. FilesAnswer told names (reply))
     (λ reply said. certificate_said told names files case (reply) c.requires.read c.requires.within (rows_alone files c.requires.within ∙ is) said) c.answer_to_certificate.ensures.answer)
+
+pub returns-in_ok-refused-in-Err-Refused-clause-exactly : goal.returns-in_ok-refused-in-Err-Refused-clause-exactly
+returns-in_ok-refused-in-Err-Refused-clause-exactly g c =
+    let issue = c.as_slice.ensures.value in
+    let rates = c.as_slice-2.ensures.value in
+    let prices = c.as_slice-3.ensures.value in
+    let is = rw (c.in-Err-Refused.field-0-is, issue, rates, prices) at c.in-Err-Refused.ensures.case in
+    let told = g.D.Desk.told c.args.desk.now in
+    let names = names_view c.args.names.now in
+    let files = files_view c.args.files.now in
+    let why = c.in-Err-Refused.refusal in
+    let reply = c.in_ok-refused-in-Err-Refused.field-0 in
+    no_case_exactly told names files why (Ok reply) c.requires.read c.requires.within is
+    (no_case_said told names files why reply c.requires.read c.requires.within (rows_alone files c.requires.within ∙ is) c.in_ok-refused-in-Err-Refused.ensures.answer)

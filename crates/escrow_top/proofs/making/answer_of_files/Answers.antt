@@ -4,6 +4,7 @@ use Rattle.case_file.specs.Case.{case_view}
 use Rattle.escrow_top.specs.Reading.{files_view}
 use Rattle.escrow_top.specs.Making.{HasAcceptedText, IsMadeAnswer}
 use Rattle.escrow_top.specs.declared.status.Status.TheVariants as status
+use Rattle.escrow_top.proofs.CaseLaws.{given}
 use Rattle.escrow_top.proofs.InputFacts.{rows_alone}
 use Rattle.escrow_top.proofs.MakingLaws.{made_accepted, made_accepted_none}
 use Rattle.escrow_top.proofs.making.answer_of_files.Goals as goal
@@ -18,7 +19,7 @@ returns-in-Ok-clause-accepted c =
     let files = files_view c.args.files.now in
     let case = case_view c.in-Ok.case in
     IfOk-weaker c.answer_of_case.result (IsMadeAnswer c.args.number (Ok case)) (λ answer. answer.status ≡ status.Done → HasAcceptedText files)
-    (λ answer own. made_accepted files c.args.number case answer (rows_alone files c.requires ∙ is) kept own) c.answer_of_case.ensures.answer
+    (λ answer own. made_accepted files c.args.number case answer (given files case c.requires (rows_alone files c.requires ∙ is) kept) kept.book kept.terms own) c.answer_of_case.ensures.answer
 
 pub returns-in-Ok-clause-accepted_none : goal.returns-in-Ok-clause-accepted_none
 returns-in-Ok-clause-accepted_none c =
@@ -30,4 +31,4 @@ returns-in-Ok-clause-accepted_none c =
     let files = files_view c.args.files.now in
     let case = case_view c.in-Ok.case in
     IfOk-weaker c.answer_of_case.result (IsMadeAnswer c.args.number (Ok case)) (λ answer. answer.status ≡ status.NoneWithinYield → HasAcceptedText files)
-    (λ answer own. made_accepted_none files c.args.number case answer (rows_alone files c.requires ∙ is) kept own) c.answer_of_case.ensures.answer
+    (λ answer own. made_accepted_none files c.args.number case answer (given files case c.requires (rows_alone files c.requires ∙ is) kept) kept.book kept.terms own) c.answer_of_case.ensures.answer

@@ -3,6 +3,7 @@ use Rattle.std.proofs.lemmas.Result.{IfOk-weaker}
 use Rattle.case_file.specs.Case.{case_view}
 use Rattle.escrow_top.specs.Reading.{files_view}
 use Rattle.escrow_top.specs.Structure.{IsAcceptedDraft, IsDraftOf}
+use Rattle.escrow_top.proofs.CaseLaws.{given}
 use Rattle.escrow_top.proofs.InputFacts.{rows_alone}
 use Rattle.escrow_top.proofs.StructureLaws.{accepted_draft}
 use Rattle.escrow_top.proofs.structure.draft_of_files.Goals as goal
@@ -17,4 +18,4 @@ returns-in-Ok-clause-accepted c =
     let files = files_view c.args.files.now in
     let case = case_view c.in-Ok.case in
     IfOk-weaker c.draft_of_case.result (IsDraftOf case) (IsAcceptedDraft files)
-    (λ d own. accepted_draft files case d (rows_alone files c.requires ∙ is) kept own) c.draft_of_case.ensures.draft
+    (λ d own. accepted_draft files case d (given files case c.requires (rows_alone files c.requires ∙ is) kept) kept.book kept.terms own) c.draft_of_case.ensures.draft
