@@ -1,0 +1,85 @@
+"""Bytes that are drawn: files of the examples with changes, of which no run may crash, and two judges have to agree."""
+
+from __future__ import annotations
+
+import random
+import subprocess
+import time
+from pathlib import Path
+
+from .ground import ANSWERS, NAMES, ROOT, Run, Tries, example, run
+
+# Fields and words that fit somewhere.
+PIECES = (
+    b"0", b"1", b"00", b"-1", b"9" * 16, b"30.000", b"30.001", b"29.99", b"2025-01-15", b"2024-02-29", b"2065-01-15", b"2199-12-31",
+    b"max", b"settle", b"need", b"bond", b"call", b"cash", b"price", b"pay", b"terms", b"rate", b"offer", b"note", b"budget",
+    b"portfolio none", b"nodes", b"s 1 2", b"p", b"l 0 0 0", b"end", b"gap 0", b"buy 1 1", b"1000000000000", b"\r\n", b"\n\n", b'"',
+    b'""', b"\xef\xbb\xbf", b"\xff", b"\x00", b",", b",,", b" ",
+)  # fmt: skip
+
+
+def _changed(draw: random.Random, data: bytes) -> bytes:
+    """Bytes with a few changes: of a byte, of a piece, of a line, or the end cut off."""
+    for _ in range(draw.choice((1, 1, 1, 2, 3, 8))):
+        at, way = draw.randrange(len(data) + 1), draw.randrange(6)
+        lines = data.split(b"\n")
+        if way == 0:
+            data = data[:at] + bytes((draw.randrange(256),)) + data[at + 1 :]
+        elif way == 1:
+            data = data[:at] + draw.choice(PIECES) + data[at + draw.randrange(12) :]
+        elif way == 2:
+            line = draw.randrange(len(lines))
+            data = b"\n".join(lines[:line] + lines[line + 1 :])
+        elif way == 3:
+            line = draw.choice(lines)
+            lines.insert(draw.randrange(len(lines) + 1), line)
+            data = b"\n".join(lines)
+        elif way == 4:
+            line = draw.randrange(len(lines))
+            fields = lines[line].split(b"," if b"," in lines[line] else b" ")
+            fields[draw.randrange(len(fields))] = draw.choice(PIECES)
+            lines[line] = (b"," if b"," in lines[line] else b" ").join(fields)
+            data = b"\n".join(lines)
+        else:
+            data = data[:at] if draw.random() < 0.2 else data[:at] + data[at + 1 :]
+    return data
+
+
+def _judged(judge: str, folder: Path) -> Run:
+    done = subprocess.run([judge, "check", *NAMES], cwd=folder, stdin=subprocess.DEVNULL, capture_output=True, check=False)
+    return Run(done.returncode, done.stdout, b"")
+
+
+def _keep(folder: Path, number: int) -> str:
+    """Keeps the files of what failed, to be tried again."""
+    kept = Path("hostile.found") / ("%d" % number)
+    kept.mkdir(parents=True, exist_ok=True)
+    for name in NAMES:
+        (kept / name).write_bytes((folder / name).read_bytes())
+    return str(kept)
+
+
+def tries(tries: Tries, asked) -> None:
+    draw = random.Random(asked.seed)
+    examples = sorted(path.parent.name for path in (ROOT / "examples").glob("*/certificate.txt"))
+    until = time.monotonic() + asked.seconds
+    number = 0
+    while time.monotonic() < until:
+        with example(draw.choice(examples)) as folder:
+            whole = {name: (folder / name).read_bytes() for name in NAMES}
+            for _ in range(200):
+                number += 1
+                for name, data in whole.items():
+                    (folder / name).write_bytes(data)
+                for name in draw.sample(NAMES, draw.choice((1, 1, 1, 2))):
+                    (folder / name).write_bytes(_changed(draw, whole[name]))
+                found = run(folder, ["check", *NAMES])
+                is_good = found.status in ANSWERS and found.is_in_order
+                what = "check of drawn bytes"
+                if is_good and asked.judge:
+                    other = _judged(asked.judge, folder)
+                    is_good = (found.status, found.said) == (other.status, other.said)
+                    what = "check of drawn bytes, where the other says %s" % other
+                if not is_good:
+                    what += ", kept in " + _keep(folder, number)
+                tries.note(is_good, what, found)
