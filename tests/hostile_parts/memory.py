@@ -8,7 +8,7 @@ import subprocess
 import tempfile
 from pathlib import Path
 
-from .ground import NAMES, NO_MEMORY, Ground, Run, Tries, example, run
+from .ground import NAMES, NO_MEMORY, READ_FAULT, Ground, Run, Tries, example, run
 
 # Counts the allocations of a run, and refuses the one of a number.
 REFUSING = r"""
@@ -78,11 +78,11 @@ def _refusing_library(folder: Path) -> Path:
 
 
 def _keeps(tries: Tries, what: str, folder: Path, found: Run, wanted: Run, before: bytes) -> bool:
-    """Whether the run came to its answer; else it said that there is no memory, nothing more, and left the certificate."""
+    """Whether the run came to its answer; else it said that there is no memory, or none to open a file, and changed nothing."""
     if found.status == wanted.status:
         tries.same(what, found, wanted)
         return True
-    tries.ends(what, found, NO_MEMORY)
+    tries.ends(what, found, NO_MEMORY, READ_FAULT)
     tries.note(found.said == b"" and (folder / NAMES[3]).read_bytes() == before, what + ": changed something", found)
     return False
 
