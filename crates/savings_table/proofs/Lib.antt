@@ -1,0 +1,4 @@
+pub mod DollarText
+pub mod FileBonds
+pub mod RangeFacts
+pub mod ServiceFacts

@@ -1,0 +1,4 @@
+pub mod OldService
+pub mod PresentRange
+pub mod Savings
+pub mod SignedText
