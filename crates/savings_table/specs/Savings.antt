@@ -27,10 +27,9 @@ pub record AreOfOneSet (issue : Issue) (case : CaseContents) : Type 0 where
   pub settle : case.book.settle ≡ issue.settle
   pub limit : RestsOn issue case.limit
 
--- an issue file has more bytes than its issue has bonds
+-- the issue of a file has no more bonds than the file has bytes
 abbrev pub FilesHaveFewBonds : Type 0
-FilesHaveFewBonds =
-    (text : List ℕ) (issue : Issue) → length text ≤ FILE_LIMIT → issue_of (rows_of text) ≡ Ok issue → length issue.bonds ≤ FILE_LIMIT
+FilesHaveFewBonds = (text : List ℕ) (issue : Issue) → issue_of (rows_of text) ≡ Ok issue → length issue.bonds ≤ length text
 
 -- what is read of one set of files is one
 abbrev pub FilesGiveOneSet : Type 0

@@ -46,6 +46,27 @@ struct Valued {
     hi: u64,
 }
 
+// A row's amount is worth this.
+fn is_valued(rt: &impl Abort, alloc: Global, row: &Valued) -> Result<(), Fail> {
+    assert!(rt; row.n <= 3_000_000_000 && row.years <= 40 && row.cents <= SERVICE_LIMIT);
+    let settle = Day::new(20_103);
+    let day = years_after(settle, row.years);
+    assert!(rt; settle <= day && day <= years_after(settle, 40));
+    let flow = Flow {
+        day,
+        cents: Cents(row.cents),
+    };
+    let range = present(alloc, settle, YieldUnits(row.n), &[flow])?;
+    assert_eq!(rt;
+        range,
+        PvRange {
+            lo: row.lo,
+            hi: row.hi
+        }
+    );
+    Ok(())
+}
+
 #[test]
 fn present_values_lie_between_cents(rt: HostRuntime) -> Result<(), Fail> {
     let rows = [
@@ -78,23 +99,10 @@ fn present_values_lie_between_cents(rt: HostRuntime) -> Result<(), Fail> {
             hi: 27_874_222_821,
         },
     ];
-    let settle = Day::new(20_103);
     for row in &rows {
-        assert!(rt; row.n <= 3_000_000_000 && row.years <= 40 && row.cents <= SERVICE_LIMIT);
-        let flow = Flow {
-            day: years_after(settle, row.years),
-            cents: Cents(row.cents),
-        };
-        let range = present(rt.alloc(), settle, YieldUnits(row.n), &[flow])?;
-        assert_eq!(rt;
-            range,
-            PvRange {
-                lo: row.lo,
-                hi: row.hi
-            }
-        );
+        is_valued(&rt, rt.alloc(), row)?;
     }
-    let none = present(rt.alloc(), settle, YieldUnits(0), &[])?;
+    let none = present(rt.alloc(), Day::new(20_103), YieldUnits(0), &[])?;
     assert_eq!(rt; none, PvRange { lo: 0, hi: 0 });
     Ok(())
 }
@@ -103,8 +111,10 @@ fn present_values_lie_between_cents(rt: HostRuntime) -> Result<(), Fail> {
 fn issue_of(alloc: Global, text: &[u8]) -> Result<Issue, Fail>
     requires { length text.now ≤ FILE_LIMIT }
     ensures issue { IfOk result IsIssue }
+    ensures bonds { IfOk result (λ issue. length issue.bonds ≤ FILE_LIMIT) }
     ensures rows { IfOk result (λ issue. issue_of_rows (rows_of text.now) ≡ Ok issue) }
 {
+    one_set();
     let rows = read_rows(alloc, text)?;
     match read_issue(alloc, &rows) {
         Ok(issue) => Ok(issue),
@@ -114,7 +124,6 @@ fn issue_of(alloc: Global, text: &[u8]) -> Result<Issue, Fail>
 
 #[test]
 fn the_old_service_is_not_called(rt: HostRuntime) -> Result<(), Fail> {
-    one_set();
     let text = b"settle,2025-01-15\ncall,2026-07-01,101\nbond,2026-01-01,2000000.00,4.000\n\
         bond,2030-07-01,10000000.00,5.000\nneed,2025-03-01,7.00\nrestricted,4.00\n";
     let issue = issue_of(rt.alloc(), text)?;

@@ -5,7 +5,7 @@ use Rattle.savings_table.proofs.FileBonds.{bonds-few}
 use Rattle.savings_table.proofs.laws.one_set.Goals as goal
 
 pub returns-clause-bonds : goal.returns-clause-bonds
-returns-clause-bonds c text issue short is = omega (arith, bonds-few text issue is, short)
+returns-clause-bonds c = bonds-few
 
 pub returns-clause-set : goal.returns-clause-set
 returns-clause-set c text rate_rows price_rows issue case short is read kept =
