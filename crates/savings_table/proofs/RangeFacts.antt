@@ -1,5 +1,5 @@
 -- Present values between whole cents.
-use Rattle.std.proofs.Common.{arith, ℕ, ◌*◌, ◌/◌, ◌<◌, ◌≤◌, ◌^◌, List, ℤ}
+use Rattle.std.proofs.Common.{arith, ℕ, ◌*◌, ◌/◌, ◌≤◌, List, ℤ}
 use Rattle.std.specs.Int.{div_ceil}
 use Rattle.escrow_units.specs.Flows.{indexed, total}
 use Rattle.escrow_units.specs.declared.security.Flow.{Flow}
@@ -8,7 +8,7 @@ use Rattle.fixed_powers.specs.PresentValues.{present_value}
 use Rattle.fixed_powers.specs.declared.side.Side.{Side}
 use Rattle.fixed_powers.specs.declared.side.Side.TheVariants.{High, Low}
 use Rattle.fixed_powers.proofs.PresentValueFacts.{high_value-encloses, low_value-encloses, value-within}
-use Rattle.fixed_powers.proofs.WholeNumbers.{div_ceil-le, le-div_ceil-mul}
+use Rattle.fixed_powers.proofs.WholeNumbers.{le-div_ceil-mul}
 use Rattle.yield_enclosure.proofs.EndFacts.{total-indexed}
 use Rattle.savings_table.specs.PresentRange.{LiesInRange, present_range}
 
@@ -16,12 +16,6 @@ use Rattle.savings_table.specs.PresentRange.{LiesInRange, present_range}
 pub value-small : (side : Side) (n : ℕ) (settle : ℤ) (flows : List Flow) → total flows ≤ 2_000_000_000_000_000
     → present_value side n (indexed settle flows) ≤ one * 2_000_000_000_000_000
 value-small side n settle flows small = omega (arith, value-within side n (indexed settle flows), total-indexed settle flows, small)
-
-pub low-small : (value : ℕ) → value ≤ one * 2_000_000_000_000_000 → value / one < 2 ^ 64
-low-small value small = omega (arith, small)
-
-pub high-small : (value : ℕ) → value ≤ one * 2_000_000_000_000_000 → div_ceil value one < 2 ^ 64
-high-small value small = omega (arith, div_ceil-le value 2_000_000_000_000_000 one (omega arith) (omega (arith, small)))
 
 -- the exact present value lies between the two ends
 pub range-lies : (settle : ℤ) (n : ℕ) (flows : List Flow) → LiesInRange n (indexed settle flows) (present_range settle n flows)

@@ -1,6 +1,8 @@
 //! Present values between two whole numbers of cents.
-ghost use Rattle.std.specs.Prelude.{◌≡◌, ◌≤◌, ◌<◌, ◌^◌, IfOk};
+ghost use Rattle.std.specs.Prelude.{◌≡◌, ◌*◌, ◌/◌, ◌≤◌, IfOk};
+ghost use Rattle.std.specs.Int.{div_ceil};
 ghost use Rattle.escrow_units.specs.Flows.{FallWithinFortyYears, indexed, total};
+ghost use Rattle.fixed_powers.specs.DiscountPowers.{one};
 ghost use Rattle.fixed_powers.specs.PresentValues.{present_value};
 ghost use Rattle.savings_table.specs.PresentRange.{LiesInRange, present_range};
 
@@ -43,14 +45,31 @@ impl Model for Discounts {
 fn worth(settle: Day, powers: &Powers, flows: &[Flow]) -> u128
     requires longest { GREATEST_INDEX ≤ powers.now.longest }
     requires days { FallWithinFortyYears settle flows.now }
-    requires room { present_value powers.now.side powers.now.yield_units (indexed settle flows.now) < 2 ^ 128 }
-    ensures { result ≡ present_value powers.now.side powers.now.yield_units (indexed settle flows.now) }
+    requires cents { total flows.now ≤ SERVICE_LIMIT }
+    ensures value { result ≡ present_value powers.now.side powers.now.yield_units (indexed settle flows.now) }
+    ensures most { result ≤ one * SERVICE_LIMIT }
 {
     let mut total = 0;
     for flow in flows {
         total += flow.cents.0 as u128 * powers.power(index360(settle, flow.day)) as u128;
     }
     total
+}
+
+// What flows are worth, in whole cents, rounded down.
+fn cents_down(worth: u128) -> u64
+    requires { worth ≤ one * SERVICE_LIMIT }
+    ensures { result ≡ worth / one }
+{
+    (worth / u128::from(ONE)) as u64
+}
+
+// What flows are worth, in whole cents, rounded up.
+fn cents_up(worth: u128) -> u64
+    requires { worth ≤ one * SERVICE_LIMIT }
+    ensures { result ≡ div_ceil worth one }
+{
+    worth.div_ceil(u128::from(ONE)) as u64
 }
 
 impl Discounts {
@@ -72,10 +91,9 @@ impl Discounts {
         ensures value { result ≡ present_range settle self.now flows.now }
         ensures exact { LiesInRange self.now (indexed settle flows.now) result }
     {
-        let one = u128::from(ONE);
         PvRange {
-            lo: (worth(settle, &self.low, flows) / one) as u64,
-            hi: worth(settle, &self.high, flows).div_ceil(one) as u64,
+            lo: cents_down(worth(settle, &self.low, flows)),
+            hi: cents_up(worth(settle, &self.high, flows)),
         }
     }
 }
