@@ -1,0 +1,4 @@
+pub mod CapFacts
+pub mod CaseFacts
+pub mod RateFacts
+pub mod SearchFacts

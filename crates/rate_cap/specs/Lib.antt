@@ -1,0 +1,3 @@
+pub mod CaseAt
+pub mod Halving
+pub mod Search
