@@ -22,7 +22,7 @@ use Rattle.rate_cap.specs.CaseAt.{CasesAtCapsAreOne, IsAtCap, IsItselfFromTop, I
 use Rattle.rate_cap.specs.Search.{IsGreatest, zero_cap}
 
 -- ---- a book at a cap is a book
-shorter : (low high : ℕ) → low ≤ high → shortest_term low ≤ shortest_term high
+pub shorter : (low high : ℕ) → low ≤ high → shortest_term low ≤ shortest_term high
 shorter low high h = at (low == 0) (high == 0) refl refl
   where
     at : (s t : Bool) → (low == 0) ≡ s → (high == 0) ≡ t → (if s then 15 else 30) ≤ (if t then 15 else 30)
@@ -30,6 +30,9 @@ shorter low high h = at (low == 0) (high == 0) refl refl
     at true false p q = omega arith
     at false true p q = absurd (grind (arith, nat_tests))
     at false false p q = omega arith
+
+pub sooner : (settle maturity : ℤ) (a b : ℕ) → a ≤ b → (settle +ℤ pos b) ≤ℤ maturity → (settle +ℤ pos a) ≤ℤ maturity
+sooner settle maturity a b less least = omega (arith, ints, less, least)
 
 slgs-at : (cap : Rate) (slgs : Slgs) → IsSlgs slgs → IsSlgs (record slgs { rate = record { 0 = min slgs.rate.0 cap.0 } })
 slgs-at cap slgs h =
@@ -40,9 +43,6 @@ slgs-at cap slgs h =
       kind = h.kind;
       first = h.first;
     }
-  where
-    sooner : (settle maturity : ℤ) (a b : ℕ) → a ≤ b → (settle +ℤ pos b) ≤ℤ maturity → (settle +ℤ pos a) ≤ℤ maturity
-    sooner settle maturity a b less least = omega (arith, ints, less, least)
 
 security-at : (settle : ℤ) (cap : Rate) (kind : LineKind) → IsSecurity settle kind → IsSecurity settle (kind_at cap kind)
 security-at settle cap Cash h = absurd h

@@ -1,4 +1,5 @@
 pub mod CapFacts
 pub mod CaseFacts
 pub mod RateFacts
+pub mod RuleFacts
 pub mod SearchFacts

@@ -16,6 +16,7 @@ pub record CapsTold : Type 0 where
 abbrev pub tells : CapsTold → ℕ
 tells told = length told.found + length told.not_found
 
+-- a cap of 0: no SLGS security bears interest
 abbrev pub zero_cap : Rate
 zero_cap = record { 0 = 0 }
 

@@ -5,7 +5,7 @@ ghost use Rattle.rate_table.specs.Table.{IsTableRate};
 ghost use Rattle.offer_book.specs.Book.{IsBook};
 ghost use Rattle.offer_book.specs.declared.line.Line.{Line};
 ghost use Rattle.case_file.specs.Case.{HasTerms, case_view};
-ghost use Rattle.rate_cap.specs.CaseAt.{CasesAtCapsAreOne, FilesGiveTableRates, IsAtCap, IsItselfFromTop, IsTopOf, case_at, kind_at as kind_at_cap, line_at as line_at_cap, slgs_rate as slgs_rate_of, slgs_rates};
+ghost use Rattle.rate_cap.specs.CaseAt.{CapsKeepRules, CasesAtCapsAreOne, FilesGiveTableRates, IsAtCap, IsItselfFromTop, IsTopOf, case_at, kind_at as kind_at_cap, line_at as line_at_cap, slgs_rate as slgs_rate_of, slgs_rates};
 
 use case_file::Case;
 use escrow_desk::NoMemory;
@@ -123,9 +123,11 @@ pub fn at_cap(alloc: Global, case: &Case, cap: Rate) -> Result<Case, NoMemory>
     })
 }
 
-/// That there is one case at each cap; and that the SLGS rates of a case of files are whole hundredths of a percentage point, up to
-/// 30 percent.
+/// That there is one case at each cap; that each line at a cap is that of an offer which asks for the lesser rate, and keeps every
+/// rule of term, rate and denomination; and that the SLGS rates of a case of files are whole hundredths of a percentage point, up
+/// to 30 percent.
 pub fn cap_laws()
     ensures one { CasesAtCapsAreOne }
+    ensures rules { CapsKeepRules }
     ensures rates { FilesGiveTableRates }
 {}

@@ -6,3 +6,6 @@ mod search;
 
 pub use cap::{at_cap, cap_laws, top_rate};
 pub use search::CapSearch;
+
+#[cfg(test)]
+mod tests;
