@@ -1,11 +1,11 @@
 -- Cases at a cap, and their tops.
-use Rattle.std.proofs.Common.{◌≡◌, ◌∙◌, ◌≢◌, ℕ, ◌+◌, ◌%◌, ◌<◌, ◌≤◌, min, zero, suc, refl, sym, ap, subst, arith, inl, inr, ◌⊎◌, ◌↔◌, Bool, true, false, if◌then◌else◌, List, [], ◌∷◌, ◌++◌, length, map, get_or, take, ℤ, pos, ◌+ℤ◌, ◌≤ℤ◌, Option, Some, None}
+use Rattle.std.proofs.Common.{◌≡◌, ◌∙◌, ℕ, ◌+◌, ◌<◌, ◌≤◌, min, refl, sym, ap, subst, arith, Bool, true, false, if◌then◌else◌, List, [], ◌∷◌, ◌++◌, length, map, get_or, take, ℤ, pos, ◌+ℤ◌, ◌≤ℤ◌, Option, Some, None}
 use Rattle.std.specs.Prelude.{All, IfSome, ◌==◌}
-use Rattle.std.specs.List.{AllZip, Contains, cons_option, filter_map}
+use Rattle.std.specs.List.{AllZip, cons_option}
 use Rattle.std.proofs.lemmas.Bool.Decides.{nat_tests}
 use Rattle.std.proofs.lemmas.Int.{ints}
 use Rattle.std.proofs.lemmas.List.{append-nil, length-map, take_all, take_more}
-use Rattle.std.proofs.lemmas.List.Elements.{All-cons, All-contains, All-head, All-map, All-nil, All-push, All-tail, All-weaker, Contains-append_left, Contains-push, filter_map-append}
+use Rattle.std.proofs.lemmas.List.Elements.{All-contains, All-head, All-map, All-nil, All-push, All-tail, All-weaker, Contains-append_left, filter_map-append}
 use Rattle.std.proofs.lemmas.Slice.Zip.{AllZip-map}
 use Rattle.escrow_units.specs.SlgsTerms.{IsSlgs, shortest_term}
 use Rattle.escrow_units.specs.declared.amount.Rate.{Rate}
@@ -16,10 +16,10 @@ use Rattle.offer_book.specs.Book.{AreLines, BookContents, IsBook, IsCashLine, Is
 use Rattle.offer_book.specs.declared.line.Line.{Line}
 use Rattle.offer_book.specs.declared.line.LineKind.{LineKind}
 use Rattle.offer_book.specs.declared.line.LineKind.TheVariants.{Cash, Market, Security}
-use Rattle.case_file.specs.Case.{CaseContents, HasTerms}
+use Rattle.case_file.specs.Case.{CaseContents}
 use Rattle.rate_cap.proofs.CapFacts.{greatest-one, greatest-push, same-rate, zero-rate}
 use Rattle.rate_cap.specs.CaseAt.{CasesAtCapsAreOne, IsAtCap, IsItselfFromTop, IsTopOf, case_at, kind_at, line_at, slgs_rate, slgs_rates}
-use Rattle.rate_cap.specs.Search.{IsGreatest, zero_cap}
+use Rattle.rate_cap.specs.Search.{IsGreatest}
 
 -- ---- a book at a cap is a book
 pub shorter : (low high : ℕ) → low ≤ high → shortest_term low ≤ shortest_term high

@@ -1,7 +1,7 @@
 -- The SLGS rates of a case of files are rates of the table.
-use Rattle.std.proofs.Common.{◌≡◌, ◌∙◌, ◌⊎◌, inl, inr, ℕ, ◌+◌, ◌%◌, ◌<◌, ◌≤◌, refl, sym, ap, subst, arith, Bool, true, false, if◌then◌else◌, List, [], ◌∷◌, ◌++◌, length, ℤ, Option, Some, None, Result, Ok, Err}
-use Rattle.std.specs.Prelude.{All, IfSome, int_lt, nat_le, ◌==◌, ◌&&◌, codes, ⊤}
-use Rattle.std.specs.List.{AllZip, Any, cons_option, filter_map, list_any}
+use Rattle.std.proofs.Common.{◌≡◌, ◌⊎◌, inl, inr, ℕ, ◌+◌, ◌%◌, ◌≤◌, refl, sym, ap, subst, arith, Bool, true, false, if◌then◌else◌, List, [], ◌∷◌, ◌++◌, length, ℤ, Option, Some, None, Result, Ok, Err}
+use Rattle.std.specs.Prelude.{All, IfSome, int_lt, nat_le, ◌==◌, ◌&&◌, codes}
+use Rattle.std.specs.List.{AllZip, cons_option, list_any}
 use Rattle.std.proofs.lemmas.Bool.Decides.{nat_tests}
 use Rattle.std.proofs.lemmas.List.Elements.{All-append, All-contains, All-cons, All-head, All-nil, All-push, All-tail, filter_map-append}
 use Rattle.std.proofs.lemmas.Option.{IfSome_then}
@@ -18,9 +18,9 @@ use Rattle.escrow_units.specs.declared.security.AskedRate.{AskedRate}
 use Rattle.escrow_units.specs.declared.security.AskedRate.TheVariants.{At, Max}
 use Rattle.escrow_units.specs.declared.security.Slgs.{Slgs}
 use Rattle.escrow_units.specs.declared.security.Terms.{Terms}
-use Rattle.row_fields.specs.RowForm.{Row, ◌>>=◌, answer_of_row, day_field_of, field_of, first_terms_of, is_word, of_width, or_refused, terms_row_of, with_rows}
-use Rattle.rate_table.specs.RateForm.{asked_field_of, bare_file, hundredths_field_of, offer_row_of, optional_day_field_of, range_row_of, rate_file_of, rate_row_of, with_offer, with_range, with_read_row, with_row}
-use Rattle.rate_table.specs.Table.{IsAsked, IsTableRate, holds, maximum_of, overlap}
+use Rattle.row_fields.specs.RowForm.{Row, ◌>>=◌, answer_of_row, day_field_of, field_of, first_terms_of, is_word, or_refused, terms_row_of, with_rows}
+use Rattle.rate_table.specs.RateForm.{asked_field_of, bare_file, hundredths_field_of, offer_row_of, optional_day_field_of, range_row_of, rate_file_of, with_offer, with_range, with_read_row, with_row}
+use Rattle.rate_table.specs.Table.{IsAsked, IsTableRate, maximum_of, overlap}
 use Rattle.rate_table.specs.declared.table.Offer.{Offer}
 use Rattle.rate_table.specs.declared.table.RateFile.{RateFile}
 use Rattle.rate_table.specs.declared.table.RateRange.{RateRange}
@@ -32,9 +32,8 @@ use Rattle.offer_book.specs.CaseBook.{cash_line}
 use Rattle.offer_book.specs.MarketLines.{IsLineOfNote}
 use Rattle.offer_book.specs.Offers.{IsLineOf}
 use Rattle.offer_book.specs.declared.line.Line.{Line}
-use Rattle.offer_book.specs.declared.line.LineKind.TheVariants.{Market, Security}
+use Rattle.offer_book.specs.declared.line.LineKind.TheVariants.{Security}
 use Rattle.offer_book.proofs.OfferFacts.{IsBound, bound-ok}
-use Rattle.case_file.specs.Case.{CaseContents, IsKept}
 use Rattle.rate_cap.proofs.CapFacts.{zero-rate}
 use Rattle.rate_cap.specs.CaseAt.{FilesGiveTableRates, slgs_rate, slgs_rates}
 

@@ -1,5 +1,5 @@
 -- What is bought at a cap can be subscribed for.
-use Rattle.std.proofs.Common.{◌≡◌, ◌∙◌, ℕ, ◌≤◌, min, refl, sym, ap, subst, arith, ℤ, pos, ◌+ℤ◌, ◌≤ℤ◌, List, Option, Some, None}
+use Rattle.std.proofs.Common.{◌≡◌, ◌∙◌, ℕ, refl, sym, ap, subst, arith, ℤ, pos, ◌+ℤ◌, ◌≤ℤ◌, List, Option, Some, None}
 use Rattle.escrow_units.specs.SlgsTerms.{shortest_term}
 use Rattle.escrow_units.specs.declared.amount.Rate.{Rate}
 use Rattle.escrow_units.specs.declared.security.AskedRate.{AskedRate}

@@ -1,17 +1,15 @@
 -- What a search by halves asks, and how far it comes by what it is told.
-use Rattle.std.proofs.Common.{◌≡◌, ◌∙◌, ◌≢◌, ℕ, ◌+◌, ◌-◌, ◌*◌, ◌/◌, ◌%◌, ◌^◌, ◌<◌, ◌≤◌, zero, suc, refl, sym, ap, subst, arith, inl, inr, ◌⊎◌, ◌↔◌, Bool, true, false, if◌then◌else◌, List, [], ◌∷◌, ◌++◌, length, length-append, Option, Some, None}
-use Rattle.std.specs.Prelude.{All, IfSome, IsSome, nat_le, ◌==◌}
+use Rattle.std.proofs.Common.{◌≡◌, ◌∙◌, ℕ, ◌+◌, ◌*◌, ◌/◌, ◌%◌, ◌^◌, ◌<◌, ◌≤◌, zero, suc, refl, sym, ap, subst, arith, inl, inr, Bool, true, false, if◌then◌else◌, List, [], ◌∷◌, ◌++◌, length-append}
+use Rattle.std.specs.Prelude.{nat_le}
 use Rattle.std.specs.List.{Contains}
 use Rattle.std.proofs.Math.Nat.{pow-succ'}
 use Rattle.std.proofs.lemmas.Bool.Decides.{nat_tests}
-use Rattle.std.proofs.lemmas.List.Elements.{All-cons, All-contains, All-nil, All-push, All-weaker, Contains-append_left, Contains-push, Contains-push_cases}
-use Rattle.std.proofs.lemmas.Option.{none-some, slice_get-get_or}
-use Rattle.std.proofs.Math.Seq.{get_or-append_seam}
+use Rattle.std.proofs.lemmas.List.Elements.{All-push, Contains-append_left, Contains-push}
 use Rattle.escrow_units.specs.declared.amount.Rate.{Rate}
 use Rattle.rate_table.specs.Table.{IsTableRate}
 use Rattle.rate_cap.proofs.CapFacts.{first-in, greatest-one, greatest-push, last-push, least-one, least-push, not-empty, one-cap, same-rate, top-up, zero-rate, zero-up}
-use Rattle.rate_cap.specs.Search.{AreOneApart, CapsTold, IsBest, IsCapUpTo, IsGreatest, IsLeast, IsNext, IsSearch, IsSettled, middle, tells, zero_cap}
-use Rattle.rate_cap.specs.Halving.{AreEnds, AreTold, IsHalving, IsUnderWay, IsZeroTold, last, middle_of, next_of}
+use Rattle.rate_cap.specs.Search.{CapsTold, IsCapUpTo, IsNext, IsSettled, middle, zero_cap}
+use Rattle.rate_cap.specs.Halving.{AreEnds, AreTold, IsHalving, IsUnderWay}
 
 abbrev told_of : Rate → List Rate → List Rate → CapsTold
 told_of top found not_found = record { top = top; found = found; not_found = not_found }

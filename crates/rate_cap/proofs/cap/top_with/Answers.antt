@@ -1,4 +1,4 @@
-use Rattle.std.proofs.Common.{◌∙◌, sym, arith}
+use Rattle.std.proofs.Common.{sym, arith}
 use Rattle.rate_cap.proofs.CaseFacts.{top-kept, top-other, top-rises}
 use Rattle.rate_cap.proofs.cap.top_with.Goals as goal
 
