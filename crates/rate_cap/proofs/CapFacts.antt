@@ -1,5 +1,5 @@
 -- Lists of caps: the greatest, the least and the last.
-use Rattle.std.proofs.Common.{◌≡◌, ◌≢◌, ℕ, ◌+◌, ◌-◌, ◌≤◌, refl, ap, subst, arith, List, [], ◌∷◌, ◌++◌, length, length-append, Some}
+use Rattle.std.proofs.Common.{◌≡◌, ◌≢◌, ℕ, ◌*◌, ◌/◌, ◌%◌, ◌+◌, ◌-◌, ◌≤◌, refl, ap, subst, arith, List, [], ◌∷◌, ◌++◌, length, length-append, Some}
 use Rattle.std.specs.Prelude.{All}
 use Rattle.std.specs.List.{Contains}
 use Rattle.std.proofs.lemmas.List.Elements.{All-cons, All-nil, All-push, All-weaker, Contains-push}
@@ -66,3 +66,7 @@ zero-up top = record { rate = zero-rate; most = omega arith }
 
 pub top-up : (top : Rate) → IsTableRate top → IsCapUpTo top top
 top-up top cap = record { rate = cap; most = omega arith }
+
+-- whole hundredths
+pub tens : (n : ℕ) → n % 10 ≡ 0 → n ≡ 10 * (n / 10)
+tens n h = omega (arith, h)

@@ -1,10 +1,10 @@
 -- Cases at a cap, and their tops.
-use Rattle.std.proofs.Common.{◌≡◌, ◌∙◌, ℕ, ◌+◌, ◌<◌, ◌≤◌, min, refl, sym, ap, subst, arith, Bool, true, false, if◌then◌else◌, List, [], ◌∷◌, ◌++◌, length, map, get_or, take, ℤ, pos, ◌+ℤ◌, ◌≤ℤ◌, Option, Some, None}
+use Rattle.std.proofs.Common.{◌≡◌, ◌∙◌, ℕ, ◌<◌, ◌≤◌, min, refl, sym, ap, subst, arith, Bool, true, false, if◌then◌else◌, List, [], ◌∷◌, ◌++◌, length, map, take, ℤ, pos, ◌+ℤ◌, ◌≤ℤ◌, Option, Some, None}
 use Rattle.std.specs.Prelude.{All, IfSome, ◌==◌}
 use Rattle.std.specs.List.{AllZip, cons_option}
 use Rattle.std.proofs.lemmas.Bool.Decides.{nat_tests}
 use Rattle.std.proofs.lemmas.Int.{ints}
-use Rattle.std.proofs.lemmas.List.{append-nil, length-map, take_all, take_more}
+use Rattle.std.proofs.lemmas.List.{append-nil, length-map, take_all}
 use Rattle.std.proofs.lemmas.List.Elements.{All-contains, All-head, All-map, All-nil, All-push, All-tail, All-weaker, Contains-append_left, filter_map-append}
 use Rattle.std.proofs.lemmas.Slice.Zip.{AllZip-map}
 use Rattle.escrow_units.specs.SlgsTerms.{IsSlgs, shortest_term}
@@ -202,13 +202,6 @@ pub top-kept : (lines : List Line) (line : Line) (top rate : Rate) → slgs_rate
     → IsTopOf (slgs_rates (lines ++ line ∷ [])) top
 top-kept lines line top rate is few h =
     subst (λ (own : List Rate). IsTopOf own top) (sym (more-slgs lines line rate is)) (top-stays (slgs_rates lines) top rate h few)
-
-pub top-more : (lines : List Line) (place : ℕ) (line : Line) (top : Rate) → place < length lines → line ≡ get_or lines place line
-    → IsTopOf (slgs_rates (take place lines ++ line ∷ [])) top → IsTopOf (slgs_rates (take (place + 1) lines)) top
-top-more lines place line top few is h =
-    let more : take (place + 1) lines ≡ take place lines ++ line ∷ [] =
-    take_more lines place line few ∙ ap (λ (own : Line). take place lines ++ own ∷ []) (sym is) in
-    subst (λ (own : List Line). IsTopOf (slgs_rates own) top) (sym more) h
 
 top-cap : (rates : List Rate) (top : Rate) → All IsTableRate rates → IsTopOf rates top → IsTableRate top
 top-cap [] top all h = subst IsTableRate (sym h) zero-rate

@@ -1,4 +1,4 @@
--- What a search by halves asks, and how far it comes by what it is told.
+-- How far a search by halves comes by what it is told.
 use Rattle.std.proofs.Common.{◌≡◌, ◌∙◌, ℕ, ◌+◌, ◌*◌, ◌/◌, ◌%◌, ◌^◌, ◌<◌, ◌≤◌, zero, suc, refl, sym, ap, subst, arith, inl, inr, Bool, true, false, if◌then◌else◌, List, [], ◌∷◌, ◌++◌, length-append}
 use Rattle.std.specs.Prelude.{nat_le}
 use Rattle.std.specs.List.{Contains}
@@ -7,7 +7,7 @@ use Rattle.std.proofs.lemmas.Bool.Decides.{nat_tests}
 use Rattle.std.proofs.lemmas.List.Elements.{All-push, Contains-append_left, Contains-push}
 use Rattle.escrow_units.specs.declared.amount.Rate.{Rate}
 use Rattle.rate_table.specs.Table.{IsTableRate}
-use Rattle.rate_cap.proofs.CapFacts.{first-in, greatest-one, greatest-push, last-push, least-one, least-push, not-empty, one-cap, same-rate, top-up, zero-rate, zero-up}
+use Rattle.rate_cap.proofs.CapFacts.{first-in, greatest-one, greatest-push, last-push, least-one, least-push, not-empty, one-cap, same-rate, tens, top-up, zero-rate, zero-up}
 use Rattle.rate_cap.specs.Search.{CapsTold, IsCapUpTo, IsNext, IsSettled, middle, zero_cap}
 use Rattle.rate_cap.specs.Halving.{AreEnds, AreTold, IsHalving, IsUnderWay}
 
@@ -25,9 +25,6 @@ record IsBetween (top low high : Rate) (left : ℕ) : Type 0 where
   below : (middle low high).0 < high.0
   upper : high.0 ≤ (middle low high).0 + 10 * 2 ^ left
   lower : (middle low high).0 ≤ low.0 + 10 * 2 ^ left
-
-tens : (n : ℕ) → n % 10 ≡ 0 → n ≡ 10 * (n / 10)
-tens n h = omega (arith, h)
 
 ten-times : (n : ℕ) → (n * 10) % 10 ≡ 0
 ten-times n = omega arith

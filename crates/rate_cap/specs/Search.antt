@@ -70,3 +70,14 @@ pub record IsSearch (told : CapsTold) : Type 0 where
   pub apart : (low high : Rate) → Contains told.found low → Contains told.not_found high → low.0 < high.0
   pub top_first : told.not_found ≢ [] → Contains told.not_found told.top
   pub few : tells told ≤ 14
+
+-- ---- laws
+-- where nothing more is asked, and the greatest found cap is below the top, the next hundredth was told as not found
+abbrev pub SearchesEndAtHundredths : Type 0
+SearchesEndAtHundredths =
+    (told : CapsTold) (best : Rate) → IsSearch told → IsSettled told → IsGreatest told.found best → best.0 < told.top.0
+    → Contains told.not_found (record { 0 = best.0 + 10 })
+
+-- where nothing more is asked, and no cap was found, 0 wasn't
+abbrev pub SearchesEndAtZero : Type 0
+SearchesEndAtZero = (told : CapsTold) → IsSearch told → IsSettled told → told.found ≡ [] → Contains told.not_found zero_cap

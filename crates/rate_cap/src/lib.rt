@@ -5,7 +5,7 @@ mod cap;
 mod search;
 
 pub use cap::{at_cap, cap_laws, top_rate};
-pub use search::CapSearch;
+pub use search::{CapSearch, search_laws};
 
 #[cfg(test)]
 mod tests;

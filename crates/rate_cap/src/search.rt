@@ -3,7 +3,7 @@
 ghost use Rattle.std.specs.Prelude.{◌≡◌, ◌+◌, ◌*◌, ◌<◌, ◌≤◌, ◌⊎◌, ◌↔◌, ◌++◌, ◌∷◌, [], None, Some, IfSome, IsSome, if◌then◌else◌, length};
 ghost use Rattle.rate_table.specs.Table.{IsTableRate};
 ghost use Rattle.rate_cap.specs.Halving.{AreEnds, middle_of, next_of};
-ghost use Rattle.rate_cap.specs.Search.{IsBest, IsCapUpTo, IsNext, IsSearch, IsSettled, tells};
+ghost use Rattle.rate_cap.specs.Search.{IsBest, IsCapUpTo, IsNext, IsSearch, IsSettled, SearchesEndAtHundredths, SearchesEndAtZero, tells};
 
 use arrayvec::ArrayVec;
 use escrow_units::Rate;
@@ -116,3 +116,10 @@ impl CapSearch {
         self.found.last().copied()
     }
 }
+
+/// What a search has come to where nothing more is asked: the greatest found cap is the top, or the next hundredth above it was told
+/// as not found; and where none was found, 0 wasn't.
+pub fn search_laws()
+    ensures hundredths { SearchesEndAtHundredths }
+    ensures zero { SearchesEndAtZero }
+{}

@@ -1,6 +1,6 @@
 //! Worked figures.
 
-use crate::{CapSearch, at_cap, cap_laws, top_rate};
+use crate::{CapSearch, at_cap, cap_laws, search_laws, top_rate};
 use case_file::{Case, read_case};
 use escrow_units::{Cents, Rate};
 use std::alloc::Global;
@@ -137,6 +137,7 @@ fn try_walk(rt: &impl Abort, walk: &Walk) {
 
 #[test]
 fn searches(rt: HostRuntime) {
+    search_laws();
     let walks = [
         Walk {
             top: 4_000,
