@@ -1,7 +1,8 @@
 //! What a refunding saves, and what idle yield costs.
 ghost use Rattle.std.specs.Prelude.{◌≡◌, ◌≤◌, IfOk, IfSome};
-ghost use Rattle.escrow_units.specs.Flows.{FallWithinFortyYears, indexed, total};
+ghost use Rattle.escrow_units.specs.Flows.{indexed};
 ghost use Rattle.case_file.specs.Case.{case_view};
+ghost use Rattle.case_file.specs.Limit.{materially_higher};
 ghost use Rattle.issue_schedule.specs.IssueTerms.{IsIssue};
 ghost use Rattle.offer_book.specs.Portfolio.{IsPermitted};
 ghost use Rattle.savings_table.specs.PresentRange.{LiesInRange};
@@ -43,8 +44,9 @@ pub struct Savings {
 }
 
 // The restricted yield of a case.
-fn restricted_yield(issue: &Issue, case: &Case) -> YieldUnits
-    requires { AreOfOneSet issue.now (case_view case.now) }
+fn restricted_yield(case: &Case) -> YieldUnits
+    requires least { materially_higher ≤ case.now.limit.0 }
+    requires most { case.now.limit.0 ≤ GREATEST_YIELD }
     ensures value { result.0 ≡ restricted_yield_of (case_view case.now) }
     ensures most { result.0 ≤ GREATEST_YIELD }
 {
@@ -103,7 +105,7 @@ pub fn savings_of(
     ensures value { IfOk result (λ savings. savings ≡ savings_at issue.now (case_view case.now) (restricted_yield_of (case_view case.now)) plan.now) }
     ensures exact { IfOk result (λ savings. AreSavings issue.now (case_view case.now) (restricted_yield_of (case_view case.now)) plan.now savings) }
 {
-    let discounts = Discounts::make(alloc, restricted_yield(issue, case))?;
+    let discounts = Discounts::make(alloc, restricted_yield(case))?;
     let service = old_service(alloc, issue)?;
     let receipts = flows(alloc, &case.book, plan)?;
     let old_value = discounts.range(issue.settle, service.as_slice());
