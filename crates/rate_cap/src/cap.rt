@@ -1,11 +1,11 @@
 //! The case at a common cap on the SLGS rates.
 
-ghost use Rattle.std.specs.Prelude.{◌≡◌, ◌++◌, ◌∷◌, ◌≤◌, [], All, IfOk, List, map};
+ghost use Rattle.std.specs.Prelude.{◌≡◌, ◌++◌, ◌∷◌, [], All, IfOk, List, map};
 ghost use Rattle.rate_table.specs.Table.{IsTableRate};
 ghost use Rattle.offer_book.specs.Book.{IsBook};
 ghost use Rattle.offer_book.specs.declared.line.Line.{Line};
 ghost use Rattle.case_file.specs.Case.{HasTerms, case_view};
-ghost use Rattle.rate_cap.specs.CaseAt.{CapsKeepRules, CasesAtCapsAreOne, FilesGiveTableRates, IsAtCap, IsItselfFromTop, IsTopOf, case_at, kind_at as kind_at_cap, line_at as line_at_cap, slgs_rate as slgs_rate_of, slgs_rates};
+ghost use Rattle.rate_cap.specs.CaseAt.{CapsKeepRules, CasesAtCapsAreOne, FilesGiveTableRates, IsAtCap, IsItselfFromTop, IsTopOf, kind_at as kind_at_cap, line_at as line_at_cap, slgs_rate as slgs_rate_of, slgs_rates};
 
 use case_file::Case;
 use escrow_desk::NoMemory;

@@ -1,8 +1,8 @@
 //! The search of the greatest cap at which an escrow is found, by halves.
 
-ghost use Rattle.std.specs.Prelude.{◌≡◌, ◌+◌, ◌*◌, ◌<◌, ◌≤◌, ◌⊎◌, ◌↔◌, ◌++◌, ◌∷◌, [], None, Some, IfSome, IsSome, if◌then◌else◌, length};
+ghost use Rattle.std.specs.Prelude.{◌≡◌, ◌<◌, ◌≤◌, ◌↔◌, ◌++◌, ◌∷◌, [], None, Some, IfSome, IsSome, if◌then◌else◌};
 ghost use Rattle.rate_table.specs.Table.{IsTableRate};
-ghost use Rattle.rate_cap.specs.Halving.{AreEnds, middle_of, next_of};
+ghost use Rattle.rate_cap.specs.Halving.{middle_of, next_of};
 ghost use Rattle.rate_cap.specs.Search.{IsBest, IsCapUpTo, IsNext, IsSearch, IsSettled, SearchesEndAtHundredths, SearchesEndAtZero, tells};
 
 use arrayvec::ArrayVec;
