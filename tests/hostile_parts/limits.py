@@ -7,7 +7,7 @@ import resource
 from .ground import DONE, NAMES, READ_FAULT, WRITE_FAULT, Ground, Tries, example, run
 
 # The stack that is enough, in an empty environment, by the command.
-ENOUGH_KILOBYTES = {"check": 96, "structure": 160}
+ENOUGH_KILOBYTES = {"check": 96, "structure": 288}
 
 
 def tries(tries: Tries, _asked) -> None:
