@@ -16,11 +16,11 @@ use Rattle.slgs_interest.proofs.PaymentFacts.{payments-within}
 use Rattle.market_notes.proofs.FlowFacts.{payments-end, payments-rise}
 use Rattle.market_notes.proofs.SeriesFacts.{term}
 use Rattle.offer_book.specs.Book.{BookContents, IsBook, IsSecurity, IsSecurityLine}
-use Rattle.offer_book.specs.Portfolio.{IsPermitted, IsPermittedUnits, kind_payments, line_payments, payments}
+use Rattle.offer_book.specs.Portfolio.{IsPermitted, IsPermittedUnits, line_payments, payments}
 use Rattle.offer_book.specs.declared.line.Line.{Line}
 use Rattle.offer_book.specs.declared.line.LineKind.{LineKind}
 use Rattle.offer_book.specs.declared.line.LineKind.TheVariants.{Cash, Market, Security}
-use Rattle.offer_book.proofs.LineFacts.{is_paid}
+use Rattle.offer_book.proofs.LineFacts.{is_paid, kind_flows}
 use Rattle.cash_table.proofs.ZipFacts.{sum_by-zero}
 use Rattle.backward_build.specs.BackwardPlan.{and_date, bought, latest_without_offer, or_without_offer, plan_of_last, put_or_over, residual_of, with_date}
 use Rattle.backward_build.specs.OwnOffer.{line_at, matures_on, need_at, own_offer_of}
@@ -101,16 +101,16 @@ ends_by flows day rising ends = λ k d within.
           omega (arith, ints))
     ]
 
-kind_by : (settle : ℤ) (kind : LineKind) (amount : ℕ) (day : ℤ) → IsSettlement settle → IsSecurity settle kind → matures_on day kind ≡ true → All (λ flow. flow.day ≤ℤ day) (kind_payments settle kind amount)
+kind_by : (settle : ℤ) (kind : LineKind) (amount : ℕ) (day : ℤ) → IsSettlement settle → IsSecurity settle kind → matures_on day kind ≡ true → All (λ flow. flow.day ≤ℤ day) (kind_flows settle kind amount)
 kind_by settle Cash amount day h security due = absurd security
 kind_by settle (Security slgs) amount day h security due =
     let at : slgs.maturity ≡ day = (Decides-int_eq slgs.maturity day).0 due in
-    subst (λ (m : ℤ). All (λ flow. flow.day ≤ℤ m) (kind_payments settle (Security slgs) amount)) at (λ k d within. (payments-within slgs amount (is_paid settle slgs h security) k d within).1)
+    subst (λ (m : ℤ). All (λ flow. flow.day ≤ℤ m) (kind_flows settle (Security slgs) amount)) at (λ k d within. (payments-within slgs amount (is_paid settle slgs h security) k d within).1)
 kind_by settle (Market note) amount day h security due =
     let at : note.maturity ≡ day = (Decides-int_eq note.maturity day).0 due in
     let t = term note security.1 in
     let p = counted note.maturity rule.MonthEnd note.settle t security.1.after in
-    subst (λ (m : ℤ). All (λ flow. flow.day ≤ℤ m) (kind_payments settle (Market note) amount)) at (ends_by (kind_payments settle (Market note) amount) note.maturity (payments-rise note amount p.count t p.has) (payments-end note amount p.count t p.has))
+    subst (λ (m : ℤ). All (λ flow. flow.day ≤ℤ m) (kind_flows settle (Market note) amount)) at (ends_by (kind_flows settle (Market note) amount) note.maturity (payments-rise note amount p.count t p.has) (payments-end note amount p.count t p.has))
 
 -- so it pays nothing in the span of a later need date
 nothing_later : (settle : ℤ) (needs : List Flow) (place later : ℕ) (line : Line) (units : ℕ) → IsSettlement settle → Rise needs → place < later → later < length needs → IsSecurityLine settle line

@@ -7,15 +7,15 @@ use Rattle.std.proofs.lemmas.List.FromFn.{get_or-range_with_len, length-range_wi
 use Rattle.std.proofs.lemmas.List.Sums.{sum_by-cons}
 use Rattle.escrow_units.specs.declared.security.Flow.{Flow}
 use Rattle.day_sums.proofs.SumFacts.{counted-zero}
-use Rattle.slgs_interest.specs.Payments.{payment_dates, payment_on, payments_of}
-use Rattle.market_notes.specs.NoteFlows as market
-use Rattle.offer_book.specs.Portfolio.{kind_payments, line_payments, par}
+use Rattle.payment_schedule.specs.Schedule.{flow_by}
+use Rattle.payment_schedule.specs.declared.schedule.ScheduledPayment.{ScheduledPayment}
+use Rattle.payment_schedule.proofs.ScheduleFacts.{flow-more}
+use Rattle.offer_book.specs.Portfolio.{line_payments, par}
+use Rattle.offer_book.specs.Schedule.{kind_rate, schedule_of}
 use Rattle.offer_book.specs.declared.line.Line.{Line}
-use Rattle.offer_book.specs.declared.line.LineKind.{LineKind}
-use Rattle.offer_book.specs.declared.line.LineKind.TheVariants.{Cash, Market, Security}
 use Rattle.offer_book.proofs.LineFacts.{line_payments-none}
 use Rattle.cash_table.proofs.DayFacts.{find_at, find_none}
-use Rattle.cash_table.proofs.ReachFacts.{choice_more, note_payment_more, slgs_payment_more}
+use Rattle.cash_table.proofs.ReachFacts.{choice_more}
 use Rattle.cash_table.proofs.ZipFacts.{sum_by-zero}
 use Rattle.backward_build.specs.Residual.{covers, fewest_of}
 use Rattle.backward_build.specs.Span.{falls_in, paid_in}
@@ -27,26 +27,19 @@ abbrev pub span_cents : Span → Flow → ℕ
 span_cents span flow = if falls_in span flow.day then flow.cents.0 else 0
 
 -- payments on the same days, none of them less
-paid_more : (span : Span) (f g : ℤ → Flow) (days : List ℤ) → ((day : ℤ) → (f day).day ≡ (g day).day) → ((day : ℤ) → (f day).cents.0 ≤ (g day).cents.0)
-    → paid_in span (map f days) ≤ paid_in span (map g days)
+paid_more : (span : Span) (f g : ScheduledPayment → Flow) (schedule : List ScheduledPayment) → ((p : ScheduledPayment) → (f p).day ≡ (g p).day) → ((p : ScheduledPayment) → (f p).cents.0 ≤ (g p).cents.0)
+    → paid_in span (map f schedule) ≤ paid_in span (map g schedule)
 paid_more span f g [] same more = omega arith
-paid_more span f g (day ∷ days) same more =
-    let test = ap (λ (d : ℤ). falls_in span d) (same day) in
-    let here : span_cents span (f day) ≤ span_cents span (g day) = rw test (choice_more (falls_in span (g day).day) (f day).cents.0 0 (g day).cents.0 0 (more day) (omega arith)) in
-    omega (arith, sum_by-cons (span_cents span) (f day) (map f days), sum_by-cons (span_cents span) (g day) (map g days), here, paid_more span f g days same more)
-
-kind_more : (span : Span) (settle : ℤ) (kind : LineKind) (amount more : ℕ) → amount ≤ more → paid_in span (kind_payments settle kind amount) ≤ paid_in span (kind_payments settle kind more)
-unfolding payments_of market.payments_of
-kind_more span settle Cash amount more le =
-    paid_more span (λ day. record { day = day; cents = record { 0 = amount } }) (λ day. record { day = day; cents = record { 0 = more } }) (settle ∷ []) (λ day. refl) (λ day. le)
-kind_more span settle (Security slgs) amount more le =
-    paid_more span (payment_on slgs amount) (payment_on slgs more) (payment_dates slgs) (λ day. refl) (λ day. slgs_payment_more slgs amount more day le)
-kind_more span settle (Market note) amount more le =
-    paid_more span (market.payment_on note amount) (market.payment_on note more) (market.payment_dates note) (λ day. refl) (λ day. note_payment_more note amount more day le)
+paid_more span f g (p ∷ ps) same more =
+    let test = ap (λ (d : ℤ). falls_in span d) (same p) in
+    let here : span_cents span (f p) ≤ span_cents span (g p) = rw test (choice_more (falls_in span (g p).day) (f p).cents.0 0 (g p).cents.0 0 (more p) (omega arith)) in
+    omega (arith, sum_by-cons (span_cents span) (f p) (map f ps), sum_by-cons (span_cents span) (g p) (map g ps), here, paid_more span f g ps same more)
 
 -- more units of a line pay no less in a span
 pub line_more : (span : Span) (settle : ℤ) (line : Line) (units more : ℕ) → units ≤ more → paid_in span (line_payments settle line units) ≤ paid_in span (line_payments settle line more)
-line_more span settle line units more le = kind_more span settle line.kind (par line units) (par line more) (mul-le-mul_left line.step le)
+line_more span settle line units more le =
+    paid_more span (flow_by (kind_rate line.kind) (par line units)) (flow_by (kind_rate line.kind) (par line more)) (schedule_of settle line) (λ payment. refl)
+    (λ payment. flow-more (kind_rate line.kind) (par line units) (par line more) payment (mul-le-mul_left line.step le))
 
 pub covers_from : (settle : ℤ) (residual : Residual) (line : Line) (units : ℕ) → covers settle residual line units ≡ true → residual.cents.0 ≤ paid_in residual.span (line_payments settle line units)
 covers_from settle residual line units test = test_le residual.cents.0 (paid_in residual.span (line_payments settle line units)) test

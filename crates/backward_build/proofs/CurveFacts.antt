@@ -1,5 +1,5 @@
 -- The price curve, one need date after another.
-use Rattle.std.proofs.Common.{◌≡◌, ◌∙◌, ℕ, zero, suc, ◌+◌, ◌-◌, ◌*◌, ◌^◌, ◌<◌, ◌≤◌, Bool, false, true, ◌&&◌, if◌then◌else◌, List, [], ◌∷◌, ◌++◌, map, take, Some, None, option_and_then, option_map, length, get_or, refl, sym, ap, inl, inr, arith, ℤ, ◌≤ℤ◌, ◌<ℤ◌, int_le, All, AllPairs}
+use Rattle.std.proofs.Common.{◌≡◌, ◌∙◌, ℕ, zero, suc, ◌+◌, ◌-◌, ◌*◌, ◌^◌, ◌<◌, ◌≤◌, Bool, false, true, ◌&&◌, if◌then◌else◌, List, [], ◌∷◌, ◌++◌, map, take, Some, None, option_and_then, option_map, length, get_or, refl, sym, subst, ap, inl, inr, arith, ℤ, ◌≤ℤ◌, ◌<ℤ◌, int_le, All, AllPairs}
 use Rattle.std.specs.Ordering.{int_eq}
 use Rattle.std.proofs.Math.Nat.{mul-le-mul}
 use Rattle.std.proofs.Math.Seq.{get_or-append_seam}
@@ -9,19 +9,21 @@ use Rattle.std.proofs.lemmas.Int.{ints}
 use Rattle.std.proofs.lemmas.List.{get_or_append_left, get_or_default, get_or_read, length-append, map-append}
 use Rattle.std.proofs.lemmas.List.Elements.{All-append, All-cons, All-head, All-nil, All-tail}
 use Rattle.std.proofs.lemmas.List.Sums.{sum_by-append, sum_by-cons}
+use Rattle.std.proofs.lemmas.Simd.{map-map}
 use Rattle.escrow_units.specs.Flows.{EndsOn, Rise}
 use Rattle.escrow_units.specs.SlgsTerms.{IsSettlement}
 use Rattle.escrow_units.specs.declared.security.Flow.{Flow}
 use Rattle.escrow_units.specs.declared.security.StepRule.TheVariants as rule
 use Rattle.escrow_units.proofs.FlowFacts.{int_le-test, int_lt-test}
 use Rattle.escrow_units.proofs.SeriesAround.{counted}
-use Rattle.slgs_interest.specs.Payments.{payment_dates, payment_on, payments_of}
-use Rattle.slgs_interest.proofs.PaymentFacts.{payments-end as slgs_end}
+use Rattle.slgs_interest.specs.Payments.{payment_dates, payment_on, slgs_schedule}
+use Rattle.slgs_interest.proofs.PaymentFacts.{paid_on, payments-by_date, payments-end as slgs_end, slgs_flows}
 use Rattle.market_notes.specs.NoteFlows as market
-use Rattle.market_notes.proofs.FlowFacts.{payments-end as note_end}
+use Rattle.market_notes.proofs.FlowFacts as notes
 use Rattle.market_notes.proofs.SeriesFacts.{term}
 use Rattle.offer_book.specs.Book.{BookContents, IsSecurity, IsSecurityLine}
-use Rattle.offer_book.specs.Coefficients.{cost_coefficients, kind_pays, note_paid_on, pay_coefficients, slgs_paid_on}
+use Rattle.offer_book.specs.Coefficients.{cost_coefficients, pay_by, pay_coefficients}
+use Rattle.offer_book.specs.Schedule.{kind_rate, kind_schedule}
 use Rattle.offer_book.specs.declared.coefficients.PayCoefficients.{PayCoefficients}
 use Rattle.offer_book.specs.declared.coefficients.TheConstants.{COEFFICIENT_SCALE}
 use Rattle.offer_book.specs.declared.line.Line.{Line}
@@ -151,25 +153,27 @@ principal-some interest step t is some =
     omega (arith, paid, some)
 
 kind_pays_some : (settle : ℤ) (kind : LineKind) (step : ℕ) (span : Span) (day : ℤ) → IsSettlement settle → IsSecurity settle kind → 100 ≤ step → matures_on day kind ≡ true → falls_in span day ≡ true
-    → 0 < unit_paid_in span (kind_pays settle kind step)
-unfolding payments_of market.payments_of
+    → 0 < unit_paid_in span (map (pay_by (kind_rate kind) step) (kind_schedule settle kind))
+unfolding slgs_schedule market.note_schedule
 kind_pays_some settle Cash step span day h security some due falls = absurd security
 kind_pays_some settle (Security slgs) step span day h security some due falls =
     let at : slgs.maturity ≡ day = (Decides-int_eq slgs.maturity day).0 due in
     let test : int_eq slgs.maturity slgs.maturity ≡ true = (Decides-int_eq slgs.maturity slgs.maturity).1 refl in
-    last_pays span (slgs_paid_on slgs step) (payment_dates slgs) slgs.maturity
-    (dates_end (payment_on slgs step) (payment_dates slgs) slgs.maturity (payments_of slgs step) (λ d. refl) refl (slgs_end slgs step (is_paid settle slgs h security)))
+    subst (λ (pays : List PayCoefficients). 0 < unit_paid_in span pays) (sym (map-map (pay_by slgs.rate.0 step) (payment_on slgs) (payment_dates slgs)))
+    (last_pays span (λ date. pay_by slgs.rate.0 step (payment_on slgs date)) (payment_dates slgs) slgs.maturity
+    (dates_end (paid_on slgs step) (payment_dates slgs) slgs.maturity (slgs_flows slgs step) (λ d. refl) (payments-by_date slgs step) (slgs_end slgs step (is_paid settle slgs h security)))
     refl (ap (falls_in span) at ∙ falls)
-    (principal-some _ step (int_eq slgs.maturity slgs.maturity) test some)
+    (principal-some _ step (int_eq slgs.maturity slgs.maturity) test some))
 kind_pays_some settle (Market note) step span day h security some due falls =
     let at : note.maturity ≡ day = (Decides-int_eq note.maturity day).0 due in
     let test : int_eq note.maturity note.maturity ≡ true = (Decides-int_eq note.maturity note.maturity).1 refl in
     let t = term note security.1 in
     let p = counted note.maturity rule.MonthEnd note.settle t security.1.after in
-    last_pays span (note_paid_on note step) (market.payment_dates note) note.maturity
-    (dates_end (market.payment_on note step) (market.payment_dates note) note.maturity (market.payments_of note step) (λ d. refl) refl (note_end note step p.count t p.has))
+    subst (λ (pays : List PayCoefficients). 0 < unit_paid_in span pays) (sym (map-map (pay_by note.coupon.0 step) (market.payment_on note) (market.payment_dates note)))
+    (last_pays span (λ date. pay_by note.coupon.0 step (market.payment_on note date)) (market.payment_dates note) note.maturity
+    (dates_end (notes.paid_on note step) (market.payment_dates note) note.maturity (notes.note_flows note step) (λ d. refl) (notes.payments-by_date note step) (notes.payments-end note step p.count t p.has))
     refl (ap (falls_in span) at ∙ falls)
-    (principal-some _ step (int_eq note.maturity note.maturity) test some)
+    (principal-some _ step (int_eq note.maturity note.maturity) test some))
 
 pub own_pays_some : (settle : ℤ) (needs : List Flow) (place : ℕ) (line : Line) → IsSettlement settle → Rise needs → place < length needs → IsSecurityLine settle line → matures_on (need_at needs place).day line.kind ≡ true
     → 0 < unit_paid_in (span_of needs place) (pay_coefficients settle line)

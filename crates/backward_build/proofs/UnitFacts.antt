@@ -18,7 +18,8 @@ use Rattle.offer_book.specs.Portfolio.{IsPermitted, IsPermittedUnits, cost, kind
 use Rattle.cash_table.specs.Receipts.{cents_by}
 use Rattle.cash_table.proofs.CostFacts.{PairIsPermitted, pair_cost}
 use Rattle.cash_table.proofs.PaymentFacts.{pair_payments}
-use Rattle.cash_table.proofs.ReachFacts.{line_pays_more, near_more}
+use Rattle.payment_schedule.proofs.ScheduleFacts.{near-more}
+use Rattle.cash_table.proofs.ReachFacts.{line_pays_more}
 use Rattle.backward_build.specs.Trim.{HasNoMore}
 
 -- where a line has other units, what the others pay stays as it is
@@ -69,14 +70,14 @@ pays_more t book plan other same too less = lines_pay_more t book.settle book.li
 accrued_more : (note : Note) (face more : ℕ) → face ≤ more → accrued_interest note face ≤ accrued_interest note more
 unfolding accrued_interest
 accrued_more note face more le =
-    near_more (face * note.coupon.0 * (accrual_of note).parts) (100_000 * (accrual_of note).year) (more * note.coupon.0 * (accrual_of note).parts)
+    near-more (face * note.coupon.0 * (accrual_of note).parts) (100_000 * (accrual_of note).year) (more * note.coupon.0 * (accrual_of note).parts)
     (mul-le-mul_right (accrual_of note).parts (mul-le-mul_right note.coupon.0 le))
 
 kind_costs_more : (kind : LineKind) (amount more : ℕ) → amount ≤ more → kind_cost kind amount ≤ kind_cost kind more
 kind_costs_more Cash amount more le = le
 kind_costs_more (Security slgs) amount more le = le
 kind_costs_more (Market note) amount more le =
-    omega (arith, near_more (amount * note.price.0) (10_000_000_000) (more * note.price.0) (mul-le-mul_right note.price.0 le), accrued_more note amount more le)
+    omega (arith, near-more (amount * note.price.0) (10_000_000_000) (more * note.price.0) (mul-le-mul_right note.price.0 le), accrued_more note amount more le)
 
 line_costs_more : (line : Line) (units more : ℕ) → units ≤ more → line_cost line units ≤ line_cost line more
 line_costs_more line units more le = kind_costs_more line.kind (par line units) (par line more) (mul-le-mul_left line.step le)

@@ -1,16 +1,16 @@
 -- Where securities are bought, one pays above 0 at an index of 1 or more.
-use Rattle.std.proofs.Common.{◌≡◌, ◌∙◌, ◌⊎◌, ℕ, zero, suc, ◌+◌, ◌<◌, ◌≤◌, refl, sym, ap, subst, arith, ℤ, pos, ◌+ℤ◌, ◌≤ℤ◌, inl, inr, List, [], ◌∷◌, ◌++◌}
+use Rattle.std.proofs.Common.{◌≡◌, ◌∙◌, ◌⊎◌, ℕ, zero, suc, ◌+◌, ◌<◌, ◌≤◌, refl, sym, ap, subst, arith, ℤ, pos, ◌+ℤ◌, ◌≤ℤ◌, inl, inr, List, [], ◌∷◌, ◌++◌, map, if◌then◌else◌}
 use Rattle.std.specs.Ordering.{int_eq}
 use Rattle.std.specs.List.{All, Any, flat_map, zip}
 use Rattle.std.proofs.lemmas.Bool.{cases_lt}
 use Rattle.std.proofs.lemmas.Int.{ints}
 use Rattle.std.proofs.lemmas.List.{length-map, get_or-map}
-use Rattle.std.proofs.lemmas.List.Elements.{All-head, All-tail, All-nil, All-append, All-map, All-weaker}
+use Rattle.std.proofs.lemmas.List.Elements.{All-head, All-tail, All-nil, All-append, All-map, All-same, All-weaker}
 use Rattle.std.proofs.lemmas.List.Sums.{sum_by-cons}
 use Rattle.escrow_units.specs.Calendar.{years_after_of}
 use Rattle.escrow_units.specs.DayNumber.{IsDayNumber}
 use Rattle.escrow_units.specs.Flows.{FallWithinFortyYears, index360_of, indexed, total}
-use Rattle.escrow_units.specs.Interest.{half_coupon_of}
+use Rattle.escrow_units.specs.Interest.{earned_of}
 use Rattle.escrow_units.specs.PresentValue.{IndexedFlow}
 use Rattle.escrow_units.specs.SlgsTerms.{IsSettlement}
 use Rattle.escrow_units.specs.declared.security.Flow.{Flow}
@@ -22,18 +22,18 @@ use Rattle.day_sums.specs.Summed.{cents_on, summed}
 use Rattle.day_sums.specs.SummedLaws.{AreAboveZero}
 use Rattle.day_sums.proofs.SumFacts.{above-summed, count-summed}
 use Rattle.day_sums.proofs.Uniqueness.{here, here-same}
-use Rattle.market_notes.specs.NoteFlows as market
+use Rattle.market_notes.specs.NoteFlows.{payment_dates}
 use Rattle.market_notes.specs.declared.note.Note.{Note}
 use Rattle.market_notes.proofs.AmountFacts.{dates-counted}
-use Rattle.market_notes.proofs.FlowFacts.{payments-end}
+use Rattle.market_notes.proofs.FlowFacts.{note_flows, paid_on, payments-by_date, payments-end}
 use Rattle.market_notes.proofs.SeriesFacts.{term}
-use Rattle.slgs_interest.specs.Payments.{payments_of}
+use Rattle.slgs_interest.proofs.PaymentFacts.{slgs_flows}
 use Rattle.offer_book.specs.declared.line.LineKind.{LineKind}
 use Rattle.offer_book.specs.declared.line.LineKind.TheVariants.{Cash, Market, Security}
 use Rattle.offer_book.specs.declared.line.Line.{Line}
 use Rattle.offer_book.specs.Book.{AreLines, BookContents, IsBook, IsSecurity, IsSecurityLine}
-use Rattle.offer_book.specs.Portfolio.{kind_payments, par, security_flows}
-use Rattle.offer_book.proofs.LineFacts.{is_paid, line_payments-none, line_payments-par, line_payments-within, par-some, payments_of-late}
+use Rattle.offer_book.specs.Portfolio.{par, security_flows}
+use Rattle.offer_book.proofs.LineFacts.{is_paid, kind_flows, line_payments-none, line_payments-par, line_payments-within, par-some, slgs_flows-late}
 use Rattle.cash_table.specs.LaterFlows.{HaveLaterAmount}
 use Rattle.cash_table.proofs.BalanceLaws.{any_here, any_later, eq_test, some_on}
 use Rattle.cash_table.proofs.PaymentFacts.{pair_payments, total-payments}
@@ -76,20 +76,20 @@ some_above settle (flow ∷ flows) h late within some = elim (cases_lt 0 flow.ce
 ]
 
 -- a note pays its face at maturity
-note_parts : (note : Note) (face : ℕ) → All (λ flow. flow.cents.0 ≡ half_coupon_of face note.coupon.0 + market.principal_on note face flow.day) (market.payments_of note face)
-unfolding market.payments_of
+note_parts : (note : Note) (face : ℕ) → All (λ flow. flow.cents.0 ≡ earned_of face note.coupon.0 1 2 + (if int_eq flow.day note.maturity then face else 0)) (note_flows note face)
 note_parts note face =
-    All-map (λ (flow : Flow). flow.cents.0 ≡ half_coupon_of face note.coupon.0 + market.principal_on note face flow.day) (market.payment_on note face) (market.payment_dates note) (λ k d lt. refl)
+    All-same (λ (flow : Flow). flow.cents.0 ≡ earned_of face note.coupon.0 1 2 + (if int_eq flow.day note.maturity then face else 0)) (note_flows note face) (map (paid_on note face) (payment_dates note)) (payments-by_date note face)
+    (All-map (λ (flow : Flow). flow.cents.0 ≡ earned_of face note.coupon.0 1 2 + (if int_eq flow.day note.maturity then face else 0)) (paid_on note face) (payment_dates note) (λ k d lt. refl))
 
 last_of : (P : Flow → Type 0) (before : List Flow) (last : Flow) → All P (before ++ last ∷ []) → P last
 last_of P [] last all = All-head P last [] all
 last_of P (flow ∷ before) last all = last_of P before last (All-tail P flow (before ++ last ∷ []) all)
 
-note_later : (settle : ℤ) (note : Note) (face : ℕ) → IsSecurity settle (Market note) → 1 ≤ face → Any (IsLaterAmount settle) (market.payments_of note face)
+note_later : (settle : ℤ) (note : Note) (face : ℕ) → IsSecurity settle (Market note) → 1 ≤ face → Any (IsLaterAmount settle) (note_flows note face)
 note_later settle note face security some =
     let dates = dates-counted note security.1 in
     let «end» = payments-end note face dates.count (term note security.1) dates.has in
-    let parts = last_of (λ flow. flow.cents.0 ≡ half_coupon_of face note.coupon.0 + market.principal_on note face flow.day) «end».before «end».last (rw «end».order at (note_parts note face)) in
+    let parts = last_of (λ flow. flow.cents.0 ≡ earned_of face note.coupon.0 1 2 + (if int_eq flow.day note.maturity then face else 0)) «end».before «end».last (rw «end».order at (note_parts note face)) in
     let principal = choice-true (int_eq «end».last.day note.maturity) face 0 (eq_test «end».last.day note.maturity «end».falls) in
     let index : 1 ≤ index360_of settle «end».last.day = rw («end».falls, ← security.0) security.1.index in
     rw «end».order (any_back (IsLaterAmount settle) «end».before («end».last ∷ []) (any_here (IsLaterAmount settle) «end».last [] (omega (arith, parts, principal, some), index)))
@@ -103,14 +103,14 @@ line_later settle line units h security some =
     of_kind Cash is = absurd (subst (IsSecurity settle) is security.security)
     of_kind (Security slgs) is =
         let own = subst (IsSecurity settle) is security.security in
-        let pays : pair_payments settle (line, units) ≡ payments_of slgs (par line units) = ap (λ (kind : LineKind). kind_payments settle kind (par line units)) is in
-        let late : All (λ flow. (settle +ℤ pos 15) ≤ℤ flow.day) (payments_of slgs (par line units)) =
-        All-weaker (λ (flow : Flow). (slgs.settle +ℤ pos 15) ≤ℤ flow.day) (λ flow. (settle +ℤ pos 15) ≤ℤ flow.day) (λ flow far. omega (arith, ints, far, own.0)) (payments_of slgs (par line units)) (payments_of-late slgs (par line units) (is_paid settle slgs h own)) in
+        let pays : pair_payments settle (line, units) ≡ slgs_flows slgs (par line units) = ap (λ (kind : LineKind). kind_flows settle kind (par line units)) is in
+        let late : All (λ flow. (settle +ℤ pos 15) ≤ℤ flow.day) (slgs_flows slgs (par line units)) =
+        All-weaker (λ (flow : Flow). (slgs.settle +ℤ pos 15) ≤ℤ flow.day) (λ flow. (settle +ℤ pos 15) ≤ℤ flow.day) (λ flow far. omega (arith, ints, far, own.0)) (slgs_flows slgs (par line units)) (slgs_flows-late slgs (par line units) (is_paid settle slgs h own)) in
         some_above settle (pair_payments settle (line, units)) h (rw pays late) (line_payments-within settle line units h (inr security))
         (omega (arith, line_payments-par settle line units h security, par-some settle line units security some))
     of_kind (Market note) is =
         let own = subst (IsSecurity settle) is security.security in
-        let pays : pair_payments settle (line, units) ≡ market.payments_of note (par line units) = ap (λ (kind : LineKind). kind_payments settle kind (par line units)) is in
+        let pays : pair_payments settle (line, units) ≡ note_flows note (par line units) = ap (λ (kind : LineKind). kind_flows settle kind (par line units)) is in
         rw pays (note_later settle note (par line units) own (omega (arith, par-some settle line units security some)))
 
 abbrev AreNone : List Flow → Type 0

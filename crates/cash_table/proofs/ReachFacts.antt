@@ -1,82 +1,43 @@
 -- The most of every line is permitted, and no permitted portfolio pays more by any day.
 use Rattle.std.proofs.Common.{◌≡◌, ◌∙◌, ◌↔◌, ℕ, zero, suc, ◌+◌, ◌*◌, ◌<◌, ◌≤◌, refl, sym, ap, arith, ℤ, inl, inr, Bool, true, false, if◌then◌else◌, List, [], ◌∷◌, map, length, Option, Some, None, MatchOption, IfSome, IsNone, int_le, get_or, set, take, ◌++◌}
-use Rattle.std.specs.Ordering.{int_eq}
 use Rattle.std.specs.List.{All, zip, flat_map}
-use Rattle.std.proofs.Math.Nat.{div-zero, mul-le-mul_left, mul-le-mul_right}
+use Rattle.std.proofs.Math.Nat.{mul-le-mul_left}
 use Rattle.std.proofs.lemmas.List.{length-map, get_or-map, get_or-set_same, length-set, take-set, take_all, take_more}
 use Rattle.std.proofs.lemmas.List.Elements.{All-head, All-tail, All-cons, All-nil}
 use Rattle.std.proofs.lemmas.List.Sums.{sum_by-cons, sum_by-append}
-use Rattle.escrow_units.specs.Interest.{half_coupon_of}
-use Rattle.escrow_units.specs.Rounding.{near}
 use Rattle.escrow_units.specs.declared.security.Flow.{Flow}
-use Rattle.escrow_units.specs.declared.security.Slgs.{Slgs}
-use Rattle.escrow_units.proofs.RoundingFacts.{near-mono}
 use Rattle.day_sums.specs.Summed.{total_by}
-use Rattle.slgs_interest.specs.Payments.{first_accrual_of, first_interest, payment_dates, payment_on, payments_of}
-use Rattle.market_notes.specs.NoteFlows as market
-use Rattle.market_notes.specs.declared.note.Note.{Note}
-use Rattle.offer_book.specs.declared.line.LineKind.{LineKind}
-use Rattle.offer_book.specs.declared.line.LineKind.TheVariants.{Cash, Market, Security}
+use Rattle.payment_schedule.specs.Schedule.{flow_by}
+use Rattle.payment_schedule.specs.declared.schedule.ScheduledPayment.{ScheduledPayment}
+use Rattle.payment_schedule.proofs.ScheduleFacts.{flow-more}
 use Rattle.offer_book.specs.declared.line.Line.{Line}
 use Rattle.offer_book.specs.Book.{BookContents, IsBook, IsCashLine, IsSecurityLine, AreLines}
-use Rattle.offer_book.specs.Portfolio.{IsPermitted, IsPermittedUnits, IsFirstShort, Meets, kind_payments, line_payments, par, payments}
+use Rattle.offer_book.specs.Portfolio.{IsPermitted, IsPermittedUnits, IsFirstShort, Meets, line_payments, par, payments}
+use Rattle.offer_book.specs.Schedule.{kind_rate, schedule_of}
 use Rattle.cash_table.specs.Receipts.{cents_by}
 use Rattle.cash_table.specs.Reach.{AreAllShort, IsInReach, plan_of_most}
 use Rattle.cash_table.proofs.CostFacts.{PairIsPermitted, permitted_few}
 use Rattle.cash_table.proofs.PaymentFacts.{pair_payments}
 
--- a greater amount is rounded to no less
-pub near_more : (a b c : ℕ) → a ≤ c → near a b ≤ near c b
-unfolding near
-near_more a zero c le = omega (arith, div-zero (2 * a + 0), div-zero (2 * c + 0))
-near_more a (suc b) c le = near-mono a (suc b) c (omega arith) le
-
+-- choices, of which neither falls
 pub choice_more : (t : Bool) (a b c d : ℕ) → a ≤ c → b ≤ d → (if t then a else b) ≤ (if t then c else d)
 choice_more true a b c d le more = le
 choice_more false a b c d le more = more
 
--- a greater face earns and pays no less on each day
-earned_more : (face more rate parts year : ℕ) → face ≤ more → near (face * rate * parts) year ≤ near (more * rate * parts) year
-earned_more face more rate parts year le = near_more _ year _ (mul-le-mul_right parts (mul-le-mul_right rate le))
-
-half_coupon_more : (face more rate : ℕ) → face ≤ more → half_coupon_of face rate ≤ half_coupon_of more rate
-half_coupon_more face more rate le = near_more _ 200_000 _ (mul-le-mul_right rate le)
-
-first_interest_more : (slgs : Slgs) (face more : ℕ) → face ≤ more → first_interest slgs face ≤ first_interest slgs more
-first_interest_more slgs face more le = earned_more face more slgs.rate.0 (first_accrual_of slgs).parts (100_000 * (first_accrual_of slgs).year) le
-
-pub slgs_payment_more : (slgs : Slgs) (face more : ℕ) (day : ℤ) → face ≤ more → (payment_on slgs face day).cents.0 ≤ (payment_on slgs more day).cents.0
-slgs_payment_more slgs face more day le =
-    let interest = choice_more (int_eq day slgs.first) _ _ _ _ (first_interest_more slgs face more le) (half_coupon_more face more slgs.rate.0 le) in
-    let principal = choice_more (int_eq day slgs.maturity) face 0 more 0 le (omega arith) in
-    omega (arith, interest, principal)
-
-pub note_payment_more : (note : Note) (face more : ℕ) (day : ℤ) → face ≤ more → (market.payment_on note face day).cents.0 ≤ (market.payment_on note more day).cents.0
-note_payment_more note face more day le =
-    let principal = choice_more (int_eq day note.maturity) face 0 more 0 le (omega arith) in
-    omega (arith, half_coupon_more face more note.coupon.0 le, principal)
-
 -- payments on the same days, none of them less
-total_by_more : (t : ℤ) (f g : ℤ → Flow) (days : List ℤ) → ((day : ℤ) → (f day).day ≡ (g day).day) → ((day : ℤ) → (f day).cents.0 ≤ (g day).cents.0)
-    → total_by t (map f days) ≤ total_by t (map g days)
+total_by_more : (t : ℤ) (f g : ScheduledPayment → Flow) (schedule : List ScheduledPayment) → ((p : ScheduledPayment) → (f p).day ≡ (g p).day) → ((p : ScheduledPayment) → (f p).cents.0 ≤ (g p).cents.0)
+    → total_by t (map f schedule) ≤ total_by t (map g schedule)
 total_by_more t f g [] same more = omega arith
-total_by_more t f g (day ∷ days) same more =
-    let test = ap (λ (d : ℤ). int_le d t) (same day) in
-    let here : cents_by t (f day) ≤ cents_by t (g day) = rw test (choice_more (int_le (g day).day t) (f day).cents.0 0 (g day).cents.0 0 (more day) (omega arith)) in
-    omega (arith, sum_by-cons (cents_by t) (f day) (map f days), sum_by-cons (cents_by t) (g day) (map g days), here, total_by_more t f g days same more)
-
-kind_pays_more : (t settle : ℤ) (kind : LineKind) (amount more : ℕ) → amount ≤ more → total_by t (kind_payments settle kind amount) ≤ total_by t (kind_payments settle kind more)
-unfolding payments_of market.payments_of
-kind_pays_more t settle Cash amount more le =
-    total_by_more t (λ day. record { day = day; cents = record { 0 = amount } }) (λ day. record { day = day; cents = record { 0 = more } }) (settle ∷ []) (λ day. refl) (λ day. le)
-kind_pays_more t settle (Security slgs) amount more le =
-    total_by_more t (payment_on slgs amount) (payment_on slgs more) (payment_dates slgs) (λ day. refl) (λ day. slgs_payment_more slgs amount more day le)
-kind_pays_more t settle (Market note) amount more le =
-    total_by_more t (market.payment_on note amount) (market.payment_on note more) (market.payment_dates note) (λ day. refl) (λ day. note_payment_more note amount more day le)
+total_by_more t f g (p ∷ ps) same more =
+    let test = ap (λ (d : ℤ). int_le d t) (same p) in
+    let here : cents_by t (f p) ≤ cents_by t (g p) = rw test (choice_more (int_le (g p).day t) (f p).cents.0 0 (g p).cents.0 0 (more p) (omega arith)) in
+    omega (arith, sum_by-cons (cents_by t) (f p) (map f ps), sum_by-cons (cents_by t) (g p) (map g ps), here, total_by_more t f g ps same more)
 
 -- more units of a line pay no less by any day
 pub line_pays_more : (t settle : ℤ) (line : Line) (units more : ℕ) → units ≤ more → total_by t (line_payments settle line units) ≤ total_by t (line_payments settle line more)
-line_pays_more t settle line units more le = kind_pays_more t settle line.kind (par line units) (par line more) (mul-le-mul_left line.step le)
+line_pays_more t settle line units more le =
+    total_by_more t (flow_by (kind_rate line.kind) (par line units)) (flow_by (kind_rate line.kind) (par line more)) (schedule_of settle line) (λ payment. refl)
+    (λ payment. flow-more (kind_rate line.kind) (par line units) (par line more) payment (mul-le-mul_left line.step le))
 
 abbrev most_of : Line → ℕ
 most_of line = line.most

@@ -3,7 +3,6 @@ use Rattle.std.proofs.Common.{◌≡◌, ◌∙◌, ℕ, ◌+◌, ◌*◌, ◌<�
 use Rattle.std.proofs.lemmas.Int.{ints}
 use Rattle.std.proofs.lemmas.List.Sums.{sum_by_more}
 use Rattle.std.specs.List.{sum_by}
-use Rattle.offer_book.specs.Schedule.{flow_by}
 use Rattle.dual_bound.specs.Columns.{form_plus, other_forms, others_paid, signed_worth, worth_at}
 use Rattle.dual_bound.specs.LeafBound.{least_side, signed_sum}
 use Rattle.dual_bound.specs.declared.column.OtherPayment.{OtherPayment}
@@ -11,6 +10,7 @@ use Rattle.dual_bound.specs.declared.form.Form.{Form}
 use Rattle.dual_bound.specs.declared.worth.Worth.{Worth}
 use Rattle.dual_bound.proofs.FormFacts.{amount_form}
 use Rattle.dual_bound.proofs.Signed.{signed_sum_more}
+use Rattle.payment_schedule.specs.Schedule.{flow_by}
 use Rattle.dual_bound.proofs.Sizes.{abs-neg}
 
 -- a form, one other payment more

@@ -9,15 +9,16 @@ use Rattle.escrow_units.specs.Interest.{earned_of}
 use Rattle.escrow_units.specs.declared.security.Flow.{Flow}
 use Rattle.fixed_powers.specs.DiscountPowers.{one}
 use Rattle.offer_book.specs.Book.{BookContents}
-use Rattle.offer_book.specs.Coefficients.{cost_coefficients, half_year_accrual, interest_high, interest_low, pay_coefficients}
+use Rattle.offer_book.specs.Coefficients.{cost_coefficients, interest_high, interest_low, pay_coefficients, pay_by}
 use Rattle.offer_book.specs.Portfolio.{line_cost, line_payments, par}
-use Rattle.offer_book.specs.Schedule.{flow_by, kind_rate, pay_by}
+use Rattle.offer_book.specs.Schedule.{kind_rate, schedule_of}
 use Rattle.offer_book.specs.declared.coefficients.PayCoefficients.{PayCoefficients}
 use Rattle.offer_book.specs.declared.coefficients.TheConstants.{COEFFICIENT_SCALE}
 use Rattle.offer_book.specs.declared.line.Line.{Line}
 use Rattle.offer_book.specs.declared.line.LineKind.{LineKind}
+use Rattle.payment_schedule.specs.Schedule.{flow_by, half_year_accrual}
 use Rattle.offer_book.specs.declared.line.LineKind.TheVariants.{Cash, Market, Security}
-use Rattle.offer_book.specs.declared.schedule.ScheduledPayment.{ScheduledPayment}
+use Rattle.payment_schedule.specs.declared.schedule.ScheduledPayment.{ScheduledPayment}
 use Rattle.dual_bound.specs.Columns.{IsColumn, IsOther, IsPlace, column_form, column_paid, column_reduced, is_other, is_regular, kind_power, other_forms, signed_worth, worth_at, worth_between, worth_on, worth_together}
 use Rattle.dual_bound.specs.LeafBound.{cost_worth, form_of, least_side, limit_price, limit_weight, paid_worth, price_on, reduced_cost, signed_sum}
 use Rattle.dual_bound.specs.declared.column.Column.{Column}
@@ -166,8 +167,8 @@ slope-shared : (n : ℕ) (book : BookContents) (leaf : Leaf) (line : Line) (days
     ≡ (pos (column.regular.low * (worth_together worths column.places.items).below) -ℤ pos (column.regular.high * (worth_together worths column.places.items).above))
     +ℤ (other_forms worths column.others.items).slope
 slope-shared n book leaf line days worths column same is h =
-    ap (λ pays. signed_sum side pays) h.scheduled.coefficients ∙ mapped-sum side pay h.schedule
-    ∙ shared-sum (λ p. side (pay p)) g other (IsPlace n book line.kind days) (IsOther n book line days) regular others h.schedule column.places.items column.others.items h.places h.others
+    mapped-sum side pay (schedule_of book.settle line)
+    ∙ shared-sum (λ p. side (pay p)) g other (IsPlace n book line.kind days) (IsOther n book line days) regular others (schedule_of book.settle line) column.places.items column.others.items h.places h.others
     ∙ ap (λ z. z +ℤ signed_sum other column.others.items) together
   where
     pay : ScheduledPayment → PayCoefficients
@@ -222,9 +223,9 @@ slack-shared : (n : ℕ) (book : BookContents) (leaf : Leaf) (line : Line) (days
     ≡ column.regular.slack * ((worth_together worths column.places.items).above + (worth_together worths column.places.items).below)
     + (other_forms worths column.others.items).slack
 slack-shared n book leaf line days worths column same is h =
-    ap (λ pays. sum_by (pay_slack (paid_worth n book leaf line.kind)) pays) h.scheduled.coefficients ∙ mapped-count (pay_slack (paid_worth n book leaf line.kind)) (pay_by (kind_rate line.kind) line.step) h.schedule
+    mapped-count (pay_slack (paid_worth n book leaf line.kind)) (pay_by (kind_rate line.kind) line.step) (schedule_of book.settle line)
     ∙ shared-count (λ p. pay_slack (paid_worth n book leaf line.kind) (pay_by (kind_rate line.kind) line.step p)) g other (IsPlace n book line.kind days) (IsOther n book line days) regular others
-    h.schedule column.places.items column.others.items h.places h.others
+    (schedule_of book.settle line) column.places.items column.others.items h.places h.others
     ∙ ap (λ z. z + sum_by other column.others.items) together
   where
     g : ℕ → ℕ
@@ -290,10 +291,9 @@ paid-shared : (n : ℕ) (book : BookContents) (leaf : Leaf) (line : Line) (days 
     → signed_sum (λ (flow : Flow). paid_worth n book leaf line.kind flow.day *ℤ pos flow.cents.0) (line_payments book.settle line units)
     ≡ column_paid (kind_rate line.kind) (par line units) worths column
 paid-shared n book leaf line days worths column units same is h =
-    ap (λ flows. signed_sum (λ (flow : Flow). paid_worth n book leaf line.kind flow.day *ℤ pos flow.cents.0) flows) (h.scheduled.payments units)
-    ∙ mapped-sum (λ (flow : Flow). paid_worth n book leaf line.kind flow.day *ℤ pos flow.cents.0) (flow_by (kind_rate line.kind) (par line units)) h.schedule
+    mapped-sum (λ (flow : Flow). paid_worth n book leaf line.kind flow.day *ℤ pos flow.cents.0) (flow_by (kind_rate line.kind) (par line units)) (schedule_of book.settle line)
     ∙ shared-sum (λ p. paid_worth n book leaf line.kind p.day *ℤ pos (flow_by (kind_rate line.kind) (par line units) p).cents.0) g other (IsPlace n book line.kind days) (IsOther n book line days) regular others
-    h.schedule column.places.items column.others.items h.places h.others
+    (schedule_of book.settle line) column.places.items column.others.items h.places h.others
     ∙ ap (λ z. z +ℤ signed_sum other column.others.items) (together (earned_of (par line units) (kind_rate line.kind) 1 2))
   where
     g : ℕ → ℤ

@@ -2,17 +2,17 @@
 use Rattle.std.proofs.Common.{◌≡◌, ◌∙◌, ℕ, ◌+◌, ◌<◌, ◌≤◌, List, [], ◌∷◌, ◌++◌, All, cond, get_or, length, map, take, refl, sym, ap, subst, arith, ℤ, ◌≤ℤ◌, Bool, true, false, length-append, append-nil}
 use Rattle.std.specs.List.{AllZip, filter}
 use Rattle.std.proofs.lemmas.List.{length-map, take_all}
-use Rattle.std.proofs.lemmas.List.Elements.{All-push, All-same, filter_more}
+use Rattle.std.proofs.lemmas.List.Elements.{All-push, filter_more}
 use Rattle.std.proofs.Math.ListN.{get_or-map}
 use Rattle.escrow_units.specs.Calendar.{years_after_of}
 use Rattle.escrow_units.specs.SlgsTerms.{IsSettlement}
 use Rattle.offer_book.specs.Book.{BookContents, IsLine}
-use Rattle.offer_book.specs.Coefficients.{pay_coefficients}
-use Rattle.offer_book.specs.Schedule.{IsScheduleOf, kind_rate, pay_by}
+use Rattle.offer_book.specs.Coefficients.{pay_by}
+use Rattle.offer_book.specs.Schedule.{kind_rate, schedule_of}
 use Rattle.offer_book.specs.declared.coefficients.PayCoefficients.{PayCoefficients}
 use Rattle.offer_book.specs.declared.line.Line.{Line}
 use Rattle.offer_book.specs.declared.line.LineKind.{LineKind}
-use Rattle.offer_book.specs.declared.schedule.ScheduledPayment.{ScheduledPayment}
+use Rattle.payment_schedule.specs.declared.schedule.ScheduledPayment.{ScheduledPayment}
 use Rattle.dual_bound.specs.Columns.{Extends, HasHead, IsColumn, IsOther, IsPlace, IsSmallColumn, IsSmallOther, KeepsHead, is_other, is_regular, other_by}
 use Rattle.dual_bound.specs.declared.column.Column.{Column}
 use Rattle.dual_bound.specs.declared.column.OtherPayment.{OtherPayment}
@@ -63,10 +63,8 @@ column-stays n book days more e line column h = record {
   costs = h.costs;
   accrued = h.accrued;
   regular = h.regular;
-  schedule = h.schedule;
-  scheduled = h.scheduled;
-  places = zip-weaker (IsPlace n book line.kind days) (IsPlace n book line.kind more) (filter is_regular h.schedule) column.places.items (place-stays n book line.kind days more e) h.places;
-  others = zip-weaker (IsOther n book line days) (IsOther n book line more) (filter is_other h.schedule) column.others.items (other-stays n book line days more e) h.others;
+  places = zip-weaker (IsPlace n book line.kind days) (IsPlace n book line.kind more) (filter is_regular (schedule_of book.settle line)) column.places.items (place-stays n book line.kind days more e) h.places;
+  others = zip-weaker (IsOther n book line days) (IsOther n book line more) (filter is_other (schedule_of book.settle line)) column.others.items (other-stays n book line days more e) h.others;
 }
 
 pub extends-same : (days : List PricedDay) → Extends days days
@@ -111,25 +109,21 @@ one-more n book days more line schedule i payment place old new few is e h at pl
 }
 
 -- the payments of a schedule fall within forty years
-pub schedule-within : (settle : ℤ) (line : Line) (schedule : List ScheduledPayment) → IsSettlement settle → IsLine settle line → IsScheduleOf settle line schedule
-    → All (λ payment. (settle ≤ℤ payment.day) × (payment.day ≤ℤ years_after_of settle 40)) schedule
-schedule-within settle line schedule h is scheduled =
-    let P : PayCoefficients → Type 0 = λ pay. (settle ≤ℤ pay.day) × (pay.day ≤ℤ years_after_of settle 40) in
+pub schedule-within : (settle : ℤ) (line : Line) → IsSettlement settle → IsLine settle line → All (λ payment. (settle ≤ℤ payment.day) × (payment.day ≤ℤ years_after_of settle 40)) (schedule_of settle line)
+schedule-within settle line h is =
     let pay : ScheduledPayment → PayCoefficients = pay_by (kind_rate line.kind) line.step in
-    let pays : All P (map pay schedule) = All-same P (map pay schedule) (pay_coefficients settle line) (sym scheduled.coefficients) (pays-within settle line h is) in
-    λ k d few. subst P (get_or-map pay schedule k d) (pays k (pay d) (omega (arith, length-map schedule pay, few)))
+    let P : PayCoefficients → Type 0 = λ pay. (settle ≤ℤ pay.day) × (pay.day ≤ℤ years_after_of settle 40) in
+    λ k d few. subst P (get_or-map pay (schedule_of settle line) k d) (pays-within settle line h is k (pay d) (omega (arith, length-map (schedule_of settle line) pay, few)))
 
 -- all that a column has, and its size
-pub made : (n : ℕ) (book : BookContents) (days : List PricedDay) (line : Line) (schedule : List ScheduledPayment) (i : ℕ) (start column : Column) → IsScheduleOf book.settle line schedule
+pub made : (n : ℕ) (book : BookContents) (days : List PricedDay) (line : Line) (schedule : List ScheduledPayment) (i : ℕ) (start column : Column) → schedule ≡ schedule_of book.settle line
     → length schedule ≤ i → HasHead book.settle line start → KeepsHead start column → IsSoFar n book days line schedule i column → IsColumn n book days line column
-made n book days line schedule i start column scheduled all head keeps h = record {
+made n book days line schedule i start column is all head keeps h = record {
   costs = head.costs ∙ (λ j. record { low = sym keeps.cost_low j; high = sym keeps.cost_high j; slack = sym keeps.cost_slack j });
   accrued = keeps.accrued ∙ head.accrued;
   regular = keeps.regular ∙ head.regular;
-  schedule = schedule;
-  scheduled = scheduled;
-  places = subst (λ xs. AllZip (IsPlace n book line.kind days) (filter is_regular xs) column.places.items) (take_all i schedule all) h.places;
-  others = subst (λ xs. AllZip (IsOther n book line days) (filter is_other xs) column.others.items) (take_all i schedule all) h.others;
+  places = subst (λ xs. AllZip (IsPlace n book line.kind days) (filter is_regular xs) column.places.items) (take_all i schedule all ∙ is) h.places;
+  others = subst (λ xs. AllZip (IsOther n book line days) (filter is_other xs) column.others.items) (take_all i schedule all ∙ is) h.others;
 }
 
 pub made-small : (n : ℕ) (book : BookContents) (days : List PricedDay) (line : Line) (schedule : List ScheduledPayment) (i : ℕ) (start column : Column)

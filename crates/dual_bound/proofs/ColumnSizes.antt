@@ -1,43 +1,25 @@
 -- How large the parts of a column are.
-use Rattle.std.proofs.Common.{◌≡◌, ℕ, ◌*◌, ◌≤◌, sym, ap, subst, arith, inl, inr, ℤ, Bool, true, false, if◌then◌else◌}
+use Rattle.std.proofs.Common.{◌≡◌, ℕ, ◌*◌, ◌≤◌, ap, arith, ℤ}
 use Rattle.std.proofs.Math.Nat.{mul-le-mul_left, mul-le-mul_right}
 use Rattle.escrow_units.proofs.RoundingFacts.{near-at-most}
 use Rattle.escrow_units.specs.Interest.{earned_of}
 use Rattle.escrow_units.specs.declared.interest.Accrual.{Accrual}
-use Rattle.slgs_interest.specs.PaymentLaws.{IsShort}
-use Rattle.offer_book.specs.Book.{IsLine, IsSecurity}
-use Rattle.offer_book.specs.Coefficients.{Enclosure, cost_coefficients}
-use Rattle.offer_book.specs.Schedule.{flow_by, kind_rate, pay_by, principal_by}
+use Rattle.offer_book.specs.Book.{IsLine}
+use Rattle.offer_book.specs.Coefficients.{Enclosure, cost_coefficients, pay_by}
+use Rattle.offer_book.specs.Schedule.{kind_rate}
 use Rattle.offer_book.specs.declared.line.Line.{Line}
-use Rattle.offer_book.specs.declared.line.LineKind.{LineKind}
-use Rattle.offer_book.specs.declared.line.LineKind.TheVariants.{Cash, Market, Security}
-use Rattle.offer_book.specs.declared.schedule.ScheduledPayment.{ScheduledPayment}
+use Rattle.payment_schedule.specs.Schedule.{IsShort, flow_by}
+use Rattle.payment_schedule.specs.declared.schedule.ScheduledPayment.{ScheduledPayment}
 use Rattle.dual_bound.specs.Columns.{IsSmallHead, IsSmallPay}
 use Rattle.dual_bound.specs.declared.column.Column.{Column}
-use Rattle.dual_bound.proofs.Sizes.{cost-sized, paid-sized, step-small}
-
-kind-low : (settle : ℤ) (kind : LineKind) → IsSecurity settle kind → kind_rate kind ≤ 30_000
-kind-low settle Cash h = absurd h
-kind-low settle (Security slgs) h = h.2
-kind-low settle (Market note) h = h.1.coupon
-
--- a line's rate is at most 30 percent
-pub rate-low : (settle : ℤ) (line : Line) → IsLine settle line → kind_rate line.kind ≤ 30_000
-rate-low settle line (inl cash) = subst (λ kind. kind_rate kind ≤ 30_000) (sym cash.kind) (omega arith)
-rate-low settle line (inr security) = kind-low settle line.kind security.security
-
-principal-little : (payment : ScheduledPayment) (amount : ℕ) → principal_by payment amount ≤ amount
-principal-little payment amount = at payment.principal
-  where
-    at : (t : Bool) → (if t then amount else 0) ≤ amount
-    at true = omega arith
-    at false = omega arith
+use Rattle.dual_bound.proofs.Sizes.{cost-sized, pay-sized, principal-little, step-small}
+use Rattle.offer_book.proofs.LineFacts.{rate-low}
 
 -- the coefficients of a payment
 pub pay-small : (settle : ℤ) (line : Line) (payment : ScheduledPayment) → IsLine settle line → IsShort payment.accrual
     → IsSmallPay (pay_by (kind_rate line.kind) line.step payment)
 pay-small settle line payment is short =
-    let sized = paid-sized payment.day line.step (kind_rate line.kind) payment.accrual (principal_by payment line.step) (rate-low settle line is) short.year short.parts (principal-little payment line.step) in
+    let sized = pay-sized (kind_rate line.kind) line.step payment (rate-low settle line is) short in
     let step = step-small settle line is in
     record { low = omega (arith, sized.low, step); high = omega (arith, sized.high, step); slack = omega (arith, sized.slack) }
 

@@ -1,37 +1,37 @@
 -- How large coefficients, weights and forms are: nothing leaves 128 bits.
-use Rattle.std.proofs.Common.{◌≡◌, ℕ, zero, suc, ◌+◌, ◌*◌, ◌/◌, ◌^◌, ◌<◌, ◌≤◌, refl, sym, ap, subst, arith, inl, inr, List, [], ◌∷◌, ℤ, pos, negsuc, ◌+ℤ◌, ◌-ℤ◌, ◌*ℤ◌, neg_ℤ, int_le, unsigned_abs, Bool, true, false, if◌then◌else◌, length, All, ◌==◌}
+use Rattle.std.proofs.Common.{◌≡◌, ℕ, zero, suc, ◌+◌, ◌*◌, ◌/◌, ◌^◌, ◌<◌, ◌≤◌, refl, sym, ap, subst, arith, inl, inr, List, [], ◌∷◌, ℤ, pos, negsuc, ◌+ℤ◌, ◌-ℤ◌, ◌*ℤ◌, neg_ℤ, int_le, unsigned_abs, Bool, true, false, if◌then◌else◌, get_or, length, map, All, ◌==◌}
 use Rattle.std.specs.Int.{div_ceil}
 use Rattle.std.specs.List.{sum_by}
-use Rattle.std.specs.Ordering.{int_eq}
 use Rattle.std.proofs.Math.Nat.{mul-div-le, mul-le-mul, mul-le-mul_left, mul-le-mul_right}
 use Rattle.std.proofs.lemmas.Bool.{cases_lt}
 use Rattle.std.proofs.lemmas.Grind.{div_ceil_times}
 use Rattle.std.proofs.lemmas.Int.{ints, unsigned_abs-mul}
 use Rattle.std.proofs.lemmas.List.{length-map}
-use Rattle.std.proofs.lemmas.List.Elements.{All-cons, All-head, All-map, All-nil, All-tail}
+use Rattle.std.proofs.lemmas.List.Elements.{All-head, All-map, All-tail}
 use Rattle.std.proofs.lemmas.List.Sums.{sum_by-cons}
 use Rattle.escrow_units.specs.Flows.{index360_of}
 use Rattle.escrow_units.specs.SlgsTerms.{IsSettlement}
 use Rattle.escrow_units.specs.declared.interest.Accrual.{Accrual}
 use Rattle.escrow_units.specs.declared.security.Flow.{Flow}
-use Rattle.escrow_units.specs.declared.security.Slgs.{Slgs}
 use Rattle.fixed_powers.specs.DiscountPowers.{low}
 use Rattle.fixed_powers.specs.declared.side.Side.TheVariants.{Low}
 use Rattle.fixed_powers.proofs.PowerFacts.{power_of-within}
-use Rattle.market_notes.proofs.AmountFacts.{accrual-short, accrual-some, dates-few as note_dates-few}
+use Rattle.market_notes.proofs.AmountFacts.{accrual-short, accrual-some}
 use Rattle.market_notes.specs.NoteFlows as notes
 use Rattle.market_notes.specs.declared.note.Note.{Note}
-use Rattle.slgs_interest.specs.PaymentLaws.{IsShort}
-use Rattle.slgs_interest.specs.Payments as slgs
 use Rattle.offer_book.specs.Book.{BookContents, IsCashLine, IsLine, IsSecurity, IsSecurityLine}
-use Rattle.offer_book.specs.Coefficients.{cost_coefficients, half_year_accrual, interest_high, interest_low, interest_slack, kind_costs, kind_pays, note_paid_on, paid_on, pay_coefficients, slgs_paid_on}
+use Rattle.offer_book.specs.Coefficients.{cost_coefficients, interest_high, interest_low, interest_slack, kind_costs, pay_by, pay_coefficients}
 use Rattle.offer_book.specs.Portfolio.{line_cost}
 use Rattle.offer_book.specs.declared.coefficients.PayCoefficients.{PayCoefficients}
 use Rattle.offer_book.specs.declared.coefficients.TheConstants.{COEFFICIENT_SCALE}
 use Rattle.offer_book.specs.declared.line.Line.{Line}
 use Rattle.offer_book.specs.declared.line.LineKind.{LineKind}
 use Rattle.offer_book.specs.declared.line.LineKind.TheVariants.{Cash, Market, Security}
-use Rattle.offer_book.proofs.LineFacts.{cash-at_most, security-at_most, dates-few, is_paid, is_short}
+use Rattle.payment_schedule.specs.Schedule.{IsShort, principal_by}
+use Rattle.payment_schedule.specs.declared.schedule.ScheduledPayment.{ScheduledPayment}
+use Rattle.offer_book.specs.Schedule.{kind_rate, kind_schedule, schedule_of}
+use Rattle.offer_book.proofs.LineFacts.{cash-at_most, rate-low, schedule-few, security-at_most}
+use Rattle.offer_book.proofs.ScheduleFacts.{schedule-short}
 use Rattle.dual_bound.specs.LeafBound.{cost_weight, cost_worth, least_side, limit_price, limit_weight, paid_worth, price_on, signed_sum}
 use Rattle.dual_bound.specs.Tree.{IsLeaf}
 use Rattle.dual_bound.specs.declared.prices.TheConstants.{PRICE_SCALE}
@@ -134,47 +134,24 @@ interest_slack-small rate = at (rate == 0)
     at true = omega arith
     at false = omega arith
 
-pub paid-sized : (day : ℤ) (step rate : ℕ) (accrual : Accrual) (principal : ℕ) → rate ≤ 30_000 → 0 < accrual.year → 3 * accrual.parts ≤ 4 * accrual.year → principal ≤ step
-    → IsSized step (paid_on day step rate accrual principal)
-paid-sized day step rate accrual principal low some few once = record {
-  low = omega (arith, interest_low-small step rate accrual low some few);
-  high = omega (arith, interest_high-small step rate accrual low some few);
+pub principal-little : (payment : ScheduledPayment) (amount : ℕ) → principal_by payment amount ≤ amount
+principal-little payment amount = at payment.principal
+  where
+    at : (t : Bool) → (if t then amount else 0) ≤ amount
+    at true = omega arith
+    at false = omega arith
+
+pub pay-sized : (rate step : ℕ) (payment : ScheduledPayment) → rate ≤ 30_000 → IsShort payment.accrual → IsSized step (pay_by rate step payment)
+pay-sized rate step payment low short = record {
+  low = omega (arith, interest_low-small step rate payment.accrual low short.year short.parts, principal-little payment step);
+  high = omega (arith, interest_high-small step rate payment.accrual low short.year short.parts, principal-little payment step);
   slack = interest_slack-small rate;
 }
 
-slgs-sized : (security : Slgs) (step : ℕ) (day : ℤ) → security.rate.0 ≤ 30_000 → IsShort (slgs.first_accrual_of security) → IsSized step (slgs_paid_on security step day)
-slgs-sized security step day low short =
-    at (int_eq day security.first) (slgs.principal_on security step day) (once (int_eq day security.maturity))
-  where
-    once : (t : Bool) → (if t then step else 0) ≤ step
-    once true = omega arith
-    once false = omega arith
-
-    at : (t : Bool) (principal : ℕ) → principal ≤ step
-        → IsSized step (paid_on day step security.rate.0 (if t then slgs.first_accrual_of security else half_year_accrual) principal)
-    at true principal once = paid-sized day step security.rate.0 (slgs.first_accrual_of security) principal low short.year short.parts once
-    at false principal once = paid-sized day step security.rate.0 half_year_accrual principal low (omega arith) (omega arith) once
-
-note-sized : (note : Note) (step : ℕ) (day : ℤ) → note.coupon.0 ≤ 30_000 → IsSized step (note_paid_on note step day)
-note-sized note step day low =
-    paid-sized day step note.coupon.0 half_year_accrual (notes.principal_on note step day) low (omega arith) (omega arith) (once (int_eq day note.maturity))
-  where
-    once : (t : Bool) → (if t then step else 0) ≤ step
-    once true = omega arith
-    once false = omega arith
-
-kind-sized : (settle : ℤ) (kind : LineKind) (step : ℕ) → IsSettlement settle → IsSecurity settle kind → All (IsSized step) (kind_pays settle kind step)
-kind-sized settle Cash step h security = absurd security
-kind-sized settle (Security security) step h keeps =
-    All-map (IsSized step) (slgs_paid_on security step) (slgs.payment_dates security) (λ k d few. slgs-sized security step _ keeps.2 (is_short settle security h keeps))
-kind-sized settle (Market note) step h security =
-    All-map (IsSized step) (note_paid_on note step) (notes.payment_dates note) (λ k d few. note-sized note step _ security.1.coupon)
-
 pub pays-sized : (settle : ℤ) (line : Line) → IsSettlement settle → IsLine settle line → All (IsSized line.step) (pay_coefficients settle line)
-pays-sized settle line h (inl cash) =
-    subst (λ kind. All (IsSized line.step) (kind_pays settle kind line.step)) (sym cash.kind)
-    (All-cons (IsSized line.step) _ [] (record { low = omega arith; high = omega arith; slack = omega arith }) (All-nil (IsSized line.step)))
-pays-sized settle line h (inr security) = kind-sized settle line.kind line.step h security.security
+pays-sized settle line h is =
+    All-map (IsSized line.step) (pay_by (kind_rate line.kind) line.step) (schedule_of settle line)
+    (λ k d few. pay-sized (kind_rate line.kind) line.step (get_or (schedule_of settle line) k d) (rate-low settle line is) (schedule-short settle line h is k d few))
 
 -- what a line costs of a step: at most four steps, scaled
 pub record IsCostSized (line : Line) : Type 0 where
@@ -218,18 +195,12 @@ cost-sized settle line (inr security) =
     record { low = sized.low; high = sized.high; slack = sized.slack }
 
 -- a line pays on at most 84 dates, and opening cash on one
-kind-few : (settle : ℤ) (kind : LineKind) (step : ℕ) → IsSettlement settle → IsSecurity settle kind → length (kind_pays settle kind step) ≤ 84
-kind-few settle Cash step h security = absurd security
-kind-few settle (Security security) step h keeps =
-    omega (arith, length-map (slgs.payment_dates security) (slgs_paid_on security step), dates-few security (is_paid settle security h keeps))
-kind-few settle (Market note) step h keeps =
-    omega (arith, length-map (notes.payment_dates note) (note_paid_on note step), note_dates-few note keeps.1)
-
 pub pays-few : (settle : ℤ) (line : Line) → IsSettlement settle → IsSecurityLine settle line → length (pay_coefficients settle line) ≤ 84
-pays-few settle line h security = kind-few settle line.kind line.step h security.security
+pays-few settle line h security =
+    omega (arith, length-map (schedule_of settle line) (pay_by (kind_rate line.kind) line.step), schedule-few settle line h security)
 
 pub cash-once : (settle : ℤ) (line : Line) → IsCashLine line → length (pay_coefficients settle line) ≡ 1
-cash-once settle line cash = ap (λ kind. length (kind_pays settle kind line.step)) cash.kind
+cash-once settle line cash = ap (λ kind. length (map (pay_by (kind_rate kind) line.step) (kind_schedule settle kind))) cash.kind
 
 -- ---- forms
 -- a weight times a side

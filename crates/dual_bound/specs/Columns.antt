@@ -6,15 +6,15 @@ use Rattle.escrow_units.specs.Flows.{index360_of}
 use Rattle.escrow_units.specs.Interest.{earned_of}
 use Rattle.fixed_powers.specs.DiscountPowers.{low, one}
 use Rattle.offer_book.specs.Book.{BookContents, IsBook}
-use Rattle.offer_book.specs.Coefficients.{cost_coefficients, half_year_accrual}
-use Rattle.offer_book.specs.Schedule.{IsScheduleOf, flow_by, kind_accrued, kind_rate, pay_by}
+use Rattle.offer_book.specs.Coefficients.{cost_coefficients, pay_by}
+use Rattle.offer_book.specs.Schedule.{kind_accrued, kind_rate, schedule_of}
 use Rattle.offer_book.specs.declared.coefficients.PayCoefficients.{PayCoefficients}
 use Rattle.offer_book.specs.declared.line.Line.{Line}
 use Rattle.offer_book.specs.declared.line.LineKind.{LineKind}
 use Rattle.offer_book.specs.declared.line.LineKind.TheVariants.{Cash, Market, Security}
-use Rattle.offer_book.specs.declared.schedule.ScheduledPayment.{ScheduledPayment}
+use Rattle.payment_schedule.specs.declared.schedule.ScheduledPayment.{ScheduledPayment}
+use Rattle.payment_schedule.specs.Schedule.{IsShort, flow_by, half_year_accrual}
 use Rattle.offer_book.specs.declared.coefficients.TheConstants.{COEFFICIENT_SCALE}
-use Rattle.slgs_interest.specs.PaymentLaws.{IsShort}
 use Rattle.dual_bound.specs.LeafBound.{least_side, price_on, signed_sum}
 use Rattle.dual_bound.specs.Tree.{IsLeaf}
 use Rattle.dual_bound.specs.declared.column.Column.{Column}
@@ -120,10 +120,8 @@ pub record IsColumn (n : ℕ) (book : BookContents) (days : List PricedDay) (lin
   pub costs : cost_coefficients line ≡ record { low = column.cost_low; high = column.cost_high; slack = column.cost_slack }
   pub accrued : column.accrued ≡ kind_accrued line.kind
   pub regular : column.regular ≡ pay_by (kind_rate line.kind) line.step (regular_on book.settle)
-  pub schedule : List ScheduledPayment
-  pub scheduled : IsScheduleOf book.settle line schedule
-  pub places : AllZip (IsPlace n book line.kind days) (filter is_regular schedule) column.places.items
-  pub others : AllZip (IsOther n book line days) (filter is_other schedule) column.others.items
+  pub places : AllZip (IsPlace n book line.kind days) (filter is_regular (schedule_of book.settle line)) column.places.items
+  pub others : AllZip (IsOther n book line days) (filter is_other (schedule_of book.settle line)) column.others.items
 
 -- coefficients with room for their products
 pub record IsSmallPay (pay : PayCoefficients) : Type 0 where

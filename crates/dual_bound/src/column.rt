@@ -4,10 +4,10 @@ ghost use Rattle.escrow_units.specs.Interest.{earned_of};
 ghost use Rattle.escrow_units.specs.SlgsTerms.{IsSettlement};
 ghost use Rattle.fixed_powers.specs.DiscountPowers.{IsLowTable, PowerTable};
 ghost use Rattle.offer_book.specs.Book.{BookContents, IsBook, IsLine};
-ghost use Rattle.offer_book.specs.Coefficients.{cost_coefficients};
+ghost use Rattle.offer_book.specs.Coefficients.{cost_coefficients, pay_by};
 ghost use Rattle.offer_book.specs.Portfolio.{line_cost, par};
-ghost use Rattle.offer_book.specs.Schedule.{flow_by, kind_accrued, kind_rate, pay_by};
-ghost use Rattle.slgs_interest.specs.PaymentLaws.{IsShort};
+ghost use Rattle.payment_schedule.specs.Schedule.{IsShort, flow_by};
+ghost use Rattle.offer_book.specs.Schedule.{kind_accrued, kind_rate};
 ghost use Rattle.dual_bound.specs.Columns.{Extends, HasHead, IsColumn, IsDayTable, IsLightWorth, IsSmallColumn, IsSmallOther, IsSmallPay, KeepsHead, column_form, column_paid, column_reduced, form_plus, is_other, is_regular as is_regular_of, other_by, other_forms, others_paid as others_paid_of, regular_form as regular_form_of, regular_on, signed_worth, worth_at, worth_together};
 ghost use Rattle.dual_bound.specs.declared.worth.Worth.{Worth as WorthOf};
 
@@ -19,7 +19,8 @@ use crate::worth::Worth;
 use escrow_desk::NoMemory;
 use escrow_units::{Accrual, Cents, Day, GREATEST_RATE, Rate, earned};
 use fixed_powers::Powers;
-use offer_book::{Book, Line, PayCoefficients, ScheduledPayment};
+use offer_book::{Book, Line, PayCoefficients};
+use payment_schedule::{HALF_YEAR, ScheduledPayment};
 use std::alloc::Global;
 
 /// A payment of a line that isn't regular: its first interest, or with the principal.
@@ -66,7 +67,7 @@ fn coefficients_of(line: &Line, payment: &ScheduledPayment) -> PayCoefficients
     ensures value { result ≡ pay_by (kind_rate line.now.kind) line.now.step payment.now }
     ensures small { IsSmallPay result }
 {
-    payment.coefficients(line.rate(), Cents(line.step))
+    PayCoefficients::of(payment, line.rate(), Cents(line.step))
 }
 
 // Another payment of a line, by the place of its day.
@@ -90,7 +91,7 @@ fn regular_payment(day: Day) -> ScheduledPayment
 {
     ScheduledPayment {
         day,
-        accrual: Accrual { parts: 1, year: 2 },
+        accrual: HALF_YEAR,
         principal: false,
     }
 }
@@ -113,7 +114,7 @@ fn other_cents(rate: Rate, amount: Cents, payment: &ScheduledPayment) -> Cents
     ensures value { result.0 ≡ (flow_by rate.0 amount.0 payment.now).cents.0 }
     ensures small { result.0 ≤ 2 * 10 ^ 13 }
 {
-    payment.cents(rate, amount)
+    payment.flow(rate, amount).cents
 }
 
 // The least that payments with the same coefficients can add to a slope, by what their days are worth together.

@@ -13,7 +13,8 @@ use crate::worth::PricedDay;
 use escrow_desk::NoMemory;
 use escrow_units::{Day, Flow, index360};
 use fixed_powers::Powers;
-use offer_book::{Book, LineKind, ScheduledPayment};
+use offer_book::{Book, LineKind};
+use payment_schedule::ScheduledPayment;
 use std::alloc::Global;
 
 /// The days on which lines pay, each once, and where each stands by its number of days after settlement.

@@ -6,13 +6,14 @@ use Rattle.std.specs.Int.{int_min}
 use Rattle.std.proofs.lemmas.List.Sums.{sum_by-cons}
 use Rattle.escrow_units.specs.declared.security.Flow.{Flow}
 use Rattle.offer_book.specs.Book.{BookContents}
-use Rattle.offer_book.specs.Coefficients.{cost_coefficients, pay_coefficients}
+use Rattle.offer_book.specs.Coefficients.{cost_coefficients, pay_coefficients, pay_by}
 use Rattle.offer_book.specs.Portfolio.{line_cost, line_payments, par}
-use Rattle.offer_book.specs.Schedule.{flow_by, kind_rate, pay_by}
+use Rattle.offer_book.specs.Schedule.{kind_rate, schedule_of}
 use Rattle.offer_book.specs.declared.coefficients.TheConstants.{COEFFICIENT_SCALE}
 use Rattle.offer_book.specs.declared.coefficients.PayCoefficients.{PayCoefficients}
 use Rattle.offer_book.specs.declared.line.Line.{Line}
 use Rattle.offer_book.specs.declared.line.LineKind.{LineKind}
+use Rattle.payment_schedule.specs.Schedule.{flow_by}
 use Rattle.offer_book.specs.declared.line.LineKind.TheVariants.{Cash, Market, Security}
 use Rattle.dual_bound.specs.LeafBound.{cost_weight, cost_worth, form_at, form_of, least_side, least_within, limit_price, limit_weight, paid_worth, price_on, reduced_cost, signed_sum}
 use Rattle.dual_bound.specs.declared.ranges.Interval.{Interval}
@@ -63,25 +64,19 @@ sum-same P f g (x ∷ xs) same h =
     sum_by-cons f x xs ∙ ((λ i. same x (h 0 x (omega arith)) i + sum-same P f g xs same (λ k d lt. h (suc k) d (omega arith)) i) ∙ sym (sum_by-cons g x xs))
 
 -- what a line pays on its days, elsewhere
+mapped : {X Y : Type 0} (P : Y → Type 0) (f : X → Y) (xs : List X) → All (λ x. P (f x)) xs → All P (map f xs)
+mapped P f [] h = λ k d lt. absurd (omega arith)
+mapped P f (x ∷ xs) h = All-cons P (f x) (map f xs) (h 0 x (omega arith)) (mapped P f xs (λ k d lt. h (suc k) d (omega arith)))
+
 pays-elsewhere : (settle : ℤ) (needs : List Flow) (place : ℕ) (line : Line) → IsAside settle needs place line
     → All (λ (pay : PayCoefficients). IsElsewhere needs place pay.day) (pay_coefficients settle line)
 pays-elsewhere settle needs place line aside =
-    subst (All (λ (pay : PayCoefficients). IsElsewhere needs place pay.day)) (sym aside.1.coefficients)
-    (mapped (λ (pay : PayCoefficients). IsElsewhere needs place pay.day) (pay_by (kind_rate line.kind) line.step) aside.0 aside.2)
-  where
-    mapped : {X Y : Type 0} (P : Y → Type 0) (f : X → Y) (xs : List X) → All (λ x. P (f x)) xs → All P (map f xs)
-    mapped P f [] h = λ k d lt. absurd (omega arith)
-    mapped P f (x ∷ xs) h = All-cons P (f x) (map f xs) (h 0 x (omega arith)) (mapped P f xs (λ k d lt. h (suc k) d (omega arith)))
+    mapped (λ (pay : PayCoefficients). IsElsewhere needs place pay.day) (pay_by (kind_rate line.kind) line.step) (schedule_of settle line) aside
 
 flows-elsewhere : (settle : ℤ) (needs : List Flow) (place : ℕ) (line : Line) (units : ℕ) → IsAside settle needs place line
     → All (λ (flow : Flow). IsElsewhere needs place flow.day) (line_payments settle line units)
 flows-elsewhere settle needs place line units aside =
-    subst (All (λ (flow : Flow). IsElsewhere needs place flow.day)) (sym (aside.1.payments units))
-    (mapped (λ (flow : Flow). IsElsewhere needs place flow.day) (flow_by (kind_rate line.kind) (par line units)) aside.0 aside.2)
-  where
-    mapped : {X Y : Type 0} (P : Y → Type 0) (f : X → Y) (xs : List X) → All (λ x. P (f x)) xs → All P (map f xs)
-    mapped P f [] h = λ k d lt. absurd (omega arith)
-    mapped P f (x ∷ xs) h = All-cons P (f x) (map f xs) (h 0 x (omega arith)) (mapped P f xs (λ k d lt. h (suc k) d (omega arith)))
+    mapped (λ (flow : Flow). IsElsewhere needs place flow.day) (flow_by (kind_rate line.kind) (par line units)) (schedule_of settle line) aside
 
 form-aside : (n : ℕ) (book : BookContents) (leaf : Leaf) (place price : ℕ) (line : Line) → length leaf.prices ≡ length book.needs → IsAside book.settle book.needs place line
     → form_of n book (with_price leaf place price) line ≡ form_of n book leaf line

@@ -1,13 +1,14 @@
 -- The lines that pay for a need date, as they are put.
 use Rattle.std.proofs.Common.{◌≡◌, ◌∙◌, ℕ, ◌+◌, ◌<◌, ◌≤◌, List, get_or, length, set, sym, ap, subst, arith, inl, inr}
+use Rattle.std.specs.Prelude.{All}
 use Rattle.std.specs.List.{Contains}
 use Rattle.std.proofs.lemmas.Bool.{cases_eq, cases_lt}
 use Rattle.std.proofs.lemmas.Grind.{get_or-set_at}
 use Rattle.std.proofs.lemmas.List.{get_or-set_other, get_or_default}
 use Rattle.offer_book.specs.Book.{BookContents}
-use Rattle.offer_book.specs.Schedule.{IsScheduleOf}
+use Rattle.offer_book.specs.Schedule.{schedule_of}
 use Rattle.offer_book.specs.declared.line.Line.{Line}
-use Rattle.offer_book.specs.declared.schedule.ScheduledPayment.{ScheduledPayment}
+use Rattle.payment_schedule.specs.declared.schedule.ScheduledPayment.{ScheduledPayment}
 use Rattle.dual_tune.specs.Payers.{ArePayers, IsAside, IsElsewhere, IsRisingTo, Serves}
 use Rattle.dual_tune.specs.declared.payers.Payers.{Payers}
 
@@ -53,7 +54,7 @@ added-more book line place schedule paid at old new h rising kept there serves =
 }
 
 pub added-all : (book : BookContents) (line place : ℕ) (schedule : List ScheduledPayment) (paid : ℕ) (lines : List ℕ) → AreAdded book line place schedule paid lines → length schedule ≤ paid
-    → ((d : Line) → IsScheduleOf book.settle (get_or book.lines line d) schedule) → ArePayers book (line + 1) place lines
+    → ((d : Line) → schedule ≡ schedule_of book.settle (get_or book.lines line d)) → ArePayers book (line + 1) place lines
 added-all book line place schedule paid lines h all scheduled = record {
   rising = h.rising.rising;
   there = λ k d lt. omega (arith, h.rising.within k d lt);
@@ -63,6 +64,6 @@ added-all book line place schedule paid lines h all scheduled = record {
         | inr from ↦
             let is : line ≡ other = omega (arith, lt, from) in
             subst (λ j. IsAside book.settle book.needs place (get_or book.lines j d)) is
-            (schedule, scheduled d, λ k e few. h.own (λ c. none (subst (Contains lines) is c)) k e (omega (arith, few, all)))
+            (subst (All (λ payment. IsElsewhere book.needs place payment.day)) (scheduled d) (λ k e few. h.own (λ c. none (subst (Contains lines) is c)) k e (omega (arith, few, all))))
       ];
 }

@@ -3,9 +3,8 @@ use Rattle.std.specs.Prelude.{◌≡◌, ℕ, ◌<◌, ◌≤◌, ℤ, List, All
 use Rattle.std.specs.List.{Contains}
 use Rattle.escrow_units.specs.declared.security.Flow.{Flow}
 use Rattle.offer_book.specs.Book.{BookContents}
-use Rattle.offer_book.specs.Schedule.{IsScheduleOf}
+use Rattle.offer_book.specs.Schedule.{schedule_of}
 use Rattle.offer_book.specs.declared.line.Line.{Line}
-use Rattle.offer_book.specs.declared.schedule.ScheduledPayment.{ScheduledPayment}
 use Rattle.dual_bound.specs.LeafBound.{price_on}
 use Rattle.dual_tune.specs.declared.payers.Payers.{Payers}
 
@@ -19,8 +18,7 @@ IsElsewhere needs place day = (other : ℕ) × ¬ (other ≡ place) × Serves ne
 
 -- a line pays nothing for the need at a place
 abbrev pub IsAside : ℤ → List Flow → ℕ → Line → Type 0
-IsAside settle needs place line =
-    (schedule : List ScheduledPayment) × IsScheduleOf settle line schedule × All (λ payment. IsElsewhere needs place payment.day) schedule
+IsAside settle needs place line = All (λ payment. IsElsewhere needs place payment.day) (schedule_of settle line)
 
 -- numbers rise, up to one at most
 pub record IsRisingTo (most : ℕ) (numbers : List ℕ) : Type 0 where

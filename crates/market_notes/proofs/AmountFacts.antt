@@ -1,27 +1,26 @@
 -- How much a note can cost and pay.
-use Rattle.std.proofs.Common.{◌≡◌, ℕ, ◌+◌, ◌*◌, ◌^◌, ◌<◌, ◌≤◌, zero, suc, refl, arith, ℤ, ◌≤ℤ◌, ◌<ℤ◌, Bool, true, false, if◌then◌else◌, length, get_or}
+use Rattle.std.proofs.Common.{◌≡◌, ℕ, ◌+◌, ◌*◌, ◌^◌, ◌<◌, ◌≤◌, ap, arith, ℤ, ◌≤ℤ◌, ◌<ℤ◌, length}
 use Rattle.std.specs.Prelude.{All}
-use Rattle.std.specs.Ordering.{int_eq}
 use Rattle.std.proofs.Math.Nat.{mul-le-mul}
 use Rattle.std.proofs.lemmas.List.{length-map}
-use Rattle.std.proofs.lemmas.List.Elements.{All-map, All-weaker}
+use Rattle.std.proofs.lemmas.List.Elements.{All-weaker}
 use Rattle.jiff_core.proofs.SignedLemmas.{signed_arith}
 use Rattle.escrow_units.specs.Calendar.{years_after_of}
 use Rattle.escrow_units.specs.Flows.{total, FallWithinFortyYears}
 use Rattle.escrow_units.specs.Interest.{face_price_of, half_coupon_of}
-use Rattle.escrow_units.specs.Rounding.{near}
 use Rattle.escrow_units.specs.Series.{days_between_of}
 use Rattle.escrow_units.specs.declared.security.Flow.{Flow}
 use Rattle.escrow_units.specs.declared.security.StepRule.TheVariants as rule
 use Rattle.escrow_units.proofs.FlowFacts.{days_between_of-whole}
 use Rattle.escrow_units.proofs.LastDates.{half_back_of-reach, half_year-before}
-use Rattle.escrow_units.proofs.RoundingFacts.{near-at-most, near-IsNearest, near-zero}
+use Rattle.escrow_units.proofs.RoundingFacts.{near-at-most, near-IsNearest}
 use Rattle.escrow_units.proofs.SeriesAround.{AreCounted, counted, last-recent}
-use Rattle.market_notes.specs.NoteFlows.{payment_dates, payments_of, payment_on, principal_on, accrual_of, accrued_interest, cost_of, previous_date, next_date}
+use Rattle.market_notes.specs.NoteFlows.{payment_dates, note_schedule, accrual_of, accrued_interest, cost_of, previous_date, next_date}
 use Rattle.market_notes.specs.NoteLaws.{IsCouponDate}
 use Rattle.market_notes.specs.NoteTerms.{IsNote}
 use Rattle.market_notes.specs.declared.note.Note.{Note}
-use Rattle.market_notes.proofs.FlowFacts.{payments-after, payments-face}
+use Rattle.market_notes.proofs.FlowFacts.{note_flows, paid_on, payments-after, payments-by_date, payments-face}
+use Rattle.payment_schedule.proofs.ScheduleFacts.{flows-none, near-nothing}
 use Rattle.market_notes.proofs.SeriesFacts.{term}
 
 -- the payment dates of a note, counted
@@ -31,12 +30,11 @@ dates-counted note h = counted note.maturity rule.MonthEnd note.settle (term not
 pub dates-few : (note : Note) → IsNote note → length (payment_dates note) ≤ 81
 dates-few note h = let c = dates-counted note h in omega (arith, c.has.few, c.has.count)
 
-pub payments-few : (note : Note) (face : ℕ) → IsNote note → length (payments_of note face) ≤ 81
-unfolding payments_of
-payments-few note face h = omega (arith, length-map (payment_dates note) (payment_on note face), dates-few note h)
+pub payments-few : (note : Note) (face : ℕ) → IsNote note → length (note_flows note face) ≤ 81
+payments-few note face h = omega (arith, ap length (payments-by_date note face), length-map (payment_dates note) (paid_on note face), dates-few note h)
 
 -- they fall within 40 years
-pub payments-within : (note : Note) (face : ℕ) → IsNote note → FallWithinFortyYears note.settle (payments_of note face)
+pub payments-within : (note : Note) (face : ℕ) → IsNote note → FallWithinFortyYears note.settle (note_flows note face)
 payments-within note face h =
     All-weaker (λ (flow : Flow). IsCouponDate note flow.day × (note.settle <ℤ flow.day)) (λ flow. (note.settle ≤ℤ flow.day) × (flow.day ≤ℤ years_after_of note.settle 40))
     (λ flow on.
@@ -44,22 +42,22 @@ payments-within note face h =
     let back = on.0.back in
     let reach = half_back_of-reach note.maturity rule.MonthEnd on.0.steps (term note h).base on.0.few in
     (omega (arith, signed_arith, late), omega (arith, signed_arith, back, reach, h.term)))
-    (payments_of note face) (payments-after note face (term note h))
+    (note_flows note face) (payments-after note face (term note h))
 
 -- and after settlement
-pub payments-later : (note : Note) (face : ℕ) → IsNote note → All (λ flow. note.settle <ℤ flow.day) (payments_of note face)
+pub payments-later : (note : Note) (face : ℕ) → IsNote note → All (λ flow. note.settle <ℤ flow.day) (note_flows note face)
 payments-later note face h =
     All-weaker (λ (flow : Flow). IsCouponDate note flow.day × (note.settle <ℤ flow.day)) (λ flow. note.settle <ℤ flow.day)
-    (λ flow on. on.1) (payments_of note face) (payments-after note face (term note h))
+    (λ flow on. on.1) (note_flows note face) (payments-after note face (term note h))
 
 -- what they come to: the face, and on each date at most 15 hundredths of the greatest face
-pub payments-come-to : (note : Note) (face : ℕ) → IsNote note → total (payments_of note face) ≡ face + length (payments_of note face) * half_coupon_of face note.coupon.0
+pub payments-come-to : (note : Note) (face : ℕ) → IsNote note → total (note_flows note face) ≡ face + length (note_flows note face) * half_coupon_of face note.coupon.0
 payments-come-to note face h = let c = dates-counted note h in payments-face note face c.count (term note h) c.has
 
 half_coupon-small : (face rate : ℕ) → face ≤ 10 ^ 11 → rate ≤ 30_000 → half_coupon_of face rate ≤ 15 * 10 ^ 9
 half_coupon-small face rate few low = near-at-most (face * rate) 200_000 (15 * 10 ^ 9) (omega arith) (omega (arith, mul-le-mul few low))
 
-pub payments-little : (note : Note) (face : ℕ) → IsNote note → face ≤ 10 ^ 11 → total (payments_of note face) ≤ 132 * 10 ^ 10
+pub payments-little : (note : Note) (face : ℕ) → IsNote note → face ≤ 10 ^ 11 → total (note_flows note face) ≤ 132 * 10 ^ 10
 payments-little note face h few =
     omega (arith, payments-come-to note face h, mul-le-mul (payments-few note face h) (half_coupon-small face note.coupon.0 few h.coupon))
 
@@ -116,11 +114,6 @@ pub cost-some : (note : Note) (face : ℕ) → IsNote note → 100 ≤ face → 
 cost-some note face h some = omega (arith, price-some face note.price.0 some h.least_price)
 
 -- and none costs and pays nothing
-near-nothing : (a b : ℕ) → a ≡ 0 → near a b ≡ 0
-unfolding near
-near-nothing a zero e = rw e refl
-near-nothing a (suc b) e = near-zero a (suc b) e (omega arith)
-
 none-accrued : (note : Note) (face : ℕ) → face ≡ 0 → accrued_interest note face ≡ 0
 unfolding accrued_interest
 none-accrued note face none = near-nothing _ _ (rw none (omega arith))
@@ -130,20 +123,5 @@ cost-none note face none =
     let price : face_price_of face note.price.0 ≡ 0 = near-nothing (face * note.price.0) (10 ^ 10) (rw none (omega arith)) in
     omega (arith, price, none-accrued note face none)
 
-choice-none : (t : Bool) (a b : ℕ) → a ≡ 0 → b ≡ 0 → (if t then a else b) ≡ 0
-choice-none true a b e f = e
-choice-none false a b e f = f
-
-payment-none : (note : Note) (face : ℕ) → face ≡ 0 → (day : ℤ) → half_coupon_of face note.coupon.0 + principal_on note face day ≡ 0
-payment-none note face none day =
-    let interest : half_coupon_of face note.coupon.0 ≡ 0 = near-nothing (face * note.coupon.0) 200_000 (rw none (omega arith)) in
-    let principal = choice-none (int_eq day note.maturity) face 0 none refl in
-    join _ _ interest principal
-  where
-    join : (m n : ℕ) → m ≡ 0 → n ≡ 0 → m + n ≡ 0
-    join m n a b = omega arith
-
-pub payments-none : (note : Note) (face : ℕ) → face ≡ 0 → All (λ flow. flow.cents.0 ≡ 0) (payments_of note face)
-unfolding payments_of
-payments-none note face none =
-    All-map (λ (flow : Flow). flow.cents.0 ≡ 0) (payment_on note face) (payment_dates note) (λ k d lt. payment-none note face none (get_or (payment_dates note) k d))
+pub payments-none : (note : Note) (face : ℕ) → face ≡ 0 → All (λ flow. flow.cents.0 ≡ 0) (note_flows note face)
+payments-none note face none = flows-none note.coupon.0 face (note_schedule note) none

@@ -1,25 +1,30 @@
 -- What a note costs and pays.
-use Rattle.std.proofs.Common.{◌≡◌, ◌∙◌, ℕ, ◌+◌, ◌-◌, ◌*◌, ◌<◌, ◌≤◌, zero, suc, refl, sym, ap, subst, arith, ℤ, pos, ◌+ℤ◌, ◌<ℤ◌, inl, inr, Bool, true, false, if◌then◌else◌, List, [], ◌∷◌, map, length, take, sum_by, get_or}
+use Rattle.std.proofs.Common.{◌≡◌, ◌∙◌, ℕ, ◌+◌, ◌-◌, ◌*◌, ◌<◌, ◌≤◌, zero, suc, refl, sym, ap, subst, arith, ℤ, pos, ◌+ℤ◌, ◌<ℤ◌, inl, inr, false, List, [], ◌∷◌, map, length, take, sum_by, get_or}
+use Rattle.std.specs.Prelude.{All}
 use Rattle.std.specs.Ordering.{int_eq}
 use Rattle.std.proofs.Math.Nat.{mul-le-mul_right}
 use Rattle.std.proofs.lemmas.Bool.Decides.{Decides-int_eq}
 use Rattle.std.proofs.lemmas.Int.{ints}
 use Rattle.std.proofs.lemmas.List.{map-append, take_all, get_or-map, length-map}
-use Rattle.std.proofs.lemmas.List.Elements.{All-map}
+use Rattle.std.proofs.lemmas.List.Elements.{All-map, All-same}
+use Rattle.std.proofs.lemmas.Simd.{map-map}
 use Rattle.std.proofs.lemmas.List.Sums.{sum_by-cons}
 use Rattle.jiff_core.proofs.SignedLemmas.{signed_arith}
 use Rattle.escrow_units.proofs.FlowFacts.{choice-false, choice-true, days_between_of-count, days_between_of-some, rise-map}
 use Rattle.escrow_units.proofs.RoundingFacts.{near-mono, near-zero}
 use Rattle.escrow_units.proofs.LastDates.{last_dates, last_dates-last, last_dates-rise, dates_before, half_back_of-reach, half_back_of-zero}
 use Rattle.escrow_units.specs.Calendar.{half_back_of}
-use Rattle.escrow_units.specs.Flows.{EndsOn, Rise, index360_of}
-use Rattle.escrow_units.specs.Interest.{earned_of, face_price_of, half_coupon_of}
+use Rattle.escrow_units.specs.Flows.{EndsOn, Rise, index360_of, total}
+use Rattle.escrow_units.specs.Interest.{earned_of, face_price_of}
 use Rattle.escrow_units.specs.Series.{days_between_of}
 use Rattle.escrow_units.specs.declared.interest.Accrual.{Accrual}
 use Rattle.escrow_units.specs.declared.security.Flow.{Flow}
 use Rattle.escrow_units.specs.declared.security.StepRule.{StepRule}
 use Rattle.escrow_units.specs.declared.security.StepRule.TheVariants as rule
-use Rattle.market_notes.specs.NoteFlows.{payment_dates, payments_of, payment_on, principal_on, accrual_of, accrued_interest, cost_of, previous_date, next_date}
+use Rattle.payment_schedule.specs.Schedule.{IsShort, flow_by, half_year_accrual, principal_by}
+use Rattle.payment_schedule.specs.declared.schedule.ScheduledPayment.{ScheduledPayment}
+use Rattle.payment_schedule.proofs.ScheduleFacts.{flow-more, flows_by, half-coupon, half-short}
+use Rattle.market_notes.specs.NoteFlows.{payment_dates, payment_on, note_schedule, accrual_of, accrued_interest, cost_of, previous_date, next_date}
 use Rattle.market_notes.specs.NoteLaws.{IsCouponDate, SettlesIn, CostsPriceOnCouponDate, AreAfterSettlement, PayFaceOnce, AreAtMost, PayNoLessForMore}
 use Rattle.market_notes.specs.PriceForm.{has_matured_of}
 use Rattle.market_notes.specs.declared.note.Note.{Note}
@@ -70,34 +75,50 @@ accrued-more note face more around le =
 pub costs-more : (note : Note) (face more : ℕ) → SettlesIn note (previous_date note) (next_date note) → face ≤ more → cost_of note face ≤ cost_of note more
 costs-more note face more around le = omega (arith, price-more note face more le, accrued-more note face more around le)
 
--- payments
-pub payments-are : (note : Note) (face : ℕ) (flows : List Flow) (i : ℕ) (dates : List ℤ) → flows ≡ map (payment_on note face) (take i dates)
-    → length dates ≤ i → dates ≡ payment_dates note → flows ≡ payments_of note face
-unfolding payments_of
-payments-are note face flows i dates e all f = e ∙ ap (map (payment_on note face)) (take_all i dates all ∙ f)
+-- what a face pays, and on a date
+abbrev pub note_flows : Note → ℕ → List Flow
+note_flows note face = flows_by note.coupon.0 face (note_schedule note)
 
-payments-series : (note : Note) (face n : ℕ) → HasDates note.maturity rule.MonthEnd note.settle n → payments_of note face ≡ map (payment_on note face) (last_dates note.maturity rule.MonthEnd n)
-unfolding payments_of
-payments-series note face n p = ap (map (payment_on note face)) p.dates
+abbrev pub paid_on : Note → ℕ → ℤ → Flow
+paid_on note face date = flow_by note.coupon.0 face (payment_on note date)
 
-pub payments-rise : (note : Note) (face n : ℕ) → IsNear note.maturity note.settle → HasDates note.maturity rule.MonthEnd note.settle n → Rise (payments_of note face)
+-- what a walk over the dates makes
+pub schedule-is : (note : Note) (schedule : List ScheduledPayment) (i : ℕ) (dates : List ℤ) → schedule ≡ map (payment_on note) (take i dates)
+    → length dates ≤ i → dates ≡ payment_dates note → schedule ≡ note_schedule note
+unfolding note_schedule
+schedule-is note schedule i dates e all f = e ∙ ap (map (payment_on note)) (take_all i dates all ∙ f)
+
+-- each payment's interest is for half a year
+pub schedule-short : (note : Note) → All (λ payment. IsShort payment.accrual) (note_schedule note)
+unfolding note_schedule
+schedule-short note = All-map (λ (payment : ScheduledPayment). IsShort payment.accrual) (payment_on note) (payment_dates note) (λ k d lt. half-short)
+
+-- what is paid, by the dates
+pub payments-by_date : (note : Note) (face : ℕ) → note_flows note face ≡ map (paid_on note face) (payment_dates note)
+unfolding note_schedule
+payments-by_date note face = map-map (flow_by note.coupon.0 face) (payment_on note) (payment_dates note)
+
+payments-series : (note : Note) (face n : ℕ) → HasDates note.maturity rule.MonthEnd note.settle n → note_flows note face ≡ map (paid_on note face) (last_dates note.maturity rule.MonthEnd n)
+payments-series note face n p = payments-by_date note face ∙ ap (map (paid_on note face)) p.dates
+
+pub payments-rise : (note : Note) (face n : ℕ) → IsNear note.maturity note.settle → HasDates note.maturity rule.MonthEnd note.settle n → Rise (note_flows note face)
 payments-rise note face n t p =
     subst Rise (sym (payments-series note face n p))
-    (rise-map (payment_on note face) (λ day. refl) (last_dates note.maturity rule.MonthEnd n) (last_dates-rise note.maturity rule.MonthEnd n t.base (omega (arith, p.few))))
+    (rise-map (paid_on note face) (λ day. refl) (last_dates note.maturity rule.MonthEnd n) (last_dates-rise note.maturity rule.MonthEnd n t.base (omega (arith, p.few))))
 
-pub payments-after : (note : Note) (face : ℕ) → IsNear note.maturity note.settle → AreAfterSettlement note (payments_of note face)
-unfolding payments_of
+pub payments-after : (note : Note) (face : ℕ) → IsNear note.maturity note.settle → AreAfterSettlement note (note_flows note face)
 payments-after note face t =
-    All-map (λ (flow : Flow). IsCouponDate note flow.day × (note.settle <ℤ flow.day)) (payment_on note face) (payment_dates note)
-    (dates-after-are-later note.maturity rule.MonthEnd note.settle t.base).series
+    All-same (λ (flow : Flow). IsCouponDate note flow.day × (note.settle <ℤ flow.day)) (note_flows note face) (map (paid_on note face) (payment_dates note)) (payments-by_date note face)
+    (All-map (λ (flow : Flow). IsCouponDate note flow.day × (note.settle <ℤ flow.day)) (paid_on note face) (payment_dates note)
+    (dates-after-are-later note.maturity rule.MonthEnd note.settle t.base).series)
 
-pub payments-end : (note : Note) (face n : ℕ) → IsNear note.maturity note.settle → HasDates note.maturity rule.MonthEnd note.settle n → EndsOn note.maturity (payments_of note face)
+pub payments-end : (note : Note) (face n : ℕ) → IsNear note.maturity note.settle → HasDates note.maturity rule.MonthEnd note.settle n → EndsOn note.maturity (note_flows note face)
 payments-end note face n t p = record {
-  before = map (payment_on note face) (dates_before note.maturity rule.MonthEnd (n - 1));
-  last = payment_on note face note.maturity;
+  before = map (paid_on note face) (dates_before note.maturity rule.MonthEnd (n - 1));
+  last = paid_on note face note.maturity;
   order = payments-series note face n p
-      ∙ (ap (map (payment_on note face)) (last_dates-last note.maturity rule.MonthEnd n t.base p.some)
-      ∙ map-append (payment_on note face) (dates_before note.maturity rule.MonthEnd (n - 1)) (note.maturity ∷ []));
+      ∙ (ap (map (paid_on note face)) (last_dates-last note.maturity rule.MonthEnd n t.base p.some)
+      ∙ map-append (paid_on note face) (dates_before note.maturity rule.MonthEnd (n - 1)) (note.maturity ∷ []));
   falls = refl;
 }
 
@@ -127,47 +148,39 @@ face-sum interest principal face maturity r (suc k) last none =
       none (suc k) (omega arith) (omega arith),
     )
 
-choice-mono : (t : Bool) (a b : ℕ) → a ≤ b → (if t then a else 0) ≤ (if t then b else 0)
-choice-mono true a b h = h
-choice-mono false a b h = omega arith
-
 face-once : (note : Note) (face k : ℕ) → IsNear note.maturity note.settle → k ≤ 84
-    → PayFaceOnce note face (map (payment_on note face) (last_dates note.maturity rule.MonthEnd (suc k)))
+    → PayFaceOnce note face (map (paid_on note face) (last_dates note.maturity rule.MonthEnd (suc k)))
 unfolding flow_of cents_of
 face-once note face k t few =
-    face-sum (half_coupon_of face note.coupon.0) (principal_on note face) face note.maturity rule.MonthEnd k
+    subst (λ (interest : ℕ). total (map (paid_on note face) (last_dates note.maturity rule.MonthEnd (suc k))) ≡ face + length (map (paid_on note face) (last_dates note.maturity rule.MonthEnd (suc k))) * interest)
+    (half-coupon face note.coupon.0)
+    (face-sum (earned_of face note.coupon.0 1 2) (λ date. principal_by (payment_on note date) face) face note.maturity rule.MonthEnd k
     (choice-true (int_eq (half_back_of note.maturity 0 rule.MonthEnd) note.maturity) face 0 ((Decides-int_eq (half_back_of note.maturity 0 rule.MonthEnd) note.maturity).1 (half_back_of-zero note.maturity rule.MonthEnd t.base)))
     (λ j some le.
     let reach = half_back_of-reach note.maturity rule.MonthEnd j t.base (omega arith) in
     choice-false (int_eq (half_back_of note.maturity j rule.MonthEnd) note.maturity) face 0
-    (λ e. omega (arith, signed_arith, reach, (Decides-int_eq (half_back_of note.maturity j rule.MonthEnd) note.maturity).0 e)))
+    (λ e. omega (arith, signed_arith, reach, (Decides-int_eq (half_back_of note.maturity j rule.MonthEnd) note.maturity).0 e))))
 
-pub payments-face : (note : Note) (face n : ℕ) → IsNear note.maturity note.settle → HasDates note.maturity rule.MonthEnd note.settle n → PayFaceOnce note face (payments_of note face)
+pub payments-face : (note : Note) (face n : ℕ) → IsNear note.maturity note.settle → HasDates note.maturity rule.MonthEnd note.settle n → PayFaceOnce note face (note_flows note face)
 payments-face note face n t p =
     let more : n ≡ suc (n - 1) = omega (arith, p.some) in
-    subst (PayFaceOnce note face) (sym (payments-series note face n p ∙ ap (λ (m : ℕ). map (payment_on note face) (last_dates note.maturity rule.MonthEnd m)) more))
+    subst (PayFaceOnce note face) (sym (payments-series note face n p ∙ ap (λ (m : ℕ). map (paid_on note face) (last_dates note.maturity rule.MonthEnd m)) more))
     (face-once note face (n - 1) t (omega (arith, p.few)))
 
 -- a greater face
-interest-more : (note : Note) (face more : ℕ) → face ≤ more → half_coupon_of face note.coupon.0 ≤ half_coupon_of more note.coupon.0
-interest-more note face more le = near-mono _ _ _ (omega arith) (mul-le-mul_right note.coupon.0 le)
+days-same : (rate face more : ℕ) (schedule : List ScheduledPayment) → map (λ (flow : Flow). flow.day) (flows_by rate face schedule) ≡ map (λ (flow : Flow). flow.day) (flows_by rate more schedule)
+days-same rate face more [] = refl
+days-same rate face more (x ∷ xs) = ap (λ days. x.day ∷ days) (days-same rate face more xs)
 
-payment-more : (note : Note) (face more : ℕ) (day : ℤ) → face ≤ more → (payment_on note face day).cents.0 ≤ (payment_on note more day).cents.0
-payment-more note face more day le = omega (arith, interest-more note face more le, choice-mono (int_eq day note.maturity) face more le)
-
-days-same : (note : Note) (face more : ℕ) (dates : List ℤ) → map (λ (flow : Flow). flow.day) (map (payment_on note face) dates) ≡ map (λ (flow : Flow). flow.day) (map (payment_on note more) dates)
-days-same note face more [] = refl
-days-same note face more (x ∷ xs) = ap (λ days. x ∷ days) (days-same note face more xs)
-
-at-most : (note : Note) (face more : ℕ) (dates : List ℤ) → face ≤ more → AreAtMost (map (payment_on note face) dates) (map (payment_on note more) dates)
-at-most note face more dates le = record {
-  days = days-same note face more dates;
+at-most : (rate face more : ℕ) (schedule : List ScheduledPayment) → face ≤ more → AreAtMost (flows_by rate face schedule) (flows_by rate more schedule)
+at-most rate face more schedule le = record {
+  days = days-same rate face more schedule;
   cents = λ place d short.
-      let within : place < length dates = omega (arith, length-map dates (payment_on note face)) in
-      rw (get_or-map (payment_on note face) dates place d.day d within, get_or-map (payment_on note more) dates place d.day d within)
-      (payment-more note face more (get_or dates place d.day) le);
+      let within : place < length schedule = omega (arith, length-map schedule (flow_by rate face)) in
+      let e : ScheduledPayment = record { day = d.day; accrual = half_year_accrual; principal = false } in
+      rw (get_or-map (flow_by rate face) schedule place e d within, get_or-map (flow_by rate more) schedule place e d within)
+      (flow-more rate face more (get_or schedule place e) le);
 }
 
-pub payments-more : (note : Note) (face : ℕ) → PayNoLessForMore note face (payments_of note face)
-unfolding payments_of
-payments-more note face = λ more le. at-most note face more (payment_dates note) le
+pub payments-more : (note : Note) (face : ℕ) → PayNoLessForMore note face (note_flows note face)
+payments-more note face = λ more le. at-most note.coupon.0 face more (note_schedule note) le

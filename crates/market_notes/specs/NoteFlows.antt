@@ -1,12 +1,13 @@
 -- What a marketable Treasury note costs and pays. A buyer pays the price and the accrued interest: the half-coupon, by
 -- the days elapsed of the days of its half-year (31 CFR part 356). Rounding to the cent is this project's own.
-use Rattle.std.specs.Prelude.{ℕ, ◌+◌, ◌*◌, if◌then◌else◌, List, map, ℤ}
+use Rattle.std.specs.Prelude.{ℕ, ◌+◌, ◌*◌, List, map, ℤ}
 use Rattle.std.specs.Ordering.{int_eq}
-use Rattle.escrow_units.specs.Interest.{earned_of, face_price_of, half_coupon_of}
+use Rattle.escrow_units.specs.Interest.{earned_of, face_price_of}
 use Rattle.escrow_units.specs.Series.{dates_after_of, days_between_of, next_date_of, previous_date_of}
 use Rattle.escrow_units.specs.declared.interest.Accrual.{Accrual}
-use Rattle.escrow_units.specs.declared.security.Flow.{Flow}
 use Rattle.escrow_units.specs.declared.security.StepRule.TheVariants as rule
+use Rattle.payment_schedule.specs.Schedule.{due_on, half_year_accrual}
+use Rattle.payment_schedule.specs.declared.schedule.ScheduledPayment.{ScheduledPayment}
 use Rattle.market_notes.specs.declared.note.Note.{Note}
 
 -- a note pays on the dates of its series after settlement
@@ -36,15 +37,10 @@ accrued_interest note face = earned_of face note.coupon.0 (accrual_of note).part
 abbrev pub cost_of : Note → ℕ → ℕ
 cost_of note face = face_price_of face note.price.0 + accrued_interest note face
 
--- the face is paid at maturity
-abbrev pub principal_on : Note → ℕ → ℤ → ℕ
-principal_on note face day = if int_eq day note.maturity then face else 0
+-- the payment of a date: half a year's interest, and the face at maturity
+abbrev pub payment_on : Note → ℤ → ScheduledPayment
+payment_on note date = due_on date half_year_accrual (int_eq date note.maturity)
 
--- half a coupon on each payment date
-abbrev pub payment_on : Note → ℕ → ℤ → Flow
-payment_on note face day =
-    record { day = day; cents = record { 0 = half_coupon_of face note.coupon.0 + principal_on note face day } }
-
--- what a face of so many cents pays, in order of date
-unfoldable pub payments_of : Note → ℕ → List Flow
-payments_of note face = map (payment_on note face) (payment_dates note)
+-- the payments of a note by their terms, in order of date
+unfoldable pub note_schedule : Note → List ScheduledPayment
+note_schedule note = map (payment_on note) (payment_dates note)

@@ -5,7 +5,8 @@ use Rattle.escrow_units.specs.Flows.{total}
 use Rattle.escrow_units.specs.Interest.{face_price_of, half_coupon_of}
 use Rattle.escrow_units.specs.declared.security.Flow.{Flow}
 use Rattle.escrow_units.specs.declared.security.StepRule.TheVariants as rule
-use Rattle.market_notes.specs.NoteFlows.{cost_of, payments_of}
+use Rattle.payment_schedule.specs.Schedule.{flow_by}
+use Rattle.market_notes.specs.NoteFlows.{cost_of, note_schedule}
 use Rattle.market_notes.specs.declared.note.Note.{Note}
 
 -- a date of the note's series, where month ends are kept
@@ -44,4 +45,4 @@ pub record AreAtMost (flows others : List Flow) : Type 0 where
 
 -- a greater face doesn't pay less
 abbrev pub PayNoLessForMore : Note → ℕ → List Flow → Type 0
-PayNoLessForMore note face flows = (more : ℕ) → face ≤ more → AreAtMost flows (payments_of note more)
+PayNoLessForMore note face flows = (more : ℕ) → face ≤ more → AreAtMost flows (map (flow_by note.coupon.0 more) (note_schedule note))

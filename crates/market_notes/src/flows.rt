@@ -1,17 +1,19 @@
 //! What a note costs and what it pays.
-ghost use Rattle.std.specs.Prelude.{◌≡◌, ◌^◌, ◌<◌, ◌≤◌};
+ghost use Rattle.std.specs.Prelude.{All, ◌≡◌, ◌^◌, ◌<◌, ◌≤◌, map};
 ghost use Rattle.escrow_units.specs.CalendarLaws.{IsHalfYear};
 ghost use Rattle.escrow_units.specs.Flows.{EndsOn, Rise};
-ghost use Rattle.market_notes.specs.NoteFlows.{accrual_of, accrued_interest, cost_of, next_date, payment_dates, payments_of, previous_date};
+ghost use Rattle.market_notes.specs.NoteFlows.{accrual_of, accrued_interest, cost_of, next_date, note_schedule as note_schedule_of, payment_dates, payment_on as payment_on_of, previous_date};
 ghost use Rattle.market_notes.specs.NoteLaws.{AreAfterSettlement, CostsNoLessForMore, CostsPriceOnCouponDate, PayFaceOnce, PayNoLessForMore, SettlesIn};
 ghost use Rattle.market_notes.specs.NoteTerms.{IsNote};
+ghost use Rattle.payment_schedule.specs.Schedule.{IsShort, flow_by};
 
 use crate::note::Note;
 use arrayvec::ArrayVec;
 use escrow_units::{
-    Accrual, Cents, Flow, SeriesDates, StepRule, days_between, earned, face_price, half_coupon,
+    Accrual, Cents, Day, Flow, SeriesDates, StepRule, days_between, earned, face_price,
     series_around,
 };
+use payment_schedule::{HALF_YEAR, ScheduledPayment, scheduled_flows};
 
 // The dates of a note's series around settlement: it pays on those after.
 fn dates_of(note: &Note) -> SeriesDates
@@ -61,30 +63,44 @@ pub fn note_cost(note: &Note, face: Cents) -> Cents
     Cents(face_price(face, note.price).0 + accrued.0)
 }
 
-/// The payments of a face of a note, in order of date: half the annual coupon on each date of its series after
-/// settlement, and the face at maturity.
+// The payment of a date.
+fn payment_on(note: &Note, date: Day) -> ScheduledPayment
+    ensures { result ≡ payment_on_of note.now date }
+{
+    ScheduledPayment::due(date, HALF_YEAR, date == note.maturity)
+}
+
+/// The payments of a note by their terms, in order of date: half a year's interest on each date of its series after
+/// settlement, and the principal at maturity.
 ///
-/// The series is counted back from maturity by half-years, and keeps month ends. Each payment's interest is rounded to
-/// the cent, halves up. The note keeps its terms, and the face is at most 10^11 cents.
+/// The series is counted back from maturity by half-years, and keeps month ends. The note keeps its terms.
+pub fn note_schedule(note: &Note) -> ArrayVec<ScheduledPayment, 84>
+    requires { IsNote note.now }
+    ensures value { result.items ≡ note_schedule_of note.now }
+    ensures short { All (λ payment. IsShort payment.accrual) result.items }
+{
+    let dates = dates_of(note);
+    let mut schedule = ArrayVec::new();
+    for date in dates.after.as_slice() {
+        schedule.push(payment_on(note, *date));
+    }
+    schedule
+}
+
+/// The payments of a face of a note, in order of date: its [`note_schedule`], with each payment's interest rounded to the cent,
+/// halves up.
+///
+/// The note keeps its terms, and the face is at most 10^11 cents.
 pub fn note_payments(note: &Note, face: Cents) -> ArrayVec<Flow, 84>
     requires note { IsNote note.now }
     requires face { face.0 ≤ 10 ^ 11 }
-    ensures payments { result.items ≡ payments_of note.now face.0 }
+    ensures payments { result.items ≡ map (flow_by note.now.coupon.0 face.0) (note_schedule_of note.now) }
     ensures rise { Rise result.items }
     ensures after_settlement { AreAfterSettlement note.now result.items }
     ensures end_at_maturity { EndsOn note.now.maturity result.items }
     ensures face_once { PayFaceOnce note.now face.0 result.items }
     ensures more_face { PayNoLessForMore note.now face.0 result.items }
 {
-    let dates = dates_of(note);
-    let interest = half_coupon(face, note.coupon);
-    let mut flows = ArrayVec::new();
-    for date in dates.after.as_slice() {
-        let principal = if *date == note.maturity { face.0 } else { 0 };
-        flows.push(Flow {
-            day: *date,
-            cents: Cents(interest.0 + principal),
-        });
-    }
-    flows
+    let schedule = note_schedule(note);
+    scheduled_flows(schedule.as_slice(), note.coupon, face)
 }

@@ -9,6 +9,6 @@ mod row;
 #[cfg(test)]
 mod tests;
 
-pub use flows::{accrual, note_cost, note_payments};
+pub use flows::{accrual, note_cost, note_payments, note_schedule};
 pub use note::{Note, NoteFile, Notes};
 pub use read::read_notes;

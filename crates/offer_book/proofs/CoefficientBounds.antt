@@ -1,27 +1,29 @@
 -- How great coefficients can be: with units up to a line's most, all that they stand for is at most 10^22 scaled cents.
-use Rattle.std.proofs.Common.{◌≡◌, ℕ, min, zero, suc, ◌+◌, ◌*◌, ◌/◌, ◌%◌, ◌^◌, ◌≤◌, arith, inl, inr, List, [], ◌∷◌, length, ℤ, Bool, true, false, if◌then◌else◌}
+use Rattle.std.proofs.Common.{◌≡◌, ℕ, min, zero, suc, ◌+◌, ◌*◌, ◌/◌, ◌%◌, ◌^◌, ◌≤◌, sym, subst, arith, inl, inr, List, [], ◌∷◌, get_or, length, ℤ, Bool, true, false, if◌then◌else◌}
 use Rattle.std.specs.Prelude.{All, sum_by, ◌==◌}
 use Rattle.std.specs.Int.{div_ceil}
 use Rattle.std.specs.List.{AllZip}
 use Rattle.std.proofs.Math.Nat.{mul-le-mul, mul-le-mul_right}
-use Rattle.std.proofs.lemmas.List.Elements.{All-cons, All-head, All-map, All-nil, All-tail}
+use Rattle.std.proofs.lemmas.List.Elements.{All-head, All-map, All-tail}
+use Rattle.std.proofs.lemmas.List.{length-map}
 use Rattle.std.proofs.lemmas.List.Sums.{sum_by-cons}
 use Rattle.escrow_units.specs.SlgsTerms.{IsSettlement}
-use Rattle.escrow_units.specs.declared.interest.Accrual.{Accrual}
 use Rattle.escrow_units.specs.declared.security.Flow.{Flow}
+use Rattle.payment_schedule.specs.Schedule.{flow_by}
+use Rattle.payment_schedule.specs.declared.schedule.ScheduledPayment.{ScheduledPayment}
 use Rattle.market_notes.specs.NoteFlows as notes
-use Rattle.market_notes.proofs.AmountFacts.{payments-few}
-use Rattle.slgs_interest.specs.Payments as slgs
 use Rattle.offer_book.specs.Book.{IsLine, IsSecurity, IsSecurityLine}
-use Rattle.offer_book.specs.Coefficients.{EnclosesPayment, cost_coefficients, half_year_accrual, interest_slack, kind_costs, kind_pays, note_paid_on, paid_on, pay_coefficients, slgs_paid_on}
-use Rattle.offer_book.specs.Portfolio.{kind_payments, line_payments, par}
+use Rattle.offer_book.specs.Coefficients.{EnclosesPayment, cost_coefficients, interest_slack, kind_costs, pay_by, pay_coefficients}
+use Rattle.offer_book.specs.Portfolio.{line_payments, par}
+use Rattle.offer_book.specs.Schedule.{kind_rate, schedule_of}
 use Rattle.offer_book.specs.declared.coefficients.PayCoefficients.{PayCoefficients}
 use Rattle.offer_book.specs.declared.coefficients.TheConstants.{COEFFICIENT_SCALE}
 use Rattle.offer_book.specs.declared.line.Line.{Line}
 use Rattle.offer_book.specs.declared.line.LineKind.{LineKind}
 use Rattle.offer_book.specs.declared.line.LineKind.TheVariants.{Cash, Market, Security}
 use Rattle.offer_book.proofs.CoefficientFacts.{coefficients-enclose}
-use Rattle.offer_book.proofs.LineFacts.{is_paid, line_payments-little, payments_of-few, security-at_most}
+use Rattle.offer_book.proofs.LineFacts.{line_payments-little, schedule-few, security-at_most}
+use Rattle.offer_book.proofs.ScheduleFacts.{cash-coefficients}
 
 -- a quotient rounded up is at most one more than the one rounded down
 ceiling-close : (a b : ℕ) → div_ceil a b ≤ a / b + 1
@@ -47,25 +49,18 @@ slack-small rate = at (rate == 0)
     at true = omega arith
     at false = omega arith
 
-paid-close : (day : ℤ) (step rate : ℕ) (accrual : Accrual) (principal : ℕ) → IsClose (paid_on day step rate accrual principal)
-paid-close day step rate accrual principal =
-    let a = COEFFICIENT_SCALE * (step * rate * accrual.parts) in
-    let b = 100_000 * accrual.year in
+pub pay-close : (rate step : ℕ) (payment : ScheduledPayment) → IsClose (pay_by rate step payment)
+pay-close rate step payment =
+    let a = COEFFICIENT_SCALE * (step * rate * payment.accrual.parts) in
+    let b = 100_000 * payment.accrual.year in
     record {
       ordered = omega (arith, ceiling-least a b);
       close = omega (arith, ceiling-close a b);
       slack = slack-small rate;
     }
 
-kind-close : (settle : ℤ) (kind : LineKind) (step : ℕ) → All IsClose (kind_pays settle kind step)
-kind-close settle Cash step = All-cons IsClose _ [] (record { ordered = omega arith; close = omega arith; slack = omega arith }) (All-nil IsClose)
-kind-close settle (Security security) step =
-    All-map IsClose (slgs_paid_on security step) (slgs.payment_dates security) (λ k d lt. paid-close _ step security.rate.0 _ _)
-kind-close settle (Market note) step =
-    All-map IsClose (note_paid_on note step) (notes.payment_dates note) (λ k d lt. paid-close _ step note.coupon.0 half_year_accrual _)
-
 pub pays-close : (settle : ℤ) (line : Line) → All IsClose (pay_coefficients settle line)
-pays-close settle line = kind-close settle line.kind line.step
+pays-close settle line = All-map IsClose (pay_by (kind_rate line.kind) line.step) (schedule_of settle line) (λ k d lt. pay-close (kind_rate line.kind) line.step (get_or (schedule_of settle line) k d))
 
 -- coefficients of a cost are apart by at most two, and the slack is at most a cent
 pub record IsCostClose (line : Line) : Type 0 where
@@ -151,22 +146,19 @@ sum-high units (pay ∷ pays) (flow ∷ flows) enclosed close =
     rw (sum_by-cons (high_of units) pay pays, sum_by-cons cents_of flow flows)
     (sum-more COEFFICIENT_SCALE units (length flows) (high_of units pay) (cents_of flow) (sum_by (high_of units) pays) (sum_by cents_of flows) first rest)
 
-few-payments : (settle : ℤ) (kind : LineKind) (face : ℕ) → IsSettlement settle → IsSecurity settle kind → length (kind_payments settle kind face) ≤ 84
-few-payments settle Cash face h security = absurd security
-few-payments settle (Security slgs) face h security = payments_of-few slgs face (is_paid settle slgs h security)
-few-payments settle (Market note) face h security = omega (arith, payments-few note face security.1)
-
 pub pays-high_small : (settle : ℤ) (line : Line) (units : ℕ) → IsSettlement settle → IsLine settle line → units ≤ line.most
     → sum_by (λ pay. pay.high * units + pay.slack) (pay_coefficients settle line) ≤ 10 ^ 22
 unfolding high_of cents_of
 pays-high_small settle line units h is_line few = elim is_line [
-  | inl cash ↦ of_cash line.kind cash.kind cash.step (omega (arith, few, cash.most))
+  | inl cash ↦ subst (λ (pays : List PayCoefficients). sum_by (λ pay. pay.high * units + pay.slack) pays ≤ 10 ^ 22) (sym (cash-coefficients settle line cash.kind)) (of_cash line.step cash.step (omega (arith, few, cash.most)))
   | inr own ↦
       let enclosed = (coefficients-enclose settle line h (inr own) units).pays in
       let sum = sum-high units (pay_coefficients settle line) (line_payments settle line units) enclosed (pays-close settle line) in
-      let count = mul-le-mul_right (COEFFICIENT_SCALE + units) (few-payments settle line.kind (par line units) h own.security) in
+      let few_flows : length (line_payments settle line units) ≤ 84 = omega (arith, length-map (schedule_of settle line) (flow_by (kind_rate line.kind) (par line units)), schedule-few settle line h own) in
+      let count = mul-le-mul_right (COEFFICIENT_SCALE + units) few_flows in
       omega (arith, sum, count, line_payments-little settle line units h own few, units-few settle line units own few)
 ]
   where
-    of_cash : (kind : LineKind) → kind ≡ Cash → line.step ≡ 1 → units ≤ 10 ^ 13 → sum_by (λ pay. pay.high * units + pay.slack) (kind_pays settle kind line.step) ≤ 10 ^ 22
-    of_cash kind e one few = rw (e, one) (omega (arith, few))
+    of_cash : (step : ℕ) → step ≡ 1 → units ≤ 10 ^ 13
+        → sum_by (λ (pay : PayCoefficients). pay.high * units + pay.slack) (record { day = settle; low = COEFFICIENT_SCALE * step; high = COEFFICIENT_SCALE * step; slack = 0 } ∷ []) ≤ 10 ^ 22
+    of_cash step one few = rw one (omega (arith, few))

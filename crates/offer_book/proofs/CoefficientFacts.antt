@@ -1,36 +1,34 @@
 -- Coefficients enclose what units cost and pay.
-use Rattle.std.proofs.Common.{◌≡◌, ◌∙◌, ℕ, ◌+◌, ◌*◌, ◌/◌, ◌^◌, ◌<◌, ◌≤◌, refl, ap, arith, inl, inr, List, [], ◌∷◌, map, ℤ, Bool, true, false, if◌then◌else◌, length, take}
+use Rattle.std.proofs.Common.{◌≡◌, ◌∙◌, sym, subst, ℕ, ◌+◌, ◌*◌, ◌/◌, ◌^◌, ◌<◌, ◌≤◌, refl, ap, arith, inl, inr, List, [], ◌∷◌, map, ℤ, Bool, true, false, if◌then◌else◌}
 use Rattle.std.specs.Int.{div_ceil}
 use Rattle.std.specs.List.{AllZip}
-use Rattle.std.specs.Ordering.{int_eq}
 use Rattle.std.proofs.Math.Nat.{div-eq_of_lt, mul-div-le, mul-le-mul_left, mul-le-mul_right}
 use Rattle.std.proofs.lemmas.Bool.{cases_lt}
 use Rattle.std.proofs.lemmas.Bool.Decides.{nat_tests}
-use Rattle.std.specs.Prelude.{◌==◌}
+use Rattle.std.specs.Prelude.{All, ◌==◌}
 use Rattle.std.proofs.lemmas.Grind.{div_ceil_times}
-use Rattle.std.proofs.lemmas.List.{take_all}
-use Rattle.std.proofs.lemmas.Simd.{map-map}
-use Rattle.escrow_units.specs.Interest.{earned_of, face_price_of, half_coupon_of}
+use Rattle.std.proofs.lemmas.List.Elements.{All-head, All-tail}
+use Rattle.escrow_units.specs.Interest.{earned_of, face_price_of}
 use Rattle.escrow_units.specs.Rounding.{near, IsNearest}
 use Rattle.escrow_units.specs.SlgsTerms.{IsSettlement}
 use Rattle.escrow_units.specs.declared.interest.Accrual.{Accrual}
-use Rattle.escrow_units.specs.declared.security.Flow.{Flow}
-use Rattle.escrow_units.specs.declared.security.Slgs.{Slgs}
 use Rattle.escrow_units.proofs.RoundingFacts.{near-IsNearest, near-zero}
 use Rattle.market_notes.specs.NoteFlows as notes
 use Rattle.market_notes.specs.NoteTerms.{IsNote}
 use Rattle.market_notes.specs.declared.note.Note.{Note}
 use Rattle.market_notes.proofs.AmountFacts.{accrual-some}
-use Rattle.slgs_interest.specs.Payments as slgs
+use Rattle.payment_schedule.specs.Schedule.{IsShort, flow_by, principal_by}
+use Rattle.payment_schedule.specs.declared.schedule.ScheduledPayment.{ScheduledPayment}
 use Rattle.offer_book.specs.Book.{IsLine, IsSecurity}
-use Rattle.offer_book.specs.Coefficients.{Encloses, EnclosesPayment, EnclosesUnits, half_year_accrual, interest_high, interest_low, interest_slack, kind_costs, kind_pays, note_paid_on, paid_on, slgs_paid_on}
-use Rattle.offer_book.specs.Portfolio.{kind_cost, kind_payments}
-use Rattle.offer_book.specs.declared.coefficients.PayCoefficients.{PayCoefficients}
+use Rattle.offer_book.specs.Coefficients.{Encloses, EnclosesPayment, EnclosesUnits, interest_high, interest_low, interest_slack, kind_costs, pay_by}
+use Rattle.offer_book.specs.Portfolio.{kind_cost, par}
+use Rattle.offer_book.specs.Schedule.{kind_rate, schedule_of}
 use Rattle.offer_book.specs.declared.coefficients.TheConstants.{COEFFICIENT_SCALE}
 use Rattle.offer_book.specs.declared.line.Line.{Line}
 use Rattle.offer_book.specs.declared.line.LineKind.{LineKind}
 use Rattle.offer_book.specs.declared.line.LineKind.TheVariants.{Cash, Market, Security}
-use Rattle.offer_book.proofs.LineFacts.{is_short}
+use Rattle.payment_schedule.proofs.ScheduleFacts.{flows_by}
+use Rattle.offer_book.proofs.ScheduleFacts.{schedule-short}
 
 -- a factor above 0 of both sides
 cancel : (b m n : ℕ) → 0 < b → b * m ≤ b * n → m ≤ n
@@ -105,16 +103,11 @@ earned-enclosed step rate accrual units some =
     let same : step * units * rate * accrual.parts ≡ step * rate * accrual.parts * units = omega arith in
     interest-enclosed step rate accrual units _ some (ap (λ (face : ℕ). near face (100_000 * accrual.year)) same)
 
-coupon-enclosed : (step rate units : ℕ) → EnclosesInterest step rate half_year_accrual units (half_coupon_of (step * units) rate)
-coupon-enclosed step rate units =
-    let same : step * units * rate ≡ step * rate * 1 * units = omega arith in
-    interest-enclosed step rate half_year_accrual units _ (omega arith) (ap (λ (face : ℕ). near face 200_000) same)
-
 -- and the principal is exact
-with-principal : (day : ℤ) (step rate : ℕ) (accrual : Accrual) (units n principal paid : ℕ) → EnclosesInterest step rate accrual units n → paid ≡ principal * units
-    → EnclosesPayment units (paid_on day step rate accrual principal) (record { day = day; cents = record { 0 = n + paid } })
+with-principal : (payment : ScheduledPayment) (step rate units n principal : ℕ) → EnclosesInterest step rate payment.accrual units n → principal ≡ principal_by payment step * units
+    → EnclosesPayment units (pay_by rate step payment) (record { day = payment.day; cents = record { 0 = n + principal } })
 unfolding EnclosesInterest
-with-principal day step rate accrual units n principal paid h e = record {
+with-principal payment step rate units n principal h e = record {
   day = refl;
   amount = record { least = omega (arith, h.least, e); most = omega (arith, h.most, e) };
 }
@@ -123,45 +116,18 @@ principal-units : (t : Bool) (step units : ℕ) → (if t then step * units else
 principal-units true step units = refl
 principal-units false step units = omega arith
 
--- a payment of a SLGS security, and of a note
-slgs-payment : (security : Slgs) (step units : ℕ) → 0 < (slgs.first_accrual_of security).year → (day : ℤ)
-    → EnclosesPayment units (slgs_paid_on security step day) (slgs.payment_on security (step * units) day)
-slgs-payment security step units some day = at (int_eq day security.first)
-  where
-    principal : slgs.principal_on security (step * units) day ≡ slgs.principal_on security step day * units
-    principal = principal-units (int_eq day security.maturity) step units
+-- each payment of a schedule
+payment-enclosed : (rate step units : ℕ) (payment : ScheduledPayment) → 0 < payment.accrual.year → EnclosesPayment units (pay_by rate step payment) (flow_by rate (step * units) payment)
+payment-enclosed rate step units payment some =
+    with-principal payment step rate units _ _ (earned-enclosed step rate payment.accrual units some) (principal-units payment.principal step units)
 
-    at : (t : Bool) → EnclosesPayment units
-        (paid_on day step security.rate.0 (if t then slgs.first_accrual_of security else half_year_accrual) (slgs.principal_on security step day))
-        (record { day = day; cents = record { 0 = (if t then slgs.first_interest security (step * units) else half_coupon_of (step * units) security.rate.0) + slgs.principal_on security (step * units) day } })
-    at true =
-        with-principal day step security.rate.0 (slgs.first_accrual_of security) units (slgs.first_interest security (step * units)) (slgs.principal_on security step day) _
-        (earned-enclosed step security.rate.0 (slgs.first_accrual_of security) units some) principal
-    at false =
-        with-principal day step security.rate.0 half_year_accrual units (half_coupon_of (step * units) security.rate.0) (slgs.principal_on security step day) _
-        (coupon-enclosed step security.rate.0 units) principal
-
-note-payment : (note : Note) (step units : ℕ) (day : ℤ) → EnclosesPayment units (note_paid_on note step day) (notes.payment_on note (step * units) day)
-note-payment note step units day =
-    with-principal day step note.coupon.0 half_year_accrual units (half_coupon_of (step * units) note.coupon.0) (notes.principal_on note step day) _
-    (coupon-enclosed step note.coupon.0 units) (principal-units (int_eq day note.maturity) step units)
-
--- what holds on each date holds of the lists
-zipped : {A B C : Type 0} (R : B → C → Type 0) (f : A → B) (g : A → C) (xs : List A) → ((x : A) → R (f x) (g x)) → AllZip R (map f xs) (map g xs)
-zipped R f g [] h = tt
-zipped R f g (x ∷ xs) h = (h x, zipped R f g xs h)
-
-slgs-enclosed : (security : Slgs) (step units : ℕ) → 0 < (slgs.first_accrual_of security).year
-    → AllZip (EnclosesPayment units) (map (slgs_paid_on security step) (slgs.payment_dates security)) (slgs.payments_of security (step * units))
-unfolding slgs.payments_of
-slgs-enclosed security step units some =
-    zipped (EnclosesPayment units) (slgs_paid_on security step) (slgs.payment_on security (step * units)) (slgs.payment_dates security) (slgs-payment security step units some)
-
-note-enclosed : (note : Note) (step units : ℕ)
-    → AllZip (EnclosesPayment units) (map (note_paid_on note step) (notes.payment_dates note)) (notes.payments_of note (step * units))
-unfolding notes.payments_of
-note-enclosed note step units =
-    zipped (EnclosesPayment units) (note_paid_on note step) (notes.payment_on note (step * units)) (notes.payment_dates note) (note-payment note step units)
+schedule-enclosed : (rate step units : ℕ) (schedule : List ScheduledPayment) → All (λ payment. IsShort payment.accrual) schedule
+    → AllZip (EnclosesPayment units) (map (pay_by rate step) schedule) (flows_by rate (step * units) schedule)
+schedule-enclosed rate step units [] short = tt
+schedule-enclosed rate step units (payment ∷ schedule) short = (
+  payment-enclosed rate step units payment (All-head (λ (p : ScheduledPayment). IsShort p.accrual) payment schedule short).year,
+  schedule-enclosed rate step units schedule (All-tail (λ (p : ScheduledPayment). IsShort p.accrual) payment schedule short),
+)
 
 -- what a note costs
 price-enclosed : (step price units : ℕ) → AreHalves COEFFICIENT_SCALE (COEFFICIENT_SCALE * (step * price) / 10 ^ 10) (div_ceil (COEFFICIENT_SCALE * (step * price)) (10 ^ 10)) units (face_price_of (step * units) price)
@@ -195,40 +161,11 @@ kind-cost-enclosed settle (Market note) step units security =
     sum-enclosed _ _ _ _ _ _ units (face_price_of (step * units) note.price.0) (notes.accrued_interest note (step * units))
     (price-enclosed step note.price.0 units) (accrued-enclosed note step units security.1) refl refl
 
-kind-pays-enclosed : (settle : ℤ) (kind : LineKind) (step units : ℕ) → IsSettlement settle → IsSecurity settle kind
-    → AllZip (EnclosesPayment units) (kind_pays settle kind step) (kind_payments settle kind (step * units))
-kind-pays-enclosed settle Cash step units h security = absurd security
-kind-pays-enclosed settle (Security slgs) step units h security = slgs-enclosed slgs step units (is_short settle slgs h security).year
-kind-pays-enclosed settle (Market note) step units h security = note-enclosed note step units
-
-cash-enclosed : (settle : ℤ) (line : Line) (units : ℕ) → line.kind ≡ Cash → EnclosesUnits settle line units
-cash-enclosed settle line units e = record {
-  costs = rw e (exactly line.step units);
-  pays = rw e (record { day = refl; amount = exactly line.step units }, tt);
-}
-
 pub coefficients-enclose : (settle : ℤ) (line : Line) → IsSettlement settle → IsLine settle line → (units : ℕ) → EnclosesUnits settle line units
-coefficients-enclose settle line h is_line units = elim is_line [
-  | inl cash ↦ cash-enclosed settle line units cash.kind
-  | inr own ↦ record {
-    costs = kind-cost-enclosed settle line.kind line.step units own.security;
-    pays = kind-pays-enclosed settle line.kind line.step units h own.security;
-  }
-]
-
--- what a walk over the payments of one step makes
-pub slgs-pays : (security : Slgs) (step : ℕ) (pays : List PayCoefficients) (at : ℕ) (flows : List Flow)
-    → pays ≡ map (λ flow. slgs_paid_on security step flow.day) (take at flows) → length flows ≤ at → flows ≡ slgs.payments_of security step
-    → pays ≡ map (slgs_paid_on security step) (slgs.payment_dates security)
-unfolding slgs.payments_of
-slgs-pays security step pays at flows e all same =
-    let on : Flow → PayCoefficients = λ flow. slgs_paid_on security step flow.day in
-    e ∙ ap (map on) (take_all at flows all ∙ same) ∙ map-map on (slgs.payment_on security step) (slgs.payment_dates security)
-
-pub note-pays : (note : Note) (step : ℕ) (pays : List PayCoefficients) (at : ℕ) (flows : List Flow)
-    → pays ≡ map (λ flow. note_paid_on note step flow.day) (take at flows) → length flows ≤ at → flows ≡ notes.payments_of note step
-    → pays ≡ map (note_paid_on note step) (notes.payment_dates note)
-unfolding notes.payments_of
-note-pays note step pays at flows e all same =
-    let on : Flow → PayCoefficients = λ flow. note_paid_on note step flow.day in
-    e ∙ ap (map on) (take_all at flows all ∙ same) ∙ map-map on (notes.payment_on note step) (notes.payment_dates note)
+coefficients-enclose settle line h is_line units = record {
+  costs = elim is_line [
+    | inl cash ↦ subst (λ kind. Encloses (kind_costs kind line.step) units (kind_cost kind (par line units))) (sym cash.kind) (exactly line.step units)
+    | inr own ↦ kind-cost-enclosed settle line.kind line.step units own.security
+  ];
+  pays = schedule-enclosed (kind_rate line.kind) line.step units (schedule_of settle line) (schedule-short settle line h is_line);
+}

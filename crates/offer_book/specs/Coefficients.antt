@@ -1,19 +1,18 @@
 -- Coefficients of a line: for one unit, what it costs and pays, times a scale, rounded outward to whole numbers.
 -- They are this project's own. Amounts are rounded to the cent over all units at once, so what units cost and pay isn't a
 -- multiple of what one unit does; the coefficients and a slack enclose it for every number of units.
-use Rattle.std.specs.Prelude.{◌≡◌, ℕ, ◌+◌, ◌*◌, ◌/◌, ◌^◌, ◌≤◌, ◌==◌, if◌then◌else◌, List, [], ◌∷◌, map, ℤ}
+use Rattle.std.specs.Prelude.{◌≡◌, ℕ, ◌+◌, ◌*◌, ◌/◌, ◌^◌, ◌≤◌, ◌==◌, if◌then◌else◌, List, map, ℤ}
 use Rattle.std.specs.Int.{div_ceil}
 use Rattle.std.specs.List.{AllZip}
-use Rattle.std.specs.Ordering.{int_eq}
 use Rattle.escrow_units.specs.SlgsTerms.{IsSettlement}
 use Rattle.escrow_units.specs.declared.interest.Accrual.{Accrual}
 use Rattle.escrow_units.specs.declared.security.Flow.{Flow}
-use Rattle.escrow_units.specs.declared.security.Slgs.{Slgs}
+use Rattle.payment_schedule.specs.Schedule.{principal_by}
+use Rattle.payment_schedule.specs.declared.schedule.ScheduledPayment.{ScheduledPayment}
 use Rattle.market_notes.specs.NoteFlows as notes
-use Rattle.market_notes.specs.declared.note.Note.{Note}
-use Rattle.slgs_interest.specs.Payments as slgs
 use Rattle.offer_book.specs.Book.{IsLine}
 use Rattle.offer_book.specs.Portfolio.{line_cost, line_payments}
+use Rattle.offer_book.specs.Schedule.{kind_rate, schedule_of}
 use Rattle.offer_book.specs.declared.coefficients.PayCoefficients.{PayCoefficients}
 use Rattle.offer_book.specs.declared.coefficients.TheConstants.{COEFFICIENT_SCALE}
 use Rattle.offer_book.specs.declared.line.Line.{Line}
@@ -31,10 +30,6 @@ pub record Encloses (within : Enclosure) (units cents : ℕ) : Type 0 where
   pub least : within.low * units ≤ COEFFICIENT_SCALE * cents + within.slack
   pub most : COEFFICIENT_SCALE * cents ≤ within.high * units + within.slack
 
--- the part of a year that a later payment's interest is for
-abbrev pub half_year_accrual : Accrual
-half_year_accrual = record { parts = 1; year = 2 }
-
 -- the scale times the interest of an accrual on a face, rounded down and up
 abbrev pub interest_low : ℕ → ℕ → Accrual → ℕ
 interest_low face rate accrual = COEFFICIENT_SCALE * (face * rate * accrual.parts) / (100_000 * accrual.year)
@@ -46,30 +41,14 @@ interest_high face rate accrual = div_ceil (COEFFICIENT_SCALE * (face * rate * a
 abbrev pub interest_slack : ℕ → ℕ
 interest_slack rate = if rate == 0 then 0 else COEFFICIENT_SCALE / 2
 
--- what a date pays by one unit: the interest of its accrual, and the principal exactly
-abbrev pub paid_on : ℤ → ℕ → ℕ → Accrual → ℕ → PayCoefficients
-paid_on day step rate accrual principal = record {
-  day = day;
-  low = interest_low step rate accrual + COEFFICIENT_SCALE * principal;
-  high = interest_high step rate accrual + COEFFICIENT_SCALE * principal;
+-- what a step pays by a payment: its interest, and the principal exactly
+abbrev pub pay_by : ℕ → ℕ → ScheduledPayment → PayCoefficients
+pay_by rate step payment = record {
+  day = payment.day;
+  low = interest_low step rate payment.accrual + COEFFICIENT_SCALE * principal_by payment step;
+  high = interest_high step rate payment.accrual + COEFFICIENT_SCALE * principal_by payment step;
   slack = interest_slack rate;
 }
-
--- a SLGS security pays its first interest on its first date, and half a year's on each later date
-abbrev pub slgs_paid_on : Slgs → ℕ → ℤ → PayCoefficients
-slgs_paid_on security step day =
-    paid_on day step security.rate.0 (if int_eq day security.first then slgs.first_accrual_of security else half_year_accrual)
-    (slgs.principal_on security step day)
-
--- a marketable note pays half a year's interest on each date
-abbrev pub note_paid_on : Note → ℕ → ℤ → PayCoefficients
-note_paid_on note step day = paid_on day step note.coupon.0 half_year_accrual (notes.principal_on note step day)
-
--- the coefficients of what a step of a kind pays, in order of date
-abbrev pub kind_pays : ℤ → LineKind → ℕ → List PayCoefficients
-kind_pays settle Cash step = record { day = settle; low = COEFFICIENT_SCALE * step; high = COEFFICIENT_SCALE * step; slack = 0 } ∷ []
-kind_pays settle (Security security) step = map (slgs_paid_on security step) (slgs.payment_dates security)
-kind_pays settle (Market note) step = map (note_paid_on note step) (notes.payment_dates note)
 
 -- the coefficients of what a step of a kind costs: opening cash and a SLGS security cost their amount exactly, and a note
 -- its price and its accrued interest, each of which is rounded to the cent once
@@ -82,12 +61,13 @@ kind_costs (Market note) step = record {
   slack = COEFFICIENT_SCALE;
 }
 
--- the coefficients of what a line costs and pays
+-- the coefficients of what a line costs
 abbrev pub cost_coefficients : Line → Enclosure
 cost_coefficients line = kind_costs line.kind line.step
 
+-- and of what it pays, in order of date: what one unit comes to at par, seen so by the schedule of the line
 abbrev pub pay_coefficients : ℤ → Line → List PayCoefficients
-pay_coefficients settle line = kind_pays settle line.kind line.step
+pay_coefficients settle line = map (pay_by (kind_rate line.kind) line.step) (schedule_of settle line)
 
 -- an amount of cents that is paid is enclosed, on the same day
 pub record EnclosesPayment (units : ℕ) (pay : PayCoefficients) (flow : Flow) : Type 0 where

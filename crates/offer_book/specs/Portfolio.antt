@@ -1,16 +1,17 @@
 -- Portfolios of a book: which are permitted, what they pay and cost, and whether they meet the needs.
 -- A portfolio is a list with one number of units for each line.
-use Rattle.std.specs.Prelude.{◌≡◌, ℕ, ◌*◌, ◌<◌, ◌≤◌, ◌⊎◌, Bool, ◌&&◌, ◌||◌, nat_le, ◌==◌, List, [], ◌∷◌, length, drop, ℤ, ◌<ℤ◌}
+use Rattle.std.specs.Prelude.{◌≡◌, ℕ, ◌*◌, ◌<◌, ◌≤◌, ◌⊎◌, Bool, ◌&&◌, ◌||◌, nat_le, ◌==◌, List, length, drop, map, ℤ, ◌<ℤ◌}
 use Rattle.std.specs.List.{All, sum_by, flat_map, zip}
 use Rattle.escrow_units.specs.Flows.{total}
 use Rattle.escrow_units.specs.declared.security.Flow.{Flow}
 use Rattle.day_sums.specs.Summed.{summed, total_by}
-use Rattle.market_notes.specs.NoteFlows.{cost_of as note_cost_of, payments_of as note_payments_of}
-use Rattle.slgs_interest.specs.Payments.{payments_of as slgs_payments_of}
+use Rattle.payment_schedule.specs.Schedule.{flow_by}
+use Rattle.market_notes.specs.NoteFlows.{cost_of as note_cost_of}
 use Rattle.offer_book.specs.declared.line.LineKind.{LineKind}
 use Rattle.offer_book.specs.declared.line.LineKind.TheVariants.{Cash, Market, Security}
 use Rattle.offer_book.specs.declared.line.Line.{Line}
 use Rattle.offer_book.specs.Book.{BookContents}
+use Rattle.offer_book.specs.Schedule.{kind_rate, schedule_of}
 
 -- 0 units, or from the least to the most of the line
 abbrev pub IsPermittedUnits : Line → ℕ → Type 0
@@ -40,16 +41,9 @@ kind_cost (Market note) face = note_cost_of note face
 abbrev pub line_cost : Line → ℕ → ℕ
 line_cost line units = kind_cost line.kind (par line units)
 
--- what an amount at par of a kind pays: opening cash is there on the settlement day, and a SLGS security and a note pay
--- their interest and their face
-abbrev pub kind_payments : ℤ → LineKind → ℕ → List Flow
-kind_payments settle Cash amount = record { day = settle; cents = record { 0 = amount } } ∷ []
-kind_payments settle (Security slgs) face = slgs_payments_of slgs face
-kind_payments settle (Market note) face = note_payments_of note face
-
--- the payments of units of a line, in order of date
+-- the payments of units of a line, in order of date: what they come to at par pays by the schedule of the line
 abbrev pub line_payments : ℤ → Line → ℕ → List Flow
-line_payments settle line units = kind_payments settle line.kind (par line units)
+line_payments settle line units = map (flow_by (kind_rate line.kind) (par line units)) (schedule_of settle line)
 
 -- the payments of a portfolio, in the order of the lines
 abbrev pub payments : BookContents → List ℕ → List Flow

@@ -8,14 +8,12 @@ mod files;
 mod line;
 mod market;
 mod offers;
-mod schedule;
 
 pub use book::Book;
 pub use coefficients::{COEFFICIENT_SCALE, Coefficients, PayCoefficients, coefficient_laws};
 pub use files::{book_laws, make_book};
 pub use line::{Line, LineKind};
 pub use offers::{offer_laws, slgs_lines};
-pub use schedule::ScheduledPayment;
 
 #[cfg(test)]
 mod book_tests;

@@ -1,14 +1,15 @@
 //! Lines: what units of them cost and pay.
 
-ghost use Rattle.std.specs.Prelude.{◌≡◌, ◌*◌, ◌^◌, ◌<◌, ◌≤◌};
+ghost use Rattle.std.specs.Prelude.{◌≡◌, ◌*◌, ◌^◌, ◌<◌, ◌≤◌, [], ◌∷◌};
 ghost use Rattle.market_notes.specs.NoteFlows.{accrual_of, cost_of as note_cost_of};
 ghost use Rattle.market_notes.specs.NoteTerms.{IsNote};
+ghost use Rattle.offer_book.specs.Schedule.{cash_due};
 
-use crate::coefficients::{Coefficients, cash_coefficients, note_coefficients, slgs_coefficients};
-use crate::schedule::{ScheduledPayment, cash_schedule, note_schedule, slgs_schedule};
+use crate::coefficients::{Coefficients, ScaledCost, cost_at_par, pays_of, scaled_note_cost};
 use arrayvec::ArrayVec;
 use escrow_units::{Accrual, Cents, Day, Flow, Rate, Slgs, Terms, earned, face_price};
-use market_notes::{Note, accrual, note_cost, note_payments};
+use market_notes::{Note, accrual, note_cost, note_schedule};
+use payment_schedule::{HALF_YEAR, ScheduledPayment, scheduled_flows};
 
 /// What a line offers.
 #[derive(Clone, Copy, Debug, PartialEq, Eq)]
@@ -49,15 +50,29 @@ fn note_cost_by(note: &Note, accrued: Accrual, face: Cents) -> Cents
     Cents(face_price(face, note.price).0 + interest.0)
 }
 
+// The schedule of opening cash, which is there on the settlement day.
+fn cash_schedule(settle: Day) -> ArrayVec<ScheduledPayment, 84>
+    ensures { result.items ≡ cash_due settle ∷ [] }
+{
+    let mut schedule = ArrayVec::new();
+    schedule.push(ScheduledPayment {
+        day: settle,
+        accrual: HALF_YEAR,
+        principal: true,
+    });
+    schedule
+}
+
 impl Line {
     ghost use Rattle.escrow_units.specs.Denomination.{AreTerms};
     ghost use Rattle.escrow_units.specs.Flows.{total, FallWithinFortyYears};
     ghost use Rattle.escrow_units.specs.SlgsTerms.{IsSettlement};
-    ghost use Rattle.std.specs.Prelude.{ℕ, ℤ};
+    ghost use Rattle.payment_schedule.specs.Schedule.{IsShort};
+    ghost use Rattle.std.specs.Prelude.{All, ℕ, ℤ};
     ghost use Rattle.offer_book.specs.Book.{IsLine};
     ghost use Rattle.offer_book.specs.Coefficients.{EnclosesUnits, cost_coefficients, pay_coefficients};
     ghost use Rattle.offer_book.specs.Denominations.{line_of};
-    ghost use Rattle.offer_book.specs.Schedule.{IsScheduleOf, kind_accrued, kind_rate};
+    ghost use Rattle.offer_book.specs.Schedule.{kind_accrued, kind_rate, schedule_of};
     ghost use Rattle.offer_book.specs.Portfolio.{line_cost, line_payments, par as par_of, permits as permits_of};
 
     // The line of what is bought, of which at most `cap` dollars are sold, by the denominations of its file.
@@ -105,8 +120,8 @@ impl Line {
         }
     }
 
-    /// What units of the line pay, in order of date: opening cash its amount on the settlement day, and a SLGS security
-    /// and a marketable note their interest and their face.
+    /// What units of the line pay, in order of date, by its [`schedule`](Line::schedule): opening cash its amount on the
+    /// settlement day, and a SLGS security and a marketable note their interest and their face.
     ///
     /// Settlement is from 2000-01-01 to 2150-01-01, the line is one of a book with that settlement, and the units are at
     /// most its `most`. 0 units pay 0 cents on each date. It takes no memory.
@@ -118,19 +133,8 @@ impl Line {
         ensures within { FallWithinFortyYears settle result.items }
         ensures bound { total result.items ≤ 2 * 10 ^ 13 }
     {
-        let par = self.par(units);
-        match self.kind {
-            LineKind::Cash => {
-                let mut flows = ArrayVec::new();
-                flows.push(Flow {
-                    day: settle,
-                    cents: par,
-                });
-                flows
-            }
-            LineKind::Security(slgs) => slgs_interest::payments(&slgs, par),
-            LineKind::Market(note) => note_payments(&note, par),
-        }
+        let schedule = self.schedule(settle);
+        scheduled_flows(schedule.as_slice(), self.rate(), self.par(units))
     }
 
     /// The rate of the line's interest: none for opening cash.
@@ -144,18 +148,20 @@ impl Line {
         }
     }
 
-    /// The payments of the line by their terms, in order of date: by them any number of units pays what the line pays, and
-    /// no calendar has to be read again.
+    /// The payments of the line by their terms, in order of date: opening cash is there on the settlement day, and a SLGS
+    /// security and a note pay by theirs. By them any number of units is paid, and no calendar has to be read again.
     ///
-    /// Settlement is from 2000-01-01 to 2150-01-01, and the line is one of a book with that settlement. It takes no memory.
+    /// Settlement is from 2000-01-01 to 2150-01-01, and the line is one of a book with that settlement; then each payment bears
+    /// interest for at most sixteen months. It takes no memory.
     pub fn schedule(&self, settle: Day) -> ArrayVec<ScheduledPayment, 84>
         requires settlement { IsSettlement settle }
         requires line { IsLine settle self.now }
-        ensures { IsScheduleOf settle self.now result.items }
+        ensures value { result.items ≡ schedule_of settle self.now }
+        ensures short { All (λ payment. IsShort payment.accrual) result.items }
     {
         match self.kind {
             LineKind::Cash => cash_schedule(settle),
-            LineKind::Security(slgs) => slgs_schedule(&slgs),
+            LineKind::Security(slgs) => slgs_interest::schedule(&slgs),
             LineKind::Market(note) => note_schedule(&note),
         }
     }
@@ -189,6 +195,18 @@ impl Line {
         }
     }
 
+    // What one unit of the line costs, scaled and rounded outward.
+    fn scaled_cost(&self) -> ScaledCost
+        requires { (settle : ℤ) × IsLine settle self.now }
+        ensures { cost_coefficients self.now ≡ record { low = result.low; high = result.high; slack = result.slack } }
+    {
+        let step = Cents(self.step);
+        match self.kind {
+            LineKind::Cash | LineKind::Security(_) => cost_at_par(step),
+            LineKind::Market(note) => scaled_note_cost(&note, step),
+        }
+    }
+
     /// What one unit of the line costs and pays, scaled and rounded outward.
     ///
     /// For every number of units, `cost_low * units - cost_slack` to `cost_high * units + cost_slack` holds
@@ -202,11 +220,13 @@ impl Line {
         ensures pays { result.pays.items ≡ pay_coefficients settle self.now }
         ensures enclosing { (units : ℕ) → EnclosesUnits settle self.now units }
     {
-        let step = Cents(self.step);
-        match self.kind {
-            LineKind::Cash => cash_coefficients(settle, step),
-            LineKind::Security(slgs) => slgs_coefficients(settle, &slgs, step),
-            LineKind::Market(note) => note_coefficients(settle, &note, step),
+        let cost = self.scaled_cost();
+        let schedule = self.schedule(settle);
+        Coefficients {
+            cost_low: cost.low,
+            cost_high: cost.high,
+            cost_slack: cost.slack,
+            pays: pays_of(schedule.as_slice(), self.rate(), Cents(self.step)),
         }
     }
 }

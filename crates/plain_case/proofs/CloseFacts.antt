@@ -1,24 +1,22 @@
 -- The coefficients of what a line costs and pays lie close together, and so are what they enclose.
-use Rattle.std.proofs.Common.{ℕ, ◌+◌, ◌*◌, ◌/◌, ◌^◌, ◌≤◌, if◌then◌else◌, List, [], ◌∷◌, length, ap, arith, ℤ, All}
+use Rattle.std.proofs.Common.{ℕ, ◌+◌, ◌*◌, ◌/◌, ◌^◌, ◌≤◌, List, [], ◌∷◌, get_or, length, ap, arith, ℤ, All}
 use Rattle.std.proofs.lemmas.List.Elements.{All-head, All-map, All-tail}
 use Rattle.std.proofs.lemmas.List.Sums.{sum_by-cons}
 use Rattle.std.proofs.Math.Nat.{mul-le-mul_left, mul-le-mul_right}
 use Rattle.std.specs.Int.{div_ceil}
 use Rattle.std.specs.List.{AllZip, sum_by}
-use Rattle.std.specs.Ordering.{int_eq}
 use Rattle.escrow_units.specs.declared.interest.Accrual.{Accrual}
 use Rattle.escrow_units.specs.declared.security.Flow.{Flow}
-use Rattle.escrow_units.specs.declared.security.Slgs.{Slgs}
 use Rattle.day_sums.proofs.RateFacts.{at_rate}
 use Rattle.market_notes.specs.NoteFlows as notes
-use Rattle.market_notes.specs.declared.note.Note.{Note}
-use Rattle.slgs_interest.specs.Payments as slgs
 use Rattle.offer_book.specs.Book.{IsSecurity, IsSecurityLine}
-use Rattle.offer_book.specs.Coefficients.{EnclosesPayment, cost_coefficients, half_year_accrual, interest_high, interest_low, kind_costs, kind_pays, note_paid_on, paid_on, pay_coefficients, slgs_paid_on}
+use Rattle.offer_book.specs.Coefficients.{EnclosesPayment, cost_coefficients, interest_high, interest_low, kind_costs, pay_by, pay_coefficients}
 use Rattle.offer_book.specs.declared.coefficients.PayCoefficients.{PayCoefficients}
 use Rattle.offer_book.specs.declared.coefficients.TheConstants.{COEFFICIENT_SCALE}
 use Rattle.offer_book.specs.declared.line.Line.{Line}
 use Rattle.offer_book.specs.declared.line.LineKind.{LineKind}
+use Rattle.payment_schedule.specs.declared.schedule.ScheduledPayment.{ScheduledPayment}
+use Rattle.offer_book.specs.Schedule.{kind_rate, schedule_of}
 use Rattle.offer_book.specs.declared.line.LineKind.TheVariants.{Cash, Market, Security}
 use Rattle.dual_bound.specs.declared.prices.TheConstants.{PRICE_SCALE}
 
@@ -33,22 +31,12 @@ interest-next step rate accrual = ceil-next (COEFFICIENT_SCALE * (step * rate * 
 abbrev pub IsClose : PayCoefficients → Type 0
 IsClose pay = pay.high ≤ pay.low + 1
 
-paid-close : (day : ℤ) (step rate : ℕ) (accrual : Accrual) (principal : ℕ) → IsClose (paid_on day step rate accrual principal)
-paid-close day step rate accrual principal = omega (arith, interest-next step rate accrual)
-
-slgs-close : (security : Slgs) (step : ℕ) (day : ℤ) → IsClose (slgs_paid_on security step day)
-slgs-close security step day = paid-close day step security.rate.0 (if int_eq day security.first then slgs.first_accrual_of security else half_year_accrual) (slgs.principal_on security step day)
-
-note-close : (note : Note) (step : ℕ) (day : ℤ) → IsClose (note_paid_on note step day)
-note-close note step day = paid-close day step note.coupon.0 half_year_accrual (notes.principal_on note step day)
-
-kind-close : (settle : ℤ) (kind : LineKind) (step : ℕ) → IsSecurity settle kind → All IsClose (kind_pays settle kind step)
-kind-close settle Cash step security = absurd security
-kind-close settle (Security security) step keeps = All-map IsClose (slgs_paid_on security step) (slgs.payment_dates security) (λ k d few. slgs-close security step _)
-kind-close settle (Market note) step keeps = All-map IsClose (note_paid_on note step) (notes.payment_dates note) (λ k d few. note-close note step _)
+pay-close : (rate step : ℕ) (payment : ScheduledPayment) → IsClose (pay_by rate step payment)
+pay-close rate step payment = omega (arith, interest-next step rate payment.accrual)
 
 pub pays-close : (settle : ℤ) (line : Line) → IsSecurityLine settle line → All IsClose (pay_coefficients settle line)
-pays-close settle line security = kind-close settle line.kind line.step security.security
+pays-close settle line security =
+    All-map IsClose (pay_by (kind_rate line.kind) line.step) (schedule_of settle line) (λ k d few. pay-close (kind_rate line.kind) line.step (get_or (schedule_of settle line) k d))
 
 -- ---- what a unit costs
 cost_kind-close : (settle : ℤ) (kind : LineKind) (step : ℕ) → IsSecurity settle kind → (kind_costs kind step).high ≤ (kind_costs kind step).low + 2

@@ -9,7 +9,8 @@ use Rattle.std.specs.List.{sum_by}
 use Rattle.escrow_units.specs.SlgsTerms.{IsSettlement}
 use Rattle.escrow_units.specs.declared.security.Flow.{Flow}
 use Rattle.offer_book.specs.Book.{AreLines, BookContents, IsLine, IsSecurityLine}
-use Rattle.offer_book.specs.Coefficients.{cost_coefficients, kind_costs, kind_pays, pay_coefficients}
+use Rattle.offer_book.specs.Coefficients.{cost_coefficients, kind_costs, pay_coefficients}
+use Rattle.offer_book.proofs.ScheduleFacts.{cash-coefficients}
 use Rattle.offer_book.specs.Portfolio.{line_cost, line_payments}
 use Rattle.offer_book.specs.declared.coefficients.PayCoefficients.{PayCoefficients}
 use Rattle.offer_book.specs.declared.coefficients.TheConstants.{COEFFICIENT_SCALE}
@@ -162,8 +163,10 @@ line-least n book prices line settled is small fair = at (0 == line.most) (reduc
 
 cash-fair : (book : BookContents) (prices : List ℕ) (line : Line) → All (λ price. price ≤ PRICE_SCALE) prices → line.kind ≡ Cash → IsNoBargain book prices line
 cash-fair book prices line small cash =
-    subst (λ (kind : LineKind). sum_by (λ (pay : PayCoefficients). price_on book.needs prices pay.day * pay.high) (kind_pays book.settle kind line.step) ≤ PRICE_SCALE * (kind_costs kind line.step).low) (sym cash)
-    (omega (arith, mul-le-mul_right (COEFFICIENT_SCALE * line.step) (price_on-within book.needs prices book.settle small)))
+    let exactly : List PayCoefficients = record { day = book.settle; low = COEFFICIENT_SCALE * line.step; high = COEFFICIENT_SCALE * line.step; slack = 0 } ∷ [] in
+    subst (λ (pays : List PayCoefficients). sum_by (λ (pay : PayCoefficients). price_on book.needs prices pay.day * pay.high) pays ≤ PRICE_SCALE * (cost_coefficients line).low) (sym (cash-coefficients book.settle line cash))
+    (subst (λ (kind : LineKind). sum_by (λ (pay : PayCoefficients). price_on book.needs prices pay.day * pay.high) exactly ≤ PRICE_SCALE * (kind_costs kind line.step).low) (sym cash)
+    (omega (arith, mul-le-mul_right (COEFFICIENT_SCALE * line.step) (price_on-within book.needs prices book.settle small))))
 
 offers-least : (n : ℕ) (book : BookContents) (prices : List ℕ) (lines : List Line) → IsSettlement book.settle → All (λ price. price ≤ PRICE_SCALE) prices → All (IsSecurityLine book.settle) lines → All (IsNoBargain book prices) lines
     → All (IsLeastByRounding n book prices) lines

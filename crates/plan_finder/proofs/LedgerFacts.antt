@@ -7,7 +7,6 @@ use Rattle.std.proofs.lemmas.List.{get_or_append_left, get_or_default, get_or-se
 use Rattle.std.proofs.lemmas.List.Elements.{All-map}
 use Rattle.std.proofs.lemmas.List.Sums.{sum_by-cons}
 use Rattle.escrow_units.specs.declared.security.Flow.{Flow}
-use Rattle.slgs_interest.specs.PaymentLaws.{IsShort}
 use Rattle.escrow_units.specs.Flows.{total}
 use Rattle.escrow_units.specs.SlgsTerms.{IsSettlement}
 use Rattle.offer_book.specs.Book.{BookContents, IsBook, IsLine}
@@ -17,10 +16,10 @@ use Rattle.cash_table.proofs.CostFacts.{permitted_few}
 use Rattle.cash_table.proofs.PaymentFacts.{all_lines}
 use Rattle.backward_build.proofs.TrimFacts.{some_line}
 use Rattle.backward_build.proofs.UnitFacts.{permitted-at}
-use Rattle.offer_book.specs.Schedule.{flow_by}
 use Rattle.offer_book.specs.declared.line.Line.{Line}
+use Rattle.payment_schedule.specs.Schedule.{IsShort, flow_by}
 use Rattle.offer_book.specs.declared.line.LineKind.{LineKind}
-use Rattle.offer_book.specs.declared.schedule.ScheduledPayment.{ScheduledPayment}
+use Rattle.payment_schedule.specs.declared.schedule.ScheduledPayment.{ScheduledPayment}
 use Rattle.dual_bound.specs.Columns.{kind_power}
 use Rattle.dual_bound.proofs.ColumnSizes.{cents-little}
 use Rattle.plan_finder.specs.Ledger.{AreHeld, AreTerms, IsPurchase, IsTerms, flows_worth}

@@ -4,9 +4,10 @@ use Rattle.std.specs.List.{zip}
 use Rattle.escrow_units.specs.declared.security.Flow.{Flow}
 use Rattle.day_sums.specs.Summed.{total_by}
 use Rattle.fixed_powers.specs.DiscountPowers.{one}
+use Rattle.payment_schedule.specs.Schedule.{IsShort}
 use Rattle.offer_book.specs.Book.{BookContents, IsBook}
 use Rattle.offer_book.specs.Portfolio.{IsPermitted, cost as cost_of, line_cost, line_payments, payments as payments_of}
-use Rattle.offer_book.specs.Schedule.{IsScheduleOf, kind_accrued}
+use Rattle.offer_book.specs.Schedule.{kind_accrued, schedule_of}
 use Rattle.offer_book.specs.declared.line.Line.{Line}
 use Rattle.offer_book.specs.declared.line.LineKind.{LineKind}
 use Rattle.dual_bound.specs.Columns.{kind_power}
@@ -27,7 +28,8 @@ line_worth n settle line units = flows_worth n settle line.kind (line_payments s
 pub record IsTerms (n : ℕ) (settle : ℤ) (line : Line) (terms : LineTerms) : Type 0 where
   pub accrued : terms.accrued ≡ kind_accrued line.kind
   pub days : terms.accrued.parts ≤ 184
-  pub schedule : IsScheduleOf settle line terms.schedule.items
+  pub schedule : terms.schedule.items ≡ schedule_of settle line
+  pub short : All (λ payment. IsShort payment.accrual) terms.schedule.items
   pub powers : terms.powers.items ≡ map (λ payment. kind_power n settle line.kind payment.day) terms.schedule.items
   pub small : All (λ power. power ≤ one) terms.powers.items
 

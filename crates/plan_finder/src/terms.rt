@@ -6,16 +6,15 @@ ghost use Rattle.escrow_units.specs.SlgsTerms.{IsSettlement};
 ghost use Rattle.fixed_powers.specs.DiscountPowers.{IsLowTable, PowerTable, one};
 ghost use Rattle.offer_book.specs.Book.{IsLine};
 ghost use Rattle.offer_book.specs.Portfolio.{line_payments};
-ghost use Rattle.offer_book.specs.Schedule.{flow_by};
-ghost use Rattle.slgs_interest.specs.PaymentLaws.{IsShort};
 ghost use Rattle.dual_bound.specs.Columns.{kind_power};
 ghost use Rattle.plan_finder.specs.Ledger.{IsPurchase, IsTerms};
 
 use arrayvec::ArrayVec;
 use escrow_desk::NoMemory;
-use escrow_units::{Accrual, Cents, Day, Flow, GREATEST_RATE, Rate, index360};
+use escrow_units::{Accrual, Cents, Day, Flow, index360};
 use fixed_powers::Powers;
-use offer_book::{Line, LineKind, ScheduledPayment};
+use offer_book::{Line, LineKind};
+use payment_schedule::{ScheduledPayment, scheduled_flows};
 use std::alloc::Global;
 
 /// What a line costs and pays, by its terms.
@@ -72,34 +71,6 @@ fn powers_of(
         factors.push(power_on(settle, powers, line.kind, payment.day))?;
     }
     Ok(factors)
-}
-
-// What an amount at a rate pays by a payment.
-fn flow_of(rate: Rate, amount: Cents, payment: &ScheduledPayment) -> Flow
-    requires rate { rate.0 ≤ GREATEST_RATE }
-    requires amount { amount.0 ≤ 10 ^ 13 }
-    requires short { IsShort payment.now.accrual }
-    ensures { result ≡ flow_by rate.0 amount.0 payment.now }
-{
-    Flow {
-        day: payment.day,
-        cents: payment.cents(rate, amount),
-    }
-}
-
-// What an amount at a rate pays by a schedule.
-fn flows_of(rate: Rate, amount: Cents, schedule: &[ScheduledPayment]) -> ArrayVec<Flow, 84>
-    requires rate { rate.0 ≤ GREATEST_RATE }
-    requires amount { amount.0 ≤ 10 ^ 13 }
-    requires short { All (λ payment. IsShort payment.accrual) schedule.now }
-    requires few { length schedule.now ≤ 84 }
-    ensures { result.items ≡ map (flow_by rate.0 amount.0) schedule.now }
-{
-    let mut flows = ArrayVec::new();
-    for payment in schedule {
-        flows.push(flow_of(rate, amount, payment));
-    }
-    flows
 }
 
 // What cents are worth by a power, in units of 2^-62 of a cent.
@@ -159,7 +130,7 @@ impl LineTerms {
         requires units { units ≤ line.now.most }
         ensures { (settle : ℤ) (n : ℕ) → IsLine settle line.now → IsTerms n settle line.now self.now → IsPurchase n settle line.now units result }
     {
-        let payments = flows_of(line.rate(), line.par(units), self.schedule.as_slice());
+        let payments = scheduled_flows(self.schedule.as_slice(), line.rate(), line.par(units));
         let worth = worth_of(self.powers.as_slice(), payments.as_slice());
         Purchase {
             cost: line.cost_by(self.accrued, units),

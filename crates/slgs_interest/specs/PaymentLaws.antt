@@ -1,15 +1,16 @@
 -- What the payments of a SLGS security are, in the terms of bonds.
 use Rattle.std.specs.Prelude.{◌≡◌, ◌↔◌, ℕ, ◌+◌, ◌*◌, ◌^◌, ◌<◌, ◌≤◌, IsTrue, List, All, sum_by, ℤ, ◌≤ℤ◌, ◌<ℤ◌}
+use Rattle.std.specs.List.{AllZip}
 use Rattle.escrow_units.specs.Calendar.{IsSeriesDate}
 use Rattle.escrow_units.specs.Flows.{total}
 use Rattle.escrow_units.specs.Interest.{half_coupon_of}
 use Rattle.escrow_units.specs.SlgsTerms.{IsSettlement, IsSlgs}
-use Rattle.escrow_units.specs.declared.interest.Accrual.{Accrual}
 use Rattle.escrow_units.specs.declared.security.Flow.{Flow}
 use Rattle.escrow_units.specs.declared.security.Slgs.{Slgs}
 use Rattle.escrow_units.specs.declared.security.SlgsKind.TheVariants as kind
 use Rattle.escrow_units.specs.declared.security.StepRule.TheVariants as rule
-use Rattle.slgs_interest.specs.Payments.{basis_of, before_first, interest_on, is_leap_day, principal_on, second_before_first}
+use Rattle.payment_schedule.specs.Schedule.{interest_by, principal_by}
+use Rattle.slgs_interest.specs.Payments.{basis_of, before_first, is_leap_day, second_before_first, slgs_schedule}
 
 -- all payments come after settlement, and none after maturity
 abbrev pub AreWithinTerm : Slgs → List Flow → Type 0
@@ -18,7 +19,7 @@ AreWithinTerm slgs flows = All (λ flow. (slgs.settle <ℤ flow.day) × (flow.da
 -- the payments are the principal, once, and the interest
 abbrev pub PayPrincipalOnce : Slgs → ℕ → List Flow → Type 0
 PayPrincipalOnce slgs face flows =
-    total flows ≡ face + sum_by (λ flow. interest_on slgs face flow.day) flows
+    total flows ≡ face + sum_by (interest_by slgs.rate.0 face) (slgs_schedule slgs)
 
 -- without interest they are the principal
 abbrev pub PayFaceAlone : Slgs → ℕ → List Flow → Type 0
@@ -28,7 +29,7 @@ PayFaceAlone slgs face flows = slgs.rate.0 ≡ 0 → total flows ≡ face
 abbrev pub PayEqualInterest : Slgs → ℕ → List Flow → Type 0
 PayEqualInterest slgs face flows =
     ¬ (slgs.kind ≡ kind.Certificate) → slgs.settle ≡ before_first slgs
-    → All (λ flow. flow.cents.0 ≡ half_coupon_of face slgs.rate.0 + principal_on slgs face flow.day) flows
+    → AllZip (λ payment flow. flow.cents.0 ≡ half_coupon_of face slgs.rate.0 + principal_by payment face) (slgs_schedule slgs) flows
 
 -- no payment of a permitted face is above 2 billion dollars
 abbrev pub AreSmall : List Flow → Type 0
@@ -36,13 +37,8 @@ AreSmall flows = All (λ flow. flow.cents.0 ≤ 2 * 10 ^ 11) flows
 
 -- no payment of a permitted face has more than 400 million dollars of interest
 abbrev pub EarnLittle : Slgs → ℕ → List Flow → Type 0
-EarnLittle slgs face flows = All (λ flow. flow.cents.0 ≤ 4 * 10 ^ 10 + principal_on slgs face flow.day) flows
-
--- an accrual is of at most sixteen months
-pub record IsShort (accrual : Accrual) : Type 0 where
-  pub year : 0 < accrual.year
-  pub parts : 3 * accrual.parts ≤ 4 * accrual.year
-  pub days : accrual.parts ≤ 732
+EarnLittle slgs face flows =
+    AllZip (λ payment flow. flow.cents.0 ≤ 4 * 10 ^ 10 + principal_by payment face) (slgs_schedule slgs) flows
 
 -- the latest date of the series before a day
 pub record IsLatestBefore (maturity day date : ℤ) : Type 0 where

@@ -3,14 +3,14 @@
 use Rattle.std.specs.Prelude.{ℕ, zero, suc, ◌+◌, ◌*◌, ◌==◌, Bool, false, ◌&&◌, ◌||◌, if◌then◌else◌, List, map, filter, length, ℤ, pos, ◌+ℤ◌, int_lt, int_le}
 use Rattle.std.specs.Ordering.{int_eq}
 use Rattle.escrow_units.specs.Calendar.{date_of, half_back_of}
-use Rattle.escrow_units.specs.Interest.{earned_of, half_coupon_of}
 use Rattle.escrow_units.specs.Series.{days_between_of, series_of}
 use Rattle.escrow_units.specs.declared.interest.Accrual.{Accrual}
-use Rattle.escrow_units.specs.declared.security.Flow.{Flow}
 use Rattle.escrow_units.specs.declared.security.Slgs.{Slgs}
 use Rattle.escrow_units.specs.declared.security.SlgsKind.{SlgsKind}
 use Rattle.escrow_units.specs.declared.security.SlgsKind.TheVariants as kind
 use Rattle.escrow_units.specs.declared.security.StepRule.TheVariants as rule
+use Rattle.payment_schedule.specs.Schedule.{due_on, half_year_accrual}
+use Rattle.payment_schedule.specs.declared.schedule.ScheduledPayment.{ScheduledPayment}
 
 abbrev pub is_leap_day : ℤ → Bool
 is_leap_day day = ((date_of day).month == 2) && ((date_of day).day == 29)
@@ -62,21 +62,11 @@ accrual_of_kind kind.Bond slgs = first_period_accrual slgs
 unfoldable pub first_accrual_of : Slgs → Accrual
 first_accrual_of slgs = accrual_of_kind slgs.kind slgs
 
--- the interest of the first payment
-abbrev pub first_interest : Slgs → ℕ → ℕ
-first_interest slgs face = earned_of face slgs.rate.0 (first_accrual_of slgs).parts (first_accrual_of slgs).year
+-- the payment of a date: its interest, the first or else half a year's, and the face at maturity
+abbrev pub payment_on : Slgs → ℤ → ScheduledPayment
+payment_on slgs date =
+    due_on date (if int_eq date slgs.first then first_accrual_of slgs else half_year_accrual) (int_eq date slgs.maturity)
 
--- a day's interest: the first, or else half a coupon
-abbrev pub interest_on : Slgs → ℕ → ℤ → ℕ
-interest_on slgs face day = if int_eq day slgs.first then first_interest slgs face else half_coupon_of face slgs.rate.0
-
--- the face is paid at maturity
-abbrev pub principal_on : Slgs → ℕ → ℤ → ℕ
-principal_on slgs face day = if int_eq day slgs.maturity then face else 0
-
-abbrev pub payment_on : Slgs → ℕ → ℤ → Flow
-payment_on slgs face day = record { day = day; cents = record { 0 = interest_on slgs face day + principal_on slgs face day } }
-
--- what a face of so many cents pays, in order of date
-unfoldable pub payments_of : Slgs → ℕ → List Flow
-payments_of slgs face = map (payment_on slgs face) (payment_dates slgs)
+-- the payments of a security by their terms, in order of date
+unfoldable pub slgs_schedule : Slgs → List ScheduledPayment
+slgs_schedule slgs = map (payment_on slgs) (payment_dates slgs)

@@ -1,10 +1,9 @@
 //! For which part of a year a first payment's interest is earned.
 ghost use Rattle.std.specs.Prelude.{◌≡◌, ◌≢◌, length};
 ghost use Rattle.escrow_units.specs.SlgsTerms.{IsSettlement, IsSlgs};
-ghost use Rattle.slgs_interest.specs.PaymentLaws.{IsShort};
+ghost use Rattle.payment_schedule.specs.Schedule.{IsShort};
 ghost use Rattle.slgs_interest.specs.Payments.{before_first, certificate_accrual, first_accrual_of, first_period_accrual, payment_dates};
 
-use crate::flows::dates_of;
 use crate::leap_day::basis;
 use escrow_units::{Accrual, Day, SeriesDates, Slgs, SlgsKind, StepRule, days_between, half_back};
 
@@ -47,7 +46,10 @@ fn of_first_period(slgs: &Slgs, before: Day, dates: u32) -> Accrual
     }
 }
 
-/// The first accrual of a security, by the dates of its series around the day before its first payment.
+/// For which part of a year the interest of a security's first payment is earned, by the dates of its series around the day
+/// before: a certificate's for its days of a year of 365 days, or of 366 where a 29 February lies after settlement and not after
+/// maturity; a note's or bond's for its days of the half-year in which it settles, or for a half-year and its days of the
+/// half-year before that, of a year that is twice that half-year. It is of at most sixteen months.
 #[tactic(auto, unfolding(crate::specs::Payments::first_accrual_of))]
 pub(crate) fn accrual_by(slgs: &Slgs, dates: &SeriesDates) -> Accrual
     requires settlement { IsSettlement slgs.now.settle }
@@ -63,19 +65,4 @@ pub(crate) fn accrual_by(slgs: &Slgs, dates: &SeriesDates) -> Accrual
             of_first_period(slgs, dates.previous, dates.after.len() as u32)
         }
     }
-}
-
-/// For which part of a year the interest of a security's first payment is earned, in days: a certificate's for its days of a
-/// year of 365 days, or of 366 where a 29 February lies after settlement and not after maturity; a note's or bond's for its
-/// days of the half-year in which it settles, or for a half-year and its days of the half-year before that, of a year that
-/// is twice that half-year. It is of at most sixteen months.
-///
-/// Settlement is from 2000-01-01 to 2150-01-01, and the security keeps the terms of SLGS securities.
-pub fn first_accrual(slgs: &Slgs) -> Accrual
-    requires settlement { IsSettlement slgs.now.settle }
-    requires terms { IsSlgs slgs.now }
-    ensures value { result ≡ first_accrual_of slgs.now }
-    ensures short { IsShort result }
-{
-    accrual_by(slgs, &dates_of(slgs))
 }

@@ -8,6 +8,5 @@ mod leap_day;
 #[cfg(test)]
 mod tests;
 
-pub use flows::payments;
-pub use interest::first_accrual;
+pub use flows::{payments, schedule};
 pub use laws::interest_laws;

@@ -1,4 +1,4 @@
-use Rattle.std.proofs.Common.{◌∙◌, ◌≤ℤ◌, ap, arith, unsigned_abs}
+use Rattle.std.proofs.Common.{◌∙◌, ◌≤ℤ◌, ap, sym, arith, unsigned_abs}
 use Rattle.std.proofs.lemmas.Int.{ints}
 use Rattle.std.proofs.lemmas.List.Elements.{All-same}
 use Rattle.escrow_units.specs.Calendar.{years_after_of}
@@ -6,7 +6,7 @@ use Rattle.offer_book.specs.Coefficients.{Enclosure, cost_coefficients, pay_coef
 use Rattle.offer_book.specs.declared.coefficients.PayCoefficients.{PayCoefficients}
 use Rattle.dual_bound.specs.LeafBound.{cost_worth, paid_worth}
 use Rattle.dual_bound.specs.declared.form.Form.{Form}
-use Rattle.dual_bound.proofs.FormFacts.{form_plus, form_with-more, pays-within}
+use Rattle.dual_bound.proofs.FormFacts.{amount_form, form_plus, form_with-more, form_with-none, pays-within}
 use Rattle.dual_bound.proofs.Signed.{read-again}
 use Rattle.dual_bound.proofs.Sizes.{IsSized, abs-sum, cost-sized, pays-sized, step-small}
 use Rattle.dual_bound.proofs.leaf_bound.form.Goals as goal
@@ -57,6 +57,17 @@ of_payment-requires-clause-slack c =
     let sized = All-same (IsSized c.args.line.now.step) c.as_slice-pay-items.result.now (pay_coefficients c.args.book.now.settle c.args.line.now) items
     (pays-sized c.args.book.now.settle c.args.line.now c.requires.limits.settlement c.requires.line) c.loop-pay.pay-index c.pay-item.result c.loop-pay-test.true in
     omega (arith, ap (λ (pay : PayCoefficients). pay.slack) c.pay-item.is, sized.slack)
+
+pub loop-pay-init : goal.loop-pay-init
+loop-pay-init c =
+    let costs = cost_coefficients c.args.line.now in
+    let weight = paid_worth c.args.powers.now.yield_units c.args.book.now c.args.leaf.now c.args.line.now.kind in
+    let own = cost_worth c.args.leaf.now c.args.line.now.kind in
+    let is = sym c.coefficients-coefficients.ensures.costs in
+    let worth = read-again c.cost_worth.result (omega (arith, c.cost_worth.ensures.light)) ∙ c.cost_worth.ensures.value in
+    let value = c.of_amount-form.ensures.value ∙ (λ i. amount_form (worth i) (is i).low (is i).high (is i).slack)
+    ∙ form_with-none weight own costs in
+    (value, omega (arith, c.of_amount-form.ensures.slope), omega (arith, c.of_amount-form.ensures.slack))
 
 pub loop-pay-preserved : goal.loop-pay-preserved
 loop-pay-preserved c =

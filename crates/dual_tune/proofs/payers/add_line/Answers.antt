@@ -1,9 +1,8 @@
-use Rattle.std.proofs.Common.{◌≡◌, ◌∙◌, List, get_or, length, sym, subst, arith}
+use Rattle.std.proofs.Common.{◌≡◌, ◌∙◌, get_or, length, subst, arith}
 use Rattle.std.specs.List.{Contains}
 use Rattle.std.proofs.lemmas.List.{get_or_default}
-use Rattle.offer_book.specs.Schedule.{IsScheduleOf}
-use Rattle.offer_book.specs.declared.line.Line.{Line}
-use Rattle.offer_book.specs.declared.schedule.ScheduledPayment.{ScheduledPayment}
+use Rattle.offer_book.specs.Schedule.{schedule_of}
+use Rattle.payment_schedule.specs.declared.schedule.ScheduledPayment.{ScheduledPayment}
 use Rattle.dual_tune.specs.Payers.{Serves}
 use Rattle.dual_tune.proofs.PayerFacts.{added-all, added-more, added-none}
 use Rattle.dual_tune.proofs.payers.add_line.Goals as goal
@@ -49,8 +48,7 @@ returns c =
             added-all book c.args.line place items c.loop-payment.payment-index (get_or c.loop-payment.by_date place e).lines.items (c.loop-payment.invariant.1 place e lt)
             (omega (arith, c.loop-payment-test.false))
             (λ d.
-            subst (λ (s : List ScheduledPayment). IsScheduleOf book.settle (get_or book.lines c.args.line d) s) (sym c.as_slice-payment-items.ensures.value)
-            (subst (λ (l : Line). IsScheduleOf book.settle l c.schedule.result.items) (c.line.ensures ∙ get_or_default book.lines c.args.line c.line.result.now d c.requires.line)
-            (subst (λ s. IsScheduleOf s c.line.result.now c.schedule.result.items) c.settle.ensures c.schedule.ensures)));
+            let line = c.line.ensures ∙ get_or_default book.lines c.args.line c.line.result.now d c.requires.line in
+            c.as_slice-payment-items.ensures.value ∙ c.schedule.ensures.value ∙ (λ i. schedule_of (c.settle.ensures i) (line i)));
       };
     }

@@ -1,16 +1,16 @@
-use Rattle.std.proofs.Common.{◌∙◌, sym, subst}
+use Rattle.std.proofs.Common.{◌∙◌, ap, sym, subst}
 use Rattle.escrow_units.specs.Flows.{EndsOn, Rise}
 use Rattle.market_notes.specs.NoteLaws.{AreAfterSettlement, PayFaceOnce, PayNoLessForMore}
-use Rattle.market_notes.proofs.FlowFacts.{payments-are, payments-rise, payments-after, payments-end, payments-face, payments-more}
+use Rattle.market_notes.proofs.FlowFacts.{payments-rise, payments-after, payments-end, payments-face, payments-more}
 use Rattle.escrow_units.specs.declared.security.StepRule.TheVariants as rule
 use Rattle.escrow_units.proofs.SeriesAround.{counted}
 use Rattle.market_notes.proofs.SeriesFacts.{term}
+use Rattle.payment_schedule.proofs.ScheduleFacts.{flows_by}
 use Rattle.market_notes.proofs.flows.note_payments.Goals as goal
 
 pub returns-clause-payments : goal.returns-clause-payments
 returns-clause-payments c =
-    payments-are c.args.note.now c.args.face.0 c.loop-date.flows.items c.loop-date.date-index c.as_slice-date-items.result.now c.loop-date.invariant
-    c.loop-date-test.false (c.as_slice-date-items.ensures.value ∙ c.dates_of-dates.ensures.after)
+    c.scheduled_flows.ensures ∙ ap (flows_by c.args.note.now.coupon.0 c.args.face.0) (c.as_slice.ensures.value ∙ c.note_schedule-schedule.ensures.value)
 
 pub returns-clause-rise : goal.returns-clause-rise
 returns-clause-rise c =

@@ -1,7 +1,7 @@
 use Rattle.std.proofs.Common.{◌≡◌, ◌≤◌, All, map, take}
 use Rattle.fixed_powers.specs.DiscountPowers.{one}
 use Rattle.dual_bound.specs.Columns.{kind_power}
-use Rattle.offer_book.specs.declared.schedule.ScheduledPayment.{ScheduledPayment}
+use Rattle.payment_schedule.specs.declared.schedule.ScheduledPayment.{ScheduledPayment}
 use Rattle.plan_finder.proofs.terms.powers_of.Given as goal
 
 abbrev pub invariant-loop-payment : goal.invariant-loop-payment

@@ -1,14 +1,14 @@
-use Rattle.std.proofs.Common.{◌∙◌, sym, subst}
+use Rattle.std.proofs.Common.{◌≡◌, ◌∙◌, ap, sym, subst, List}
 use Rattle.escrow_units.specs.Flows.{EndsOn, Rise}
-use Rattle.slgs_interest.specs.PaymentLaws.{IsShort, AreSmall, AreWithinTerm, EarnLittle, PayEqualInterest, PayFaceAlone, PayPrincipalOnce}
-use Rattle.slgs_interest.proofs.PaymentFacts.{payments-are, payments-rise, payments-end, payments-within, payments-interest, payments-small, payments-principal, payments-face, payments-equal}
-use Rattle.slgs_interest.proofs.Series.{paid}
+use Rattle.slgs_interest.specs.PaymentLaws.{AreSmall, AreWithinTerm, EarnLittle, PayEqualInterest, PayFaceAlone, PayPrincipalOnce}
+use Rattle.slgs_interest.proofs.PaymentFacts.{first-short, payments-rise, payments-end, payments-within, payments-interest, payments-small, payments-principal, payments-face, payments-equal}
+use Rattle.slgs_interest.proofs.Series.{paid, certificate-first}
+use Rattle.payment_schedule.proofs.ScheduleFacts.{flows_by}
 use Rattle.slgs_interest.proofs.flows.payments.Goals as goal
 
 pub returns-clause-payments : goal.returns-clause-payments
 returns-clause-payments c =
-    payments-are c.args.slgs.now c.args.face.0 c.loop-date.flows.items c.loop-date.date-index c.as_slice-date-items.result.now c.loop-date.invariant
-    c.loop-date-test.false (c.as_slice-date-items.ensures.value ∙ c.dates_of-dates.ensures.dates)
+    c.scheduled_flows.ensures ∙ ap (flows_by c.args.slgs.now.rate.0 c.args.face.0) (c.as_slice.ensures.value ∙ c.schedule-schedule.ensures.value)
 
 pub returns-clause-rise : goal.returns-clause-rise
 returns-clause-rise c =
@@ -28,7 +28,9 @@ returns-clause-principal_once c =
 
 pub returns-clause-face_alone : goal.returns-clause-face_alone
 returns-clause-face_alone c =
-    subst (PayFaceAlone c.args.slgs.now c.args.face.0) (sym (returns-clause-payments c)) (payments-face c.args.slgs.now c.args.face.0 (paid c.args.slgs.now c.requires.settlement c.requires.terms) (subst IsShort c.accrual_by-accrual.ensures.value c.accrual_by-accrual.ensures.short))
+    let p = paid c.args.slgs.now c.requires.settlement c.requires.terms in
+    subst (PayFaceAlone c.args.slgs.now c.args.face.0) (sym (returns-clause-payments c))
+    (payments-face c.args.slgs.now c.args.face.0 p (first-short c.args.slgs.now p (certificate-first c.args.slgs.now c.requires.terms)))
 
 pub returns-clause-equal_interest : goal.returns-clause-equal_interest
 returns-clause-equal_interest c =
@@ -36,10 +38,12 @@ returns-clause-equal_interest c =
 
 pub returns-clause-small : goal.returns-clause-small
 returns-clause-small c =
+    let p = paid c.args.slgs.now c.requires.settlement c.requires.terms in
     subst AreSmall (sym (returns-clause-payments c))
-    (payments-small c.args.slgs.now c.args.face.0 (subst IsShort c.accrual_by-accrual.ensures.value c.accrual_by-accrual.ensures.short) c.requires.face c.requires.rate)
+    (payments-small c.args.slgs.now c.args.face.0 (first-short c.args.slgs.now p (certificate-first c.args.slgs.now c.requires.terms)) c.requires.face c.requires.rate)
 
 pub returns-clause-interest_bound : goal.returns-clause-interest_bound
 returns-clause-interest_bound c =
+    let p = paid c.args.slgs.now c.requires.settlement c.requires.terms in
     subst (EarnLittle c.args.slgs.now c.args.face.0) (sym (returns-clause-payments c))
-    (payments-interest c.args.slgs.now c.args.face.0 (subst IsShort c.accrual_by-accrual.ensures.value c.accrual_by-accrual.ensures.short) c.requires.face c.requires.rate)
+    (payments-interest c.args.slgs.now c.args.face.0 (first-short c.args.slgs.now p (certificate-first c.args.slgs.now c.requires.terms)) c.requires.face c.requires.rate)

@@ -1,6 +1,6 @@
 use Rattle.std.proofs.Common.{◌≡◌, ◌∙◌, sym, subst, rules}
 use Rattle.escrow_units.specs.declared.security.SlgsKind.TheVariants as kind
-use Rattle.slgs_interest.specs.PaymentLaws.{IsShort}
+use Rattle.payment_schedule.specs.Schedule.{IsShort}
 use Rattle.slgs_interest.specs.Payments.{first_accrual_of}
 use Rattle.slgs_interest.proofs.PaymentFacts.{first-of_certificate, first-of_period, first-short}
 use Rattle.slgs_interest.proofs.Series.{paid, certificate-first}

@@ -1,5 +1,6 @@
 use Rattle.std.proofs.Common.{◌∙◌, ap}
-use Rattle.offer_book.specs.Schedule.{kind_rate, pay_by}
+use Rattle.offer_book.specs.Coefficients.{pay_by}
+use Rattle.offer_book.specs.Schedule.{kind_rate}
 use Rattle.dual_bound.proofs.ColumnSizes.{head-small}
 use Rattle.dual_bound.proofs.column.Column.without_payments.Goals as goal
 

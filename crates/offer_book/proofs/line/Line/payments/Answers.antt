@@ -1,30 +1,24 @@
-use Rattle.std.proofs.Common.{◌≡◌, ◌*◌, ◌^◌, ◌≤◌, rules, sym, subst}
+use Rattle.std.proofs.Common.{◌∙◌, ◌^◌, ◌*◌, ◌≤◌, arith, sym, subst}
 use Rattle.escrow_units.specs.Flows.{total, FallWithinFortyYears}
-use Rattle.offer_book.specs.Portfolio.{line_payments}
-use Rattle.offer_book.proofs.LineFacts.{line_payments-within, line_payments-total}
+use Rattle.offer_book.proofs.LineFacts.{line_par-at_most, line_payments-total, line_payments-within, rate-low}
+use Rattle.payment_schedule.proofs.ScheduleFacts.{flows_by}
 use Rattle.offer_book.proofs.line.Line.payments.Goals as goal
 
-pub returns-in-Cash-clause-within : goal.returns-in-Cash-clause-within
-returns-in-Cash-clause-within c =
-    let value : c.push.new.self.items ≡ line_payments c.args.settle c.args.self.now c.args.units = search rules in
-    subst (FallWithinFortyYears c.args.settle) (sym value) (line_payments-within c.args.settle c.args.self.now c.args.units c.requires.settlement c.requires.line)
+pub scheduled_flows-requires-clause-rate : goal.scheduled_flows-requires-clause-rate
+scheduled_flows-requires-clause-rate c = omega (arith, c.rate.ensures, rate-low c.args.settle c.args.self.now c.requires.line)
 
-pub returns-in-Security-clause-within : goal.returns-in-Security-clause-within
-returns-in-Security-clause-within c =
-    let value : c.payments.result.items ≡ line_payments c.args.settle c.args.self.now c.args.units = search rules in
-    subst (FallWithinFortyYears c.args.settle) (sym value) (line_payments-within c.args.settle c.args.self.now c.args.units c.requires.settlement c.requires.line)
+pub scheduled_flows-requires-clause-amount : goal.scheduled_flows-requires-clause-amount
+scheduled_flows-requires-clause-amount c =
+    omega (arith, c.par.ensures, line_par-at_most c.args.settle c.args.self.now c.args.units c.requires.line c.requires.units)
 
-pub returns-in-Security-clause-bound : goal.returns-in-Security-clause-bound
-returns-in-Security-clause-bound c =
-    let value : c.payments.result.items ≡ line_payments c.args.settle c.args.self.now c.args.units = search rules in
-    subst (λ flows. total flows ≤ 2 * 10 ^ 13) (sym value) (line_payments-total c.args.settle c.args.self.now c.args.units c.requires.settlement c.requires.line c.requires.units)
+pub returns-clause-value : goal.returns-clause-value
+returns-clause-value c =
+    c.scheduled_flows.ensures ∙ (λ i. flows_by (c.rate.ensures i) (c.par.ensures i) ((c.as_slice.ensures.value ∙ c.schedule-schedule.ensures.value) i))
 
-pub returns-in-Market-clause-within : goal.returns-in-Market-clause-within
-returns-in-Market-clause-within c =
-    let value : c.note_payments.result.items ≡ line_payments c.args.settle c.args.self.now c.args.units = search rules in
-    subst (FallWithinFortyYears c.args.settle) (sym value) (line_payments-within c.args.settle c.args.self.now c.args.units c.requires.settlement c.requires.line)
+pub returns-clause-within : goal.returns-clause-within
+returns-clause-within c =
+    subst (FallWithinFortyYears c.args.settle) (sym (returns-clause-value c)) (line_payments-within c.args.settle c.args.self.now c.args.units c.requires.settlement c.requires.line)
 
-pub returns-in-Market-clause-bound : goal.returns-in-Market-clause-bound
-returns-in-Market-clause-bound c =
-    let value : c.note_payments.result.items ≡ line_payments c.args.settle c.args.self.now c.args.units = search rules in
-    subst (λ flows. total flows ≤ 2 * 10 ^ 13) (sym value) (line_payments-total c.args.settle c.args.self.now c.args.units c.requires.settlement c.requires.line c.requires.units)
+pub returns-clause-bound : goal.returns-clause-bound
+returns-clause-bound c =
+    subst (λ flows. total flows ≤ 2 * 10 ^ 13) (sym (returns-clause-value c)) (line_payments-total c.args.settle c.args.self.now c.args.units c.requires.settlement c.requires.line c.requires.units)

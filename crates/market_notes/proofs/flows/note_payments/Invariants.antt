@@ -1,6 +1,0 @@
-use Rattle.std.proofs.Common.{◌≡◌, map, take}
-use Rattle.market_notes.specs.NoteFlows.{payment_on}
-use Rattle.market_notes.proofs.flows.note_payments.Given as goal
-
-abbrev pub invariant-loop-date : goal.invariant-loop-date
-invariant-loop-date l = l.flows.items ≡ map (payment_on l.note l.face.0) (take l.date-index l.date-items)
