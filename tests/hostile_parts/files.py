@@ -3,9 +3,9 @@
 from __future__ import annotations
 
 import os
-import shutil
 import threading
 from pathlib import Path
+from typing import Callable
 
 from .ground import DONE, INPUTS, NAMES, NO_FILE, READ_FAULT, REFUSED, WRITE_FAULT, Ground, Run, Tries, example, run
 
@@ -13,15 +13,15 @@ from .ground import DONE, INPUTS, NAMES, NO_FILE, READ_FAULT, REFUSED, WRITE_FAU
 TOO_LONG = 68_000_000
 
 
-def _with_pipe(folder: Path, words: list, name: str, data: bytes) -> Run:
-    """A run for which a named pipe stands in a file's place, into which the bytes are written in two halves."""
+def _with_pipe(folder: Path, words: list, name: str, data: bytes, between: Callable[[], None] = lambda: None) -> Run:
+    """A run for which a named pipe stands in a file's place, into which the bytes are written in two halves; this is done between them."""
 
     def write() -> None:
         with open(folder / name, "wb", buffering=0) as pipe:
             try:
-                for half in (data[: len(data) // 2], data[len(data) // 2 :]):
-                    if half:
-                        pipe.write(half)
+                pipe.write(data[: len(data) // 2])
+                between()
+                pipe.write(data[len(data) // 2 :])
             except BrokenPipeError:
                 pass
 
@@ -98,14 +98,15 @@ def _certificate_places(tries: Tries) -> None:
 
 
 def _changed_while_read(tries: Tries) -> None:
-    """Another file takes the name once the first half was read from a pipe before it: each file is opened once."""
-    with example("first") as folder:
-        wanted = run(folder, ["check", *NAMES])
-        rates = (folder / INPUTS[1]).read_bytes()
-        (folder / INPUTS[1]).unlink()
-        shutil.copyfile(folder / INPUTS[0], folder / "kept")
-        found = _with_pipe(folder, ["check", *NAMES], INPUTS[1], rates)
-        tries.same("check with a pipe between two files", found, wanted)
+    """Another file takes the name once half of the file was read: it was opened before, and is read to its end."""
+    for name in NAMES:
+        with example("first") as folder:
+            wanted, data = run(folder, ["check", *NAMES]), (folder / name).read_bytes()
+            (folder / name).rename(folder / "other")
+            (folder / "other").write_bytes(b"another file\n")
+            found = _with_pipe(folder, ["check", *NAMES], name, data, lambda: os.replace(folder / "other", folder / name))
+            tries.same("check of %s whose name another file takes" % name, found, wanted)
+            tries.note((folder / name).read_bytes() == b"another file\n", "what stands under the name then", found)
 
 
 def tries(tries: Tries, _asked) -> None:

@@ -11,7 +11,7 @@ import tempfile
 from contextlib import contextmanager
 from dataclasses import dataclass, field
 from pathlib import Path
-from typing import Callable, Iterator, Optional
+from typing import Iterator, Optional
 
 ROOT = Path(__file__).resolve().parents[2]
 INPUTS = ("issue.csv", "rates.csv", "prices.csv")
@@ -140,6 +140,3 @@ class Tries:
     def ends(self, what: str, found: Run, *statuses: int) -> bool:
         """The run ended with one of these statuses, in order."""
         return self.note(found.status in statuses and found.is_in_order, what, found)
-
-
-Part = Callable[[Tries, "object"], None]
