@@ -23,7 +23,6 @@ use Rattle.escrow_top.specs.Answer.{Answer, case_of, certificate_answer, check_a
 use Rattle.escrow_top.proofs.YieldFacts.{printed_yield}
 use Rattle.escrow_top.specs.Accepted.{Accepted, HasNoReason, HasNoRival, HasPortfolio, IsAcceptedText, YesExactly}
 use Rattle.escrow_top.specs.CaseOf.{GiveCase}
-use Rattle.escrow_top.proofs.CaseLaws.{gives_is}
 use Rattle.escrow_top.specs.declared.status.Status.TheVariants as status
 
 few-dates : (case : CaseContents) → KeepsLimits case → length case.book.needs ≤ MOST_DATES
@@ -159,7 +158,6 @@ accepted_text files cert case gives keeps done = record {
 
 -- `yes` exactly where no reason stands, of files that give a case
 pub yes_exactly : (files : InputFiles) (cert : List ℕ) → ((case : CaseContents) → case_of files ≡ Ok case → KeepsLimits case) → YesExactly (check_answer files cert).status files cert
-yes_exactly files cert keep case gives within =
-    let is_case = gives_is files case gives in
+yes_exactly files cert keep case is_case within =
     let keeps = keep case is_case in
     rw is_case ((λ done. none-where_done case cert keeps done), (λ found. done-where_none case cert keeps within found))

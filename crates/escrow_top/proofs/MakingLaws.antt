@@ -13,14 +13,12 @@ use Rattle.escrow_top.specs.Answer.{Answer, case_of}
 use Rattle.escrow_top.specs.Covered.{IsCovered}
 use Rattle.escrow_top.specs.InputFiles.{InputFiles}
 use Rattle.escrow_top.specs.CaseOf.{GiveCase}
-use Rattle.escrow_top.specs.MakeWords.{Making}
-use Rattle.escrow_top.specs.Making.{HasAcceptedText, IsAnswerToNumber, IsMadeAnswer, IsMadeNone, IsMadeOf, OfMadeCase, made_answer, made_files, none_answer}
-use Rattle.escrow_top.specs.Settling.{SaysReach, SettlesCovered, SettlesPlain}
+use Rattle.escrow_top.specs.Making.{HasAcceptedText, IsAnswerToNumber, IsMadeAnswer, IsMadeNone, IsMadeOf, made_answer, made_files, none_answer}
+use Rattle.escrow_top.specs.Settling.{SaysReach, SettlesCovered}
 use Rattle.escrow_top.specs.Structure.{IsEnd}
 use Rattle.escrow_top.specs.declared.status.Status.{Status}
 use Rattle.escrow_top.specs.declared.status.Status.TheVariants as status
 use Rattle.escrow_top.proofs.AcceptedLaws.{accepted_text}
-use Rattle.escrow_top.proofs.CaseLaws.{gives_is}
 use Rattle.escrow_top.proofs.StructureLaws.{none_accepted, text_accepted, unreached}
 
 -- what was found is what is answered
@@ -69,10 +67,6 @@ pub made_accepted_none : (files : InputFiles) (number : ℕ) (case : CaseContent
     → IsMadeAnswer number (Ok case) answer → answer.status ≡ status.NoneWithinYield → HasAcceptedText files
 made_accepted_none files number case answer gives book terms own none = has_accepted files number case answer gives book terms own status.NoneWithinYield none (λ clash. cc) (λ clash. cc)
 
--- what holds of the case that is worked out of the files of a number holds of the one that they give
-of_made : (Holds : CaseContents → Type 0) (making : Making) → IfOk (case_of (made_files making.number)) Holds → OfMadeCase Holds making
-of_made Holds making is case gives = subst (λ (found : Result CaseContents Refusal). IfOk found Holds) (gives_is (made_files making.number) case gives) is
-
 -- a case that its budget covers is settled
 covers_case : (number : ℕ) (gives : Result CaseContents Refusal) (answer : Answer) → IsMadeAnswer number gives answer → IfOk gives (SettlesCovered answer.status)
 covers_case number (Err refusal) answer is = tt
@@ -84,9 +78,9 @@ covers_case number (Ok case) answer (inr (inr end)) = λ covered. absurd (by end
     by (inl own) covered = unreached case own.day own.short.all_short covered.in_reach
     by (inr own) covered = own.uncovered covered
 
-pub made_covered : (making : Making) (answer : Answer) (reached : Status) → IsAnswerToNumber making.number answer → reached ≡ answer.status → OfMadeCase (SettlesCovered reached) making
-made_covered making answer reached is ends =
-    subst (λ (s : Status). OfMadeCase (SettlesCovered s) making) (sym ends) (of_made (SettlesCovered answer.status) making (covers_case making.number (case_of (made_files making.number)) answer is))
+pub made_covered : (number : ℕ) (answer : Answer) (reached : Status) → IsAnswerToNumber number answer → reached ≡ answer.status → IfOk (case_of (made_files number)) (SettlesCovered reached)
+made_covered number answer reached is ends =
+    subst (λ (s : Status). IfOk (case_of (made_files number)) (SettlesCovered s)) (sym ends) (covers_case number (case_of (made_files number)) answer is)
 
 -- and that the needs can't be met is said where it is so
 reach_case : (number : ℕ) (gives : Result CaseContents Refusal) (answer : Answer) → IsMadeAnswer number gives answer → IfOk gives (SaysReach answer.status)
@@ -105,11 +99,6 @@ reach_case number (Ok case) answer (inr (inr end)) = by end
         let spent : answer.status ≡ status.BudgetSpent = ap (λ (a : Answer). a.status) own.is_answer in
         ((λ none. absurd (let clash : status.BudgetSpent ≡ status.Infeasible = sym spent ∙ none in cc)), (λ lost. absurd (lost own.is_spent.in_reach)))
 
-pub made_reach : (making : Making) (answer : Answer) (reached : Status) → IsAnswerToNumber making.number answer → reached ≡ answer.status → OfMadeCase (SaysReach reached) making
-made_reach making answer reached is ends =
-    subst (λ (s : Status). OfMadeCase (SaysReach s) making) (sym ends) (of_made (SaysReach answer.status) making (reach_case making.number (case_of (made_files making.number)) answer is))
-
--- and a plain case is settled
-pub made_plain : (making : Making) (answer : Answer) (reached : Status) → IfOk (case_of (made_files making.number)) (SettlesPlain answer.status) → reached ≡ answer.status → OfMadeCase (SettlesPlain reached) making
-made_plain making answer reached is ends =
-    subst (λ (s : Status). OfMadeCase (SettlesPlain s) making) (sym ends) (of_made (SettlesPlain answer.status) making is)
+pub made_reach : (number : ℕ) (answer : Answer) (reached : Status) → IsAnswerToNumber number answer → reached ≡ answer.status → IfOk (case_of (made_files number)) (SaysReach reached)
+made_reach number answer reached is ends =
+    subst (λ (s : Status). IfOk (case_of (made_files number)) (SaysReach s)) (sym ends) (reach_case number (case_of (made_files number)) answer is)

@@ -29,7 +29,6 @@ use Rattle.escrow_top.specs.Settling.{OfCase, SaysReach, SettlesCovered, Settles
 use Rattle.escrow_top.specs.Stopping.{is_reached, is_structured, is_unfound}
 use Rattle.escrow_top.specs.Structure.{FindsPlain, FindsPlainFor, IsAcceptedDraft, IsAcceptedFor, IsDraft, IsDraftFor, IsDraftOf, IsEnd, IsFoundDraft, IsPartPutOut, IsPutOut, IsStructuredDraft, PutsOut, PutsOutPart, Structures, StructuresPart, WroteAccepted, WroteOrSaidPart, accepted_none, accepted_with, budget_spent, infeasible}
 use Rattle.escrow_top.proofs.AcceptedLaws.{accepted_text}
-use Rattle.escrow_top.proofs.CaseLaws.{gives_is}
 use Rattle.escrow_top.proofs.InputFacts.{read-all}
 use Rattle.escrow_top.specs.CaseOf.{AreWithin, GiveCase}
 use Rattle.escrow_top.specs.Reading.{AreRead}
@@ -114,9 +113,8 @@ plain_found content names d texts case finds read is plain =
 
 pub settles_plain : (told new : Told) (names : FileNames) (d : Draft) (reached : Status) → FindsPlainFor told names d → PutsOut told names.cert d reached new → OfCase (SettlesPlain reached) told names
 settles_plain None new names d reached finds put = tt
-settles_plain (Some content) new names d reached finds put = λ files case there gives plain.
-    found_done (Some content) new names.cert d reached
-    (plain_found content names d files case finds (read-all content names files there gives.within) (gives_is files case gives) plain) put
+settles_plain (Some content) new names d reached finds put = λ texts case read is plain.
+    found_done (Some content) new names.cert d reached (plain_found content names d texts case finds read is plain) put
 
 -- ---- what a case comes to
 -- a case whose budget is spent isn't covered by it
@@ -134,8 +132,7 @@ draft_of content names d texts case is read gives =
 
 of_case : (Holds : CaseContents → Type 0) (told : Told) (names : FileNames) (d : Draft) → ((case : CaseContents) → IsDraftOf case d → Holds case) → IsDraftFor told names d → OfCase Holds told names
 of_case Holds None names d holds is = tt
-of_case Holds (Some content) names d holds is = λ files case there gives.
-    holds case (draft_of content names d files case is (read-all content names files there gives.within) (gives_is files case gives))
+of_case Holds (Some content) names d holds is = λ texts case read gives. holds case (draft_of content names d texts case is read gives)
 
 -- where all that is permitted is short, the needs can't be met
 pub unreached : (case : CaseContents) (day : ℤ) → AreAllShort case.book day → IsInReach case.book → ⊥

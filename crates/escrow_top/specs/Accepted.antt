@@ -1,5 +1,5 @@
 -- What `yes` means.
-use Rattle.std.specs.Prelude.{◌≡◌, ◌↔◌, ◌⊎◌, ℕ, ◌≤◌, ◌==◌, if◌then◌else◌, List, length, None}
+use Rattle.std.specs.Prelude.{◌≡◌, ◌↔◌, ◌⊎◌, ℕ, ◌≤◌, ◌==◌, if◌then◌else◌, List, length, None, Ok}
 use Rattle.escrow_desk.specs.declared.limits.TheConstants.{CERTIFICATE_LIMIT}
 use Rattle.yield_enclosure.specs.declared.answer.YieldAnswer.{YieldAnswer}
 use Rattle.yield_enclosure.specs.declared.answer.YieldAnswer.TheVariants.{Between, Empty}
@@ -12,7 +12,7 @@ use Rattle.case_file.specs.Case.{CaseContents}
 use Rattle.escrow_check.specs.Meaning.{IsRightPortfolio}
 use Rattle.escrow_check.specs.Reasons.{IsUnopposed}
 use Rattle.escrow_check.specs.declared.verdict.Portfolio.{Portfolio}
-use Rattle.escrow_top.specs.Answer.{none_text, yes_text}
+use Rattle.escrow_top.specs.Answer.{case_of, none_text, yes_text}
 use Rattle.escrow_top.specs.CaseOf.{GiveCase}
 use Rattle.escrow_top.specs.InputFiles.{InputFiles}
 use Rattle.escrow_top.specs.declared.status.Status.{Status}
@@ -56,7 +56,7 @@ pub record HasNoReason (case : CaseContents) (cert : List ℕ) : Type 0 where
 abbrev pub YesExactly : Status → InputFiles → List ℕ → Type 0
 YesExactly reached files cert =
     (case : CaseContents)
-    → GiveCase files case
+    → case_of files ≡ Ok case
     → length cert ≤ CERTIFICATE_LIMIT
     → (reached ≡ status.Done) ↔ HasNoReason case cert
 

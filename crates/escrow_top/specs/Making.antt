@@ -1,5 +1,5 @@
 -- What `make` comes to: the files of the case of a number, and the answer to it. The texts are this project's own.
-use Rattle.std.specs.Prelude.{◌≡◌, ◌⊎◌, ℕ, List, [], ◌∷◌, ◌++◌, codes, decimal, Result, Ok, Err}
+use Rattle.std.specs.Prelude.{◌≡◌, ◌⊎◌, ℕ, List, [], ◌∷◌, ◌++◌, codes, decimal, Result, Ok, Err, IfOk}
 use Rattle.escrow_desk.specs.Content.{Content, SaidPart, Told, WrotePart, told_map, with_file, with_said}
 use Rattle.escrow_desk.specs.declared.refusal.Refusal.{Refusal}
 use Rattle.bound_certificate.specs.Text.{text_of}
@@ -11,7 +11,6 @@ use Rattle.dual_bound.specs.declared.tree.TreeNode.{TreeNode}
 use Rattle.verification_report.specs.Report.{figures_of}
 use Rattle.verification_report.specs.Summary.{summary_text, text_line}
 use Rattle.escrow_top.specs.Answer.{Answer, case_of, certificate_answer, refused}
-use Rattle.escrow_top.specs.CaseOf.{GiveCase}
 use Rattle.escrow_top.specs.InputFiles.{InputFiles}
 use Rattle.escrow_top.specs.MakeWords.{MadeNames, Making}
 use Rattle.escrow_top.specs.Accepted.{IsAcceptedText}
@@ -79,7 +78,7 @@ pub record HasAcceptedText (files : InputFiles) : Type 0 where
 
 -- where the files of a number give a case: this holds of it
 abbrev pub OfMadeCase : (CaseContents → Type 0) → Making → Type 0
-OfMadeCase Holds making = (case : CaseContents) → GiveCase (made_files making.number) case → Holds case
+OfMadeCase Holds making = IfOk (case_of (made_files making.number)) Holds
 
 -- ---- what is put out
 -- a name, and the bytes that its file is to hold

@@ -1,20 +1,19 @@
 -- What `structure` comes to, by the case of its files.
-use Rattle.std.specs.Prelude.{◌≡◌, ◌↔◌, ◌⊎◌, Some, None}
+use Rattle.std.specs.Prelude.{◌≡◌, ◌↔◌, ◌⊎◌, Some, None, Ok}
 use Rattle.branch_search.specs.Plain.{IsPlainWithin}
 use Rattle.case_file.specs.Case.{CaseContents}
 use Rattle.cash_table.specs.Reach.{IsInReach}
 use Rattle.escrow_desk.specs.Content.{Told}
-use Rattle.escrow_top.specs.CaseOf.{GiveCase}
+use Rattle.escrow_top.specs.Answer.{case_of}
 use Rattle.escrow_top.specs.Covered.{IsCovered}
-use Rattle.escrow_top.specs.InputFiles.{FileNames, InputFiles}
-use Rattle.escrow_top.specs.Reading.{AreThere}
+use Rattle.escrow_top.specs.InputFiles.{FileNames, InputFiles, inputs_of}
 use Rattle.escrow_top.specs.declared.status.Status.{Status}
 use Rattle.escrow_top.specs.declared.status.Status.TheVariants as status
 
--- where the desk tells, and the input files of names are there and give a case: this holds of it
+-- where the desk tells, and the input files of names give a case: this holds of it
 abbrev pub OfCase : (CaseContents → Type 0) → Told → FileNames → Type 0
 OfCase Holds None names = Unit {0}
-OfCase Holds (Some content) names = (files : InputFiles) (case : CaseContents) → AreThere content names files → GiveCase files case → Holds case
+OfCase Holds (Some content) names = (texts : InputFiles) (case : CaseContents) → inputs_of content names ≡ Some texts → case_of texts ≡ Ok case → Holds case
 
 -- a plain case, whose issue allows at least its gap, comes to a portfolio
 abbrev pub SettlesPlain : Status → CaseContents → Type 0

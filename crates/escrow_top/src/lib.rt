@@ -21,6 +21,8 @@ pub use status::Status;
 #[cfg(test)]
 mod bound_tests;
 #[cfg(test)]
+mod limit_tests;
+#[cfg(test)]
 mod make_tests;
 #[cfg(test)]
 mod structure_tests;

@@ -43,7 +43,8 @@ pub(crate) const CHECK: [&str; 5] = ["check", "i", "r", "p", "c"];
 pub(crate) const USAGE: &[u8] =
     b"usage: structure ISSUE RATES PRICES CERT | check ISSUE RATES PRICES CERT | make NUMBER ISSUE RATES PRICES\n";
 
-fn named(alloc: Global, name: &str, bytes: &[u8]) -> Result<NamedBytes, Fail>
+/// A file of a name.
+pub(crate) fn named(alloc: Global, name: &str, bytes: &[u8]) -> Result<NamedBytes, Fail>
     ensures { IfOk result (λ file. string_bytes file.name ≡ name.now) }
 {
     let name = String::from_str(alloc, name)?;

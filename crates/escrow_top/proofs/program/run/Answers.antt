@@ -64,13 +64,3 @@ pub returns-in-Some-Make-clause-made_none : goal.returns-in-Some-Make-clause-mad
 returns-in-Some-Make-clause-made_none g c = λ none.
     let is = rw c.in-Some-Make.field-0-is at c.in-Some-Make.ensures in
     rw is (c.run_make.ensures.made_none none)
-
-pub returns-in-Some-Make-clause-made_covered : goal.returns-in-Some-Make-clause-made_covered
-returns-in-Some-Make-clause-made_covered g c = λ reached.
-    let is = rw c.in-Some-Make.field-0-is at c.in-Some-Make.ensures in
-    rw is (c.run_make.ensures.covered reached)
-
-pub returns-in-Some-Make-clause-made_reach : goal.returns-in-Some-Make-clause-made_reach
-returns-in-Some-Make-clause-made_reach g c = λ reached.
-    let is = rw c.in-Some-Make.field-0-is at c.in-Some-Make.ensures in
-    rw is (c.run_make.ensures.reach reached)
