@@ -1,0 +1,2 @@
+pub mod ProgressFacts
+pub mod ToldFacts
