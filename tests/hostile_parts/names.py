@@ -12,6 +12,7 @@ FAULTY_WORDS = (
     ["check"],
     ["check", *INPUTS],
     ["check", *NAMES, "more"],
+    ["savings", *NAMES, "more"],
     ["Check", *NAMES],
     ["check ", *NAMES],
     ["", *NAMES],

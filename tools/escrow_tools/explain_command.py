@@ -37,7 +37,7 @@ def _names(words: list[str]) -> dict:
     """The names of a command's files; of words that are no command none."""
     if len(words) != 5:
         return {}
-    if words[0] in ("check", "structure"):
+    if words[0] in ("check", "savings", "structure"):
         return dict(zip(PLACES, words[1:]))
     return dict(zip(PLACES, words[2:])) if words[0] == "make" else {}
 

@@ -6,7 +6,7 @@ from dataclasses import dataclass
 from typing import Callable
 
 FILES = ("issue.csv", "rates.csv", "prices.csv", "certificate.txt")
-CHECK, STRUCTURE = ("check",) + FILES, ("structure",) + FILES
+CHECK, STRUCTURE, SAVINGS = ("check",) + FILES, ("structure",) + FILES, ("savings",) + FILES
 ISSUE = "settle,2025-01-15\nneed,2025-04-15,5000.00\nrestricted,4.00\n"
 RATES = "terms,1000,100\noffer,2025-04-15,0.00,,10000\n"
 CERTIFICATE = "escrow-certificate 1\nportfolio 1\nbuy 1 50\ngap 0\nnodes 1\nl 1 0 1000000000000\nend\n"
@@ -73,6 +73,9 @@ ANSWERED = (
              ("allowance,50.00", "a greater `budget`", "certificate.txt is from an earlier run")),
     Answered("offers that yield too much alone", case(issue=LOW_ISSUE, rates=HIGH_COARSE), STRUCTURE, "none within yield",
              ("`yes none`", "offer,DATE,0.00,,CAP")),
+    Answered("savings of a given restricted yield", case(), SAVINGS, "old 0.00 0.00",
+             ("between 49.26 and 49.27", "negative arbitrage", "`price` and the `pay` rows")),
+    Answered("savings of more than the cap", cert("buy 1 50", "buy 1 101"), SAVINGS, "no NotPermitted 1", ("101 units",)),
     Answered("a certificate of another issue file", case(issue=ISSUE.replace("5000.00", "5000.01")), CHECK, "no ShortOn 2025-04-15",
              ("needed up to then: 5,000.01", "received up to then: 5,000.00", "short by 0.01")),
     Answered("more than the cap", cert("buy 1 50", "buy 1 101"), CHECK, "no NotPermitted 1",

@@ -1,5 +1,5 @@
--- What `yes` means, proved.
-use Rattle.std.proofs.Common.{◌≡◌, ◌⊎◌, ℕ, ◌≤◌, Bool, true, false, nat_lt, ◌∙◌, Option, Some, None, Ok, List, length, refl, sym, ap, subst, inl, inr, arith}
+-- What an answer of `Done` means, proved.
+use Rattle.std.proofs.Common.{◌≡◌, ◌⊎◌, ℕ, ◌≤◌, Bool, true, false, nat_lt, ◌∙◌, Option, Some, None, Ok, List, Result, length, refl, sym, ap, subst, inl, inr, arith}
 use Rattle.std.proofs.lemmas.Bool.Decides.{nat_tests}
 use Rattle.escrow_desk.specs.declared.limits.TheConstants.{CERTIFICATE_LIMIT}
 use Rattle.escrow_desk.specs.declared.refusal.FileKind.TheVariants as file
@@ -9,9 +9,19 @@ use Rattle.bound_certificate.specs.Text.{IsTextOf}
 use Rattle.bound_certificate.specs.declared.certificate.Buy.{Buy}
 use Rattle.bound_certificate.specs.declared.certificate.Certificate.{Certificate}
 use Rattle.bound_certificate.specs.declared.limits.TheConstants.{MOST_DATES}
+use Rattle.escrow_desk.specs.Rows.{rows_of}
+use Rattle.escrow_desk.specs.declared.refusal.Refusal.{Refusal}
+use Rattle.issue_schedule.specs.IssueForm.{issue_of}
+use Rattle.issue_schedule.specs.declared.issue.Issue.{Issue}
+use Rattle.offer_book.specs.Book.{AreWithoutInterest}
+use Rattle.offer_book.specs.Portfolio.{security_cost}
+use Rattle.offer_book.specs.Rival.{IsRival}
 use Rattle.case_file.specs.Case.{CaseContents}
+use Rattle.case_file.specs.Limit.{RestsOn}
 use Rattle.escrow_check.specs.Acceptance.{IsVerdict, judged, reason_of, verdict_by, yes_of}
+use Rattle.escrow_check.specs.Meaning.{IsRightPortfolio}
 use Rattle.escrow_check.specs.Verdicts.{verdict_of}
+use Rattle.escrow_check.specs.declared.verdict.Portfolio.{Portfolio}
 use Rattle.escrow_check.specs.declared.verdict.Verdict.{Verdict}
 use Rattle.escrow_check.specs.declared.verdict.Verdict.TheVariants as verdict
 use Rattle.escrow_check.proofs.TextFacts.{KeepsLimits, heard}
@@ -19,81 +29,110 @@ use Rattle.escrow_check.proofs.OneVerdict.{bytes_have, judged-by, one_verdict}
 use Rattle.escrow_check.proofs.ReasonFacts.{yes_where_unopposed}
 use Rattle.escrow_check.proofs.VerdictFacts.{none-told, yes-told, yes_is_right, yes_none_is_right}
 use Rattle.escrow_top.specs.InputFiles.{InputFiles}
-use Rattle.escrow_top.specs.Answer.{Answer, case_of, certificate_answer, check_answer, refused, verdict_answer}
+use Rattle.escrow_top.specs.Answer.{Answer, answer_for, answer_with, case_of, certificate_answer, files_answer, portfolio_text, refused, verdict_answer, yes_text}
 use Rattle.escrow_top.proofs.YieldFacts.{printed_yield}
-use Rattle.escrow_top.specs.Accepted.{Accepted, HasNoReason, HasNoRival, HasPortfolio, IsAcceptedText, YesExactly}
+use Rattle.escrow_top.proofs.SavingsFacts.{savings_are}
+use Rattle.escrow_top.specs.Accepted.{Accepted, HasNoReason, HasNoRival, HasPortfolio, IsAcceptedText, YesExactly, yield_without_interest}
+use Rattle.escrow_top.specs.Ending.{MeansYes}
+use Rattle.escrow_top.specs.Saved.{HasSavings, Saved}
+use Rattle.escrow_top.specs.SavingsText.{saved_text}
 use Rattle.escrow_top.specs.CaseOf.{GiveCase}
+use Rattle.escrow_top.specs.declared.inquiry.Inquiry.{Inquiry}
+use Rattle.escrow_top.specs.declared.inquiry.Inquiry.TheVariants as inquiry
 use Rattle.escrow_top.specs.declared.status.Status.TheVariants as status
 
 few-dates : (case : CaseContents) → KeepsLimits case → length case.book.needs ≤ MOST_DATES
 few-dates case keeps = let few = keeps.0.needs.few in omega (arith, few)
 
 -- the answer to a certificate within its limit is that to the verdict on it
-answer-within : (case : CaseContents) (cert : List ℕ) → nat_lt CERTIFICATE_LIMIT (length cert) ≡ false → certificate_answer case cert ≡ verdict_answer case (verdict_of case cert)
-answer-within case cert short = rw short refl
+answer-within : (words : Portfolio → List ℕ) (case : CaseContents) (cert : List ℕ) → nat_lt CERTIFICATE_LIMIT (length cert) ≡ false → answer_with words case cert ≡ verdict_answer words (verdict_of case cert)
+answer-within words case cert short = rw short refl
 
 -- an answer is to a verdict on the bytes
-pub record IsAnswered (case : CaseContents) (cert : List ℕ) : Type 0 where
+pub record IsAnswered (words : Portfolio → List ℕ) (case : CaseContents) (cert : List ℕ) : Type 0 where
   pub told : Verdict
-  pub is : certificate_answer case cert ≡ verdict_answer case told
+  pub is : answer_with words case cert ≡ verdict_answer words told
   pub on : IsVerdict case cert told
 
-pub answered-by : (case : CaseContents) (cert : List ℕ) → KeepsLimits case → (certificate_answer case cert ≡ refused (refusal_of file.Cert 0 kind.TooLong)) ⊎ IsAnswered case cert
-answered-by case cert keeps = by (nat_lt CERTIFICATE_LIMIT (length cert)) refl
+pub answered-by : (words : Portfolio → List ℕ) (case : CaseContents) (cert : List ℕ) → KeepsLimits case
+    → (answer_with words case cert ≡ refused (refusal_of file.Cert 0 kind.TooLong)) ⊎ IsAnswered words case cert
+answered-by words case cert keeps = by (nat_lt CERTIFICATE_LIMIT (length cert)) refl
   where
-    by : (long : Bool) → nat_lt CERTIFICATE_LIMIT (length cert) ≡ long → (certificate_answer case cert ≡ refused (refusal_of file.Cert 0 kind.TooLong)) ⊎ IsAnswered case cert
+    by : (long : Bool) → nat_lt CERTIFICATE_LIMIT (length cert) ≡ long → (answer_with words case cert ≡ refused (refusal_of file.Cert 0 kind.TooLong)) ⊎ IsAnswered words case cert
     by true long = inl (rw long refl)
     by false short = inr (record {
       told = verdict_of case cert;
-      is = answer-within case cert short;
+      is = answer-within words case cert short;
       on = bytes_have case cert (few-dates case keeps);
     })
 
--- the bytes are a text that is accepted, and this is said
-record IsTaken (case : CaseContents) (cert : List ℕ) (text : List ℕ) : Type 0 where
+-- what a portfolio of a yes is
+record IsTakenPortfolio (case : CaseContents) (certificate : Certificate) (portfolio : Portfolio) : Type 0 where
+  right : IsRightPortfolio case certificate portfolio
+  without_interest : AreWithoutInterest case.book.lines → portfolio.answer ≡ yield_without_interest (security_cost case.book portfolio.plan)
+
+-- a yes without one
+record IsTakenNone (case : CaseContents) (certificate : Certificate) : Type 0 where
+  none : certificate.buys ≡ None
+  no_rival : (rival : List ℕ) → ¬ IsRival case.limit case.book rival
+
+-- what a verdict of yes means of its certificate
+abbrev IsTakenAs : CaseContents → Certificate → Verdict → Type 0
+IsTakenAs case certificate (verdict.Yes portfolio) = IsTakenPortfolio case certificate portfolio
+IsTakenAs case certificate verdict.YesNone = IsTakenNone case certificate
+IsTakenAs case certificate (verdict.No why) = ⊥
+
+-- the bytes are a text that is accepted, by a verdict
+record IsTaken (case : CaseContents) (cert : List ℕ) (told : Verdict) : Type 0 where
   certificate : Certificate
   is_certificate : IsTextOf (length case.book.needs) certificate cert
   none : reason_of case certificate ≡ None
-  right : HasPortfolio case certificate text ⊎ HasNoRival case certificate text
+  means : IsTakenAs case certificate told
 
-taken-by : (case : CaseContents) (cert : List ℕ) (told : Verdict) → KeepsLimits case → IsVerdict case cert told → (verdict_answer case told).status ≡ status.Done → IsTaken case cert (verdict_answer case told).text
-taken-by case cert (verdict.Yes portfolio) keeps (certificate, text, is) done =
+taken-by : (words : Portfolio → List ℕ) (case : CaseContents) (cert : List ℕ) (told : Verdict) → KeepsLimits case → IsVerdict case cert told → (verdict_answer words told).status ≡ status.Done → IsTaken case cert told
+taken-by words case cert (verdict.Yes portfolio) keeps (certificate, text, is) done =
     let right = yes_is_right case certificate portfolio (heard case cert certificate keeps text) (sym is) in
     record {
       certificate = certificate;
       is_certificate = text;
       none = (yes-told case certificate portfolio (sym is)).none;
-      right = inl (record {
-        portfolio = portfolio;
+      means = record {
         right = right;
         without_interest = λ interest. right.answer ∙ printed_yield case.book portfolio.plan keeps.0 interest right.right.permitted;
-        said = refl;
-      });
+      };
     }
-taken-by case cert verdict.YesNone keeps (certificate, text, is) done =
+taken-by words case cert verdict.YesNone keeps (certificate, text, is) done =
     let told = none-told case certificate (sym is) in
     record {
       certificate = certificate;
       is_certificate = text;
       none = told.0;
-      right = inr (record { none = told.1; no_rival = yes_none_is_right case certificate (heard case cert certificate keeps text) (sym is); said = refl });
+      means = record { none = told.1; no_rival = yes_none_is_right case certificate (heard case cert certificate keeps text) (sym is) };
     }
-taken-by case cert (verdict.No why) keeps on done = absurd (cc)
+taken-by words case cert (verdict.No why) keeps on done = absurd (cc)
 
-taken : (case : CaseContents) (cert : List ℕ) → KeepsLimits case → (certificate_answer case cert).status ≡ status.Done → IsTaken case cert (certificate_answer case cert).text
-taken case cert keeps done =
-    elim (answered-by case cert keeps) [
+-- an answer of `Done` is to such a verdict
+record IsDone (words : Portfolio → List ℕ) (case : CaseContents) (cert : List ℕ) : Type 0 where
+  told : Verdict
+  is : answer_with words case cert ≡ verdict_answer words told
+  taken : IsTaken case cert told
+
+done-by : (words : Portfolio → List ℕ) (case : CaseContents) (cert : List ℕ) → KeepsLimits case → (answer_with words case cert).status ≡ status.Done → IsDone words case cert
+done-by words case cert keeps done =
+    elim (answered-by words case cert keeps) [
       | inl long ↦ absurd (refusing long)
       | inr found ↦ from found
     ]
   where
-    refusing : certificate_answer case cert ≡ refused (refusal_of file.Cert 0 kind.TooLong) → ⊥
+    refusing : answer_with words case cert ≡ refused (refusal_of file.Cert 0 kind.TooLong) → ⊥
     refusing long = let both : status.Refused ≡ status.Done = sym (ap (λ (a : Answer). a.status) long) ∙ done in cc
 
-    from : IsAnswered case cert → IsTaken case cert (certificate_answer case cert).text
-    from found =
-        subst (λ (a : Answer). IsTaken case cert a.text) (sym found.is)
-        (taken-by case cert found.told keeps found.on (sym (ap (λ (a : Answer). a.status) found.is) ∙ done))
+    from : IsAnswered words case cert → IsDone words case cert
+    from found = record {
+      told = found.told;
+      is = found.is;
+      taken = taken-by words case cert found.told keeps found.on (sym (ap (λ (a : Answer). a.status) found.is) ∙ done);
+    }
 
 -- a certificate that is answered with yes has no more bytes than its limit
 fits : (case : CaseContents) (cert : List ℕ) → (certificate_answer case cert).status ≡ status.Done → length cert ≤ CERTIFICATE_LIMIT
@@ -103,11 +142,63 @@ fits case cert done = by (nat_lt CERTIFICATE_LIMIT (length cert)) refl
     by true long = absurd (let clash : status.Refused ≡ status.Done = rw long at done in cc)
     by false short = grind (arith, nat_tests)
 
+-- what `check` says of it
+accepted-as : (case : CaseContents) (certificate : Certificate) (told : Verdict) → IsTakenAs case certificate told
+    → HasPortfolio case certificate (verdict_answer (yes_text case) told).text ⊎ HasNoRival case certificate (verdict_answer (yes_text case) told).text
+accepted-as case certificate (verdict.Yes portfolio) means =
+    inl (record { portfolio = portfolio; right = means.right; without_interest = means.without_interest; said = refl })
+accepted-as case certificate verdict.YesNone means = inr (record { none = means.none; no_rival = means.no_rival; said = refl })
+accepted-as case certificate (verdict.No why) means = absurd means
+
 pub accepted : (files : InputFiles) (cert : List ℕ) (case : CaseContents) → GiveCase files case → KeepsLimits case → (certificate_answer case cert).status ≡ status.Done
     → Accepted files cert (certificate_answer case cert).text
 accepted files cert case gives keeps done =
-    let yes = taken case cert keeps done in
-    record { case = case; gives = gives; certificate = yes.certificate; is_certificate = yes.is_certificate; right = yes.right }
+    let yes = done-by (yes_text case) case cert keeps done in
+    let certificate = yes.taken.certificate in
+    record {
+      case = case;
+      gives = gives;
+      certificate = certificate;
+      is_certificate = yes.taken.is_certificate;
+      right =
+          subst (λ (a : Answer). HasPortfolio case certificate a.text ⊎ HasNoRival case certificate a.text) (sym yes.is)
+          (accepted-as case certificate yes.told yes.taken.means);
+    }
+
+-- what `savings` says of it: that of its portfolio by the issue of the files
+saved-as : (files : InputFiles) (issue : Issue) (case : CaseContents) (certificate : Certificate) (told : Verdict) → issue_of (rows_of files.issue) ≡ Ok issue → RestsOn issue case.limit
+    → IsTakenAs case certificate told
+    → HasSavings issue case certificate (verdict_answer (portfolio_text inquiry.Savings files case) told).text ⊎ HasNoRival case certificate (verdict_answer (portfolio_text inquiry.Savings files case) told).text
+saved-as files issue case certificate (verdict.Yes portfolio) read rests means = inl (record {
+  yes = yes_text case portfolio;
+  accepted = record { portfolio = portfolio; right = means.right; without_interest = means.without_interest; said = refl };
+  saves = savings_are issue case portfolio.plan rests;
+  said = ap (λ (found : Result Issue Refusal). saved_text found case portfolio.plan) read;
+})
+saved-as files issue case certificate verdict.YesNone read rests means = inr (record { none = means.none; no_rival = means.no_rival; said = refl })
+saved-as files issue case certificate (verdict.No why) read rests means = absurd means
+
+saved : (files : InputFiles) (cert : List ℕ) (case : CaseContents) → GiveCase files case → KeepsLimits case → (answer_for inquiry.Savings files case cert).status ≡ status.Done
+    → Saved files cert (answer_for inquiry.Savings files case cert).text
+saved files cert case gives keeps done =
+    let yes = done-by (portfolio_text inquiry.Savings files case) case cert keeps done in
+    let certificate = yes.taken.certificate in
+    let issue = gives.read.issue in
+    record {
+      case = case;
+      gives = gives;
+      certificate = certificate;
+      is_certificate = yes.taken.is_certificate;
+      right =
+          subst (λ (a : Answer). HasSavings issue case certificate a.text ⊎ HasNoRival case certificate a.text) (sym yes.is)
+          (saved-as files issue case certificate yes.told gives.says.issue gives.obeys.limit yes.taken.means);
+    }
+
+-- by what is asked
+pub means_yes : (asked : Inquiry) (files : InputFiles) (cert : List ℕ) (case : CaseContents) → GiveCase files case → KeepsLimits case → (answer_for asked files case cert).status ≡ status.Done
+    → MeansYes asked files cert (answer_for asked files case cert).text
+means_yes inquiry.Check files cert case gives keeps done = accepted files cert case gives keeps done
+means_yes inquiry.Savings files cert case gives keeps done = saved files cert case gives keeps done
 
 -- where no reason stands, `yes` is said
 
@@ -126,20 +217,20 @@ yes-is case cert certificate text none (Some buys) named = (certificate, text, b
     by-some : yes_of case (Some buys) certificate.gap ≡ judged case certificate
     by-some = sym (judged-by case certificate ∙ ap (verdict_by case certificate) none ∙ ap (λ found. yes_of case found certificate.gap) named)
 
-yes-done : (case : CaseContents) (buys : Option (List Buy)) (gap : ℕ) → (verdict_answer case (yes_of case buys gap)).status ≡ status.Done
-yes-done case None gap = refl
-yes-done case (Some buys) gap = refl
+yes-done : (words : Portfolio → List ℕ) (case : CaseContents) (buys : Option (List Buy)) (gap : ℕ) → (verdict_answer words (yes_of case buys gap)).status ≡ status.Done
+yes-done words case None gap = refl
+yes-done words case (Some buys) gap = refl
 
-done-where_none : (case : CaseContents) (cert : List ℕ) → KeepsLimits case → length cert ≤ CERTIFICATE_LIMIT → HasNoReason case cert → (certificate_answer case cert).status ≡ status.Done
-done-where_none case cert keeps within found =
+done-where_none : (words : Portfolio → List ℕ) (case : CaseContents) (cert : List ℕ) → KeepsLimits case → length cert ≤ CERTIFICATE_LIMIT → HasNoReason case cert → (answer_with words case cert).status ≡ status.Done
+done-where_none words case cert keeps within found =
     let short = under-test (length cert) CERTIFICATE_LIMIT within in
     let none = (yes_where_unopposed case found.certificate (heard case cert found.certificate keeps found.is_certificate)).1 found.unopposed in
     let is = one_verdict case cert (yes_of case found.certificate.buys found.certificate.gap) (few-dates case keeps) (yes-is case cert found.certificate found.is_certificate none found.certificate.buys refl) in
-    ap (λ (a : Answer). a.status) (answer-within case cert short) ∙ ap (λ told. (verdict_answer case told).status) (sym is) ∙ yes-done case found.certificate.buys found.certificate.gap
+    ap (λ (a : Answer). a.status) (answer-within words case cert short) ∙ ap (λ told. (verdict_answer words told).status) (sym is) ∙ yes-done words case found.certificate.buys found.certificate.gap
 
-none-where_done : (case : CaseContents) (cert : List ℕ) → KeepsLimits case → (certificate_answer case cert).status ≡ status.Done → HasNoReason case cert
-none-where_done case cert keeps done =
-    let yes = taken case cert keeps done in
+none-where_done : (words : Portfolio → List ℕ) (case : CaseContents) (cert : List ℕ) → KeepsLimits case → (answer_with words case cert).status ≡ status.Done → HasNoReason case cert
+none-where_done words case cert keeps done =
+    let yes = (done-by words case cert keeps done).taken in
     record {
       certificate = yes.certificate;
       is_certificate = yes.is_certificate;
@@ -153,11 +244,12 @@ accepted_text files cert case gives keeps done = record {
   text = (certificate_answer case cert).text;
   accepted = accepted files cert case gives keeps done;
   fits = fits case cert done;
-  unopposed = none-where_done case cert keeps done;
+  unopposed = none-where_done (yes_text case) case cert keeps done;
 }
 
 -- `yes` exactly where no reason stands, of files that give a case
-pub yes_exactly : (files : InputFiles) (cert : List ℕ) → ((case : CaseContents) → case_of files ≡ Ok case → KeepsLimits case) → YesExactly (check_answer files cert).status files cert
-yes_exactly files cert keep case is_case within =
+pub yes_exactly : (asked : Inquiry) (files : InputFiles) (cert : List ℕ) → ((case : CaseContents) → case_of files ≡ Ok case → KeepsLimits case) → YesExactly (files_answer asked files cert).status files cert
+yes_exactly asked files cert keep case is_case within =
     let keeps = keep case is_case in
-    rw is_case ((λ done. none-where_done case cert keeps done), (λ found. done-where_none case cert keeps within found))
+    let words = portfolio_text asked files case in
+    rw is_case ((λ done. none-where_done words case cert keeps done), (λ found. done-where_none words case cert keeps within found))

@@ -1,6 +1,6 @@
 -- What an answer over the named files means.
 use Rattle.std.proofs.Common.{◌≡◌, ◌∙◌, ℕ, List, [], Option, Some, None, Result, Ok, Err, refl, sym, ap, subst}
-use Rattle.std.specs.Prelude.{IfOk, IsSomeAnd, option_and_then, is_ok, if◌then◌else◌}
+use Rattle.std.specs.Prelude.{IfOk, IfSome, IsSomeAnd, option_and_then, is_ok, if◌then◌else◌}
 use Rattle.escrow_desk.specs.Content.{Content, Told, file_of, SaidAll, SaidPart}
 use Rattle.escrow_desk.specs.Rows.{rows_of}
 use Rattle.escrow_desk.specs.declared.refusal.FileKind.{FileKind}
@@ -8,111 +8,129 @@ use Rattle.escrow_desk.specs.declared.refusal.RefusalKind.TheVariants as too_lon
 use Rattle.row_fields.specs.RowForm.{refusal_of}
 use Rattle.escrow_top.specs.InputFiles.{InputFiles, FileNames, first_too_long, inputs_of}
 use Rattle.case_file.specs.Case.{CaseContents, IsKept, rows_case}
-use Rattle.escrow_top.specs.Answer.{Answer, answer_to, case_answer, case_of, certificate_answer, check_names, named_answer, refused, structure_names, usage, usage_text}
+use Rattle.escrow_top.specs.Answer.{Answer, Asking, answer_for, answer_to, asked_answer, asking_of, case_answer, case_of, check_names, portfolio_text, refused, savings_names, structure_names, usage, usage_text}
 use Rattle.escrow_top.specs.Accepted.{Accepted}
 use Rattle.escrow_top.specs.NotAccepted.{NotAccepted}
-use Rattle.escrow_top.specs.Ending.{Answers, AnswersPart, HoldsWhereTold, IsAccepted, IsNotAccepted, IsNoCommand, LacksFile, NamedAnswers, NamedAnswersPart, SaidOfFiles}
+use Rattle.escrow_top.specs.Saved.{Saved}
+use Rattle.escrow_top.specs.Ending.{Answers, AnswersPart, AskedAnswers, AskedAnswersPart, HoldsWhereTold, IsAccepted, IsNotAccepted, IsNoCommand, IsSaved, LacksFile, MeansYes, SaidOfFiles}
 use Rattle.escrow_top.specs.MakeWords.{Making, make_words}
 use Rattle.escrow_top.specs.Making.{Makes, MakesPart}
 use Rattle.escrow_top.specs.Structure.{Structures, StructuresPart}
 use Rattle.escrow_top.specs.CaseOf.{AreWithin}
-use Rattle.escrow_top.specs.Reading.{AreRead, CertificateAnswers, FilesAnswer, IsTooLong, LacksCertificate, LacksInput, LacksNamed}
+use Rattle.escrow_top.specs.Reading.{AreRead, CertificateAnswers, FilesAnswer, IsKeptFor, IsTooLong, LacksAsked, LacksCertificate, LacksInput}
 use Rattle.escrow_desk.specs.declared.refusal.Refusal.{Refusal}
+use Rattle.escrow_top.specs.declared.inquiry.Inquiry.{Inquiry}
+use Rattle.escrow_top.specs.declared.inquiry.Inquiry.TheVariants as inquiry
 use Rattle.escrow_top.specs.declared.status.Status.{Status}
 use Rattle.escrow_top.specs.declared.status.Status.TheVariants as status
-use Rattle.escrow_top.proofs.AcceptedLaws.{accepted}
+use Rattle.escrow_top.proofs.AcceptedLaws.{means_yes}
 use Rattle.escrow_top.proofs.CaseLaws.{given}
 use Rattle.escrow_top.proofs.NotAcceptedLaws.{not_accepted}
 use Rattle.escrow_top.specs.declared.stop.Stop.{Stop}
 use Rattle.escrow_top.proofs.InputFacts.{read-all, rows_alone}
-use Rattle.escrow_top.proofs.WordLaws.{check-makes_none, structure-makes_none}
+use Rattle.escrow_top.proofs.WordLaws.{asking-makes_none, asks_of, check-asks, one-asking, savings-asks, structure-makes_none}
 
-answered : (found : Option (List ℕ)) (case : CaseContents) (answer : Answer) → IsSomeAnd found (λ file. answer ≡ certificate_answer case file) → option_and_then (λ cert. Some (certificate_answer case cert)) found ≡ Some answer
-answered None case answer said = absurd said
-answered (Some cert) case answer said = ap Some (sym said)
+answered : (found : Option (List ℕ)) (to_bytes : List ℕ → Answer) (answer : Answer) → IsSomeAnd found (λ file. answer ≡ to_bytes file) → option_and_then (λ cert. Some (to_bytes cert)) found ≡ Some answer
+answered None to_bytes answer said = absurd said
+answered (Some cert) to_bytes answer said = ap Some (sym said)
 
 -- where the input files were read, what is answered to them is what their names are answered
-pub named_by : (content : Content) (names : FileNames) (texts : InputFiles) (case : Result CaseContents Refusal) → inputs_of content names ≡ Some texts → case_of texts ≡ case → named_answer content names ≡ option_and_then (λ cert. Some (case_answer case cert)) (if is_ok case then file_of content names.cert else Some [])
-named_by content names texts case inputs is = rw (inputs, is) refl
+pub asked_by : (content : Content) (asking : Asking) (texts : InputFiles) (case : Result CaseContents Refusal) → inputs_of content asking.names ≡ Some texts → case_of texts ≡ case
+    → asked_answer content asking ≡ option_and_then (λ cert. Some (case_answer asking.inquiry texts case cert)) (if is_ok case then file_of content asking.names.cert else Some [])
+asked_by content asking texts case inputs is = rw (inputs, is) refl
 
 -- the certificate was read
-pub certificate_said : (told : Told) (names : FileNames) (texts : InputFiles) (case : CaseContents) (answer : Answer) → AreRead told names texts → AreWithin texts → case_of texts ≡ Ok case → CertificateAnswers told names.cert case answer → FilesAnswer told names answer
-certificate_said None names texts case answer read within is said = tt
-certificate_said (Some content) names texts case answer read within is said =
-    named_by content names texts (Ok case) (read-all content names texts read within) is ∙ answered (file_of content names.cert) case answer said
+pub certificate_said : (told : Told) (asking : Asking) (texts : InputFiles) (case : CaseContents) (answer : Answer) → AreRead told asking.names texts → AreWithin texts → case_of texts ≡ Ok case
+    → CertificateAnswers told asking.names.cert (answer_for asking.inquiry texts case) answer → FilesAnswer told asking answer
+certificate_said None asking texts case answer read within is said = tt
+certificate_said (Some content) asking texts case answer read within is said =
+    asked_by content asking texts (Ok case) (read-all content asking.names texts read within) is
+    ∙ answered (file_of content asking.names.cert) (answer_for asking.inquiry texts case) answer said
 
-pub certificate_lacks : (told : Told) (names : FileNames) (texts : InputFiles) (case : CaseContents) → AreRead told names texts → AreWithin texts → case_of texts ≡ Ok case → LacksCertificate told names.cert → LacksNamed told names
-certificate_lacks None names texts case read within is none = tt
-certificate_lacks (Some content) names texts case read within is none =
-    named_by content names texts (Ok case) (read-all content names texts read within) is ∙ (rw none refl)
+pub certificate_lacks : (told : Told) (asking : Asking) (texts : InputFiles) (case : CaseContents) → AreRead told asking.names texts → AreWithin texts → case_of texts ≡ Ok case
+    → LacksCertificate told asking.names.cert → LacksAsked told asking
+certificate_lacks None asking texts case read within is none = tt
+certificate_lacks (Some content) asking texts case read within is none =
+    asked_by content asking texts (Ok case) (read-all content asking.names texts read within) is ∙ (rw none refl)
 
 -- the input files give no case
-pub no_case_said : (told : Told) (names : FileNames) (texts : InputFiles) (why : Refusal) (answer : Answer) → AreRead told names texts → AreWithin texts → case_of texts ≡ Err why → answer ≡ refused why → FilesAnswer told names answer
-no_case_said None names texts why answer read within is said = tt
-no_case_said (Some content) names texts why answer read within is said =
-    named_by content names texts (Err why) (read-all content names texts read within) is ∙ ap Some (sym said)
+pub no_case_said : (told : Told) (asking : Asking) (texts : InputFiles) (why : Refusal) (answer : Answer) → AreRead told asking.names texts → AreWithin texts → case_of texts ≡ Err why
+    → answer ≡ refused why → FilesAnswer told asking answer
+no_case_said None asking texts why answer read within is said = tt
+no_case_said (Some content) asking texts why answer read within is said =
+    asked_by content asking texts (Err why) (read-all content asking.names texts read within) is ∙ ap Some (sym said)
 
 -- an input file has more bytes than its limit
-pub long_named : (content : Content) (names : FileNames) (kind : FileKind) (found : Option InputFiles) → inputs_of content names ≡ found → IsSomeAnd found (λ texts. first_too_long texts ≡ Some kind) → named_answer content names ≡ Some (refused (refusal_of kind 0 too_long.TooLong))
-long_named content names kind None is long = absurd long
-long_named content names kind (Some texts) is long =
-    named_by content names texts (Err (refusal_of kind 0 too_long.TooLong)) is (rw long refl)
+pub long_asked : (content : Content) (asking : Asking) (kind : FileKind) (found : Option InputFiles) → inputs_of content asking.names ≡ found
+    → IsSomeAnd found (λ texts. first_too_long texts ≡ Some kind) → asked_answer content asking ≡ Some (refused (refusal_of kind 0 too_long.TooLong))
+long_asked content asking kind None is long = absurd long
+long_asked content asking kind (Some texts) is long =
+    asked_by content asking texts (Err (refusal_of kind 0 too_long.TooLong)) is (rw long refl)
 
-pub too_long_said : (told : Told) (names : FileNames) (kind : FileKind) (answer : Answer) → IsTooLong told names kind → answer ≡ refused (refusal_of kind 0 too_long.TooLong) → FilesAnswer told names answer
-too_long_said None names kind answer long said = tt
-too_long_said (Some content) names kind answer long said =
-    long_named content names kind (inputs_of content names) refl long ∙ ap Some (sym said)
+pub too_long_said : (told : Told) (asking : Asking) (kind : FileKind) (answer : Answer) → IsTooLong told asking.names kind → answer ≡ refused (refusal_of kind 0 too_long.TooLong) → FilesAnswer told asking answer
+too_long_said None asking kind answer long said = tt
+too_long_said (Some content) asking kind answer long said =
+    long_asked content asking kind (inputs_of content asking.names) refl long ∙ ap Some (sym said)
 
-pub inputs_lack : (told : Told) (names : FileNames) → LacksInput told names → LacksNamed told names
-inputs_lack None names none = tt
-inputs_lack (Some content) names none = rw none refl
+pub inputs_lack : (told : Told) (asking : Asking) → LacksInput told asking.names → LacksAsked told asking
+inputs_lack None asking none = tt
+inputs_lack (Some content) asking none = rw none refl
 
 -- what a status of the answer to a certificate means, of a certificate that was read
-found_means : (Holds : List ℕ → List ℕ → Type 0) (case : CaseContents) (answer : Answer) (reached : Status) (found : Option (List ℕ))
-    → ((cert : List ℕ) → (certificate_answer case cert).status ≡ reached → Holds cert (certificate_answer case cert).text)
-    → IsSomeAnd found (λ file. answer ≡ certificate_answer case file) → answer.status ≡ reached → IsSomeAnd found (λ cert. Holds cert answer.text)
-found_means Holds case answer reached None means said is = said
-found_means Holds case answer reached (Some cert) means said is =
+found_means : (Holds : List ℕ → List ℕ → Type 0) (to_bytes : List ℕ → Answer) (answer : Answer) (reached : Status) (found : Option (List ℕ))
+    → ((cert : List ℕ) → (to_bytes cert).status ≡ reached → Holds cert (to_bytes cert).text)
+    → IsSomeAnd found (λ file. answer ≡ to_bytes file) → answer.status ≡ reached → IsSomeAnd found (λ cert. Holds cert answer.text)
+found_means Holds to_bytes answer reached None means said is = said
+found_means Holds to_bytes answer reached (Some cert) means said is =
     subst (λ (a : Answer). Holds cert a.text) (sym said) (means cert (sym (ap (λ (a : Answer). a.status) said) ∙ is))
 
-certificate_means : (Holds : InputFiles → List ℕ → List ℕ → Type 0) (told : Told) (names : FileNames) (texts : InputFiles) (case : CaseContents) (answer : Answer) (reached : Status) → AreRead told names texts
-    → ((cert : List ℕ) → (certificate_answer case cert).status ≡ reached → Holds texts cert (certificate_answer case cert).text) → CertificateAnswers told names.cert case answer → answer.status ≡ reached
+certificate_means : (Holds : InputFiles → List ℕ → List ℕ → Type 0) (told : Told) (names : FileNames) (texts : InputFiles) (to_bytes : List ℕ → Answer) (answer : Answer) (reached : Status) → AreRead told names texts
+    → ((cert : List ℕ) → (to_bytes cert).status ≡ reached → Holds texts cert (to_bytes cert).text) → CertificateAnswers told names.cert to_bytes answer → answer.status ≡ reached
     → HoldsWhereTold (λ files cert. Holds files cert answer.text) told names
-certificate_means Holds None names texts case answer reached read means said is = tt
-certificate_means Holds (Some content) names texts case answer reached read means said is =
+certificate_means Holds None names texts to_bytes answer reached read means said is = tt
+certificate_means Holds (Some content) names texts to_bytes answer reached read means said is =
     let issue = read.issue in
     let rates = read.rates in
     let prices = read.prices in
-    rw (issue, rates, prices) (found_means (Holds texts) case answer reached (file_of content names.cert) means said is)
+    rw (issue, rates, prices) (found_means (Holds texts) to_bytes answer reached (file_of content names.cert) means said is)
 
 -- the same of a reply
-answer_means : (Holds : InputFiles → List ℕ → List ℕ → Type 0) (told : Told) (names : FileNames) (texts : InputFiles) (case : CaseContents) (result : Result Answer Stop) (reached : Status) → AreRead told names texts
-    → ((cert : List ℕ) → (certificate_answer case cert).status ≡ reached → Holds texts cert (certificate_answer case cert).text) → IfOk result (λ reply. CertificateAnswers told names.cert case (reply))
+answer_means : (Holds : InputFiles → List ℕ → List ℕ → Type 0) (told : Told) (names : FileNames) (texts : InputFiles) (to_bytes : List ℕ → Answer) (result : Result Answer Stop) (reached : Status) → AreRead told names texts
+    → ((cert : List ℕ) → (to_bytes cert).status ≡ reached → Holds texts cert (to_bytes cert).text) → IfOk result (λ reply. CertificateAnswers told names.cert to_bytes reply)
     → IfOk result (λ reply. reply.status ≡ reached → HoldsWhereTold (λ files cert. Holds files cert reply.text) told names)
-answer_means Holds told names texts case (Err stop) reached read means said = said
-answer_means Holds told names texts case (Ok reply) reached read means said =
-    λ is. certificate_means Holds told names texts case (reply) reached read means said is
+answer_means Holds told names texts to_bytes (Err stop) reached read means said = said
+answer_means Holds told names texts to_bytes (Ok reply) reached read means said =
+    λ is. certificate_means Holds told names texts to_bytes reply reached read means said is
 
-pub answer_accepted : (told : Told) (names : FileNames) (texts : InputFiles) (case : CaseContents) (result : Result Answer Stop) → AreRead told names texts → AreWithin texts → rows_case (rows_of texts.issue) (rows_of texts.rates) (rows_of texts.prices) ≡ Ok case → IsKept (rows_of texts.issue) (rows_of texts.rates) (rows_of texts.prices) case → IfOk result (λ reply. CertificateAnswers told names.cert case (reply))
-    → IfOk result (λ reply. reply.status ≡ status.Done → HoldsWhereTold (λ files cert. Accepted files cert reply.text) told names)
-answer_accepted told names texts case result read within is kept said =
+pub answer_accepted : (told : Told) (asking : Asking) (texts : InputFiles) (case : CaseContents) (result : Result Answer Stop) → AreRead told asking.names texts → AreWithin texts → rows_case (rows_of texts.issue) (rows_of texts.rates) (rows_of texts.prices) ≡ Ok case
+    → IsKept (rows_of texts.issue) (rows_of texts.rates) (rows_of texts.prices) case → IfOk result (λ reply. CertificateAnswers told asking.names.cert (answer_for asking.inquiry texts case) reply)
+    → IfOk result (λ reply. reply.status ≡ status.Done → HoldsWhereTold (λ files cert. MeansYes asking.inquiry files cert reply.text) told asking.names)
+answer_accepted told asking texts case result read within is kept said =
     let gives = given texts case within (rows_alone texts within ∙ is) kept in
-    answer_means Accepted told names texts case result status.Done read (λ cert done. accepted texts cert case gives (kept.book, kept.terms) done) said
+    answer_means (MeansYes asking.inquiry) told asking.names texts (answer_for asking.inquiry texts case) result status.Done read
+    (λ cert done. means_yes asking.inquiry texts cert case gives (kept.book, kept.terms) done) said
 
-pub answer_not_accepted : (told : Told) (names : FileNames) (texts : InputFiles) (case : CaseContents) (result : Result Answer Stop) → AreRead told names texts → AreWithin texts → rows_case (rows_of texts.issue) (rows_of texts.rates) (rows_of texts.prices) ≡ Ok case → IsKept (rows_of texts.issue) (rows_of texts.rates) (rows_of texts.prices) case → IfOk result (λ reply. CertificateAnswers told names.cert case (reply))
-    → IfOk result (λ reply. reply.status ≡ status.No → HoldsWhereTold (λ files cert. NotAccepted files cert reply.text) told names)
-answer_not_accepted told names texts case result read within is kept said =
+pub answer_not_accepted : (told : Told) (asking : Asking) (texts : InputFiles) (case : CaseContents) (result : Result Answer Stop) → AreRead told asking.names texts → AreWithin texts → rows_case (rows_of texts.issue) (rows_of texts.rates) (rows_of texts.prices) ≡ Ok case
+    → IsKept (rows_of texts.issue) (rows_of texts.rates) (rows_of texts.prices) case → IfOk result (λ reply. CertificateAnswers told asking.names.cert (answer_for asking.inquiry texts case) reply)
+    → IfOk result (λ reply. reply.status ≡ status.No → HoldsWhereTold (λ files cert. NotAccepted files cert reply.text) told asking.names)
+answer_not_accepted told asking texts case result read within is kept said =
     let gives = given texts case within (rows_alone texts within ∙ is) kept in
-    answer_means NotAccepted told names texts case result status.No read (λ cert denied. not_accepted texts cert case gives (kept.book, kept.terms) denied) said
+    answer_means NotAccepted told asking.names texts (answer_for asking.inquiry texts case) result status.No read
+    (λ cert denied. not_accepted (portfolio_text asking.inquiry texts case) texts cert case gives (kept.book, kept.terms) denied) said
 
--- the answer to named files was said
-pub named_said : (told new : Told) (names : FileNames) (reply : Answer) (reached : Status) → FilesAnswer told names reply → reached ≡ reply.status → SaidAll told reply.text new → NamedAnswers told names reached new
-named_said None new names reply reached is ends said = said
-named_said (Some content) new names reply reached is ends said = rw is (ends, said)
+-- the case of these files is one of which savings can be said
+pub kept_for : (asked : Inquiry) (files : InputFiles) (case : CaseContents) → IsKept (rows_of files.issue) (rows_of files.rates) (rows_of files.prices) case → IsKeptFor asked files case
+kept_for inquiry.Check files case kept = tt
+kept_for inquiry.Savings files case kept = kept
+
+-- the answer to what is asked of named files was said
+pub asked_said : (told new : Told) (asking : Asking) (reply : Answer) (reached : Status) → FilesAnswer told asking reply → reached ≡ reply.status → SaidAll told reply.text new → AskedAnswers told asking reached new
+asked_said None new asking reply reached is ends said = said
+asked_said (Some content) new asking reply reached is ends said = rw is (ends, said)
 
 no_command : (words : List (List ℕ)) (content : Content) → IsNoCommand words → answer_to words content ≡ Some usage
 no_command words content none =
-    rw none.no_check refl
+    rw (none.no_check, none.no_savings) refl
 
 -- the usage was said to words that are no command
 pub usage_said : (told new : Told) (words : List (List ℕ)) → IsNoCommand words → SaidAll told usage_text new → Answers told words status.Usage new
@@ -123,18 +141,18 @@ pub usage_said_part : (told new : Told) (words : List (List ℕ)) → IsNoComman
 usage_said_part None new words none part = rw (none.no_make, none.no_structure) part.said
 usage_said_part (Some content) new words none part = rw (none.no_make, none.no_structure, no_command words content none) part
 
--- what was said of named files was said to the words of `check`
-pub check_said : (told new : Told) (words : List (List ℕ)) (names : FileNames) (status : Status) → structure_names words ≡ None → check_names words ≡ Some names → NamedAnswers told names status new → Answers told words status new
-check_said None new words names status other is said = rw (check-makes_none words names is, other) said
-check_said (Some content) new words names status other is said = rw (check-makes_none words names is, other, is) said
+-- what was said to what is asked of named files was said to the words that ask it
+pub ask_said : (told new : Told) (words : List (List ℕ)) (asking : Asking) (status : Status) → structure_names words ≡ None → asking_of words ≡ Some asking → AskedAnswers told asking status new → Answers told words status new
+ask_said None new words asking status other is said = rw (asking-makes_none words asking is, other) said
+ask_said (Some content) new words asking status other is said = rw (asking-makes_none words asking is, other, is) said
 
-pub check_said_part : (told new : Told) (words : List (List ℕ)) (names : FileNames) → structure_names words ≡ None → check_names words ≡ Some names → NamedAnswersPart told names new → AnswersPart told words new
-check_said_part None new words names other is part = rw (check-makes_none words names is, other) part
-check_said_part (Some content) new words names other is part = rw (check-makes_none words names is, other, is) part
+pub ask_said_part : (told new : Told) (words : List (List ℕ)) (asking : Asking) → structure_names words ≡ None → asking_of words ≡ Some asking → AskedAnswersPart told asking new → AnswersPart told words new
+ask_said_part None new words asking other is part = rw (asking-makes_none words asking is, other) part
+ask_said_part (Some content) new words asking other is part = rw (asking-makes_none words asking is, other, is) part
 
-pub check_lacks : (told : Told) (words : List (List ℕ)) (names : FileNames) → structure_names words ≡ None → check_names words ≡ Some names → LacksNamed told names → LacksFile told words
-check_lacks None words names other is lacks = rw (check-makes_none words names is, other) tt
-check_lacks (Some content) words names other is lacks = rw (check-makes_none words names is, other, is) lacks
+pub ask_lacks : (told : Told) (words : List (List ℕ)) (asking : Asking) → structure_names words ≡ None → asking_of words ≡ Some asking → LacksAsked told asking → LacksFile told words
+ask_lacks None words asking other is lacks = rw (asking-makes_none words asking is, other) tt
+ask_lacks (Some content) words asking other is lacks = rw (asking-makes_none words asking is, other, is) lacks
 
 -- what was put out for named files was put out to the words of `structure`
 pub structure_put_out : (told new : Told) (words : List (List ℕ)) (names : FileNames) (status : Status) → structure_names words ≡ Some names → Structures told names status new → Answers told words status new
@@ -153,8 +171,24 @@ make_put_out told new words making status is put = rw is put
 pub make_put_out_part : (told new : Told) (words : List (List ℕ)) (making : Making) → make_words words ≡ Some making → MakesPart told making new → AnswersPart told words new
 make_put_out_part told new words making is part = rw is part
 
-pub check_accepted : (told new : Told) (words : List (List ℕ)) (names : FileNames) → check_names words ≡ Some names → SaidOfFiles Accepted told names new → IsAccepted told words new
-check_accepted told new words names is said = rw is said
+-- what a status means of the words that ask
+pub ask_accepted : (told new : Told) (words : List (List ℕ)) (asking : Asking) → asking_of words ≡ Some asking → SaidOfFiles (MeansYes asking.inquiry) told asking.names new → IsAccepted told words new
+ask_accepted told new words asking is said = by (check_names words) refl
+  where
+    by : (found : Option FileNames) → check_names words ≡ found → IfSome found (λ names. SaidOfFiles Accepted told names new)
+    by None e = tt
+    by (Some names) e =
+        let same : asking ≡ asks_of inquiry.Check names = one-asking words asking (asks_of inquiry.Check names) is (check-asks words names e) in
+        subst (λ (a : Asking). SaidOfFiles (MeansYes a.inquiry) told a.names new) same said
 
-pub check_not_accepted : (told new : Told) (words : List (List ℕ)) (names : FileNames) → check_names words ≡ Some names → SaidOfFiles NotAccepted told names new → IsNotAccepted told words new
-check_not_accepted told new words names is said = rw is said
+pub ask_saved : (told new : Told) (words : List (List ℕ)) (asking : Asking) → asking_of words ≡ Some asking → SaidOfFiles (MeansYes asking.inquiry) told asking.names new → IsSaved told words new
+ask_saved told new words asking is said = by (savings_names words) refl
+  where
+    by : (found : Option FileNames) → savings_names words ≡ found → IfSome found (λ names. SaidOfFiles Saved told names new)
+    by None e = tt
+    by (Some names) e =
+        let same : asking ≡ asks_of inquiry.Savings names = one-asking words asking (asks_of inquiry.Savings names) is (savings-asks words names e) in
+        subst (λ (a : Asking). SaidOfFiles (MeansYes a.inquiry) told a.names new) same said
+
+pub ask_not_accepted : (told new : Told) (words : List (List ℕ)) (asking : Asking) → asking_of words ≡ Some asking → SaidOfFiles NotAccepted told asking.names new → IsNotAccepted told words new
+ask_not_accepted told new words asking is said = rw is said

@@ -2,6 +2,7 @@ pub mod InputFacts
 pub mod CaseLaws
 pub mod NumberFacts
 pub mod WordLaws
+pub mod SavingsFacts
 pub mod AcceptedLaws
 pub mod NotAcceptedLaws
 pub mod AnswerLaws

@@ -6,12 +6,13 @@ use Rattle.row_fields.specs.RowForm.{refusal_of}
 use Rattle.case_file.specs.Case.{CaseContents}
 use Rattle.escrow_check.specs.Acceptance.{IsVerdict}
 use Rattle.escrow_check.specs.TextMeaning.{StandsAgainst}
+use Rattle.escrow_check.specs.declared.verdict.Portfolio.{Portfolio}
 use Rattle.escrow_check.specs.declared.verdict.Reason.{Reason}
 use Rattle.escrow_check.specs.declared.verdict.Verdict.{Verdict}
 use Rattle.escrow_check.specs.declared.verdict.Verdict.TheVariants as verdict
 use Rattle.escrow_check.proofs.TextFacts.{KeepsLimits, is_meant}
 use Rattle.escrow_top.specs.InputFiles.{InputFiles}
-use Rattle.escrow_top.specs.Answer.{Answer, certificate_answer, reason_text, refused, verdict_answer}
+use Rattle.escrow_top.specs.Answer.{Answer, answer_with, reason_text, refused, verdict_answer}
 use Rattle.escrow_top.specs.CaseOf.{GiveCase}
 use Rattle.escrow_top.specs.NotAccepted.{NotAccepted}
 use Rattle.escrow_top.specs.declared.status.Status.TheVariants as status
@@ -23,28 +24,29 @@ record IsDenied (case : CaseContents) (cert : List ℕ) (text : List ℕ) : Type
   stands : StandsAgainst case cert why
   said : text ≡ reason_text why
 
-denied-by : (case : CaseContents) (cert : List ℕ) (told : Verdict) → KeepsLimits case → IsVerdict case cert told → (verdict_answer case told).status ≡ status.No → IsDenied case cert (verdict_answer case told).text
-denied-by case cert (verdict.Yes portfolio) keeps on denied = absurd (cc)
-denied-by case cert verdict.YesNone keeps on denied = absurd (cc)
-denied-by case cert (verdict.No why) keeps on denied = record { why = why; stands = is_meant case cert (verdict.No why) keeps on; said = refl }
+denied-by : (words : Portfolio → List ℕ) (case : CaseContents) (cert : List ℕ) (told : Verdict) → KeepsLimits case → IsVerdict case cert told → (verdict_answer words told).status ≡ status.No
+    → IsDenied case cert (verdict_answer words told).text
+denied-by words case cert (verdict.Yes portfolio) keeps on denied = absurd (cc)
+denied-by words case cert verdict.YesNone keeps on denied = absurd (cc)
+denied-by words case cert (verdict.No why) keeps on denied = record { why = why; stands = is_meant case cert (verdict.No why) keeps on; said = refl }
 
-is_denied : (case : CaseContents) (cert : List ℕ) → KeepsLimits case → (certificate_answer case cert).status ≡ status.No → IsDenied case cert (certificate_answer case cert).text
-is_denied case cert keeps denied =
-    elim (answered-by case cert keeps) [
+is_denied : (words : Portfolio → List ℕ) (case : CaseContents) (cert : List ℕ) → KeepsLimits case → (answer_with words case cert).status ≡ status.No → IsDenied case cert (answer_with words case cert).text
+is_denied words case cert keeps denied =
+    elim (answered-by words case cert keeps) [
       | inl long ↦ absurd (refusing long)
       | inr found ↦ from found
     ]
   where
-    refusing : certificate_answer case cert ≡ refused (refusal_of file.Cert 0 kind.TooLong) → ⊥
+    refusing : answer_with words case cert ≡ refused (refusal_of file.Cert 0 kind.TooLong) → ⊥
     refusing long = let both : status.Refused ≡ status.No = sym (ap (λ (a : Answer). a.status) long) ∙ denied in cc
 
-    from : IsAnswered case cert → IsDenied case cert (certificate_answer case cert).text
+    from : IsAnswered words case cert → IsDenied case cert (answer_with words case cert).text
     from found =
         subst (λ (a : Answer). IsDenied case cert a.text) (sym found.is)
-        (denied-by case cert found.told keeps found.on (sym (ap (λ (a : Answer). a.status) found.is) ∙ denied))
+        (denied-by words case cert found.told keeps found.on (sym (ap (λ (a : Answer). a.status) found.is) ∙ denied))
 
-pub not_accepted : (files : InputFiles) (cert : List ℕ) (case : CaseContents) → GiveCase files case → KeepsLimits case → (certificate_answer case cert).status ≡ status.No
-    → NotAccepted files cert (certificate_answer case cert).text
-not_accepted files cert case gives keeps denied =
-    let no = is_denied case cert keeps denied in
+pub not_accepted : (words : Portfolio → List ℕ) (files : InputFiles) (cert : List ℕ) (case : CaseContents) → GiveCase files case → KeepsLimits case → (answer_with words case cert).status ≡ status.No
+    → NotAccepted files cert (answer_with words case cert).text
+not_accepted words files cert case gives keeps denied =
+    let no = is_denied words case cert keeps denied in
     record { case = case; gives = gives; why = no.why; stands = no.stands; said = no.said }

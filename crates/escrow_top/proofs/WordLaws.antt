@@ -1,19 +1,33 @@
 -- Words are those of one command at most.
-use Rattle.std.proofs.Common.{◌≡◌, ℕ, ◌≤◌, ◌<◌, arith, length, map, Bool, true, false, nat_eq, List, [], ◌∷◌, if◌then◌else◌, Option, Some, None, refl, sym}
+use Rattle.std.proofs.Common.{◌≡◌, ℕ, ◌≤◌, ◌<◌, arith, length, map, Bool, true, false, nat_eq, List, [], ◌∷◌, if◌then◌else◌, Option, Some, None, ◌∙◌, refl, sym}
 use Rattle.std.specs.Prelude.{codes, option_map}
 use Rattle.std.specs.Bool.{then_some}
 use lib.ListN.{get_or}
 use lib.Pointwise.{pointwise, bytes_decides}
-use Rattle.escrow_top.specs.Answer.{check_names, names_behind, structure_names}
+use Rattle.escrow_top.specs.Answer.{Asking, asking_of, check_names, names_behind, savings_names, structure_names}
 use Rattle.escrow_top.specs.Ending.{IsNoCommand}
 use Rattle.escrow_top.specs.InputFiles.{FileNames}
 use Rattle.escrow_top.specs.MakeWords.{Making, make_words, making_of, number_of_word}
+use Rattle.escrow_top.specs.declared.inquiry.Inquiry.{Inquiry}
+use Rattle.escrow_top.specs.declared.inquiry.Inquiry.TheVariants as inquiry
 
--- the word `make` is no other command
-other-word : (command word : List ℕ) (names : FileNames) → pointwise nat_eq (codes "make") command ≡ false → pointwise nat_eq word (codes "make") ≡ true → then_some {T = FileNames} (pointwise nat_eq word command) names ≡ None
-other-word command word names differ is =
-    let same : word ≡ codes "make" = (bytes_decides word (codes "make")).0 is in
+-- the word of a command is no other command
+other-word : (own command word : List ℕ) (names : FileNames) → pointwise nat_eq own command ≡ false → pointwise nat_eq word own ≡ true → then_some {T = FileNames} (pointwise nat_eq word command) names ≡ None
+other-word own command word names differ is =
+    let same : word ≡ own = (bytes_decides word own).0 is in
     rw (same, differ) refl
+
+-- five words are those of one command at most
+names-apart : (own command : List ℕ) (words : List (List ℕ)) (names : FileNames) → pointwise nat_eq own command ≡ false → names_behind own words ≡ Some names → names_behind command words ≡ None
+names-apart own command (word ∷ issue ∷ rates ∷ prices ∷ cert ∷ []) names differ is = by (pointwise nat_eq word own) refl is
+  where
+    all : FileNames
+    all = record { issue = issue; rates = rates; prices = prices; cert = cert }
+
+    by : (is_own : Bool) → pointwise nat_eq word own ≡ is_own → then_some {T = FileNames} is_own all ≡ Some names → then_some {T = FileNames} (pointwise nat_eq word command) all ≡ None
+    by true e named = other-word own command word all differ e
+    by false e named = absurd (cc)
+names-apart own command words names differ is = absurd (cc)
 
 make-no_names : (command : List ℕ) (words : List (List ℕ)) (making : Making) → pointwise nat_eq (codes "make") command ≡ false → make_words words ≡ Some making → names_behind command words ≡ None
 make-no_names command (word ∷ number ∷ issue ∷ rates ∷ prices ∷ []) making differ is = by (pointwise nat_eq word (codes "make")) refl is
@@ -21,7 +35,7 @@ make-no_names command (word ∷ number ∷ issue ∷ rates ∷ prices ∷ []) ma
     by : (is_make : Bool) → pointwise nat_eq word (codes "make") ≡ is_make
         → (if is_make then option_map (λ n. making_of n issue rates prices) (number_of_word number) else None) ≡ Some making
         → then_some {T = FileNames} (pointwise nat_eq word command) (record { issue = number; rates = issue; prices = rates; cert = prices }) ≡ None
-    by true e named = other-word command word (record { issue = number; rates = issue; prices = rates; cert = prices }) differ e
+    by true e named = other-word (codes "make") command word (record { issue = number; rates = issue; prices = rates; cert = prices }) differ e
     by false e named = absurd (cc)
 make-no_names command words making differ is = absurd (cc)
 
@@ -41,17 +55,57 @@ make-checks_none words making is = make-no_names (codes "check") words making re
 pub structure-makes_none : (words : List (List ℕ)) (names : FileNames) → structure_names words ≡ Some names → make_words words ≡ None
 structure-makes_none words names is = names-no_make (codes "structure") words names refl is
 
-pub check-makes_none : (words : List (List ℕ)) (names : FileNames) → check_names words ≡ Some names → make_words words ≡ None
-check-makes_none words names is = names-no_make (codes "check") words names refl is
+-- ---- what words ask
+abbrev pub asks_of : Inquiry → FileNames → Asking
+asks_of inquiry names = record { inquiry = inquiry; names = names }
+
+pub check-asks : (words : List (List ℕ)) (names : FileNames) → check_names words ≡ Some names → asking_of words ≡ Some (asks_of inquiry.Check names)
+check-asks words names is = rw is refl
+
+pub savings-asks : (words : List (List ℕ)) (names : FileNames) → savings_names words ≡ Some names → asking_of words ≡ Some (asks_of inquiry.Savings names)
+savings-asks words names is = rw (names-apart (codes "savings") (codes "check") words names refl is, is) refl
+
+pub one-asking : (words : List (List ℕ)) (one other : Asking) → asking_of words ≡ Some one → asking_of words ≡ Some other → one ≡ other
+one-asking words one other is also = let both : Some one ≡ Some other = sym is ∙ also in cc
+
+no-asking : (words : List (List ℕ)) → check_names words ≡ None → savings_names words ≡ None → asking_of words ≡ None
+no-asking words no_check no_savings = rw (no_check, no_savings) refl
+
+pub make-savings_none : (words : List (List ℕ)) (making : Making) → make_words words ≡ Some making → savings_names words ≡ None
+make-savings_none words making is = make-no_names (codes "savings") words making refl is
+
+pub make-askings_none : (words : List (List ℕ)) (making : Making) → make_words words ≡ Some making → asking_of words ≡ None
+make-askings_none words making is = no-asking words (make-checks_none words making is) (make-savings_none words making is)
+
+pub asking-makes_none : (words : List (List ℕ)) (asking : Asking) → asking_of words ≡ Some asking → make_words words ≡ None
+asking-makes_none words asking is = by (make_words words) refl
+  where
+    by : (found : Option Making) → make_words words ≡ found → found ≡ None
+    by None e = refl
+    by (Some making) e = let none = make-askings_none words making e in absurd (cc)
+
+pub structure-checks_none : (words : List (List ℕ)) (names : FileNames) → structure_names words ≡ Some names → check_names words ≡ None
+structure-checks_none words names is = names-apart (codes "structure") (codes "check") words names refl is
+
+pub structure-savings_none : (words : List (List ℕ)) (names : FileNames) → structure_names words ≡ Some names → savings_names words ≡ None
+structure-savings_none words names is = names-apart (codes "structure") (codes "savings") words names refl is
+
+pub structure-askings_none : (words : List (List ℕ)) (names : FileNames) → structure_names words ≡ Some names → asking_of words ≡ None
+structure-askings_none words names is = no-asking words (structure-checks_none words names is) (structure-savings_none words names is)
+
+-- words that are no command ask nothing
+pub no_command-asks_none : (words : List (List ℕ)) → IsNoCommand words → asking_of words ≡ None
+no_command-asks_none words none = no-asking words none.no_check none.no_savings
 
 -- `make` of a word that is no number is no command
 pub no_number : (word number issue rates prices : List ℕ) → true ≡ pointwise nat_eq word (codes "make") → number_of_word number ≡ None → IsNoCommand (word ∷ number ∷ issue ∷ rates ∷ prices ∷ [])
 no_number word number issue rates prices is none =
     let names : FileNames = record { issue = number; rates = issue; prices = rates; cert = prices } in
     record {
-      no_structure = other-word (codes "structure") word names refl (sym is);
-      no_check = other-word (codes "check") word names refl (sym is);
+      no_structure = other-word (codes "make") (codes "structure") word names refl (sym is);
+      no_check = other-word (codes "make") (codes "check") word names refl (sym is);
       no_make = rw (sym is, none) refl;
+      no_savings = other-word (codes "make") (codes "savings") word names refl (sym is);
     }
 
 -- the same of strings

@@ -1,6 +1,7 @@
--- What `check` answers: a status and the text that is said. The texts are this project's own.
-use Rattle.std.specs.Prelude.{ℕ, nat_lt, nat_eq, if◌then◌else◌, List, [], ◌∷◌, ◌++◌, length, Option, Some, None, Result, Ok, Err, is_ok, codes, decimal}
+-- What `check` and `savings` answer: a status and the text that is said. The texts are this project's own.
+use Rattle.std.specs.Prelude.{ℕ, nat_lt, nat_eq, if◌then◌else◌, List, [], ◌∷◌, ◌++◌, length, Option, Some, None, Result, Ok, Err, is_ok, codes, decimal, option_map}
 use Rattle.std.specs.Bool.{then_some}
+use Rattle.std.specs.Option.{option_or}
 use lib.Pointwise.{pointwise}
 use Rattle.escrow_desk.specs.Content.{Content, file_of}
 use Rattle.escrow_desk.specs.Rows.{rows_of}
@@ -22,7 +23,11 @@ use Rattle.escrow_check.specs.declared.verdict.Reason.TheVariants as reason
 use Rattle.escrow_check.specs.declared.verdict.Verdict.{Verdict}
 use Rattle.escrow_check.specs.declared.verdict.Verdict.TheVariants as verdict
 use Rattle.verification_report.specs.Summary.{summary_text, text_line}
+use Rattle.issue_schedule.specs.IssueForm.{issue_of}
 use Rattle.escrow_top.specs.InputFiles.{InputFiles, FileNames, ◌>>=◌, first_too_long, inputs_of}
+use Rattle.escrow_top.specs.SavingsText.{saved_text}
+use Rattle.escrow_top.specs.declared.inquiry.Inquiry.{Inquiry}
+use Rattle.escrow_top.specs.declared.inquiry.Inquiry.TheVariants as inquiry
 use Rattle.escrow_top.specs.declared.status.Status.{Status}
 use Rattle.escrow_top.specs.declared.status.Status.TheVariants as status
 
@@ -59,11 +64,16 @@ yes_text case portfolio =
 abbrev pub none_text : List ℕ
 none_text = text_line (codes "yes none") []
 
--- the answer to a verdict
-abbrev pub verdict_answer : CaseContents → Verdict → Answer
-verdict_answer case (verdict.Yes portfolio) = record { status = status.Done; text = yes_text case portfolio }
-verdict_answer case verdict.YesNone = record { status = status.Done; text = none_text }
-verdict_answer case (verdict.No why) = record { status = status.No; text = reason_text why }
+-- what is said of a portfolio that is accepted, by what is asked of the files: its summary, or its savings
+abbrev pub portfolio_text : Inquiry → InputFiles → CaseContents → Portfolio → List ℕ
+portfolio_text inquiry.Check files case portfolio = yes_text case portfolio
+portfolio_text inquiry.Savings files case portfolio = saved_text (issue_of (rows_of files.issue)) case portfolio.plan
+
+-- the answer to a verdict, with these words for a portfolio
+abbrev pub verdict_answer : (Portfolio → List ℕ) → Verdict → Answer
+verdict_answer words (verdict.Yes portfolio) = record { status = status.Done; text = words portfolio }
+verdict_answer words verdict.YesNone = record { status = status.Done; text = none_text }
+verdict_answer words (verdict.No why) = record { status = status.No; text = reason_text why }
 
 abbrev pub file_word : FileKind → List ℕ
 file_word file.Issue = codes "issue"
@@ -101,11 +111,15 @@ refused_text refusal =
 abbrev pub refused : Refusal → Answer
 refused refusal = record { status = status.Refused; text = refused_text refusal }
 
--- the answer to the bytes of a certificate: its length is tried before its lines
-abbrev pub certificate_answer : CaseContents → List ℕ → Answer
-certificate_answer case cert =
+-- the answer to the bytes of a certificate, with these words for a portfolio: its length is tried before its lines
+abbrev pub answer_with : (Portfolio → List ℕ) → CaseContents → List ℕ → Answer
+answer_with words case cert =
     if nat_lt CERTIFICATE_LIMIT (length cert) then refused (refusal_of file.Cert 0 kind.TooLong)
-    else verdict_answer case (verdict_of case cert)
+    else verdict_answer words (verdict_of case cert)
+
+-- that of `check`
+abbrev pub certificate_answer : CaseContents → List ℕ → Answer
+certificate_answer case cert = answer_with (yes_text case) case cert
 
 -- the case of the bytes of the input files, or what is first to refuse it: their lengths are tried before their rows
 abbrev pub case_of_texts : Option FileKind → InputFiles → Result CaseContents Refusal
@@ -115,23 +129,38 @@ case_of_texts None texts = rows_case (rows_of texts.issue) (rows_of texts.rates)
 abbrev pub case_of : InputFiles → Result CaseContents Refusal
 case_of texts = case_of_texts (first_too_long texts) texts
 
-abbrev pub case_answer : Result CaseContents Refusal → List ℕ → Answer
-case_answer (Err refusal) cert = refused refusal
-case_answer (Ok case) cert = certificate_answer case cert
+-- the answer to the bytes of a certificate for the case of input files, by what is asked of them
+abbrev pub answer_for : Inquiry → InputFiles → CaseContents → List ℕ → Answer
+answer_for inquiry texts case cert = answer_with (portfolio_text inquiry texts case) case cert
 
--- what `check` answers to the bytes of the four files
-abbrev pub check_answer : InputFiles → List ℕ → Answer
-check_answer texts cert = case_answer (case_of texts) cert
+abbrev pub case_answer : Inquiry → InputFiles → Result CaseContents Refusal → List ℕ → Answer
+case_answer inquiry texts (Err refusal) cert = refused refusal
+case_answer inquiry texts (Ok case) cert = answer_for inquiry texts case cert
 
--- what `check` answers where the files are there: the certificate is read last, and only where the others give a case
-abbrev pub named_answer : Content → FileNames → Option Answer
-named_answer content names = do
-  texts ← inputs_of content names
-  cert ← if is_ok (case_of texts) then file_of content names.cert else Some []
-  Some (check_answer texts cert)
+-- what is answered to the bytes of the four files, by what is asked of them
+abbrev pub files_answer : Inquiry → InputFiles → List ℕ → Answer
+files_answer inquiry texts cert = case_answer inquiry texts (case_of texts) cert
+
+-- what is asked, of the four files of these names
+pub record Asking : Type 0 where
+  pub inquiry : Inquiry
+  pub names : FileNames
+
+-- what is answered where the files are there: the certificate is read last, and only where the others give a case
+abbrev pub asked_answer : Content → Asking → Option Answer
+asked_answer content asking = do
+  texts ← inputs_of content asking.names
+  cert ← if is_ok (case_of texts) then file_of content asking.names.cert else Some []
+  Some (files_answer asking.inquiry texts cert)
+
+-- the words of each command
+abbrev pub usage_words : List ℕ
+usage_words =
+    codes "structure ISSUE RATES PRICES CERT | check ISSUE RATES PRICES CERT | make NUMBER ISSUE RATES PRICES"
+    ++ codes " | savings ISSUE RATES PRICES CERT"
 
 abbrev pub usage_text : List ℕ
-usage_text = text_line (codes "usage: structure ISSUE RATES PRICES CERT | check ISSUE RATES PRICES CERT | make NUMBER ISSUE RATES PRICES") []
+usage_text = text_line (codes "usage: ") usage_words
 
 abbrev pub usage : Answer
 usage = record { status = status.Usage; text = usage_text }
@@ -150,10 +179,21 @@ check_names words = names_behind (codes "check") words
 abbrev pub structure_names : List (List ℕ) → Option FileNames
 structure_names words = names_behind (codes "structure") words
 
-abbrev pub answer_to_check : Content → Option FileNames → Option Answer
-answer_to_check content None = Some usage
-answer_to_check content (Some names) = named_answer content names
+-- the names that the words `savings ISSUE RATES PRICES CERT` give
+abbrev pub savings_names : List (List ℕ) → Option FileNames
+savings_names words = names_behind (codes "savings") words
+
+-- what words ask of a certificate
+abbrev pub asks : Inquiry → Option FileNames → Option Asking
+asks inquiry names = option_map (λ names. record { inquiry = inquiry; names = names }) names
+
+abbrev pub asking_of : List (List ℕ) → Option Asking
+asking_of words = option_or (asks inquiry.Check (check_names words)) (asks inquiry.Savings (savings_names words))
+
+abbrev pub answer_to_asking : Content → Option Asking → Option Answer
+answer_to_asking content None = Some usage
+answer_to_asking content (Some asking) = asked_answer content asking
 
 -- the answer to words that aren't those of `structure` or `make`; None where a file that is read isn't there
 abbrev pub answer_to : List (List ℕ) → Content → Option Answer
-answer_to words content = answer_to_check content (check_names words)
+answer_to words content = answer_to_asking content (asking_of words)

@@ -3,12 +3,15 @@ use Rattle.std.specs.Prelude.{◌≡◌, ℕ, Bool, true, false, List, Option, S
 use Rattle.escrow_desk.specs.Content.{Content, Told, file_of, with_said, SaidAll, SaidPart}
 use Rattle.escrow_top.specs.Accepted.{Accepted}
 use Rattle.escrow_top.specs.NotAccepted.{NotAccepted}
+use Rattle.escrow_top.specs.Saved.{Saved}
 use Rattle.escrow_top.specs.InputFiles.{InputFiles, FileNames}
-use Rattle.escrow_top.specs.Answer.{Answer, answer_to, check_answer, check_names, named_answer, structure_names}
+use Rattle.escrow_top.specs.Answer.{Answer, Asking, answer_to, asked_answer, asking_of, check_names, files_answer, savings_names, structure_names}
 use Rattle.escrow_top.specs.MakeWords.{Making, make_words}
 use Rattle.escrow_top.specs.Making.{Makes, MakesPart}
 use Rattle.escrow_top.specs.Reading.{AreThere, LacksInput}
 use Rattle.escrow_top.specs.Structure.{Structures, StructuresPart, WroteAccepted}
+use Rattle.escrow_top.specs.declared.inquiry.Inquiry.{Inquiry}
+use Rattle.escrow_top.specs.declared.inquiry.Inquiry.TheVariants as inquiry
 use Rattle.escrow_top.specs.declared.status.Status.{Status}
 use Rattle.escrow_top.specs.declared.status.Status.TheVariants as status
 
@@ -26,7 +29,7 @@ code_of status.WriteFault = 9
 code_of status.NoFile = 10
 code_of status.NoMemory = 11
 
--- the statuses that `check` comes to
+-- the statuses that `check` and `savings` come to
 abbrev pub is_checked : Status → Bool
 is_checked status.Done = true
 is_checked status.No = true
@@ -42,14 +45,14 @@ IsSaid content found status new =
 abbrev pub IsSaidPart : Content → Option Answer → Told → Type 0
 IsSaidPart content found new = IsSomeAnd found (λ answer. SaidPart (Some content) answer.text new)
 
--- the answer to the files of these names was said
-abbrev pub NamedAnswers : Told → FileNames → Status → Told → Type 0
-NamedAnswers None names status new = new ≡ None
-NamedAnswers (Some content) names status new = IsSaid content (named_answer content names) status new
+-- the answer to what is asked of the files of names was said
+abbrev pub AskedAnswers : Told → Asking → Status → Told → Type 0
+AskedAnswers None asking status new = new ≡ None
+AskedAnswers (Some content) asking status new = IsSaid content (asked_answer content asking) status new
 
-abbrev pub NamedAnswersPart : Told → FileNames → Told → Type 0
-NamedAnswersPart None names new = new ≡ None
-NamedAnswersPart (Some content) names new = IsSaidPart content (named_answer content names) new
+abbrev pub AskedAnswersPart : Told → Asking → Told → Type 0
+AskedAnswersPart None asking new = new ≡ None
+AskedAnswersPart (Some content) asking new = IsSaidPart content (asked_answer content asking) new
 
 -- the status, and what stands then, are the answer to the words over the content that the desk tells, where they aren't those of
 -- `make`. Only `structure` writes a file
@@ -98,6 +101,7 @@ pub record IsNoCommand (words : List (List ℕ)) : Type 0 where
   pub no_structure : structure_names words ≡ None
   pub no_check : check_names words ≡ None
   pub no_make : make_words words ≡ None
+  pub no_savings : savings_names words ≡ None
 
 -- the four files of these names are there, and this holds of their bytes
 abbrev pub HoldsOfFiles : (InputFiles → List ℕ → Type 0) → Content → FileNames → Type 0
@@ -116,14 +120,14 @@ OfNamedFiles Holds told names =
     (content : Content) (files : InputFiles) (cert : List ℕ)
     → told ≡ Some content → AreThere content names files → file_of content names.cert ≡ Some cert → Holds files cert
 
--- the same where the words are those of `check`
-abbrev pub OfFiles : (InputFiles → List ℕ → Type 0) → Told → List (List ℕ) → Type 0
-OfFiles Holds told words = (names : FileNames) → check_names words ≡ Some names → OfNamedFiles Holds told names
+-- the same where the words ask something of them
+abbrev pub OfFiles : (Inquiry → InputFiles → List ℕ → Type 0) → Told → List (List ℕ) → Type 0
+OfFiles Holds told words = (asking : Asking) → asking_of words ≡ Some asking → OfNamedFiles (Holds asking.inquiry) told asking.names
 
--- the status and what was said are the answer of `check` to the bytes of the four files, and no file changed
-abbrev pub IsAnswerTo : Told → Status → Told → InputFiles → List ℕ → Type 0
-IsAnswerTo told reached told_new files cert =
-    (reached ≡ (check_answer files cert).status) × SaidAll told (check_answer files cert).text told_new
+-- the status and what was said are the answer to the bytes of the four files, by what is asked, and no file changed
+abbrev pub IsAnswerTo : Told → Status → Told → Inquiry → InputFiles → List ℕ → Type 0
+IsAnswerTo told reached told_new inquiry files cert =
+    (reached ≡ (files_answer inquiry files cert).status) × SaidAll told (files_answer inquiry files cert).text told_new
 
 -- a text was said, and no file changed; where the desk tells, the four files of these names are there, and this holds of their bytes
 -- and the text
@@ -140,6 +144,16 @@ IsAccepted told words new = IfSome (check_names words) (λ names. SaidOfFiles Ac
 abbrev pub WroteCertificate : Told → Told → List (List ℕ) → Type 0
 WroteCertificate told new words = IfSome (structure_names words) (WroteAccepted told new)
 
--- the words are those of `check`: the four files that they name aren't accepted, and this was said
+-- where they are those of `savings`: the four files that they name are accepted, and this was said of what is saved
+abbrev pub IsSaved : Told → List (List ℕ) → Told → Type 0
+IsSaved told words new = IfSome (savings_names words) (λ names. SaidOfFiles Saved told names new)
+
+-- the words ask something of a certificate: the four files that they name aren't accepted, and this was said
 abbrev pub IsNotAccepted : Told → List (List ℕ) → Told → Type 0
-IsNotAccepted told words new = IsSomeAnd (check_names words) (λ names. SaidOfFiles NotAccepted told names new)
+IsNotAccepted told words new = IsSomeAnd (asking_of words) (λ asking. SaidOfFiles NotAccepted told asking.names new)
+
+-- ---- by what is asked
+-- what an answer of `Done` means, of the bytes of four files and what was said
+abbrev pub MeansYes : Inquiry → InputFiles → List ℕ → List ℕ → Type 0
+MeansYes inquiry.Check = Accepted
+MeansYes inquiry.Savings = Saved

@@ -1,10 +1,12 @@
 pub mod InputFiles
 pub mod MakeWords
+pub mod SavingsText
 pub mod Answer
 pub mod CaseOf
 pub mod Ending
 pub mod Accepted
 pub mod NotAccepted
+pub mod Saved
 pub mod Reading
 pub mod Stopping
 pub mod Covered

@@ -10,16 +10,27 @@ use Rattle.escrow_top.specs.declared.files.FileText.TheVariants as text
 use Rattle.escrow_top.specs.declared.files.Inputs.{Inputs}
 use Rattle.escrow_top.specs.declared.files.Inputs.TheVariants as inputs
 use Rattle.escrow_top.specs.InputFiles.{InputFiles, FileNames, first_too_long, inputs_of}
-use Rattle.case_file.specs.Case.{CaseContents}
+use Rattle.escrow_desk.specs.Rows.{rows_of}
+use Rattle.case_file.specs.Case.{CaseContents, IsKept}
+use Rattle.offer_book.specs.Portfolio.{IsPermitted}
 use Rattle.escrow_check.specs.Verdicts.{verdict_of}
-use Rattle.escrow_top.specs.Answer.{Answer, certificate_answer, named_answer}
+use Rattle.escrow_check.specs.declared.verdict.Verdict.{Verdict}
+use Rattle.escrow_check.specs.declared.verdict.Verdict.TheVariants as verdict
+use Rattle.escrow_top.specs.Answer.{Answer, Asking, asked_answer}
 use Rattle.escrow_top.specs.CaseOf.{AreWithin}
+use Rattle.escrow_top.specs.declared.inquiry.Asking.{Asking as CodeAsking}
+use Rattle.escrow_top.specs.declared.inquiry.Inquiry.{Inquiry}
+use Rattle.escrow_top.specs.declared.inquiry.Inquiry.TheVariants as inquiry
 use Rattle.escrow_top.specs.declared.hearing.Heard.{Heard}
 use Rattle.escrow_top.specs.declared.hearing.Heard.TheVariants as heard
 
 -- the names as bytes
 abbrev pub names_view : CodeNames → FileNames
 names_view names = record { issue = names.issue.now; rates = names.rates.now; prices = names.prices.now; cert = names.cert.now }
+
+-- what is asked, of files of these names as bytes
+abbrev pub asking_view : CodeAsking → Asking
+asking_view asking = record { inquiry = asking.inquiry; names = names_view asking.names }
 
 -- the files as bytes
 abbrev pub files_view : CodeFiles → InputFiles
@@ -77,19 +88,35 @@ IsHeardOf case file heard.TooLong = CERTIFICATE_LIMIT < length file
 abbrev pub IsHeard : Told → List ℕ → CaseContents → Heard → Type 0
 IsHeard told name case found = MatchOption told (Unit {0}) (λ content. IsSomeAnd (file_of content name) (λ file. IsHeardOf case file found))
 
--- the certificate of the name is there, and this is the answer to it
-abbrev pub CertificateAnswers : Told → List ℕ → CaseContents → Answer → Type 0
-CertificateAnswers told name case answer =
-    MatchOption told (Unit {0}) (λ content. IsSomeAnd (file_of content name) (λ file. answer ≡ certificate_answer case file))
+-- where savings are asked for, a case was read of these files
+abbrev pub IsKeptFor : Inquiry → InputFiles → CaseContents → Type 0
+IsKeptFor inquiry.Check files case = Unit {0}
+IsKeptFor inquiry.Savings files case = IsKept (rows_of files.issue) (rows_of files.rates) (rows_of files.prices) case
+
+-- a portfolio that is accepted is permitted, whether the desk tells or not
+abbrev pub KeepsPermitted : CaseContents → Verdict → Type 0
+KeepsPermitted case (verdict.Yes portfolio) = IsPermitted case.book portfolio.plan
+KeepsPermitted case verdict.YesNone = Unit {0}
+KeepsPermitted case (verdict.No why) = Unit {0}
+
+-- the same of what was read of a certificate
+abbrev pub IsHeardPermitted : CaseContents → Heard → Type 0
+IsHeardPermitted case (heard.Whole told) = KeepsPermitted case told
+IsHeardPermitted case heard.TooLong = Unit {0}
+
+-- the certificate of the name is there, and this is the answer to it, by the answer to its bytes
+abbrev pub CertificateAnswers : Told → List ℕ → (List ℕ → Answer) → Answer → Type 0
+CertificateAnswers told name to_bytes answer =
+    MatchOption told (Unit {0}) (λ content. IsSomeAnd (file_of content name) (λ file. answer ≡ to_bytes file))
 
 -- the certificate of the name isn't there
 abbrev pub LacksCertificate : Told → List ℕ → Type 0
 LacksCertificate told name = MatchOption told (Unit {0}) (λ content. file_of content name ≡ None)
 
 -- the files that are read are there, and this is the answer to them
-abbrev pub FilesAnswer : Told → FileNames → Answer → Type 0
-FilesAnswer told names answer = MatchOption told (Unit {0}) (λ content. named_answer content names ≡ Some answer)
+abbrev pub FilesAnswer : Told → Asking → Answer → Type 0
+FilesAnswer told asking answer = MatchOption told (Unit {0}) (λ content. asked_answer content asking ≡ Some answer)
 
 -- a file that is read isn't there
-abbrev pub LacksNamed : Told → FileNames → Type 0
-LacksNamed told names = MatchOption told (Unit {0}) (λ content. named_answer content names ≡ None)
+abbrev pub LacksAsked : Told → Asking → Type 0
+LacksAsked told asking = MatchOption told (Unit {0}) (λ content. asked_answer content asking ≡ None)

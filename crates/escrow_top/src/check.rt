@@ -1,42 +1,48 @@
-//! `check`, from the names of its files to its answer.
+//! `check` and `savings`, from the names of their files to their answer.
 
-ghost use Rattle.std.specs.Prelude.{◌≡◌, IfOk, IsErrOf, IsTrue};
+ghost use Rattle.std.specs.Prelude.{◌≡◌, ◌≤◌, IfOk, IsErrOf, IsTrue, length};
 ghost use Rattle.offer_book.specs.Book.{IsBook};
 ghost use Rattle.case_file.specs.Case.{HasTerms, case_view};
 ghost use Rattle.escrow_top.specs.CaseOf.{AreWithin};
-ghost use Rattle.escrow_top.specs.Reading.{AreRead, CertificateAnswers, FilesAnswer, LacksCertificate, LacksNamed, files_view, names_view};
-ghost use Rattle.escrow_top.specs.Ending.{HoldsWhereTold, OfNamedFiles, is_checked};
-ghost use Rattle.escrow_top.specs.Accepted.{Accepted, YesExactly};
+ghost use Rattle.escrow_top.specs.Reading.{AreRead, CertificateAnswers, FilesAnswer, IsKeptFor, LacksAsked, LacksCertificate, asking_view, files_view, names_view};
+ghost use Rattle.escrow_top.specs.Answer.{answer_for};
+ghost use Rattle.escrow_top.specs.Ending.{HoldsWhereTold, MeansYes, OfNamedFiles, is_checked};
+ghost use Rattle.escrow_top.specs.Accepted.{YesExactly};
 ghost use Rattle.escrow_top.specs.NotAccepted.{NotAccepted};
 ghost use Rattle.escrow_top.specs.Stopping.{CountsStep};
 
 use crate::answer::{Answer, refused, too_long, verdict_answer};
-use crate::files::{FileNames, InputFiles, Inputs, read_inputs};
+use crate::files::{InputFiles, Inputs, read_inputs};
 use crate::hearing::{Heard, hear};
+use crate::inquiry::Asking;
 use crate::status::Status;
 use crate::stop::Stop;
 use case_file::{Case, read_case};
-use escrow_desk::{CaseError, Desk, FileKind};
+use escrow_desk::{CaseError, Desk, FILE_LIMIT, FileKind};
 use std::alloc::Global;
 
-// The answer to the certificate of a name. It isn't inlined: its tables would stand on the stack while rows are read.
+// The answer to the certificate, for the case of input files. It isn't inlined: its tables would stand on the stack while rows are
+// read.
 #[inline(never)]
 fn answer_to_certificate<D: Desk>(
     alloc: Global,
     desk: &mut D,
-    name: &str,
+    asking: &Asking<'_>,
+    files: &InputFiles,
     case: &Case,
 ) -> Result<Answer, Stop>
     requires book { IsBook case.now.book }
     requires terms { HasTerms (case_view case.now) }
-    ensures answer { IfOk result (λ answer. CertificateAnswers (D.told desk.old) name.now (case_view case.now) answer) }
+    requires within { length (files_view files.now).issue ≤ FILE_LIMIT }
+    requires kept { IsKeptFor asking.now.inquiry (files_view files.now) (case_view case.now) }
+    ensures answer { IfOk result (λ answer. CertificateAnswers (D.told desk.old) (names_view asking.now.names).cert (answer_for asking.now.inquiry (files_view files.now) (case_view case.now)) answer) }
     ensures status { IfOk result (λ answer. IsTrue (is_checked answer.status)) }
-    ensures absent { IsErrOf result Stop.NoFile → LacksCertificate (D.told desk.old) name.now }
+    ensures absent { IsErrOf result Stop.NoFile → LacksCertificate (D.told desk.old) (names_view asking.now.names).cert }
     ensures told { D.told desk.new ≡ D.told desk.old }
     ensures counts { CountsStep result (D.counts desk.old) (D.counts desk.new) }
 {
-    match hear(alloc, desk, name, case)? {
-        Heard::Whole(verdict) => Ok(verdict_answer(alloc, case, &verdict)?),
+    match hear(alloc, desk, asking.names.cert, case)? {
+        Heard::Whole(verdict) => Ok(verdict_answer(alloc, asking.inquiry, files, case, &verdict)?),
         Heard::TooLong => Ok(too_long(alloc, FileKind::Cert)?),
     }
 }
@@ -45,17 +51,17 @@ fn answer_to_certificate<D: Desk>(
 fn answer_to_files<D: Desk>(
     alloc: Global,
     desk: &mut D,
-    names: &FileNames<'_>,
+    asking: &Asking<'_>,
     files: &InputFiles,
 ) -> Result<Answer, Stop>
-    requires read { AreRead (D.told desk.old) (names_view names.now) (files_view files.now) }
+    requires read { AreRead (D.told desk.old) (names_view asking.now.names) (files_view files.now) }
     requires within { AreWithin (files_view files.now) }
-    ensures answer { IfOk result (λ answer. FilesAnswer (D.told desk.old) (names_view names.now) answer) }
+    ensures answer { IfOk result (λ answer. FilesAnswer (D.told desk.old) (asking_view asking.now) answer) }
     ensures status { IfOk result (λ answer. IsTrue (is_checked answer.status)) }
-    ensures yes { IfOk result (λ answer. answer.status ≡ Status.Done → HoldsWhereTold (λ files cert. Accepted files cert answer.text) (D.told desk.old) (names_view names.now)) }
-    ensures no { IfOk result (λ answer. answer.status ≡ Status.No → HoldsWhereTold (λ files cert. NotAccepted files cert answer.text) (D.told desk.old) (names_view names.now)) }
-    ensures exactly { IfOk result (λ answer. OfNamedFiles (YesExactly answer.status) (D.told desk.old) (names_view names.now)) }
-    ensures absent { IsErrOf result Stop.NoFile → LacksNamed (D.told desk.old) (names_view names.now) }
+    ensures yes { IfOk result (λ answer. answer.status ≡ Status.Done → HoldsWhereTold (λ files cert. MeansYes asking.now.inquiry files cert answer.text) (D.told desk.old) (names_view asking.now.names)) }
+    ensures no { IfOk result (λ answer. answer.status ≡ Status.No → HoldsWhereTold (λ files cert. NotAccepted files cert answer.text) (D.told desk.old) (names_view asking.now.names)) }
+    ensures exactly { IfOk result (λ answer. OfNamedFiles (YesExactly answer.status) (D.told desk.old) (names_view asking.now.names)) }
+    ensures absent { IsErrOf result Stop.NoFile → LacksAsked (D.told desk.old) (asking_view asking.now) }
     ensures told { D.told desk.new ≡ D.told desk.old }
     ensures counts { CountsStep result (D.counts desk.old) (D.counts desk.new) }
 {
@@ -65,30 +71,30 @@ fn answer_to_files<D: Desk>(
         files.rates.as_slice(),
         files.prices.as_slice(),
     ) {
-        Ok(case) => answer_to_certificate(alloc, desk, names.cert, &case),
+        Ok(case) => answer_to_certificate(alloc, desk, asking, files, &case),
         Err(CaseError::Refused(refusal)) => Ok(refused(alloc, &refusal)?),
         Err(CaseError::NoMemory) => Err(Stop::NoMemory),
     }
 }
 
-/// The answer of `check` to the files of these names. The input files are read first, in their order, and the
+/// The answer to what is asked of the files of these names. The input files are read first, in their order, and the
 /// certificate only where they give a case. No content changes.
 pub(crate) fn check<D: Desk>(
     alloc: Global,
     desk: &mut D,
-    names: &FileNames<'_>,
+    asking: &Asking<'_>,
 ) -> Result<Answer, Stop>
-    ensures answer { IfOk result (λ answer. FilesAnswer (D.told desk.old) (names_view names.now) answer) }
+    ensures answer { IfOk result (λ answer. FilesAnswer (D.told desk.old) (asking_view asking.now) answer) }
     ensures status { IfOk result (λ answer. IsTrue (is_checked answer.status)) }
-    ensures yes { IfOk result (λ answer. answer.status ≡ Status.Done → HoldsWhereTold (λ files cert. Accepted files cert answer.text) (D.told desk.old) (names_view names.now)) }
-    ensures no { IfOk result (λ answer. answer.status ≡ Status.No → HoldsWhereTold (λ files cert. NotAccepted files cert answer.text) (D.told desk.old) (names_view names.now)) }
-    ensures exactly { IfOk result (λ answer. OfNamedFiles (YesExactly answer.status) (D.told desk.old) (names_view names.now)) }
-    ensures absent { IsErrOf result Stop.NoFile → LacksNamed (D.told desk.old) (names_view names.now) }
+    ensures yes { IfOk result (λ answer. answer.status ≡ Status.Done → HoldsWhereTold (λ files cert. MeansYes asking.now.inquiry files cert answer.text) (D.told desk.old) (names_view asking.now.names)) }
+    ensures no { IfOk result (λ answer. answer.status ≡ Status.No → HoldsWhereTold (λ files cert. NotAccepted files cert answer.text) (D.told desk.old) (names_view asking.now.names)) }
+    ensures exactly { IfOk result (λ answer. OfNamedFiles (YesExactly answer.status) (D.told desk.old) (names_view asking.now.names)) }
+    ensures absent { IsErrOf result Stop.NoFile → LacksAsked (D.told desk.old) (asking_view asking.now) }
     ensures told { D.told desk.new ≡ D.told desk.old }
     ensures counts { CountsStep result (D.counts desk.old) (D.counts desk.new) }
 {
-    match read_inputs(alloc, desk, names)? {
-        Inputs::Within(files) => answer_to_files(alloc, desk, names, &files),
+    match read_inputs(alloc, desk, &asking.names)? {
+        Inputs::Within(files) => answer_to_files(alloc, desk, asking, &files),
         Inputs::TooLong(kind) => Ok(too_long(alloc, kind)?),
     }
 }

@@ -6,6 +6,7 @@ ghost use Rattle.escrow_top.specs.Ending.{IsNoCommand};
 ghost use Rattle.escrow_top.specs.MakeWords.{number_of_word};
 
 use crate::files::FileNames;
+use crate::inquiry::{Asking, Inquiry};
 use crate::making::{MadeNames, Making};
 use itoa::Buffer;
 
@@ -14,8 +15,8 @@ use itoa::Buffer;
 pub(crate) enum Command<'a> {
     /// `structure`, of the files of these names.
     Structure(FileNames<'a>),
-    /// `check`, of the files of these names.
-    Check(FileNames<'a>),
+    /// `check` or `savings`, of the files of these names.
+    Ask(Asking<'a>),
     /// `make`, of the case of a number, in files of these names.
     Make(Making<'a>),
 }
@@ -60,7 +61,16 @@ pub(crate) fn command_of(words: &[String]) -> Option<Command<'_>>
         return Some(Command::Structure(names));
     }
     if word.as_str() == "check" {
-        return Some(Command::Check(names));
+        return Some(Command::Ask(Asking {
+            inquiry: Inquiry::Check,
+            names,
+        }));
+    }
+    if word.as_str() == "savings" {
+        return Some(Command::Ask(Asking {
+            inquiry: Inquiry::Savings,
+            names,
+        }));
     }
     None
 }

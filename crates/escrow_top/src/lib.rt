@@ -7,9 +7,11 @@ mod command;
 mod draft;
 mod files;
 mod hearing;
+mod inquiry;
 mod laws;
 mod making;
 mod program;
+mod savings;
 mod status;
 mod stop;
 mod structure;
@@ -24,6 +26,8 @@ mod bound_tests;
 mod limit_tests;
 #[cfg(test)]
 mod make_tests;
+#[cfg(test)]
+mod savings_tests;
 #[cfg(test)]
 mod structure_tests;
 #[cfg(test)]

@@ -3,29 +3,32 @@
 ghost use Rattle.std.specs.Prelude.{◌≡◌, ◌≢◌, ◌↔◌, map, string_bytes, IfSome, IsTrue, OnErr, OnOk};
 ghost use Rattle.escrow_desk.specs.Content.{SaidAll, SaidPart, told_map};
 ghost use Rattle.escrow_desk.specs.Counts.{AllSteady, CountsWrite};
-ghost use Rattle.escrow_top.specs.Ending.{Answers, AnswersPart, IsAccepted, IsAnswerTo, IsNoCommand, IsNotAccepted, LacksFile, NamedAnswers, NamedAnswersPart, OfFiles, OfNamedFiles, SaidOfFiles, WroteCertificate, is_checked};
-ghost use Rattle.escrow_top.specs.Accepted.{Accepted, YesExactly};
+ghost use Rattle.escrow_top.specs.Ending.{Answers, AnswersPart, AskedAnswers, AskedAnswersPart, IsAccepted, IsAnswerTo, IsNoCommand, IsNotAccepted, IsSaved, LacksFile, MeansYes, OfFiles, OfNamedFiles, SaidOfFiles, WroteCertificate, is_checked};
+ghost use Rattle.escrow_top.specs.Accepted.{YesExactly};
 ghost use Rattle.escrow_top.specs.NotAccepted.{NotAccepted};
-ghost use Rattle.escrow_top.specs.Answer.{check_names, structure_names};
+ghost use Rattle.escrow_top.specs.Answer.{asking_of, structure_names};
 ghost use Rattle.escrow_top.specs.Structure.{IsStructuredDraft, PutsOut, PutsOutPart, Structures, StructuresPart, WroteAccepted, WroteAndSaid, WroteOrSaidPart};
 ghost use Rattle.escrow_top.specs.Settling.{OfCase, SaysReach, SettlesCovered, SettlesPlain};
 ghost use Rattle.escrow_top.specs.MakeWords.{make_words};
 ghost use Rattle.escrow_top.specs.Making.{HasAcceptedText, Makes, MakesPart, OfMadeCase, WroteFilesAndSaid, WroteFilesOrSaidPart, WroteSome, made_files, made_names_view, making_view, named_files, with_files};
-ghost use Rattle.escrow_top.specs.Reading.{LacksInput, LacksNamed, files_view, names_view};
+ghost use Rattle.escrow_top.specs.Reading.{LacksAsked, LacksInput, asking_view, files_view, names_view};
 ghost use Rattle.escrow_top.specs.Stopping.{EndedAs, is_reached, is_structured};
 
 use crate::check::check;
 use crate::command::{Command, command_of};
 use crate::draft::{Draft, Texts};
 use crate::files::{FileNames, InputFiles};
+use crate::inquiry::Asking;
 use crate::making::{MadeDraft, MadeNames, Making, made};
 use crate::status::Status;
 use crate::structure::structure;
 use escrow_desk::{Desk, Failed, say_all, write_all};
 use std::alloc::Global;
 
+// The words of each command; those that came later stand at the end.
 const USAGE: &[u8] =
-    b"usage: structure ISSUE RATES PRICES CERT | check ISSUE RATES PRICES CERT | make NUMBER ISSUE RATES PRICES\n";
+    b"usage: structure ISSUE RATES PRICES CERT | check ISSUE RATES PRICES CERT | make NUMBER ISSUE RATES PRICES \
+    | savings ISSUE RATES PRICES CERT\n";
 
 // Says the text of a status that was reached, and answers the status; `WriteFault` where a call of the desk failed.
 fn say_answer<D: Desk>(desk: &mut D, status: Status, text: &[u8]) -> Status
@@ -42,20 +45,19 @@ fn say_answer<D: Desk>(desk: &mut D, status: Status, text: &[u8]) -> Status
     }
 }
 
-// Carries `check` out on the files of these names.
-fn run_check<D: Desk>(alloc: Global, names: &FileNames<'_>, desk: &mut D) -> Status
-    ensures answers { IsTrue (is_reached result) → NamedAnswers (D.told desk.old) (names_view names.now) result (D.told desk.new) }
-    ensures part { result ≡ Status.WriteFault → NamedAnswersPart (D.told desk.old) (names_view names.now) (D.told desk.new) }
-    ensures lacks { result ≡ Status.NoFile → LacksNamed (D.told desk.old) (names_view names.now) }
+// Answers what is asked of the files of these names.
+fn run_asking<D: Desk>(alloc: Global, asking: &Asking<'_>, desk: &mut D) -> Status
+    ensures answers { IsTrue (is_reached result) → AskedAnswers (D.told desk.old) (asking_view asking.now) result (D.told desk.new) }
+    ensures part { result ≡ Status.WriteFault → AskedAnswersPart (D.told desk.old) (asking_view asking.now) (D.told desk.new) }
+    ensures lacks { result ≡ Status.NoFile → LacksAsked (D.told desk.old) (asking_view asking.now) }
     ensures checked { IsTrue (is_reached result) → IsTrue (is_checked result) }
-    ensures yes { result ≡ Status.Done → SaidOfFiles Accepted (D.told desk.old) (names_view names.now) (D.told desk.new) }
-    ensures no { result ≡ Status.No → SaidOfFiles NotAccepted (D.told desk.old) (names_view names.now) (D.told desk.new) }
-    ensures exactly { IsTrue (is_reached result) → OfNamedFiles (YesExactly result) (D.told desk.old) (names_view names.now) }
-    ensures bytes { AllSteady (D.counts desk.old) (D.counts desk.new) → result ≢ Status.NoMemory → OfNamedFiles (IsAnswerTo (D.told desk.old) result (D.told desk.new)) (D.told desk.old) (names_view names.now) }
-
+    ensures yes { result ≡ Status.Done → SaidOfFiles (MeansYes asking.now.inquiry) (D.told desk.old) (names_view asking.now.names) (D.told desk.new) }
+    ensures no { result ≡ Status.No → SaidOfFiles NotAccepted (D.told desk.old) (names_view asking.now.names) (D.told desk.new) }
+    ensures exactly { IsTrue (is_reached result) → OfNamedFiles (YesExactly result) (D.told desk.old) (names_view asking.now.names) }
+    ensures bytes { AllSteady (D.counts desk.old) (D.counts desk.new) → result ≢ Status.NoMemory → OfNamedFiles (IsAnswerTo (D.told desk.old) result (D.told desk.new) asking.now.inquiry) (D.told desk.old) (names_view asking.now.names) }
     ensures counts { EndedAs result (D.counts desk.old) (D.counts desk.new) (D.told desk.old) (D.told desk.new) }
 {
-    match check(alloc, desk, names) {
+    match check(alloc, desk, asking) {
         Ok(answer) => say_answer(desk, answer.status, answer.text.as_slice()),
         Err(stop) => stop.status(),
     }
@@ -164,12 +166,14 @@ fn run_make<D: Desk>(alloc: Global, making: &Making<'_>, desk: &mut D) -> Status
 /// Carries out the words of a command line, which are those after the program's name, over a desk.
 ///
 /// `check ISSUE RATES PRICES CERT` answers whether the certificate is accepted for the three input files, and says why
-/// or why not. `structure ISSUE RATES PRICES CERT` searches the cheapest permitted purchases, writes their certificate and says
-/// their report; or it writes a certificate which shows that there is no rival, and says so; or it says that the needs can't be
-/// met, or that the budget is spent, with the bound that its tree shows and the best plan. `make NUMBER ISSUE RATES PRICES`
-/// structures the made-up case of a number from 0 to 2^64 - 1, written in decimal digits without a leading zero; it writes the
-/// three files of the case, in this order, and then says the number, the summary of what was found and how many nodes the tree
-/// has, or what `structure` says where it finds no portfolio. All other words are `Usage`.
+/// or why not. `savings ISSUE RATES PRICES CERT` answers the same, and says of an accepted portfolio what the refunding saves in
+/// present value at the restricted yield, and what idle yield costs. `structure ISSUE RATES PRICES CERT` searches the cheapest
+/// permitted purchases, writes their certificate and says their report; or it writes a certificate which shows that there is no
+/// rival, and says so; or it says that the needs can't be met, or that the budget is spent, with the bound that its tree shows and
+/// the best plan. `make NUMBER ISSUE RATES PRICES` structures the made-up case of a number from 0 to 2^64 - 1, written in decimal
+/// digits without a leading zero; it writes the three files of the case, in this order, and then says the number, the summary of
+/// what was found and how many nodes the tree has, or what `structure` says where it finds no portfolio. All other words are
+/// `Usage`.
 ///
 /// It returns for all words and every desk. It writes no file but the certificate of `structure` and the files of `make`, and
 /// all texts are built before. The texts are this project's own.
@@ -196,16 +200,18 @@ pub fn run<D: Desk>(alloc: Global, words: &[String], desk: &mut D) -> Status
     ensures made_reach { IsTrue (is_reached result) → IfSome (make_words (map string_bytes words.now)) (OfMadeCase (SaysReach result)) }
     // What `no` means: which reason stands, and that no earlier one does.
     ensures no { result ≡ Status.No → IsNotAccepted (D.told desk.old) (map string_bytes words.now) (D.told desk.new) }
-    // `yes` comes exactly where no reason stands.
-    ensures exactly { IsTrue (is_reached result) → OfFiles (YesExactly result) (D.told desk.old) (map string_bytes words.now) }
-    // Where no call of the desk failed and memory lasted, `check` of four files that are there says the answer to their bytes.
+    // What `savings` means by its four lines, of the bytes of the four files: they are accepted, and this is what is saved.
+    ensures saved { result ≡ Status.Done → IsSaved (D.told desk.old) (map string_bytes words.now) (D.told desk.new) }
+    // `check` and `savings` end as `Done` exactly where no reason stands.
+    ensures exactly { IsTrue (is_reached result) → OfFiles (λ _. YesExactly result) (D.told desk.old) (map string_bytes words.now) }
+    // Where no call of the desk failed and memory lasted, they say of four files that are there the answer to their bytes.
     ensures bytes { AllSteady (D.counts desk.old) (D.counts desk.new) → result ≢ Status.NoMemory → OfFiles (IsAnswerTo (D.told desk.old) result (D.told desk.new)) (D.told desk.old) (map string_bytes words.now) }
     ensures part { result ≡ Status.WriteFault → AnswersPart (D.told desk.old) (map string_bytes words.now) (D.told desk.new) }
     ensures lacks { result ≡ Status.NoFile → LacksFile (D.told desk.old) (map string_bytes words.now) }
     ensures usage { IsTrue (is_reached result) → ((result ≡ Status.Usage) ↔ IsNoCommand (map string_bytes words.now)) }
     // Whatever the desk tells: which statuses a command comes to.
     ensures structured { IsTrue (is_reached result) → IfSome (structure_names (map string_bytes words.now)) (λ _. IsTrue (is_structured result)) }
-    ensures checked { IsTrue (is_reached result) → IfSome (check_names (map string_bytes words.now)) (λ _. IsTrue (is_checked result)) }
+    ensures checked { IsTrue (is_reached result) → IfSome (asking_of (map string_bytes words.now)) (λ _. IsTrue (is_checked result)) }
     ensures makes { IsTrue (is_reached result) → IfSome (make_words (map string_bytes words.now)) (λ _. IsTrue (is_structured result)) }
     // `make` reads no file.
     ensures no_read { IfSome (make_words (map string_bytes words.now)) (λ _. (result ≡ Status.ReadFault → ⊥) × (result ≡ Status.NoFile → ⊥)) }
@@ -215,7 +221,7 @@ pub fn run<D: Desk>(alloc: Global, words: &[String], desk: &mut D) -> Status
     match command_of(words) {
         None => say_answer(desk, Status::Usage, USAGE),
         Some(Command::Structure(names)) => run_structure(alloc, &names, desk),
-        Some(Command::Check(names)) => run_check(alloc, &names, desk),
+        Some(Command::Ask(asking)) => run_asking(alloc, &asking, desk),
         Some(Command::Make(making)) => run_make(alloc, &making, desk),
     }
 }

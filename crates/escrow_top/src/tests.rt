@@ -25,6 +25,14 @@ pub(crate) const FIRST: Files = Files {
     cert: b"escrow-certificate 1\nportfolio 1\nbuy 1 50\ngap 0\nnodes 1\nl 1 0 1000000000000\nend\n",
 };
 
+/// One need, and one offer that yields too much: a certificate that there is no rival.
+pub(crate) const NO_RIVAL: Files = Files {
+    issue: b"settle,2025-01-15\nneed,2025-07-15,1000.00\nrestricted,3.00\n",
+    rates: b"terms,1000,1000\nrate,2025-02-14,2026-01-15,4.00\noffer,2025-07-15,4.00,,2000\n",
+    prices: b"",
+    cert: b"escrow-certificate 1\nportfolio none\ngap 0\nnodes 1\nl 0 1000000000000 2000000000\nend\n",
+};
+
 const FIRST_TEXT: &[u8] =
     b"yes\ncost 5000.00\nyield 0.00000000 0.00000000\nlimit 4.00100000\ngap 0.00\n";
 
@@ -41,7 +49,8 @@ pub(crate) const CHECK: [&str; 5] = ["check", "i", "r", "p", "c"];
 
 /// What is said to words that are no command.
 pub(crate) const USAGE: &[u8] =
-    b"usage: structure ISSUE RATES PRICES CERT | check ISSUE RATES PRICES CERT | make NUMBER ISSUE RATES PRICES\n";
+    b"usage: structure ISSUE RATES PRICES CERT | check ISSUE RATES PRICES CERT | make NUMBER ISSUE RATES PRICES \
+    | savings ISSUE RATES PRICES CERT\n";
 
 /// A file of a name.
 pub(crate) fn named(alloc: Global, name: &str, bytes: &[u8]) -> Result<NamedBytes, Fail>
@@ -446,8 +455,8 @@ fn refused_rates(rt: HostRuntime) -> Result<(), Fail> {
     Ok(())
 }
 
-// A note on offer, and the need that it pays.
-const NOTE: Files = Files {
+/// A note on offer, and the need that it pays.
+pub(crate) const NOTE: Files = Files {
     issue: b"settle,2025-01-15\nneed,2025-07-15,102000.00\nrestricted,4.00\nallowance,0.01\n",
     rates: b"",
     prices: b"terms,1000,1000\nnote,2025-07-15,4.000,100,200000\n",
@@ -536,12 +545,7 @@ fn yields_and_trees(rt: HostRuntime) -> Result<(), Fail> {
             said: FIRST_TEXT,
         },
         Row {
-            files: Files {
-                issue: b"settle,2025-01-15\nneed,2025-07-15,1000.00\nrestricted,3.00\n",
-                rates: b"terms,1000,1000\nrate,2025-02-14,2026-01-15,4.00\noffer,2025-07-15,4.00,,2000\n",
-                prices: b"",
-                cert: b"escrow-certificate 1\nportfolio none\ngap 0\nnodes 1\nl 0 1000000000000 2000000000\nend\n",
-            },
+            files: NO_RIVAL,
             status: Status::Done,
             said: b"yes none\n",
         },
@@ -733,9 +737,10 @@ fn limits_of_files(rt: HostRuntime) -> Result<(), Fail> {
 
 #[test]
 fn words_that_read_nothing(rt: HostRuntime) -> Result<(), Fail> {
-    let rows: [(&[&str], Status, &[u8]); 3] = [
+    let rows: [(&[&str], Status, &[u8]); 4] = [
         (&[], Status::Usage, USAGE),
         (&["check", "a", "b"], Status::Usage, USAGE),
+        (&["savings", "a", "b", "c"], Status::Usage, USAGE),
         (&["make", "7", "a", "b"], Status::Usage, USAGE),
     ];
     for (words, status, said) in &rows {

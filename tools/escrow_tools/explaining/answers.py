@@ -74,6 +74,8 @@ def explain_run(run: Run) -> list[str]:
 def _done(run: Run) -> list[str]:
     if run.first_line == "yes none":
         return ["accepted: no permitted purchases meet the needs within the yield limit, and the certificate proves it"]
+    if run.command == "savings":
+        return _saved(run)
     try:
         place = 1 if run.first_line == "yes" else [line[:5] for line in run.lines].index("cost ")
         summary = read_summary(run.lines[place : place + 4])
@@ -95,6 +97,30 @@ def _done(run: Run) -> list[str]:
     if run.command == "make":
         lines.append("a made-up case: its files are written, for `./escrow structure` to be tried on; no certificate is")
     return lines
+
+
+def _saved(run: Run) -> list[str]:
+    """The four lines of `savings`: each is a word and two ends, or `none`."""
+    said = dict(line.split(" ", 1) for line in run.lines if " " in line)
+    if not {"old", "new", "saved", "idle"} <= said.keys():
+        return []
+    lines = ["accepted, as by `check`; all values are present values at the restricted yield, on the settlement day"]
+    if said["saved"] == "none":
+        lines.append(
+            "what the refunding saves isn't known, since the restricted yield is given: in its place the issue file may have the "
+            "`price` and the `pay` rows of the refunding issue"
+        )
+    else:
+        lines.append(
+            "without the refunding the old bonds would cost %s more than the new ones do; below 0, they would cost less"
+            % _between(said["saved"])
+        )
+    lines.append("the limit on the yield costs %s (negative arbitrage); below 0, the escrow yields more" % _between(said["idle"]))
+    return lines
+
+
+def _between(ends: str) -> str:
+    return "between %s and %s" % tuple(ends.split(" "))
 
 
 def _usage(run: Run) -> list[str]:

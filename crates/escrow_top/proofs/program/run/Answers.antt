@@ -1,34 +1,47 @@
 use Rattle.std.proofs.Common.{map, string_bytes}
-use Rattle.escrow_top.proofs.ExactLaws.{check_exactly, make_names_none, structure-checks_none, structure_names_none}
-use Rattle.escrow_top.proofs.WordLaws.{make-checks_none, make-structures_none}
+use Rattle.escrow_top.proofs.ExactLaws.{asked_exactly, none_exactly}
+use Rattle.escrow_top.proofs.WordLaws.{make-askings_none, make-checks_none, make-savings_none, make-structures_none, structure-askings_none}
 use Rattle.escrow_top.proofs.program.run.Goals as goal
 
 pub returns-in-Some-Structure-clause-exactly : goal.returns-in-Some-Structure-clause-exactly
-returns-in-Some-Structure-clause-exactly g c = λ reached. structure_names_none _ (g.D.Desk.told c.args.desk.now) (map string_bytes c.args.words.now) _ (rw c.in-Some-Structure.field-0-is at c.in-Some-Structure.ensures)
+returns-in-Some-Structure-clause-exactly g c = λ reached.
+    let is = rw c.in-Some-Structure.field-0-is at c.in-Some-Structure.ensures in
+    none_exactly _ (g.D.Desk.told c.args.desk.now) (map string_bytes c.args.words.now) (structure-askings_none (map string_bytes c.args.words.now) _ is)
 
 pub returns-in-Some-Structure-clause-bytes : goal.returns-in-Some-Structure-clause-bytes
-returns-in-Some-Structure-clause-bytes g c = λ steady lasts. structure_names_none _ (g.D.Desk.told c.args.desk.now) (map string_bytes c.args.words.now) _ (rw c.in-Some-Structure.field-0-is at c.in-Some-Structure.ensures)
+returns-in-Some-Structure-clause-bytes g c = λ steady lasts.
+    let is = rw c.in-Some-Structure.field-0-is at c.in-Some-Structure.ensures in
+    none_exactly _ (g.D.Desk.told c.args.desk.now) (map string_bytes c.args.words.now) (structure-askings_none (map string_bytes c.args.words.now) _ is)
 
-pub returns-in-Some-Check-clause-exactly : goal.returns-in-Some-Check-clause-exactly
-returns-in-Some-Check-clause-exactly g c = λ reached.
-    let is = rw c.in-Some-Check.field-0-is at c.in-Some-Check.ensures in
-    check_exactly _ (g.D.Desk.told c.args.desk.now) (map string_bytes c.args.words.now) _ is.1 (c.run_check.ensures.exactly reached)
+pub returns-in-Some-Ask-clause-exactly : goal.returns-in-Some-Ask-clause-exactly
+returns-in-Some-Ask-clause-exactly g c = λ reached.
+    let is = rw c.in-Some-Ask.field-0-is at c.in-Some-Ask.ensures in
+    asked_exactly _ (g.D.Desk.told c.args.desk.now) (map string_bytes c.args.words.now) _ is.1 (c.run_asking.ensures.exactly reached)
 
 pub returns-in-Some-Structure-clause-checked : goal.returns-in-Some-Structure-clause-checked
 returns-in-Some-Structure-clause-checked g c = λ reached.
     let is = rw c.in-Some-Structure.field-0-is at c.in-Some-Structure.ensures in
-    rw (structure-checks_none (map string_bytes c.args.words.now) _ is) tt
+    rw (structure-askings_none (map string_bytes c.args.words.now) _ is) tt
 
 pub returns-in-Some-Make-clause-exactly : goal.returns-in-Some-Make-clause-exactly
-returns-in-Some-Make-clause-exactly g c = λ reached. make_names_none _ (g.D.Desk.told c.args.desk.now) (map string_bytes c.args.words.now) _ (rw c.in-Some-Make.field-0-is at c.in-Some-Make.ensures)
+returns-in-Some-Make-clause-exactly g c = λ reached.
+    let is = rw c.in-Some-Make.field-0-is at c.in-Some-Make.ensures in
+    none_exactly _ (g.D.Desk.told c.args.desk.now) (map string_bytes c.args.words.now) (make-askings_none (map string_bytes c.args.words.now) _ is)
 
 pub returns-in-Some-Make-clause-bytes : goal.returns-in-Some-Make-clause-bytes
-returns-in-Some-Make-clause-bytes g c = λ steady lasts. make_names_none _ (g.D.Desk.told c.args.desk.now) (map string_bytes c.args.words.now) _ (rw c.in-Some-Make.field-0-is at c.in-Some-Make.ensures)
+returns-in-Some-Make-clause-bytes g c = λ steady lasts.
+    let is = rw c.in-Some-Make.field-0-is at c.in-Some-Make.ensures in
+    none_exactly _ (g.D.Desk.told c.args.desk.now) (map string_bytes c.args.words.now) (make-askings_none (map string_bytes c.args.words.now) _ is)
 
 pub returns-in-Some-Make-clause-yes : goal.returns-in-Some-Make-clause-yes
 returns-in-Some-Make-clause-yes g c = λ done.
     let is = rw c.in-Some-Make.field-0-is at c.in-Some-Make.ensures in
     rw (make-checks_none (map string_bytes c.args.words.now) _ is) tt
+
+pub returns-in-Some-Make-clause-saved : goal.returns-in-Some-Make-clause-saved
+returns-in-Some-Make-clause-saved g c = λ done.
+    let is = rw c.in-Some-Make.field-0-is at c.in-Some-Make.ensures in
+    rw (make-savings_none (map string_bytes c.args.words.now) _ is) tt
 
 pub returns-in-Some-Make-clause-wrote : goal.returns-in-Some-Make-clause-wrote
 returns-in-Some-Make-clause-wrote g c = λ done.

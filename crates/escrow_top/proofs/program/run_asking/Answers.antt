@@ -3,23 +3,23 @@ use Rattle.escrow_desk.specs.Content.{SaidAll}
 use Rattle.escrow_top.specs.Accepted.{YesExactly}
 use Rattle.escrow_top.specs.Answer.{Answer}
 use Rattle.escrow_top.specs.Ending.{OfNamedFiles}
-use Rattle.escrow_top.specs.Reading.{names_view}
-use Rattle.escrow_top.proofs.AnswerLaws.{named_said}
+use Rattle.escrow_top.specs.Reading.{asking_view, names_view}
+use Rattle.escrow_top.proofs.AnswerLaws.{asked_said}
 use Rattle.escrow_top.proofs.ExactLaws.{bytes-answered, reached-where_steady}
-use Rattle.escrow_top.proofs.program.run_check.Goals as goal
+use Rattle.escrow_top.proofs.program.run_asking.Goals as goal
 
 pub returns-in-Ok-clause-exactly : goal.returns-in-Ok-clause-exactly
 returns-in-Ok-clause-exactly g c = λ reached.
-    subst (λ status. OfNamedFiles (YesExactly status) (g.D.Desk.told c.args.desk.now) (names_view c.args.names.now)) (sym (c.say_answer.ensures.status reached ∙ ap (λ (a : Answer). a.status) c.answer.view_is)) c.in-Ok.ensures.exactly
+    subst (λ status. OfNamedFiles (YesExactly status) (g.D.Desk.told c.args.desk.now) (names_view c.args.asking.now.names)) (sym (c.say_answer.ensures.status reached ∙ ap (λ (a : Answer). a.status) c.answer.view_is)) c.in-Ok.ensures.exactly
 
 pub returns-in-Ok-clause-bytes : goal.returns-in-Ok-clause-bytes
 returns-in-Ok-clause-bytes g c = λ steady lasts.
     let told = g.D.Desk.told c.args.desk.now in
     let new = g.D.Desk.told c.say_answer.new.desk in
-    let names = names_view c.args.names.now in
+    let asking = asking_view c.args.asking.now in
     let ended = rw (c.in-Ok.ensures.counts, c.in-Ok.ensures.told) at c.say_answer.ensures.counts in
     let reached = reached-where_steady c.say_answer.result (g.D.Desk.counts c.args.desk.now) (g.D.Desk.counts c.say_answer.new.desk) told new ended steady lasts in
     let text : c.as_slice.result.now ≡ c.in-Ok.answer.text = c.as_slice.ensures.value ∙ ap (λ (a : Answer). a.text) c.answer.view_is in
     let said : SaidAll told c.in-Ok.answer.text new = rw (c.in-Ok.ensures.told, text) at (c.say_answer.ensures.said reached) in
-    bytes-answered told new names c.say_answer.result
-    (named_said told new names c.in-Ok.answer c.say_answer.result c.in-Ok.ensures.answer (c.say_answer.ensures.status reached ∙ ap (λ (a : Answer). a.status) c.answer.view_is) said)
+    bytes-answered told new asking c.say_answer.result
+    (asked_said told new asking c.in-Ok.answer c.say_answer.result c.in-Ok.ensures.answer (c.say_answer.ensures.status reached ∙ ap (λ (a : Answer). a.status) c.answer.view_is) said)

@@ -1,0 +1,19 @@
+//! What is asked of a certificate.
+
+use crate::files::FileNames;
+
+/// What is asked of a certificate. Each says why it isn't accepted, and that there is no rival, in the same words.
+#[derive(Clone, Copy)]
+pub(crate) enum Inquiry {
+    /// `check`: the summary of its portfolio.
+    Check,
+    /// `savings`: what its portfolio saves, and what idle yield costs.
+    Savings,
+}
+
+/// What is asked, of the files of these names.
+#[derive(Clone, Copy)]
+pub(crate) struct Asking<'a> {
+    pub inquiry: Inquiry,
+    pub names: FileNames<'a>,
+}

@@ -1,0 +1,91 @@
+//! Whole runs of `savings` over a desk in memory. Present values were worked out apart, by exact decimals of 80 places.
+
+use crate::Status;
+use crate::tests::{FIRST, Files, NO_RIVAL, NOTE, outcome_of};
+use std::test::Fail;
+
+// The words of `savings`.
+const SAVINGS: [&str; 5] = ["savings", "i", "r", "p", "c"];
+
+// What `savings` answers to four files.
+#[derive(Clone, Copy)]
+struct Row {
+    files: Files,
+    status: Status,
+    said: &'static [u8],
+}
+
+#[test]
+fn what_is_saved(rt: HostRuntime) -> Result<(), Fail> {
+    let rows = [
+        Row {
+            files: Files {
+                issue: b"settle,2025-01-15\nbond,2025-07-15,100000.00,4.000\nrestricted,4.00\nallowance,0.01\n",
+                ..NOTE
+            },
+            status: Status::Done,
+            said: b"old 99999.99 100000.01\nnew none\nsaved none\nidle -0.01 0.01\n",
+        },
+        Row {
+            files: Files {
+                issue: b"settle,2025-01-15\nbond,2025-07-15,100000.00,4.000\nprice,100000.00\n\
+                    pay,2025-07-15,102000.00\nallowance,0.01\n",
+                ..NOTE
+            },
+            status: Status::Done,
+            said: b"old 100000.00 100000.01\nnew 100000.00 100000.01\nsaved -0.01 0.01\nidle -0.01 0.00\n",
+        },
+        // No bonds, and securities without interest.
+        Row {
+            files: FIRST,
+            status: Status::Done,
+            said: b"old 0.00 0.00\nnew none\nsaved none\nidle 49.26 49.27\n",
+        },
+        Row {
+            files: NO_RIVAL,
+            status: Status::Done,
+            said: b"yes none\n",
+        },
+        Row {
+            files: Files {
+                cert: b"escrow-certificate 1\nportfolio 1\nbuy 1 9\ngap 0\nnodes 1\nl 1 0 1000000000000\nend\n",
+                ..FIRST
+            },
+            status: Status::No,
+            said: b"no NotPermitted 1\n",
+        },
+        Row {
+            files: Files {
+                rates: b"terms,1000,x\n",
+                ..FIRST
+            },
+            status: Status::Refused,
+            said: b"refused rates row 1 BadNumber\n",
+        },
+    ];
+    for (place, row) in rows.iter().enumerate() {
+        let ran = outcome_of(rt.alloc(), &SAVINGS, &row.files, u64::MAX)?;
+        assert_eq!(rt; ran.status, row.status, "row {place}");
+        assert_eq!(rt; ran.desk.said(), row.said, "row {place}");
+    }
+    Ok(())
+}
+
+#[test]
+fn each_call_of_savings_fails_in_turn(rt: HostRuntime) -> Result<(), Fail> {
+    for failing in 0..8 {
+        let ran = outcome_of(rt.alloc(), &SAVINGS, &NOTE, failing)?;
+        let status = if failing < 7 {
+            Status::ReadFault
+        } else {
+            Status::WriteFault
+        };
+        assert_eq!(rt; ran.status, status);
+        assert_eq!(rt; ran.desk.said(), b"".as_slice());
+        assert_eq!(rt; ran.desk.calls(), failing + 1);
+    }
+    let lacking = outcome_of(rt.alloc(), &["savings", "i", "r", "none", "c"], &NOTE, 8)?;
+    assert_eq!(rt; lacking.status, Status::NoFile);
+    assert_eq!(rt; lacking.desk.said(), b"".as_slice());
+    Ok(())
+}
