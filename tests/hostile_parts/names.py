@@ -13,6 +13,7 @@ FAULTY_WORDS = (
     ["check", *INPUTS],
     ["check", *NAMES, "more"],
     ["savings", *NAMES, "more"],
+    ["cap", *NAMES, "more"],
     ["Check", *NAMES],
     ["check ", *NAMES],
     ["", *NAMES],

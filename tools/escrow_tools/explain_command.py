@@ -37,7 +37,7 @@ def _names(words: list[str]) -> dict:
     """The names of a command's files; of words that are no command none."""
     if len(words) != 5:
         return {}
-    if words[0] in ("check", "savings", "structure"):
+    if words[0] in ("cap", "check", "savings", "structure"):
         return dict(zip(PLACES, words[1:]))
     return dict(zip(PLACES, words[2:])) if words[0] == "make" else {}
 
@@ -68,7 +68,7 @@ def run_explained(words: list[str]) -> int:
     data = _data(words[0], names) if names else {}
     old_certificate = CERT in names and os.path.isfile(names[CERT])
     running = subprocess.Popen([program.program_path()] + words, stdout=subprocess.PIPE)
-    if names and words[0] == "structure":
+    if names and words[0] in ("cap", "structure"):
         # What it says is small but for a report, which comes at the very end.
         _tell_totals(running, data)
     said = wait_for(running)[0]

@@ -8,12 +8,13 @@ use Rattle.escrow_desk.specs.declared.refusal.RefusalKind.TheVariants as too_lon
 use Rattle.row_fields.specs.RowForm.{refusal_of}
 use Rattle.escrow_top.specs.InputFiles.{InputFiles, FileNames, first_too_long, inputs_of}
 use Rattle.case_file.specs.Case.{CaseContents, IsKept, rows_case}
-use Rattle.escrow_top.specs.Answer.{Answer, Asking, answer_for, answer_to, asked_answer, asking_of, case_answer, case_of, check_names, portfolio_text, refused, savings_names, structure_names, usage, usage_text}
+use Rattle.escrow_top.specs.Answer.{Answer, Asking, answer_for, answer_to, asked_answer, asking_of, cap_names, case_answer, case_of, check_names, portfolio_text, refused, savings_names, structure_names, usage, usage_text}
 use Rattle.escrow_top.specs.Accepted.{Accepted}
 use Rattle.escrow_top.specs.NotAccepted.{NotAccepted}
 use Rattle.escrow_top.specs.Saved.{Saved}
 use Rattle.escrow_top.specs.Ending.{Answers, AnswersPart, AskedAnswers, AskedAnswersPart, HoldsWhereTold, IsAccepted, IsNotAccepted, IsNoCommand, IsSaved, LacksFile, MeansYes, SaidOfFiles}
 use Rattle.escrow_top.specs.MakeWords.{Making, make_words}
+use Rattle.escrow_top.specs.Capping.{Caps, CapsPart}
 use Rattle.escrow_top.specs.Making.{Makes, MakesPart}
 use Rattle.escrow_top.specs.Structure.{Structures, StructuresPart}
 use Rattle.escrow_top.specs.CaseOf.{AreWithin}
@@ -28,7 +29,7 @@ use Rattle.escrow_top.proofs.CaseLaws.{given}
 use Rattle.escrow_top.proofs.NotAcceptedLaws.{not_accepted}
 use Rattle.escrow_top.specs.declared.stop.Stop.{Stop}
 use Rattle.escrow_top.proofs.InputFacts.{read-all, rows_alone}
-use Rattle.escrow_top.proofs.WordLaws.{asking-makes_none, asks_of, check-asks, one-asking, savings-asks, structure-makes_none}
+use Rattle.escrow_top.proofs.WordLaws.{asking-caps_none, asking-makes_none, asks_of, cap-makes_none, check-asks, one-asking, savings-asks, structure-caps_none, structure-makes_none}
 
 answered : (found : Option (List ℕ)) (to_bytes : List ℕ → Answer) (answer : Answer) → IsSomeAnd found (λ file. answer ≡ to_bytes file) → option_and_then (λ cert. Some (to_bytes cert)) found ≡ Some answer
 answered None to_bytes answer said = absurd said
@@ -134,35 +135,45 @@ no_command words content none =
 
 -- the usage was said to words that are no command
 pub usage_said : (told new : Told) (words : List (List ℕ)) → IsNoCommand words → SaidAll told usage_text new → Answers told words status.Usage new
-usage_said None new words none said = rw (none.no_make, none.no_structure) said
-usage_said (Some content) new words none said = rw (none.no_make, none.no_structure, no_command words content none) (refl, said)
+usage_said None new words none said = rw (none.no_make, none.no_cap, none.no_structure) said
+usage_said (Some content) new words none said = rw (none.no_make, none.no_cap, none.no_structure, no_command words content none) (refl, said)
 
 pub usage_said_part : (told new : Told) (words : List (List ℕ)) → IsNoCommand words → SaidPart told usage_text new → AnswersPart told words new
-usage_said_part None new words none part = rw (none.no_make, none.no_structure) part.said
-usage_said_part (Some content) new words none part = rw (none.no_make, none.no_structure, no_command words content none) part
+usage_said_part None new words none part = rw (none.no_make, none.no_cap, none.no_structure) part.said
+usage_said_part (Some content) new words none part = rw (none.no_make, none.no_cap, none.no_structure, no_command words content none) part
 
 -- what was said to what is asked of named files was said to the words that ask it
 pub ask_said : (told new : Told) (words : List (List ℕ)) (asking : Asking) (status : Status) → structure_names words ≡ None → asking_of words ≡ Some asking → AskedAnswers told asking status new → Answers told words status new
-ask_said None new words asking status other is said = rw (asking-makes_none words asking is, other) said
-ask_said (Some content) new words asking status other is said = rw (asking-makes_none words asking is, other, is) said
+ask_said None new words asking status other is said = rw (asking-makes_none words asking is, asking-caps_none words asking is, other) said
+ask_said (Some content) new words asking status other is said = rw (asking-makes_none words asking is, asking-caps_none words asking is, other, is) said
 
 pub ask_said_part : (told new : Told) (words : List (List ℕ)) (asking : Asking) → structure_names words ≡ None → asking_of words ≡ Some asking → AskedAnswersPart told asking new → AnswersPart told words new
-ask_said_part None new words asking other is part = rw (asking-makes_none words asking is, other) part
-ask_said_part (Some content) new words asking other is part = rw (asking-makes_none words asking is, other, is) part
+ask_said_part None new words asking other is part = rw (asking-makes_none words asking is, asking-caps_none words asking is, other) part
+ask_said_part (Some content) new words asking other is part = rw (asking-makes_none words asking is, asking-caps_none words asking is, other, is) part
 
 pub ask_lacks : (told : Told) (words : List (List ℕ)) (asking : Asking) → structure_names words ≡ None → asking_of words ≡ Some asking → LacksAsked told asking → LacksFile told words
-ask_lacks None words asking other is lacks = rw (asking-makes_none words asking is, other) tt
-ask_lacks (Some content) words asking other is lacks = rw (asking-makes_none words asking is, other, is) lacks
+ask_lacks None words asking other is lacks = rw (asking-makes_none words asking is, asking-caps_none words asking is, other) tt
+ask_lacks (Some content) words asking other is lacks = rw (asking-makes_none words asking is, asking-caps_none words asking is, other, is) lacks
 
 -- what was put out for named files was put out to the words of `structure`
 pub structure_put_out : (told new : Told) (words : List (List ℕ)) (names : FileNames) (status : Status) → structure_names words ≡ Some names → Structures told names status new → Answers told words status new
-structure_put_out told new words names status is put = rw (structure-makes_none words names is, is) put
+structure_put_out told new words names status is put = rw (structure-makes_none words names is, structure-caps_none words names is, is) put
 
 pub structure_put_out_part : (told new : Told) (words : List (List ℕ)) (names : FileNames) → structure_names words ≡ Some names → StructuresPart told names new → AnswersPart told words new
-structure_put_out_part told new words names is part = rw (structure-makes_none words names is, is) part
+structure_put_out_part told new words names is part = rw (structure-makes_none words names is, structure-caps_none words names is, is) part
 
 pub structure_lacks : (told : Told) (words : List (List ℕ)) (names : FileNames) → structure_names words ≡ Some names → LacksInput told names → LacksFile told words
-structure_lacks told words names is lacks = rw (structure-makes_none words names is, is) lacks
+structure_lacks told words names is lacks = rw (structure-makes_none words names is, structure-caps_none words names is, is) lacks
+
+-- the same of `cap`
+pub cap_put_out : (told new : Told) (words : List (List ℕ)) (names : FileNames) (status : Status) → cap_names words ≡ Some names → Caps told names status new → Answers told words status new
+cap_put_out told new words names status is put = rw (cap-makes_none words names is, is) put
+
+pub cap_put_out_part : (told new : Told) (words : List (List ℕ)) (names : FileNames) → cap_names words ≡ Some names → CapsPart told names new → AnswersPart told words new
+cap_put_out_part told new words names is part = rw (cap-makes_none words names is, is) part
+
+pub cap_lacks : (told : Told) (words : List (List ℕ)) (names : FileNames) → cap_names words ≡ Some names → LacksInput told names → LacksFile told words
+cap_lacks told words names is lacks = rw (cap-makes_none words names is, is) lacks
 
 -- what was put out for a number was put out to the words of `make`
 pub make_put_out : (told new : Told) (words : List (List ℕ)) (making : Making) (status : Status) → make_words words ≡ Some making → Makes told making status new → Answers told words status new

@@ -9,6 +9,7 @@ pub mod AnswerLaws
 pub mod ExactLaws
 pub mod HearingFacts
 pub mod StructureLaws
+pub mod CappingLaws
 pub mod MakingLaws
 pub mod CertificateSize
 pub mod YieldFacts

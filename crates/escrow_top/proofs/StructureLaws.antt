@@ -27,7 +27,7 @@ use Rattle.escrow_top.specs.InputFiles.{FileNames, InputFiles, inputs_of}
 use Rattle.escrow_top.specs.Covered.{CoversPortfolios, CoversTree, IsCovered}
 use Rattle.escrow_top.specs.Settling.{OfCase, SaysReach, SettlesCovered, SettlesPlain}
 use Rattle.escrow_top.specs.Stopping.{is_reached, is_structured, is_unfound}
-use Rattle.escrow_top.specs.Structure.{FindsPlain, FindsPlainFor, IsAcceptedDraft, IsAcceptedFor, IsDraft, IsDraftFor, IsDraftOf, IsEnd, IsFoundDraft, IsPartPutOut, IsPutOut, IsStructuredDraft, PutsOut, PutsOutPart, Structures, StructuresPart, WroteAccepted, WroteOrSaidPart, accepted_none, accepted_with, budget_spent, infeasible}
+use Rattle.escrow_top.specs.Structure.{FindsPlain, FindsPlainFor, IsAcceptedDraft, IsAcceptedFor, IsDraft, IsDraftFor, IsDraftOf, IsEnd, IsFoundDraft, IsPartPutOut, IsPutOut, IsShortFrom, IsStructuredDraft, PutsOut, PutsOutPart, Structures, StructuresPart, WroteAccepted, WroteOrSaidPart, accepted_none, accepted_with, budget_spent, infeasible}
 use Rattle.escrow_top.proofs.AcceptedLaws.{accepted_text}
 use Rattle.escrow_top.proofs.InputFacts.{read-all}
 use Rattle.escrow_top.specs.CaseOf.{AreWithin, GiveCase}
@@ -169,13 +169,13 @@ says_reach told new names d reached is put = of_case (SaysReach reached) told na
 pub spent_end : (case : CaseContents) (spent : Spent) (answer : Answer) → PartsAreWithin → PartsAreFew → IsBook case.book → IsSpent case spent → answer ≡ budget_spent case.book spent → IsEnd case answer
 spent_end case spent answer within few limits is said = inr (record { spent = spent; is_spent = is; uncovered = uncovered case spent within few limits is; is_answer = said })
 
+-- where all that is permitted is short, this is the first day of it
+pub short_from : (case : CaseContents) (day : ℤ) → IsBook case.book → EndsOf case (Short day) → IsShortFrom case day
+short_from case day limits is = record { first = rw is.0 at (first_short_is case.book (plan_of_most case.book) limits.needs.rising); all_short = is.1 }
+
 -- and needs that can't be met
 pub short_end : (case : CaseContents) (day : ℤ) (answer : Answer) → IsBook case.book → EndsOf case (Short day) → answer ≡ infeasible day → IsEnd case answer
-short_end case day answer limits is said = inl (record {
-  day = day;
-  short = record { first = rw is.0 at (first_short_is case.book (plan_of_most case.book) limits.needs.rising); all_short = is.1 };
-  is_answer = said;
-})
+short_end case day answer limits is said = inl (record { day = day; short = short_from case day limits is; is_answer = said })
 
 -- ---- what holds of files that were read holds of those of their names
 pub draft_for : (told : Told) (names : FileNames) (texts : InputFiles) (d : Draft) → AreRead told names texts → AreWithin texts → IsDraft (case_of texts) d → IsDraftFor told names d
@@ -233,7 +233,7 @@ none_told : (name text : List ℕ) (new : Told) → WrotePart None name text new
 none_told name text new (inl same) = same
 none_told name text new (inr prefix) = prefix.wrote
 
-part_untold : (name cert said : List ℕ) (new : Told) → WroteOrSaidPart None name cert said new → new ≡ None
+pub part_untold : (name cert said : List ℕ) (new : Told) → WroteOrSaidPart None name cert said new → new ≡ None
 part_untold name cert said new (inl part) = none_told name cert new part
 part_untold name cert said new (inr part) = part.said
 

@@ -4,7 +4,7 @@ use Rattle.std.specs.Prelude.{codes, option_map}
 use Rattle.std.specs.Bool.{then_some}
 use lib.ListN.{get_or}
 use lib.Pointwise.{pointwise, bytes_decides}
-use Rattle.escrow_top.specs.Answer.{Asking, asking_of, check_names, names_behind, savings_names, structure_names}
+use Rattle.escrow_top.specs.Answer.{Asking, asking_of, cap_names, check_names, names_behind, savings_names, structure_names}
 use Rattle.escrow_top.specs.Ending.{IsNoCommand}
 use Rattle.escrow_top.specs.InputFiles.{FileNames}
 use Rattle.escrow_top.specs.MakeWords.{Making, make_words, making_of, number_of_word}
@@ -93,6 +93,35 @@ structure-savings_none words names is = names-apart (codes "structure") (codes "
 pub structure-askings_none : (words : List (List ℕ)) (names : FileNames) → structure_names words ≡ Some names → asking_of words ≡ None
 structure-askings_none words names is = no-asking words (structure-checks_none words names is) (structure-savings_none words names is)
 
+-- ---- the words of `cap`
+pub make-caps_none : (words : List (List ℕ)) (making : Making) → make_words words ≡ Some making → cap_names words ≡ None
+make-caps_none words making is = make-no_names (codes "cap") words making refl is
+
+pub cap-makes_none : (words : List (List ℕ)) (names : FileNames) → cap_names words ≡ Some names → make_words words ≡ None
+cap-makes_none words names is = names-no_make (codes "cap") words names refl is
+
+pub structure-caps_none : (words : List (List ℕ)) (names : FileNames) → structure_names words ≡ Some names → cap_names words ≡ None
+structure-caps_none words names is = names-apart (codes "structure") (codes "cap") words names refl is
+
+pub cap-structures_none : (words : List (List ℕ)) (names : FileNames) → cap_names words ≡ Some names → structure_names words ≡ None
+cap-structures_none words names is = names-apart (codes "cap") (codes "structure") words names refl is
+
+pub cap-checks_none : (words : List (List ℕ)) (names : FileNames) → cap_names words ≡ Some names → check_names words ≡ None
+cap-checks_none words names is = names-apart (codes "cap") (codes "check") words names refl is
+
+pub cap-savings_none : (words : List (List ℕ)) (names : FileNames) → cap_names words ≡ Some names → savings_names words ≡ None
+cap-savings_none words names is = names-apart (codes "cap") (codes "savings") words names refl is
+
+pub cap-askings_none : (words : List (List ℕ)) (names : FileNames) → cap_names words ≡ Some names → asking_of words ≡ None
+cap-askings_none words names is = no-asking words (cap-checks_none words names is) (cap-savings_none words names is)
+
+pub asking-caps_none : (words : List (List ℕ)) (asking : Asking) → asking_of words ≡ Some asking → cap_names words ≡ None
+asking-caps_none words asking is = by (cap_names words) refl
+  where
+    by : (found : Option FileNames) → cap_names words ≡ found → found ≡ None
+    by None e = refl
+    by (Some names) e = let none = cap-askings_none words names e in absurd (cc)
+
 -- words that are no command ask nothing
 pub no_command-asks_none : (words : List (List ℕ)) → IsNoCommand words → asking_of words ≡ None
 no_command-asks_none words none = no-asking words none.no_check none.no_savings
@@ -106,6 +135,7 @@ no_number word number issue rates prices is none =
       no_check = other-word (codes "make") (codes "check") word names refl (sym is);
       no_make = rw (sym is, none) refl;
       no_savings = other-word (codes "make") (codes "savings") word names refl (sym is);
+      no_cap = other-word (codes "make") (codes "cap") word names refl (sym is);
     }
 
 -- the same of strings

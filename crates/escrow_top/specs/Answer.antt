@@ -158,6 +158,7 @@ abbrev pub usage_words : List ℕ
 usage_words =
     codes "structure ISSUE RATES PRICES CERT | check ISSUE RATES PRICES CERT | make NUMBER ISSUE RATES PRICES"
     ++ codes " | savings ISSUE RATES PRICES CERT"
+    ++ codes " | cap ISSUE RATES PRICES CERT"
 
 abbrev pub usage_text : List ℕ
 usage_text = text_line (codes "usage: ") usage_words
@@ -183,6 +184,10 @@ structure_names words = names_behind (codes "structure") words
 abbrev pub savings_names : List (List ℕ) → Option FileNames
 savings_names words = names_behind (codes "savings") words
 
+-- the names that the words `cap ISSUE RATES PRICES CERT` give
+abbrev pub cap_names : List (List ℕ) → Option FileNames
+cap_names words = names_behind (codes "cap") words
+
 -- what words ask of a certificate
 abbrev pub asks : Inquiry → Option FileNames → Option Asking
 asks inquiry names = option_map (λ names. record { inquiry = inquiry; names = names }) names
@@ -194,6 +199,6 @@ abbrev pub answer_to_asking : Content → Option Asking → Option Answer
 answer_to_asking content None = Some usage
 answer_to_asking content (Some asking) = asked_answer content asking
 
--- the answer to words that aren't those of `structure` or `make`; None where a file that is read isn't there
+-- the answer to words that aren't those of `structure`, `cap` or `make`; None where a file that is read isn't there
 abbrev pub answer_to : List (List ℕ) → Content → Option Answer
 answer_to words content = answer_to_asking content (asking_of words)

@@ -5,7 +5,9 @@ use Rattle.escrow_top.specs.Accepted.{Accepted}
 use Rattle.escrow_top.specs.NotAccepted.{NotAccepted}
 use Rattle.escrow_top.specs.Saved.{Saved}
 use Rattle.escrow_top.specs.InputFiles.{InputFiles, FileNames}
-use Rattle.escrow_top.specs.Answer.{Answer, Asking, answer_to, asked_answer, asking_of, check_names, files_answer, savings_names, structure_names}
+use Rattle.escrow_top.specs.Answer.{Answer, Asking, answer_to, asked_answer, asking_of, cap_names, check_names, files_answer, savings_names, structure_names}
+use Rattle.escrow_top.specs.Capped.{WroteCapped}
+use Rattle.escrow_top.specs.Capping.{Caps, CapsPart}
 use Rattle.escrow_top.specs.MakeWords.{Making, make_words}
 use Rattle.escrow_top.specs.Making.{Makes, MakesPart}
 use Rattle.escrow_top.specs.Reading.{AreThere, LacksInput}
@@ -55,16 +57,21 @@ AskedAnswersPart None asking new = new ≡ None
 AskedAnswersPart (Some content) asking new = IsSaidPart content (asked_answer content asking) new
 
 -- the status, and what stands then, are the answer to the words over the content that the desk tells, where they aren't those of
--- `make`. Only `structure` writes a file
+-- `make` or `cap`. Only `structure` writes a file
 abbrev pub AnswersBy : Option FileNames → Told → List (List ℕ) → Status → Told → Type 0
 AnswersBy (Some names) told words status new = Structures told names status new
 AnswersBy None None words status new = new ≡ None
 AnswersBy None (Some content) words status new = IsSaid content (answer_to words content) status new
 
+-- the same where they may be those of `cap`, which writes one too
+abbrev pub AnswersFor : Option FileNames → Told → List (List ℕ) → Status → Told → Type 0
+AnswersFor (Some names) told words status new = Caps told names status new
+AnswersFor None told words status new = AnswersBy (structure_names words) told words status new
+
 -- the same of all words: `make` reads no file, and writes three
 abbrev pub AnswersOf : Option Making → Told → List (List ℕ) → Status → Told → Type 0
 AnswersOf (Some making) told words status new = Makes told making status new
-AnswersOf None told words status new = AnswersBy (structure_names words) told words status new
+AnswersOf None told words status new = AnswersFor (cap_names words) told words status new
 
 abbrev pub Answers : Told → List (List ℕ) → Status → Told → Type 0
 Answers told words status new = AnswersOf (make_words words) told words status new
@@ -75,9 +82,13 @@ AnswersPartBy (Some names) told words new = StructuresPart told names new
 AnswersPartBy None None words new = new ≡ None
 AnswersPartBy None (Some content) words new = IsSaidPart content (answer_to words content) new
 
+abbrev pub AnswersPartFor : Option FileNames → Told → List (List ℕ) → Told → Type 0
+AnswersPartFor (Some names) told words new = CapsPart told names new
+AnswersPartFor None told words new = AnswersPartBy (structure_names words) told words new
+
 abbrev pub AnswersPartOf : Option Making → Told → List (List ℕ) → Told → Type 0
 AnswersPartOf (Some making) told words new = MakesPart told making new
-AnswersPartOf None told words new = AnswersPartBy (structure_names words) told words new
+AnswersPartOf None told words new = AnswersPartFor (cap_names words) told words new
 
 abbrev pub AnswersPart : Told → List (List ℕ) → Told → Type 0
 AnswersPart told words new = AnswersPartOf (make_words words) told words new
@@ -88,10 +99,14 @@ LacksFileBy (Some names) told words = LacksInput told names
 LacksFileBy None None words = Unit {0}
 LacksFileBy None (Some content) words = answer_to words content ≡ None
 
+abbrev pub LacksFileFor : Option FileNames → Told → List (List ℕ) → Type 0
+LacksFileFor (Some names) told words = LacksInput told names
+LacksFileFor None told words = LacksFileBy (structure_names words) told words
+
 -- `make` reads none
 abbrev pub LacksFileOf : Option Making → Told → List (List ℕ) → Type 0
 LacksFileOf (Some making) told words = ⊥
-LacksFileOf None told words = LacksFileBy (structure_names words) told words
+LacksFileOf None told words = LacksFileFor (cap_names words) told words
 
 abbrev pub LacksFile : Told → List (List ℕ) → Type 0
 LacksFile told words = LacksFileOf (make_words words) told words
@@ -102,6 +117,7 @@ pub record IsNoCommand (words : List (List ℕ)) : Type 0 where
   pub no_check : check_names words ≡ None
   pub no_make : make_words words ≡ None
   pub no_savings : savings_names words ≡ None
+  pub no_cap : cap_names words ≡ None
 
 -- the four files of these names are there, and this holds of their bytes
 abbrev pub HoldsOfFiles : (InputFiles → List ℕ → Type 0) → Content → FileNames → Type 0
@@ -157,3 +173,7 @@ IsNotAccepted told words new = IsSomeAnd (asking_of words) (λ asking. SaidOfFil
 abbrev pub MeansYes : Inquiry → InputFiles → List ℕ → List ℕ → Type 0
 MeansYes inquiry.Check = Accepted
 MeansYes inquiry.Savings = Saved
+
+-- where they are those of `cap`: what is so of the certificate that was written
+abbrev pub IsCapped : Told → List (List ℕ) → Told → Type 0
+IsCapped told words new = IfSome (cap_names words) (WroteCapped told new)

@@ -15,6 +15,8 @@ use itoa::Buffer;
 pub(crate) enum Command<'a> {
     /// `structure`, of the files of these names.
     Structure(FileNames<'a>),
+    /// `cap`, of the files of these names.
+    Cap(FileNames<'a>),
     /// `check` or `savings`, of the files of these names.
     Ask(Asking<'a>),
     /// `make`, of the case of a number, in files of these names.
@@ -59,6 +61,9 @@ pub(crate) fn command_of(words: &[String]) -> Option<Command<'_>>
     };
     if word.as_str() == "structure" {
         return Some(Command::Structure(names));
+    }
+    if word.as_str() == "cap" {
+        return Some(Command::Cap(names));
     }
     if word.as_str() == "check" {
         return Some(Command::Ask(Asking {

@@ -2,6 +2,7 @@
 #![tactic(auto)]
 
 mod answer;
+mod capping;
 mod check;
 mod command;
 mod draft;
@@ -22,6 +23,8 @@ pub use status::Status;
 
 #[cfg(test)]
 mod bound_tests;
+#[cfg(test)]
+mod cap_tests;
 #[cfg(test)]
 mod limit_tests;
 #[cfg(test)]

@@ -3,10 +3,12 @@
 ghost use Rattle.std.specs.Prelude.{◌≡◌, ◌≢◌, ◌↔◌, map, string_bytes, IfSome, IsTrue, OnErr, OnOk};
 ghost use Rattle.escrow_desk.specs.Content.{SaidAll, SaidPart, told_map};
 ghost use Rattle.escrow_desk.specs.Counts.{AllSteady, CountsWrite};
-ghost use Rattle.escrow_top.specs.Ending.{Answers, AnswersPart, AskedAnswers, AskedAnswersPart, IsAccepted, IsAnswerTo, IsNoCommand, IsNotAccepted, IsSaved, LacksFile, MeansYes, OfFiles, OfNamedFiles, SaidOfFiles, WroteCertificate, is_checked};
+ghost use Rattle.escrow_top.specs.Ending.{Answers, AnswersPart, AskedAnswers, AskedAnswersPart, IsAccepted, IsAnswerTo, IsCapped, IsNoCommand, IsNotAccepted, IsSaved, LacksFile, MeansYes, OfFiles, OfNamedFiles, SaidOfFiles, WroteCertificate, is_checked};
 ghost use Rattle.escrow_top.specs.Accepted.{YesExactly};
 ghost use Rattle.escrow_top.specs.NotAccepted.{NotAccepted};
-ghost use Rattle.escrow_top.specs.Answer.{asking_of, structure_names};
+ghost use Rattle.escrow_top.specs.Answer.{asking_of, cap_names, structure_names};
+ghost use Rattle.escrow_top.specs.Capped.{SaysNoCap, WroteCapped};
+ghost use Rattle.escrow_top.specs.Capping.{Caps, CapsPart, IsCapEnded, PutsOutCap, PutsOutCapPart};
 ghost use Rattle.escrow_top.specs.Structure.{IsStructuredDraft, PutsOut, PutsOutPart, Structures, StructuresPart, WroteAccepted, WroteAndSaid, WroteOrSaidPart};
 ghost use Rattle.escrow_top.specs.Settling.{OfCase, SaysReach, SettlesCovered, SettlesPlain};
 ghost use Rattle.escrow_top.specs.MakeWords.{make_words};
@@ -14,6 +16,7 @@ ghost use Rattle.escrow_top.specs.Making.{HasAcceptedText, Makes, MakesPart, OfM
 ghost use Rattle.escrow_top.specs.Reading.{LacksAsked, LacksInput, asking_view, files_view, names_view};
 ghost use Rattle.escrow_top.specs.Stopping.{EndedAs, is_reached, is_structured};
 
+use crate::capping::{CapDraft, cap};
 use crate::check::check;
 use crate::command::{Command, command_of};
 use crate::draft::{Draft, Texts};
@@ -28,7 +31,7 @@ use std::alloc::Global;
 // The words of each command; those that came later stand at the end.
 const USAGE: &[u8] =
     b"usage: structure ISSUE RATES PRICES CERT | check ISSUE RATES PRICES CERT | make NUMBER ISSUE RATES PRICES \
-    | savings ISSUE RATES PRICES CERT\n";
+    | savings ISSUE RATES PRICES CERT | cap ISSUE RATES PRICES CERT\n";
 
 // Says the text of a status that was reached, and answers the status; `WriteFault` where a call of the desk failed.
 fn say_answer<D: Desk>(desk: &mut D, status: Status, text: &[u8]) -> Status
@@ -96,6 +99,21 @@ fn put_out<D: Desk>(desk: &mut D, name: &str, draft: &Draft) -> Status
     }
 }
 
+// Puts out what `cap` drew up: the texts of an escrow at a cap, or what is said alone.
+fn put_out_cap<D: Desk>(desk: &mut D, name: &str, draft: &CapDraft) -> Status
+    requires { IsCapEnded draft.now }
+    ensures structured { IsTrue (is_reached result) → IsTrue (is_structured result) }
+    ensures whole { IsTrue (is_reached result) → PutsOutCap (D.told desk.old) name.now draft.now result (D.told desk.new) }
+    ensures part { result ≡ Status.WriteFault → PutsOutCapPart (D.told desk.old) name.now draft.now (D.told desk.new) }
+    ensures no_other { (result ≡ Status.ReadFault → ⊥) × (result ≡ Status.NoFile → ⊥) × (result ≡ Status.NoMemory → ⊥) }
+    ensures counts { EndedAs result (D.counts desk.old) (D.counts desk.new) (D.told desk.old) (D.told desk.new) }
+{
+    match draft {
+        CapDraft::Found(texts) => put_out_texts(desk, name, Status::Done, texts),
+        CapDraft::Said(answer) => say_answer(desk, answer.status, answer.text.as_slice()),
+    }
+}
+
 // Carries `structure` out on the files of these names.
 fn run_structure<D: Desk>(alloc: Global, names: &FileNames<'_>, desk: &mut D) -> Status
     ensures answers { IsTrue (is_reached result) → Structures (D.told desk.old) (names_view names.now) result (D.told desk.new) }
@@ -111,6 +129,22 @@ fn run_structure<D: Desk>(alloc: Global, names: &FileNames<'_>, desk: &mut D) ->
 {
     match structure(alloc, desk, names) {
         Ok(draft) => put_out(desk, names.cert, &draft),
+        Err(stop) => stop.status(),
+    }
+}
+
+// Carries `cap` out on the files of these names.
+fn run_cap<D: Desk>(alloc: Global, names: &FileNames<'_>, desk: &mut D) -> Status
+    ensures answers { IsTrue (is_reached result) → Caps (D.told desk.old) (names_view names.now) result (D.told desk.new) }
+    ensures part { result ≡ Status.WriteFault → CapsPart (D.told desk.old) (names_view names.now) (D.told desk.new) }
+    ensures lacks { result ≡ Status.NoFile → LacksInput (D.told desk.old) (names_view names.now) }
+    ensures structured { IsTrue (is_reached result) → IsTrue (is_structured result) }
+    ensures capped { result ≡ Status.Done → WroteCapped (D.told desk.old) (D.told desk.new) (names_view names.now) }
+    ensures uncapped { IsTrue (is_reached result) → OfCase (SaysNoCap result) (D.told desk.old) (names_view names.now) }
+    ensures counts { EndedAs result (D.counts desk.old) (D.counts desk.new) (D.told desk.old) (D.told desk.new) }
+{
+    match cap(alloc, desk, names) {
+        Ok(draft) => put_out_cap(desk, names.cert, &draft),
         Err(stop) => stop.status(),
     }
 }
@@ -165,18 +199,20 @@ fn run_make<D: Desk>(alloc: Global, making: &Making<'_>, desk: &mut D) -> Status
 
 /// Carries out the words of a command line, which are those after the program's name, over a desk.
 ///
-/// `check ISSUE RATES PRICES CERT` answers whether the certificate is accepted for the three input files, and says why
-/// or why not. `savings ISSUE RATES PRICES CERT` answers the same, and says of an accepted portfolio what the refunding saves in
-/// present value at the restricted yield, and what idle yield costs. `structure ISSUE RATES PRICES CERT` searches the cheapest
-/// permitted purchases, writes their certificate and says their report; or it writes a certificate which shows that there is no
-/// rival, and says so; or it says that the needs can't be met, or that the budget is spent, with the bound that its tree shows and
-/// the best plan. `make NUMBER ISSUE RATES PRICES` structures the made-up case of a number from 0 to 2^64 - 1, written in decimal
-/// digits without a leading zero; it writes the three files of the case, in this order, and then says the number, the summary of
-/// what was found and how many nodes the tree has, or what `structure` says where it finds no portfolio. All other words are
-/// `Usage`.
+/// `check ISSUE RATES PRICES CERT` answers whether the certificate is accepted for the three input files, and says why or why
+/// not. `savings ISSUE RATES PRICES CERT` answers the same, and says of an accepted portfolio what the refunding saves in present
+/// value at the restricted yield, and what idle yield costs. `structure ISSUE RATES PRICES CERT` searches the cheapest permitted
+/// purchases, writes their certificate and says their report; or it writes a certificate which shows that there is no rival, and
+/// says so; or it says that the needs can't be met, or that the budget is spent, with the bound that its tree shows and the best
+/// plan. `cap ISSUE RATES PRICES CERT` searches the greatest common cap on the SLGS rates at which an escrow is found, writes the
+/// certificate for the case at that cap, and says the cap, the summary and why none was found at the next hundredth; or it says
+/// that none was found, and why. `make NUMBER ISSUE RATES PRICES` structures the made-up case of a number from 0 to 2^64 - 1,
+/// written in decimal digits without a leading zero; it writes the three files of the case, in this order, and then says the
+/// number, the summary of what was found and how many nodes the tree has, or what `structure` says where it finds no portfolio.
+/// All other words are `Usage`.
 ///
-/// It returns for all words and every desk. It writes no file but the certificate of `structure` and the files of `make`, and
-/// all texts are built before. The texts are this project's own.
+/// It returns for all words and every desk. It writes no file but the certificate of `structure` or `cap` and the files of
+/// `make`, and all texts are built before. The texts are this project's own.
 pub fn run<D: Desk>(alloc: Global, words: &[String], desk: &mut D) -> Status
     // Where the run wasn't cut off, the status and what was said are the answer to the words over the desk's content.
     ensures answers { IsTrue (is_reached result) → Answers (D.told desk.old) (map string_bytes words.now) result (D.told desk.new) }
@@ -191,6 +227,10 @@ pub fn run<D: Desk>(alloc: Global, words: &[String], desk: &mut D) -> Status
     ensures covered { IsTrue (is_reached result) → IfSome (structure_names (map string_bytes words.now)) (OfCase (SettlesCovered result) (D.told desk.old)) }
     // `infeasible` comes exactly where no permitted portfolio meets the needs.
     ensures reach { IsTrue (is_reached result) → IfSome (structure_names (map string_bytes words.now)) (OfCase (SaysReach result) (D.told desk.old)) }
+    // What `cap` means where it writes a certificate: by how much the rates are lowered, and why by no less.
+    ensures capped { result ≡ Status.Done → IsCapped (D.told desk.old) (map string_bytes words.now) (D.told desk.new) }
+    // And what it means where it writes none: nothing was found for the case at cap 0, nor for the case itself, and why.
+    ensures uncapped { IsTrue (is_reached result) → IfSome (cap_names (map string_bytes words.now)) (OfCase (SaysNoCap result) (D.told desk.old)) }
     // Of what `make` finds there is a certificate that `check` accepts for the files of the number.
     ensures made { result ≡ Status.Done → IfSome (make_words (map string_bytes words.now)) (λ making. HasAcceptedText (made_files making.number)) }
     ensures made_none { result ≡ Status.NoneWithinYield → IfSome (make_words (map string_bytes words.now)) (λ making. HasAcceptedText (made_files making.number)) }
@@ -211,6 +251,7 @@ pub fn run<D: Desk>(alloc: Global, words: &[String], desk: &mut D) -> Status
     ensures usage { IsTrue (is_reached result) → ((result ≡ Status.Usage) ↔ IsNoCommand (map string_bytes words.now)) }
     // Whatever the desk tells: which statuses a command comes to.
     ensures structured { IsTrue (is_reached result) → IfSome (structure_names (map string_bytes words.now)) (λ _. IsTrue (is_structured result)) }
+    ensures caps { IsTrue (is_reached result) → IfSome (cap_names (map string_bytes words.now)) (λ _. IsTrue (is_structured result)) }
     ensures checked { IsTrue (is_reached result) → IfSome (asking_of (map string_bytes words.now)) (λ _. IsTrue (is_checked result)) }
     ensures makes { IsTrue (is_reached result) → IfSome (make_words (map string_bytes words.now)) (λ _. IsTrue (is_structured result)) }
     // `make` reads no file.
@@ -221,6 +262,7 @@ pub fn run<D: Desk>(alloc: Global, words: &[String], desk: &mut D) -> Status
     match command_of(words) {
         None => say_answer(desk, Status::Usage, USAGE),
         Some(Command::Structure(names)) => run_structure(alloc, &names, desk),
+        Some(Command::Cap(names)) => run_cap(alloc, &names, desk),
         Some(Command::Ask(asking)) => run_asking(alloc, &asking, desk),
         Some(Command::Make(making)) => run_make(alloc, &making, desk),
     }

@@ -50,7 +50,7 @@ pub(crate) const CHECK: [&str; 5] = ["check", "i", "r", "p", "c"];
 /// What is said to words that are no command.
 pub(crate) const USAGE: &[u8] =
     b"usage: structure ISSUE RATES PRICES CERT | check ISSUE RATES PRICES CERT | make NUMBER ISSUE RATES PRICES \
-    | savings ISSUE RATES PRICES CERT\n";
+    | savings ISSUE RATES PRICES CERT | cap ISSUE RATES PRICES CERT\n";
 
 /// A file of a name.
 pub(crate) fn named(alloc: Global, name: &str, bytes: &[u8]) -> Result<NamedBytes, Fail>

@@ -58,7 +58,7 @@ class Run:
 
 def explain_run(run: Run) -> list[str]:
     """All that is said of a run, on standard error, after the program's own answer."""
-    explainer = EXPLAINERS.get(run.status)
+    explainer = _no_cap if run.first_line == "cap none" else EXPLAINERS.get(run.status)
     lines = explainer(run) if explainer else []
     if run.status in CASE_STATUSES and run.command != "make":
         lines += Cautions(run.read_case(), run.names).all()
@@ -94,9 +94,34 @@ def _done(run: Run) -> list[str]:
             "%s is written; `./escrow check` tries it, and `./escrow page` makes what a verifier signs"
             % run.names[CERT]
         )
+    if run.command == "cap":
+        lines += _capped(run)
     if run.command == "make":
         lines.append("a made-up case: its files are written, for `./escrow structure` to be tried on; no certificate is")
     return lines
+
+
+def _capped(run: Run) -> list[str]:
+    """What the cap is, and what is known of the next hundredth of a percentage point."""
+    rate, following = run.first_line.split(" ")[1], run.lines[-1].split(" ", 2)
+    if following[1] == "none":
+        return ["no rate has to be lowered: %s is written, and `check` says `yes` to it" % run.names[CERT]]
+    lines = [
+        "each SLGS rate above %s percent is lowered to that; %s is written, for the rate file with these rates"
+        % (rate, run.names[CERT])
+    ]
+    if following[2].startswith("budget spent"):
+        lines.append("at %s percent the budget was spent: a greater `budget` may find more" % following[1])
+    else:
+        lines.append("at %s percent no permitted purchases meet the needs within the yield limit" % following[1])
+    return lines
+
+
+def _no_cap(run: Run) -> list[str]:
+    return [
+        "no escrow was found: neither at the rates of the files, nor with every SLGS rate at 0 percent, of which this is said",
+        "`./escrow structure` says why there is none at the rates of the files",
+    ]
 
 
 def _saved(run: Run) -> list[str]:

@@ -1,0 +1,16 @@
+use Rattle.escrow_top.specs.Reading.{files_view, names_view}
+use Rattle.escrow_top.proofs.CappingLaws.{cap_draft_for, capped_for}
+use Rattle.escrow_top.proofs.capping.cap.Goals as goal
+
+pub returns-in_ok-draft_of_files-in-Within-clause-draft : goal.returns-in_ok-draft_of_files-in-Within-clause-draft
+returns-in_ok-draft_of_files-in-Within-clause-draft g c =
+    let read = rw c.in-Within.is at c.in_ok-files.ensures.read in
+    let within = rw c.in-Within.is at c.in_ok-files.ensures.within in
+    cap_draft_for (g.D.Desk.told c.args.desk.now) (names_view c.args.names.now) (files_view c.in-Within.files) c.in_ok-draft_of_files-in-Within.field-0
+    read within c.in_ok-draft_of_files-in-Within.ensures.draft
+
+pub returns-in_ok-draft_of_files-in-Within-clause-capped : goal.returns-in_ok-draft_of_files-in-Within-clause-capped
+returns-in_ok-draft_of_files-in-Within-clause-capped g c =
+    let read = rw c.in-Within.is at c.in_ok-files.ensures.read in
+    capped_for (g.D.Desk.told c.args.desk.now) (names_view c.args.names.now) (files_view c.in-Within.files) c.in_ok-draft_of_files-in-Within.field-0
+    read c.in_ok-draft_of_files-in-Within.ensures.capped
