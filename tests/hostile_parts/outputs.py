@@ -9,7 +9,8 @@ from .ground import INPUTS, NAMES, WRITE_FAULT, Ground, Tries, example, run
 
 def tries(tries: Tries, _asked) -> None:
     with example("first") as folder:
-        for words in (["check", *NAMES], ["structure", *NAMES], ["make", "7", *INPUTS], ["no", "command"]):
+        asking = (["check", *NAMES], ["check-cap", "3.00", *NAMES], ["savings", *NAMES])
+        for words in (*asking, ["structure", *NAMES], ["make", "7", *INPUTS], ["no", "command"]):
             for ground, what in (
                 (Ground(closed=(1,)), "closed"),
                 (Ground(output=os.open("/dev/full", os.O_WRONLY)), "full"),

@@ -35,6 +35,8 @@ def _snapshot(path: str) -> Optional[bytes]:
 
 def _names(words: list[str]) -> dict:
     """The names of a command's files; of words that are no command none."""
+    if len(words) == 6 and words[0] == "check-cap":
+        return dict(zip(PLACES, words[2:]))
     if len(words) != 5:
         return {}
     if words[0] in ("cap", "check", "savings", "structure"):

@@ -58,6 +58,7 @@ HIGH_ISSUE = "settle,2025-01-15\nneed,2026-01-15,1041.03\nrestricted,4.00\n"
 HIGH_CERT = "escrow-certificate 1\nportfolio 1\nbuy 1 1000\ngap 0\nnodes 1\nl 1 0 0\nend\n"
 HIGH_COARSE = "terms,1000,1000\nrate,2025-02-14,2026-01-15,4.00\noffer,2025-07-15,4.00,,2000\n"
 LOW_ISSUE = "settle,2025-01-15\nneed,2025-07-15,1000.00\nrestricted,3.00\n"
+CAPPED_CERT = "escrow-certificate 1\nportfolio 1\nbuy 1 1\ngap 0\nnodes 3\ns 1 0\nl 0 0 1000000000000\nl 1 0 0\nend\n"
 COARSE = "settle,2025-01-15\nneed,2025-04-15,5050.00\nrestricted,4.00\n"
 COARSE_CERT = CERTIFICATE.replace("buy 1 50", "buy 1 51").replace("gap 0", "gap 5000")
 
@@ -73,6 +74,11 @@ ANSWERED = (
              ("allowance,50.00", "a greater `budget`", "certificate.txt is from an earlier run")),
     Answered("offers that yield too much alone", case(issue=LOW_ISSUE, rates=HIGH_COARSE), STRUCTURE, "none within yield",
              ("`yes none`", "offer,DATE,0.00,,CAP")),
+    Answered("a cap that makes it lawful", case(issue=LOW_ISSUE, rates=HIGH_COARSE, certificate=CAPPED_CERT),
+             ("check-cap", "3.02") + FILES, "yes", ("no SLGS rate above 3.020 percent",)),
+    Answered("a cap that is too high", case(issue=LOW_ISSUE, rates=HIGH_COARSE, certificate=CAPPED_CERT),
+             ("check-cap", "3.03") + FILES, "no YieldAbove", ("the yield of the purchases is 3.00600", "the limit 3.00100000")),
+    Answered("a cap in thousandths", case(), ("check-cap", "3.005") + FILES, "usage:", ("RATE is `3.005`", "whole hundredths")),
     Answered("savings of a given restricted yield", case(), SAVINGS, "old 0.00 0.00",
              ("between 49.26 and 49.27", "negative arbitrage", "`price` and the `pay` rows")),
     Answered("savings of more than the cap", cert("buy 1 50", "buy 1 101"), SAVINGS, "no NotPermitted 1", ("101 units",)),

@@ -56,6 +56,7 @@ class ScriptTest(FolderTest):
             ["structure", "issue.csv", "rates.csv", "prices.csv", "other.txt"],
             ["savings", "issue.csv", "rates.csv", "prices.csv", "certificate.txt"],
             ["cap", "issue.csv", "rates.csv", "prices.csv", "other.txt"],
+            ["check-cap", "2.00", "issue.csv", "rates.csv", "prices.csv", "certificate.txt"],
             ["structure", "issue.csv"],
             ["strukture"],
             [],
@@ -66,7 +67,7 @@ class ScriptTest(FolderTest):
                 with self.subTest(words=words, further=further):
                     ran = run_script(self.folder, *further, *words)
                     self.assertEqual((ran.status, ran.out), (plain.status, plain.out))
-            if len(words) == 5:
+            if len(words) in (5, 6):
                 ran = run_script(self.folder, *words, "--explain")
                 self.assertEqual((ran.status, ran.out), (plain.status, plain.out))
                 self.assertIn("escrow: ", ran.err)
@@ -110,7 +111,7 @@ class ScriptTest(FolderTest):
         self.assertIn("docs/GUIDE.md", ran.err)
         self.assertEqual(len(ran.err.splitlines()), 2)
         listed = run_script(self.folder, "--help").out.decode()
-        for command in ("structure", "check", "savings", "cap", "best", "needs", "offers", "prices", "page"):
+        for command in ("structure", "check", "cap", "check-cap", "savings", "best", "needs", "offers", "prices", "page"):
             self.assertIn("  %s " % command, listed)
         self.assertRegex(run_script(self.folder, "--version").out.decode(), "^escrow .*sources [0-9a-f]{16}")
         for command in ("best", "needs", "offers", "prices", "page"):

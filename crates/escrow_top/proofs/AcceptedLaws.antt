@@ -29,9 +29,13 @@ use Rattle.escrow_check.proofs.OneVerdict.{bytes_have, judged-by, one_verdict}
 use Rattle.escrow_check.proofs.ReasonFacts.{yes_where_unopposed}
 use Rattle.escrow_check.proofs.VerdictFacts.{none-told, yes-told, yes_is_right, yes_none_is_right}
 use Rattle.escrow_top.specs.InputFiles.{InputFiles}
-use Rattle.escrow_top.specs.Answer.{Answer, answer_for, answer_with, case_of, certificate_answer, files_answer, portfolio_text, refused, verdict_answer, yes_text}
+use Rattle.escrow_top.specs.Answer.{Answer, answer_for, answer_with, case_of, certificate_answer, files_answer, judged_case, portfolio_text, refused, verdict_answer, yes_text}
 use Rattle.escrow_top.proofs.YieldFacts.{printed_yield}
+use Rattle.escrow_units.specs.declared.amount.Rate.{Rate}
+use Rattle.rate_cap.specs.CaseAt.{case_at}
+use Rattle.escrow_top.proofs.CapFacts.{given_at, keeps_judged}
 use Rattle.escrow_top.proofs.SavingsFacts.{savings_are}
+use Rattle.escrow_top.specs.AtCap.{AcceptedAt}
 use Rattle.escrow_top.specs.Accepted.{Accepted, HasNoReason, HasNoRival, HasPortfolio, IsAcceptedText, YesExactly, yield_without_interest}
 use Rattle.escrow_top.specs.Ending.{MeansYes}
 use Rattle.escrow_top.specs.Saved.{HasSavings, Saved}
@@ -165,6 +169,14 @@ accepted files cert case gives keeps done =
           (accepted-as case certificate yes.told yes.taken.means);
     }
 
+-- what `check-cap` says of it
+at-as : (cap : Rate) (files : InputFiles) (at : CaseContents) (certificate : Certificate) (told : Verdict) → IsTakenAs at certificate told
+    → HasPortfolio at certificate (verdict_answer (portfolio_text (inquiry.AtCap cap) files at) told).text ⊎ HasNoRival at certificate (verdict_answer (portfolio_text (inquiry.AtCap cap) files at) told).text
+at-as cap files at certificate (verdict.Yes portfolio) means =
+    inl (record { portfolio = portfolio; right = means.right; without_interest = means.without_interest; said = refl })
+at-as cap files at certificate verdict.YesNone means = inr (record { none = means.none; no_rival = means.no_rival; said = refl })
+at-as cap files at certificate (verdict.No why) means = absurd means
+
 -- what `savings` says of it: that of its portfolio by the issue of the files
 saved-as : (files : InputFiles) (issue : Issue) (case : CaseContents) (certificate : Certificate) (told : Verdict) → issue_of (rows_of files.issue) ≡ Ok issue → RestsOn issue case.limit
     → IsTakenAs case certificate told
@@ -194,11 +206,29 @@ saved files cert case gives keeps done =
           (saved-as files issue case certificate yes.told gives.says.issue gives.obeys.limit yes.taken.means);
     }
 
+-- and `check-cap`, of the case at the cap
+accepted_at : (cap : Rate) (files : InputFiles) (cert : List ℕ) (case : CaseContents) → GiveCase files case → KeepsLimits (case_at cap case)
+    → (answer_for (inquiry.AtCap cap) files (case_at cap case) cert).status ≡ status.Done → AcceptedAt cap files cert (answer_for (inquiry.AtCap cap) files (case_at cap case) cert).text
+accepted_at cap files cert case gives keeps done =
+    let at = case_at cap case in
+    let yes = done-by (portfolio_text (inquiry.AtCap cap) files at) at cert keeps done in
+    let certificate = yes.taken.certificate in
+    record {
+      case = at;
+      gives = given_at cap files case gives;
+      certificate = certificate;
+      is_certificate = yes.taken.is_certificate;
+      right =
+          subst (λ (a : Answer). HasPortfolio at certificate a.text ⊎ HasNoRival at certificate a.text) (sym yes.is)
+          (at-as cap files at certificate yes.told yes.taken.means);
+    }
+
 -- by what is asked
-pub means_yes : (asked : Inquiry) (files : InputFiles) (cert : List ℕ) (case : CaseContents) → GiveCase files case → KeepsLimits case → (answer_for asked files case cert).status ≡ status.Done
-    → MeansYes asked files cert (answer_for asked files case cert).text
+pub means_yes : (asked : Inquiry) (files : InputFiles) (cert : List ℕ) (case : CaseContents) → GiveCase files case → KeepsLimits case → (answer_for asked files (judged_case asked case) cert).status ≡ status.Done
+    → MeansYes asked files cert (answer_for asked files (judged_case asked case) cert).text
 means_yes inquiry.Check files cert case gives keeps done = accepted files cert case gives keeps done
 means_yes inquiry.Savings files cert case gives keeps done = saved files cert case gives keeps done
+means_yes (inquiry.AtCap cap) files cert case gives keeps done = accepted_at cap files cert case gives (keeps_judged (inquiry.AtCap cap) case keeps) done
 
 -- where no reason stands, `yes` is said
 
@@ -248,8 +278,9 @@ accepted_text files cert case gives keeps done = record {
 }
 
 -- `yes` exactly where no reason stands, of files that give a case
-pub yes_exactly : (asked : Inquiry) (files : InputFiles) (cert : List ℕ) → ((case : CaseContents) → case_of files ≡ Ok case → KeepsLimits case) → YesExactly (files_answer asked files cert).status files cert
+pub yes_exactly : (asked : Inquiry) (files : InputFiles) (cert : List ℕ) → ((case : CaseContents) → case_of files ≡ Ok case → KeepsLimits case) → YesExactly (files_answer asked files cert).status asked files cert
 yes_exactly asked files cert keep case is_case within =
-    let keeps = keep case is_case in
-    let words = portfolio_text asked files case in
-    rw is_case ((λ done. none-where_done words case cert keeps done), (λ found. done-where_none words case cert keeps within found))
+    let judged = judged_case asked case in
+    let keeps = keeps_judged asked case (keep case is_case) in
+    let words = portfolio_text asked files judged in
+    rw is_case ((λ done. none-where_done words judged cert keeps done), (λ found. done-where_none words judged cert keeps within found))

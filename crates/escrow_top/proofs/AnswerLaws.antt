@@ -8,11 +8,11 @@ use Rattle.escrow_desk.specs.declared.refusal.RefusalKind.TheVariants as too_lon
 use Rattle.row_fields.specs.RowForm.{refusal_of}
 use Rattle.escrow_top.specs.InputFiles.{InputFiles, FileNames, first_too_long, inputs_of}
 use Rattle.case_file.specs.Case.{CaseContents, IsKept, rows_case}
-use Rattle.escrow_top.specs.Answer.{Answer, Asking, answer_for, answer_to, asked_answer, asking_of, cap_names, case_answer, case_of, check_names, portfolio_text, refused, savings_names, structure_names, usage, usage_text}
+use Rattle.escrow_top.specs.Answer.{Answer, Asking, CapWords, answer_for, answer_to, asked_answer, asking_of, cap_names, case_answer, case_of, check_cap_words, check_names, judged_case, refused, savings_names, structure_names, usage, usage_text}
 use Rattle.escrow_top.specs.Accepted.{Accepted}
-use Rattle.escrow_top.specs.NotAccepted.{NotAccepted}
+use Rattle.escrow_top.specs.AtCap.{AcceptedAt}
 use Rattle.escrow_top.specs.Saved.{Saved}
-use Rattle.escrow_top.specs.Ending.{Answers, AnswersPart, AskedAnswers, AskedAnswersPart, HoldsWhereTold, IsAccepted, IsNotAccepted, IsNoCommand, IsSaved, LacksFile, MeansYes, SaidOfFiles}
+use Rattle.escrow_top.specs.Ending.{Answers, AnswersPart, AskedAnswers, AskedAnswersPart, HoldsWhereTold, IsAccepted, IsAcceptedAtCap, IsNotAccepted, IsNoCommand, IsSaved, LacksFile, MeansNo, MeansYes, SaidOfFiles}
 use Rattle.escrow_top.specs.MakeWords.{Making, make_words}
 use Rattle.escrow_top.specs.Capping.{Caps, CapsPart}
 use Rattle.escrow_top.specs.Making.{Makes, MakesPart}
@@ -26,10 +26,10 @@ use Rattle.escrow_top.specs.declared.status.Status.{Status}
 use Rattle.escrow_top.specs.declared.status.Status.TheVariants as status
 use Rattle.escrow_top.proofs.AcceptedLaws.{means_yes}
 use Rattle.escrow_top.proofs.CaseLaws.{given}
-use Rattle.escrow_top.proofs.NotAcceptedLaws.{not_accepted}
+use Rattle.escrow_top.proofs.NotAcceptedLaws.{means_no}
 use Rattle.escrow_top.specs.declared.stop.Stop.{Stop}
 use Rattle.escrow_top.proofs.InputFacts.{read-all, rows_alone}
-use Rattle.escrow_top.proofs.WordLaws.{asking-caps_none, asking-makes_none, asks_of, cap-makes_none, check-asks, one-asking, savings-asks, structure-caps_none, structure-makes_none}
+use Rattle.escrow_top.proofs.WordLaws.{asking-caps_none, asking-makes_none, asks_of, cap-makes_none, check-asks, check_cap-asks, one-asking, savings-asks, structure-caps_none, structure-makes_none}
 
 answered : (found : Option (List ℕ)) (to_bytes : List ℕ → Answer) (answer : Answer) → IsSomeAnd found (λ file. answer ≡ to_bytes file) → option_and_then (λ cert. Some (to_bytes cert)) found ≡ Some answer
 answered None to_bytes answer said = absurd said
@@ -42,11 +42,11 @@ asked_by content asking texts case inputs is = rw (inputs, is) refl
 
 -- the certificate was read
 pub certificate_said : (told : Told) (asking : Asking) (texts : InputFiles) (case : CaseContents) (answer : Answer) → AreRead told asking.names texts → AreWithin texts → case_of texts ≡ Ok case
-    → CertificateAnswers told asking.names.cert (answer_for asking.inquiry texts case) answer → FilesAnswer told asking answer
+    → CertificateAnswers told asking.names.cert (answer_for asking.inquiry texts (judged_case asking.inquiry case)) answer → FilesAnswer told asking answer
 certificate_said None asking texts case answer read within is said = tt
 certificate_said (Some content) asking texts case answer read within is said =
     asked_by content asking texts (Ok case) (read-all content asking.names texts read within) is
-    ∙ answered (file_of content asking.names.cert) (answer_for asking.inquiry texts case) answer said
+    ∙ answered (file_of content asking.names.cert) (answer_for asking.inquiry texts (judged_case asking.inquiry case)) answer said
 
 pub certificate_lacks : (told : Told) (asking : Asking) (texts : InputFiles) (case : CaseContents) → AreRead told asking.names texts → AreWithin texts → case_of texts ≡ Ok case
     → LacksCertificate told asking.names.cert → LacksAsked told asking
@@ -104,25 +104,27 @@ answer_means Holds told names texts to_bytes (Ok reply) reached read means said 
     λ is. certificate_means Holds told names texts to_bytes reply reached read means said is
 
 pub answer_accepted : (told : Told) (asking : Asking) (texts : InputFiles) (case : CaseContents) (result : Result Answer Stop) → AreRead told asking.names texts → AreWithin texts → rows_case (rows_of texts.issue) (rows_of texts.rates) (rows_of texts.prices) ≡ Ok case
-    → IsKept (rows_of texts.issue) (rows_of texts.rates) (rows_of texts.prices) case → IfOk result (λ reply. CertificateAnswers told asking.names.cert (answer_for asking.inquiry texts case) reply)
+    → IsKept (rows_of texts.issue) (rows_of texts.rates) (rows_of texts.prices) case → IfOk result (λ reply. CertificateAnswers told asking.names.cert (answer_for asking.inquiry texts (judged_case asking.inquiry case)) reply)
     → IfOk result (λ reply. reply.status ≡ status.Done → HoldsWhereTold (λ files cert. MeansYes asking.inquiry files cert reply.text) told asking.names)
 answer_accepted told asking texts case result read within is kept said =
     let gives = given texts case within (rows_alone texts within ∙ is) kept in
-    answer_means (MeansYes asking.inquiry) told asking.names texts (answer_for asking.inquiry texts case) result status.Done read
+    answer_means (MeansYes asking.inquiry) told asking.names texts (answer_for asking.inquiry texts (judged_case asking.inquiry case)) result status.Done read
     (λ cert done. means_yes asking.inquiry texts cert case gives (kept.book, kept.terms) done) said
 
 pub answer_not_accepted : (told : Told) (asking : Asking) (texts : InputFiles) (case : CaseContents) (result : Result Answer Stop) → AreRead told asking.names texts → AreWithin texts → rows_case (rows_of texts.issue) (rows_of texts.rates) (rows_of texts.prices) ≡ Ok case
-    → IsKept (rows_of texts.issue) (rows_of texts.rates) (rows_of texts.prices) case → IfOk result (λ reply. CertificateAnswers told asking.names.cert (answer_for asking.inquiry texts case) reply)
-    → IfOk result (λ reply. reply.status ≡ status.No → HoldsWhereTold (λ files cert. NotAccepted files cert reply.text) told asking.names)
+    → IsKept (rows_of texts.issue) (rows_of texts.rates) (rows_of texts.prices) case → IfOk result (λ reply. CertificateAnswers told asking.names.cert (answer_for asking.inquiry texts (judged_case asking.inquiry case)) reply)
+    → IfOk result (λ reply. reply.status ≡ status.No → HoldsWhereTold (λ files cert. MeansNo asking.inquiry files cert reply.text) told asking.names)
 answer_not_accepted told asking texts case result read within is kept said =
     let gives = given texts case within (rows_alone texts within ∙ is) kept in
-    answer_means NotAccepted told asking.names texts (answer_for asking.inquiry texts case) result status.No read
-    (λ cert denied. not_accepted (portfolio_text asking.inquiry texts case) texts cert case gives (kept.book, kept.terms) denied) said
+    answer_means (MeansNo asking.inquiry) told asking.names texts (answer_for asking.inquiry texts (judged_case asking.inquiry case)) result status.No read
+    (λ cert denied. means_no asking.inquiry texts cert case gives (kept.book, kept.terms) denied) said
 
--- the case of these files is one of which savings can be said
-pub kept_for : (asked : Inquiry) (files : InputFiles) (case : CaseContents) → IsKept (rows_of files.issue) (rows_of files.rates) (rows_of files.prices) case → IsKeptFor asked files case
-kept_for inquiry.Check files case kept = tt
-kept_for inquiry.Savings files case kept = kept
+-- of the case by which a certificate is judged savings can be said, where they are asked for
+pub kept_for : (asked : Inquiry) (files : InputFiles) (case judged : CaseContents) → IsKept (rows_of files.issue) (rows_of files.rates) (rows_of files.prices) case → judged ≡ judged_case asked case
+    → IsKeptFor asked files judged
+kept_for inquiry.Check files case judged kept is = tt
+kept_for inquiry.Savings files case judged kept is = subst (λ (c : CaseContents). IsKept (rows_of files.issue) (rows_of files.rates) (rows_of files.prices) c) (sym is) kept
+kept_for (inquiry.AtCap cap) files case judged kept is = tt
 
 -- the answer to what is asked of named files was said
 pub asked_said : (told new : Told) (asking : Asking) (reply : Answer) (reached : Status) → FilesAnswer told asking reply → reached ≡ reply.status → SaidAll told reply.text new → AskedAnswers told asking reached new
@@ -131,7 +133,7 @@ asked_said (Some content) new asking reply reached is ends said = rw is (ends, s
 
 no_command : (words : List (List ℕ)) (content : Content) → IsNoCommand words → answer_to words content ≡ Some usage
 no_command words content none =
-    rw (none.no_check, none.no_savings) refl
+    rw (none.no_check, none.no_savings, none.no_check_cap) refl
 
 -- the usage was said to words that are no command
 pub usage_said : (told new : Told) (words : List (List ℕ)) → IsNoCommand words → SaidAll told usage_text new → Answers told words status.Usage new
@@ -201,5 +203,15 @@ ask_saved told new words asking is said = by (savings_names words) refl
         let same : asking ≡ asks_of inquiry.Savings names = one-asking words asking (asks_of inquiry.Savings names) is (savings-asks words names e) in
         subst (λ (a : Asking). SaidOfFiles (MeansYes a.inquiry) told a.names new) same said
 
-pub ask_not_accepted : (told new : Told) (words : List (List ℕ)) (asking : Asking) → asking_of words ≡ Some asking → SaidOfFiles NotAccepted told asking.names new → IsNotAccepted told words new
+pub ask_accepted_at_cap : (told new : Told) (words : List (List ℕ)) (asking : Asking) → asking_of words ≡ Some asking → SaidOfFiles (MeansYes asking.inquiry) told asking.names new → IsAcceptedAtCap told words new
+ask_accepted_at_cap told new words asking is said = by (check_cap_words words) refl
+  where
+    by : (found : Option CapWords) → check_cap_words words ≡ found → IfSome found (λ capped. SaidOfFiles (AcceptedAt capped.cap) told capped.names new)
+    by None e = tt
+    by (Some capped) e =
+        let own = asks_of (inquiry.AtCap capped.cap) capped.names in
+        let same : asking ≡ own = one-asking words asking own is (check_cap-asks words capped e) in
+        subst (λ (a : Asking). SaidOfFiles (MeansYes a.inquiry) told a.names new) same said
+
+pub ask_not_accepted : (told new : Told) (words : List (List ℕ)) (asking : Asking) → asking_of words ≡ Some asking → SaidOfFiles (MeansNo asking.inquiry) told asking.names new → IsNotAccepted told words new
 ask_not_accepted told new words asking is said = rw is said

@@ -79,12 +79,12 @@ asked-there content asking files cert there is =
 
 -- `yes` exactly, by the files as they were read
 
-exactly-of : (content : Content) (asking : Asking) (files : InputFiles) (cert : List ℕ) (reached : Status) → asked_answer content asking ≡ Some (files_answer asking.inquiry files cert) → (answer : Answer) → asked_answer content asking ≡ Some answer → answer.status ≡ reached → ((case : CaseContents) → case_of files ≡ Ok case → KeepsLimits case) → YesExactly reached files cert
+exactly-of : (content : Content) (asking : Asking) (files : InputFiles) (cert : List ℕ) (reached : Status) → asked_answer content asking ≡ Some (files_answer asking.inquiry files cert) → (answer : Answer) → asked_answer content asking ≡ Some answer → answer.status ≡ reached → ((case : CaseContents) → case_of files ≡ Ok case → KeepsLimits case) → YesExactly reached asking.inquiry files cert
 exactly-of content asking files cert reached there answer is status_is books =
     let same : answer ≡ files_answer asking.inquiry files cert = some-same answer (files_answer asking.inquiry files cert) (sym is ∙ there) in
-    subst (λ found. YesExactly found files cert) (sym (ap (λ (a : Answer). a.status) same) ∙ status_is) (yes_exactly asking.inquiry files cert books)
+    subst (λ found. YesExactly found asking.inquiry files cert) (sym (ap (λ (a : Answer). a.status) same) ∙ status_is) (yes_exactly asking.inquiry files cert books)
 
-exactly-told : (told : Told) (asking : Asking) (reply : Answer) → FilesAnswer told asking reply → ((content : Content) (files : InputFiles) → told ≡ Some content → AreThere content asking.names files → (case : CaseContents) → case_of files ≡ Ok case → KeepsLimits case) → OfNamedFiles (YesExactly reply.status) told asking.names
+exactly-told : (told : Told) (asking : Asking) (reply : Answer) → FilesAnswer told asking reply → ((content : Content) (files : InputFiles) → told ≡ Some content → AreThere content asking.names files → (case : CaseContents) → case_of files ≡ Ok case → KeepsLimits case) → OfNamedFiles (YesExactly reply.status asking.inquiry) told asking.names
 exactly-told None asking reply said books = λ content files cert tells there is. absurd (cc)
 exactly-told (Some found) asking reply said books = λ content files cert tells there is.
     let same : found ≡ content = same-content found content tells in
@@ -101,7 +101,7 @@ books-read (Some found) names texts case read within is kept content files tells
     let one : case ≡ other = cc in
     subst KeepsLimits one (kept.book, kept.terms)
 
-pub answer_exactly : (told : Told) (asking : Asking) (texts : InputFiles) (case : CaseContents) (result : Result Answer Stop) → AreRead told asking.names texts → AreWithin texts → rows_case (rows_of texts.issue) (rows_of texts.rates) (rows_of texts.prices) ≡ Ok case → IsKept (rows_of texts.issue) (rows_of texts.rates) (rows_of texts.prices) case → IfOk result (λ reply. FilesAnswer told asking reply) → IfOk result (λ reply. OfNamedFiles (YesExactly reply.status) told asking.names)
+pub answer_exactly : (told : Told) (asking : Asking) (texts : InputFiles) (case : CaseContents) (result : Result Answer Stop) → AreRead told asking.names texts → AreWithin texts → rows_case (rows_of texts.issue) (rows_of texts.rates) (rows_of texts.prices) ≡ Ok case → IsKept (rows_of texts.issue) (rows_of texts.rates) (rows_of texts.prices) case → IfOk result (λ reply. FilesAnswer told asking reply) → IfOk result (λ reply. OfNamedFiles (YesExactly reply.status asking.inquiry) told asking.names)
 answer_exactly told asking texts case (Err stop) read within is kept said = said
 answer_exactly told asking texts case (Ok reply) read within is kept said = exactly-told told asking reply said (books-read told asking.names texts case read within is kept)
 
@@ -116,7 +116,7 @@ no-books (Some found) names texts why read is content files tells there case is_
     let both : Err why ≡ Ok case = sym is ∙ (ap case_of (sym files_same) ∙ is_case) in
     absurd (cc)
 
-pub no_case_exactly : (told : Told) (asking : Asking) (texts : InputFiles) (why : Refusal) (result : Result Answer Stop) → AreRead told asking.names texts → AreWithin texts → rows_case (rows_of texts.issue) (rows_of texts.rates) (rows_of texts.prices) ≡ Err why → IfOk result (λ reply. FilesAnswer told asking reply) → IfOk result (λ reply. OfNamedFiles (YesExactly reply.status) told asking.names)
+pub no_case_exactly : (told : Told) (asking : Asking) (texts : InputFiles) (why : Refusal) (result : Result Answer Stop) → AreRead told asking.names texts → AreWithin texts → rows_case (rows_of texts.issue) (rows_of texts.rates) (rows_of texts.prices) ≡ Err why → IfOk result (λ reply. FilesAnswer told asking reply) → IfOk result (λ reply. OfNamedFiles (YesExactly reply.status asking.inquiry) told asking.names)
 no_case_exactly told asking texts why (Err stop) read within is said = said
 no_case_exactly told asking texts why (Ok reply) read within is said = exactly-told told asking reply said (no-books told asking.names texts why read (rows_alone texts within ∙ is))
 
@@ -145,7 +145,7 @@ long-books content names files kind long there case is_case =
         let none = within-all files short in
         cc
 
-pub too_long_exactly : (told : Told) (asking : Asking) (kind : FileKind) (reply : Answer) → IsTooLong told asking.names kind → FilesAnswer told asking reply → OfNamedFiles (YesExactly reply.status) told asking.names
+pub too_long_exactly : (told : Told) (asking : Asking) (kind : FileKind) (reply : Answer) → IsTooLong told asking.names kind → FilesAnswer told asking reply → OfNamedFiles (YesExactly reply.status asking.inquiry) told asking.names
 too_long_exactly told asking kind reply long said = exactly-told told asking reply said (books told long)
   where
     books : (found : Told) → IsTooLong found asking.names kind → (content : Content) (files : InputFiles) → found ≡ Some content → AreThere content asking.names files → (case : CaseContents) → case_of files ≡ Ok case → KeepsLimits case

@@ -3,6 +3,7 @@ pub mod CaseLaws
 pub mod NumberFacts
 pub mod WordLaws
 pub mod SavingsFacts
+pub mod CapFacts
 pub mod AcceptedLaws
 pub mod NotAcceptedLaws
 pub mod AnswerLaws

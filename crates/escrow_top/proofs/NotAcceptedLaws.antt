@@ -12,11 +12,16 @@ use Rattle.escrow_check.specs.declared.verdict.Verdict.{Verdict}
 use Rattle.escrow_check.specs.declared.verdict.Verdict.TheVariants as verdict
 use Rattle.escrow_check.proofs.TextFacts.{KeepsLimits, is_meant}
 use Rattle.escrow_top.specs.InputFiles.{InputFiles}
-use Rattle.escrow_top.specs.Answer.{Answer, answer_with, reason_text, refused, verdict_answer}
+use Rattle.escrow_top.specs.Answer.{Answer, answer_for, answer_with, judged_case, portfolio_text, reason_text, refused, verdict_answer}
 use Rattle.escrow_top.specs.CaseOf.{GiveCase}
+use Rattle.rate_cap.specs.CaseAt.{case_at}
 use Rattle.escrow_top.specs.NotAccepted.{NotAccepted}
+use Rattle.escrow_top.specs.Ending.{MeansNo}
+use Rattle.escrow_top.specs.declared.inquiry.Inquiry.{Inquiry}
+use Rattle.escrow_top.specs.declared.inquiry.Inquiry.TheVariants as inquiry
 use Rattle.escrow_top.specs.declared.status.Status.TheVariants as status
 use Rattle.escrow_top.proofs.AcceptedLaws.{IsAnswered, answered-by}
+use Rattle.escrow_top.proofs.CapFacts.{given_at, keeps_judged}
 
 -- an answer of `no` has a reason that stands
 record IsDenied (case : CaseContents) (cert : List ℕ) (text : List ℕ) : Type 0 where
@@ -45,8 +50,18 @@ is_denied words case cert keeps denied =
         subst (λ (a : Answer). IsDenied case cert a.text) (sym found.is)
         (denied-by words case cert found.told keeps found.on (sym (ap (λ (a : Answer). a.status) found.is) ∙ denied))
 
-pub not_accepted : (words : Portfolio → List ℕ) (files : InputFiles) (cert : List ℕ) (case : CaseContents) → GiveCase files case → KeepsLimits case → (answer_with words case cert).status ≡ status.No
+not_accepted : (words : Portfolio → List ℕ) (files : InputFiles) (cert : List ℕ) (case : CaseContents) → GiveCase files case → KeepsLimits case → (answer_with words case cert).status ≡ status.No
     → NotAccepted files cert (answer_with words case cert).text
 not_accepted words files cert case gives keeps denied =
     let no = is_denied words case cert keeps denied in
     record { case = case; gives = gives; why = no.why; stands = no.stands; said = no.said }
+
+-- by what is asked, of the case by which the certificate is judged
+pub means_no : (asked : Inquiry) (files : InputFiles) (cert : List ℕ) (case : CaseContents) → GiveCase files case → KeepsLimits case → (answer_for asked files (judged_case asked case) cert).status ≡ status.No
+    → MeansNo asked files cert (answer_for asked files (judged_case asked case) cert).text
+means_no inquiry.Check files cert case gives keeps denied = not_accepted (portfolio_text inquiry.Check files case) files cert case gives keeps denied
+means_no inquiry.Savings files cert case gives keeps denied = not_accepted (portfolio_text inquiry.Savings files case) files cert case gives keeps denied
+means_no (inquiry.AtCap cap) files cert case gives keeps denied =
+    let at = case_at cap case in
+    let no = is_denied (portfolio_text (inquiry.AtCap cap) files at) at cert (keeps_judged (inquiry.AtCap cap) case keeps) denied in
+    record { case = at; gives = given_at cap files case gives; why = no.why; stands = no.stands; said = no.said }

@@ -1,10 +1,10 @@
 -- Words are those of one command at most.
-use Rattle.std.proofs.Common.{◌≡◌, ℕ, ◌≤◌, ◌<◌, arith, length, map, Bool, true, false, nat_eq, List, [], ◌∷◌, if◌then◌else◌, Option, Some, None, ◌∙◌, refl, sym}
+use Rattle.std.proofs.Common.{◌≡◌, ℕ, ◌≤◌, ◌<◌, arith, length, map, Bool, true, false, nat_eq, List, [], ◌∷◌, if◌then◌else◌, Option, Some, None, ◌∙◌, refl, sym, ap}
 use Rattle.std.specs.Prelude.{codes, option_map}
 use Rattle.std.specs.Bool.{then_some}
 use lib.ListN.{get_or}
 use lib.Pointwise.{pointwise, bytes_decides}
-use Rattle.escrow_top.specs.Answer.{Asking, asking_of, cap_names, check_names, names_behind, savings_names, structure_names}
+use Rattle.escrow_top.specs.Answer.{Asking, CapWords, asking_of, asks_at_cap, cap_names, check_cap_words, check_names, names_behind, savings_names, structure_names}
 use Rattle.escrow_top.specs.Ending.{IsNoCommand}
 use Rattle.escrow_top.specs.InputFiles.{FileNames}
 use Rattle.escrow_top.specs.MakeWords.{Making, make_words, making_of, number_of_word}
@@ -68,14 +68,45 @@ savings-asks words names is = rw (names-apart (codes "savings") (codes "check") 
 pub one-asking : (words : List (List ℕ)) (one other : Asking) → asking_of words ≡ Some one → asking_of words ≡ Some other → one ≡ other
 one-asking words one other is also = let both : Some one ≡ Some other = sym is ∙ also in cc
 
-no-asking : (words : List (List ℕ)) → check_names words ≡ None → savings_names words ≡ None → asking_of words ≡ None
-no-asking words no_check no_savings = rw (no_check, no_savings) refl
+no-asking : (words : List (List ℕ)) → check_names words ≡ None → savings_names words ≡ None → check_cap_words words ≡ None → asking_of words ≡ None
+no-asking words no_check no_savings no_check_cap = rw (no_check, no_savings, no_check_cap) refl
+
+-- six words are those of no command of five
+capped-no_names : (command : List ℕ) (words : List (List ℕ)) (found : CapWords) → check_cap_words words ≡ Some found → names_behind command words ≡ None
+capped-no_names command (word ∷ rate ∷ issue ∷ rates ∷ prices ∷ cert ∷ []) found is = refl
+capped-no_names command words found is = absurd (cc)
+
+names-no_cap : (command : List ℕ) (words : List (List ℕ)) (names : FileNames) → names_behind command words ≡ Some names → check_cap_words words ≡ None
+names-no_cap command (word ∷ issue ∷ rates ∷ prices ∷ cert ∷ []) names is = refl
+names-no_cap command words names is = absurd (cc)
+
+make-no_cap : (words : List (List ℕ)) (making : Making) → make_words words ≡ Some making → check_cap_words words ≡ None
+make-no_cap (word ∷ number ∷ issue ∷ rates ∷ prices ∷ []) making is = refl
+make-no_cap words making is = absurd (cc)
+
+capped-asked : (words : List (List ℕ)) (found : CapWords) → check_cap_words words ≡ Some found → asking_of words ≡ asks_at_cap (check_cap_words words)
+capped-asked words found is = rw (capped-no_names (codes "check") words found is, capped-no_names (codes "savings") words found is) refl
+
+pub check_cap-asks : (words : List (List ℕ)) (found : CapWords) → check_cap_words words ≡ Some found → asking_of words ≡ Some (asks_of (inquiry.AtCap found.cap) found.names)
+check_cap-asks words found is = capped-asked words found is ∙ ap asks_at_cap is
+
+-- what the words of `check-cap` ask, they ask, and they are no other command
+pub record AsksAlone (words : List (List ℕ)) (asking : Asking) : Type 0 where
+  pub no_structure : structure_names words ≡ None
+  pub asks : asking_of words ≡ Some asking
+
+pub at_cap-asks : (words : List (List ℕ)) (asking : Asking) → asks_at_cap (check_cap_words words) ≡ Some asking → AsksAlone words asking
+at_cap-asks words asking is = by (check_cap_words words) refl
+  where
+    by : (found : Option CapWords) → check_cap_words words ≡ found → AsksAlone words asking
+    by None e = absurd (let clash : None ≡ Some asking = sym (ap asks_at_cap e) ∙ is in cc)
+    by (Some found) e = record { no_structure = capped-no_names (codes "structure") words found e; asks = capped-asked words found e ∙ is }
 
 pub make-savings_none : (words : List (List ℕ)) (making : Making) → make_words words ≡ Some making → savings_names words ≡ None
 make-savings_none words making is = make-no_names (codes "savings") words making refl is
 
 pub make-askings_none : (words : List (List ℕ)) (making : Making) → make_words words ≡ Some making → asking_of words ≡ None
-make-askings_none words making is = no-asking words (make-checks_none words making is) (make-savings_none words making is)
+make-askings_none words making is = no-asking words (make-checks_none words making is) (make-savings_none words making is) (make-no_cap words making is)
 
 pub asking-makes_none : (words : List (List ℕ)) (asking : Asking) → asking_of words ≡ Some asking → make_words words ≡ None
 asking-makes_none words asking is = by (make_words words) refl
@@ -90,8 +121,14 @@ structure-checks_none words names is = names-apart (codes "structure") (codes "c
 pub structure-savings_none : (words : List (List ℕ)) (names : FileNames) → structure_names words ≡ Some names → savings_names words ≡ None
 structure-savings_none words names is = names-apart (codes "structure") (codes "savings") words names refl is
 
+pub structure-check_caps_none : (words : List (List ℕ)) (names : FileNames) → structure_names words ≡ Some names → check_cap_words words ≡ None
+structure-check_caps_none words names is = names-no_cap (codes "structure") words names is
+
+pub make-check_caps_none : (words : List (List ℕ)) (making : Making) → make_words words ≡ Some making → check_cap_words words ≡ None
+make-check_caps_none words making is = make-no_cap words making is
+
 pub structure-askings_none : (words : List (List ℕ)) (names : FileNames) → structure_names words ≡ Some names → asking_of words ≡ None
-structure-askings_none words names is = no-asking words (structure-checks_none words names is) (structure-savings_none words names is)
+structure-askings_none words names is = no-asking words (structure-checks_none words names is) (structure-savings_none words names is) (structure-check_caps_none words names is)
 
 -- ---- the words of `cap`
 pub make-caps_none : (words : List (List ℕ)) (making : Making) → make_words words ≡ Some making → cap_names words ≡ None
@@ -112,8 +149,11 @@ cap-checks_none words names is = names-apart (codes "cap") (codes "check") words
 pub cap-savings_none : (words : List (List ℕ)) (names : FileNames) → cap_names words ≡ Some names → savings_names words ≡ None
 cap-savings_none words names is = names-apart (codes "cap") (codes "savings") words names refl is
 
+pub cap-check_caps_none : (words : List (List ℕ)) (names : FileNames) → cap_names words ≡ Some names → check_cap_words words ≡ None
+cap-check_caps_none words names is = names-no_cap (codes "cap") words names is
+
 pub cap-askings_none : (words : List (List ℕ)) (names : FileNames) → cap_names words ≡ Some names → asking_of words ≡ None
-cap-askings_none words names is = no-asking words (cap-checks_none words names is) (cap-savings_none words names is)
+cap-askings_none words names is = no-asking words (cap-checks_none words names is) (cap-savings_none words names is) (cap-check_caps_none words names is)
 
 pub asking-caps_none : (words : List (List ℕ)) (asking : Asking) → asking_of words ≡ Some asking → cap_names words ≡ None
 asking-caps_none words asking is = by (cap_names words) refl
@@ -124,7 +164,7 @@ asking-caps_none words asking is = by (cap_names words) refl
 
 -- words that are no command ask nothing
 pub no_command-asks_none : (words : List (List ℕ)) → IsNoCommand words → asking_of words ≡ None
-no_command-asks_none words none = no-asking words none.no_check none.no_savings
+no_command-asks_none words none = no-asking words none.no_check none.no_savings none.no_check_cap
 
 -- `make` of a word that is no number is no command
 pub no_number : (word number issue rates prices : List ℕ) → true ≡ pointwise nat_eq word (codes "make") → number_of_word number ≡ None → IsNoCommand (word ∷ number ∷ issue ∷ rates ∷ prices ∷ [])
@@ -136,6 +176,7 @@ no_number word number issue rates prices is none =
       no_make = rw (sym is, none) refl;
       no_savings = other-word (codes "make") (codes "savings") word names refl (sym is);
       no_cap = other-word (codes "make") (codes "cap") word names refl (sym is);
+      no_check_cap = refl;
     }
 
 -- the same of strings

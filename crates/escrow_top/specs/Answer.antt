@@ -1,5 +1,5 @@
--- What `check` and `savings` answer: a status and the text that is said. The texts are this project's own.
-use Rattle.std.specs.Prelude.{ℕ, nat_lt, nat_eq, if◌then◌else◌, List, [], ◌∷◌, ◌++◌, length, Option, Some, None, Result, Ok, Err, is_ok, codes, decimal, option_map}
+-- What `check`, `check-cap` and `savings` answer: a status and the text that is said. The texts are this project's own.
+use Rattle.std.specs.Prelude.{ℕ, ◌%◌, ◌==◌, nat_lt, nat_eq, if◌then◌else◌, List, [], ◌∷◌, ◌++◌, length, Option, Some, None, Result, Ok, Err, is_ok, codes, decimal, option_map}
 use Rattle.std.specs.Bool.{then_some}
 use Rattle.std.specs.Option.{option_or}
 use lib.Pointwise.{pointwise}
@@ -12,6 +12,9 @@ use Rattle.escrow_desk.specs.declared.refusal.Refusal.{Refusal}
 use Rattle.escrow_desk.specs.declared.refusal.RefusalKind.{RefusalKind}
 use Rattle.escrow_desk.specs.declared.refusal.RefusalKind.TheVariants as kind
 use Rattle.escrow_units.specs.DateText.{day_text}
+use Rattle.escrow_units.specs.NumberText.{rate_of}
+use Rattle.escrow_units.specs.declared.amount.Rate.{Rate}
+use Rattle.escrow_units.specs.declared.fault.NumberFault.{NumberFault}
 use Rattle.row_fields.specs.RowForm.{refusal_of}
 use Rattle.bound_certificate.specs.declared.fault.FaultKind.{FaultKind}
 use Rattle.bound_certificate.specs.declared.fault.FaultKind.TheVariants as fault
@@ -22,6 +25,7 @@ use Rattle.escrow_check.specs.declared.verdict.Reason.{Reason}
 use Rattle.escrow_check.specs.declared.verdict.Reason.TheVariants as reason
 use Rattle.escrow_check.specs.declared.verdict.Verdict.{Verdict}
 use Rattle.escrow_check.specs.declared.verdict.Verdict.TheVariants as verdict
+use Rattle.rate_cap.specs.CaseAt.{case_at}
 use Rattle.verification_report.specs.Summary.{summary_text, text_line}
 use Rattle.issue_schedule.specs.IssueForm.{issue_of}
 use Rattle.escrow_top.specs.InputFiles.{InputFiles, FileNames, ◌>>=◌, first_too_long, inputs_of}
@@ -68,6 +72,7 @@ none_text = text_line (codes "yes none") []
 abbrev pub portfolio_text : Inquiry → InputFiles → CaseContents → Portfolio → List ℕ
 portfolio_text inquiry.Check files case portfolio = yes_text case portfolio
 portfolio_text inquiry.Savings files case portfolio = saved_text (issue_of (rows_of files.issue)) case portfolio.plan
+portfolio_text (inquiry.AtCap cap) files case portfolio = yes_text case portfolio
 
 -- the answer to a verdict, with these words for a portfolio
 abbrev pub verdict_answer : (Portfolio → List ℕ) → Verdict → Answer
@@ -129,13 +134,19 @@ case_of_texts None texts = rows_case (rows_of texts.issue) (rows_of texts.rates)
 abbrev pub case_of : InputFiles → Result CaseContents Refusal
 case_of texts = case_of_texts (first_too_long texts) texts
 
--- the answer to the bytes of a certificate for the case of input files, by what is asked of them
+-- the case by which a certificate is judged: that of the input files, or that one at a cap
+abbrev pub judged_case : Inquiry → CaseContents → CaseContents
+judged_case inquiry.Check case = case
+judged_case inquiry.Savings case = case
+judged_case (inquiry.AtCap cap) case = case_at cap case
+
+-- the answer to the bytes of a certificate for the case by which it is judged
 abbrev pub answer_for : Inquiry → InputFiles → CaseContents → List ℕ → Answer
 answer_for inquiry texts case cert = answer_with (portfolio_text inquiry texts case) case cert
 
 abbrev pub case_answer : Inquiry → InputFiles → Result CaseContents Refusal → List ℕ → Answer
 case_answer inquiry texts (Err refusal) cert = refused refusal
-case_answer inquiry texts (Ok case) cert = answer_for inquiry texts case cert
+case_answer inquiry texts (Ok case) cert = answer_for inquiry texts (judged_case inquiry case) cert
 
 -- what is answered to the bytes of the four files, by what is asked of them
 abbrev pub files_answer : Inquiry → InputFiles → List ℕ → Answer
@@ -157,8 +168,7 @@ asked_answer content asking = do
 abbrev pub usage_words : List ℕ
 usage_words =
     codes "structure ISSUE RATES PRICES CERT | check ISSUE RATES PRICES CERT | make NUMBER ISSUE RATES PRICES"
-    ++ codes " | savings ISSUE RATES PRICES CERT"
-    ++ codes " | cap ISSUE RATES PRICES CERT"
+    ++ codes " | cap ISSUE RATES PRICES CERT | check-cap RATE ISSUE RATES PRICES CERT | savings ISSUE RATES PRICES CERT"
 
 abbrev pub usage_text : List ℕ
 usage_text = text_line (codes "usage: ") usage_words
@@ -188,12 +198,35 @@ savings_names words = names_behind (codes "savings") words
 abbrev pub cap_names : List (List ℕ) → Option FileNames
 cap_names words = names_behind (codes "cap") words
 
+-- the cap that a word is: a rate in percent, in whole hundredths, up to 30
+abbrev pub cap_of : Result Rate NumberFault → Option Rate
+cap_of (Ok rate) = then_some (rate.0 % 10 == 0) rate
+cap_of (Err fault) = None
+
+-- a cap, and the names of four files
+pub record CapWords : Type 0 where
+  pub cap : Rate
+  pub names : FileNames
+
+-- those that the words `check-cap RATE ISSUE RATES PRICES CERT` give
+abbrev pub check_cap_words : List (List ℕ) → Option CapWords
+check_cap_words (word ∷ rate ∷ issue ∷ rates ∷ prices ∷ cert ∷ []) =
+    if pointwise nat_eq word (codes "check-cap")
+    then option_map (λ cap. record { cap = cap; names = record { issue = issue; rates = rates; prices = prices; cert = cert } }) (cap_of (rate_of rate))
+    else None
+check_cap_words words = None
+
 -- what words ask of a certificate
 abbrev pub asks : Inquiry → Option FileNames → Option Asking
 asks inquiry names = option_map (λ names. record { inquiry = inquiry; names = names }) names
 
+abbrev pub asks_at_cap : Option CapWords → Option Asking
+asks_at_cap found = option_map (λ capped. record { inquiry = inquiry.AtCap capped.cap; names = capped.names }) found
+
 abbrev pub asking_of : List (List ℕ) → Option Asking
-asking_of words = option_or (asks inquiry.Check (check_names words)) (asks inquiry.Savings (savings_names words))
+asking_of words =
+    option_or (asks inquiry.Check (check_names words))
+    (option_or (asks inquiry.Savings (savings_names words)) (asks_at_cap (check_cap_words words)))
 
 abbrev pub answer_to_asking : Content → Option Asking → Option Answer
 answer_to_asking content None = Some usage

@@ -4,8 +4,9 @@ use Rattle.escrow_desk.specs.Content.{Content, Told, file_of, with_said, SaidAll
 use Rattle.escrow_top.specs.Accepted.{Accepted}
 use Rattle.escrow_top.specs.NotAccepted.{NotAccepted}
 use Rattle.escrow_top.specs.Saved.{Saved}
+use Rattle.escrow_top.specs.AtCap.{AcceptedAt, NotAcceptedAt}
 use Rattle.escrow_top.specs.InputFiles.{InputFiles, FileNames}
-use Rattle.escrow_top.specs.Answer.{Answer, Asking, answer_to, asked_answer, asking_of, cap_names, check_names, files_answer, savings_names, structure_names}
+use Rattle.escrow_top.specs.Answer.{Answer, Asking, answer_to, asked_answer, asking_of, cap_names, check_cap_words, check_names, files_answer, savings_names, structure_names}
 use Rattle.escrow_top.specs.Capped.{WroteCapped}
 use Rattle.escrow_top.specs.Capping.{Caps, CapsPart}
 use Rattle.escrow_top.specs.MakeWords.{Making, make_words}
@@ -31,7 +32,7 @@ code_of status.WriteFault = 9
 code_of status.NoFile = 10
 code_of status.NoMemory = 11
 
--- the statuses that `check` and `savings` come to
+-- the statuses that `check`, `check-cap` and `savings` come to
 abbrev pub is_checked : Status → Bool
 is_checked status.Done = true
 is_checked status.No = true
@@ -118,6 +119,7 @@ pub record IsNoCommand (words : List (List ℕ)) : Type 0 where
   pub no_make : make_words words ≡ None
   pub no_savings : savings_names words ≡ None
   pub no_cap : cap_names words ≡ None
+  pub no_check_cap : check_cap_words words ≡ None
 
 -- the four files of these names are there, and this holds of their bytes
 abbrev pub HoldsOfFiles : (InputFiles → List ℕ → Type 0) → Content → FileNames → Type 0
@@ -164,15 +166,26 @@ WroteCertificate told new words = IfSome (structure_names words) (WroteAccepted 
 abbrev pub IsSaved : Told → List (List ℕ) → Told → Type 0
 IsSaved told words new = IfSome (savings_names words) (λ names. SaidOfFiles Saved told names new)
 
--- the words ask something of a certificate: the four files that they name aren't accepted, and this was said
-abbrev pub IsNotAccepted : Told → List (List ℕ) → Told → Type 0
-IsNotAccepted told words new = IsSomeAnd (asking_of words) (λ asking. SaidOfFiles NotAccepted told asking.names new)
+-- where they are those of `check-cap`: the four files that they name are accepted at the cap, and this was said
+abbrev pub IsAcceptedAtCap : Told → List (List ℕ) → Told → Type 0
+IsAcceptedAtCap told words new = IfSome (check_cap_words words) (λ capped. SaidOfFiles (AcceptedAt capped.cap) told capped.names new)
 
 -- ---- by what is asked
 -- what an answer of `Done` means, of the bytes of four files and what was said
 abbrev pub MeansYes : Inquiry → InputFiles → List ℕ → List ℕ → Type 0
 MeansYes inquiry.Check = Accepted
 MeansYes inquiry.Savings = Saved
+MeansYes (inquiry.AtCap cap) = AcceptedAt cap
+
+-- what an answer of `No` means
+abbrev pub MeansNo : Inquiry → InputFiles → List ℕ → List ℕ → Type 0
+MeansNo inquiry.Check = NotAccepted
+MeansNo inquiry.Savings = NotAccepted
+MeansNo (inquiry.AtCap cap) = NotAcceptedAt cap
+
+-- the words ask something of a certificate: the four files that they name aren't accepted, and this was said
+abbrev pub IsNotAccepted : Told → List (List ℕ) → Told → Type 0
+IsNotAccepted told words new = IsSomeAnd (asking_of words) (λ asking. SaidOfFiles (MeansNo asking.inquiry) told asking.names new)
 
 -- where they are those of `cap`: what is so of the certificate that was written
 abbrev pub IsCapped : Told → List (List ℕ) → Told → Type 0

@@ -1,5 +1,6 @@
 pub mod Accepted
 pub mod Answer
+pub mod AtCap
 pub mod Capped
 pub mod Capping
 pub mod CaseOf

@@ -92,6 +92,7 @@ IsHeard told name case found = MatchOption told (Unit {0}) (λ content. IsSomeAn
 abbrev pub IsKeptFor : Inquiry → InputFiles → CaseContents → Type 0
 IsKeptFor inquiry.Check files case = Unit {0}
 IsKeptFor inquiry.Savings files case = IsKept (rows_of files.issue) (rows_of files.rates) (rows_of files.prices) case
+IsKeptFor (inquiry.AtCap cap) files case = Unit {0}
 
 -- a portfolio that is accepted is permitted, whether the desk tells or not
 abbrev pub KeepsPermitted : CaseContents → Verdict → Type 0

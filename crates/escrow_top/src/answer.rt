@@ -264,12 +264,12 @@ fn portfolio_text(
     ensures { IfOk result (λ text. text.items ≡ portfolio_text_of inquiry (files_view files.now) (case_view case.now) portfolio.now) }
 {
     match inquiry {
-        Inquiry::Check => yes_text(alloc, case, portfolio),
+        Inquiry::Check | Inquiry::AtCap(_) => yes_text(alloc, case, portfolio),
         Inquiry::Savings => saved_text(alloc, files, case, &portfolio.plan),
     }
 }
 
-/// The answer to a verdict on a certificate for the case of input files, by what is asked of them.
+/// The answer to a verdict on a certificate, for the case by which it is judged, by what is asked of the input files.
 pub(crate) fn verdict_answer(
     alloc: Global,
     inquiry: Inquiry,

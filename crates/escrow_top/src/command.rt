@@ -1,13 +1,17 @@
 //! The words of a command line.
 
-ghost use Rattle.std.specs.Prelude.{◌≡◌, map, string_bytes, MatchOption};
+ghost use Rattle.std.specs.Prelude.{◌≡◌, map, string_bytes, MatchOption, None, Some};
 ghost use Rattle.escrow_top.specs.Command.{IsCommand};
 ghost use Rattle.escrow_top.specs.Ending.{IsNoCommand};
 ghost use Rattle.escrow_top.specs.MakeWords.{number_of_word};
+ghost use Rattle.escrow_top.specs.Answer.{asks_at_cap, cap_of as cap_of_rate, check_cap_words};
+ghost use Rattle.escrow_top.specs.Reading.{asking_view};
+ghost use Rattle.escrow_units.specs.NumberText.{rate_of};
 
 use crate::files::FileNames;
 use crate::inquiry::{Asking, Inquiry};
 use crate::making::{MadeNames, Making};
+use escrow_units::{Rate, read_rate};
 use itoa::Buffer;
 
 /// What the words of a command line ask for.
@@ -17,7 +21,7 @@ pub(crate) enum Command<'a> {
     Structure(FileNames<'a>),
     /// `cap`, of the files of these names.
     Cap(FileNames<'a>),
-    /// `check` or `savings`, of the files of these names.
+    /// `check`, `savings` or `check-cap`, of the files of these names.
     Ask(Asking<'a>),
     /// `make`, of the case of a number, in files of these names.
     Make(Making<'a>),
@@ -36,11 +40,46 @@ fn number_of(word: &str) -> Option<u64>
     }
 }
 
+// The cap that a word is: a rate in percent, in whole hundredths, up to 30.
+fn cap_of(word: &str) -> Option<Rate>
+    ensures { result ≡ cap_of_rate (rate_of word.now) }
+{
+    let rate = read_rate(word.as_bytes()).ok()?;
+    if rate.0 % 10 == 0 { Some(rate) } else { None }
+}
+
+// What words ask, if they are those of `check-cap`.
+fn asking_at_cap(words: &[String]) -> Option<Asking<'_>>
+    ensures { MatchOption result (check_cap_words (map string_bytes words.now) ≡ None)
+        (λ asking. asks_at_cap (check_cap_words (map string_bytes words.now)) ≡ Some (asking_view asking)) }
+{
+    let [word, cap, issue, rates, prices, cert] = words else {
+        return None;
+    };
+    if word.as_str() != "check-cap" {
+        return None;
+    }
+    let cap = cap_of(cap.as_str())?;
+    let names = FileNames {
+        issue: issue.as_str(),
+        rates: rates.as_str(),
+        prices: prices.as_str(),
+        cert: cert.as_str(),
+    };
+    Some(Asking {
+        inquiry: Inquiry::AtCap(cap),
+        names,
+    })
+}
+
 /// The command of words, which are read by their places; None where they are no command.
 pub(crate) fn command_of(words: &[String]) -> Option<Command<'_>>
     ensures { MatchOption result (IsNoCommand (map string_bytes words.now))
         (λ command. IsCommand command (map string_bytes words.now)) }
 {
+    if let Some(asking) = asking_at_cap(words) {
+        return Some(Command::Ask(asking));
+    }
     let [word, first, second, third, last] = words else {
         return None;
     };

@@ -1,6 +1,7 @@
 //! What is asked of a certificate.
 
 use crate::files::FileNames;
+use escrow_units::Rate;
 
 /// What is asked of a certificate. Each says why it isn't accepted, and that there is no rival, in the same words.
 #[derive(Clone, Copy)]
@@ -9,6 +10,8 @@ pub(crate) enum Inquiry {
     Check,
     /// `savings`: what its portfolio saves, and what idle yield costs.
     Savings,
+    /// `check-cap`: the summary of its portfolio, for the case at this cap on the SLGS rates.
+    AtCap(Rate),
 }
 
 /// What is asked, of the files of these names.

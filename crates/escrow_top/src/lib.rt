@@ -22,6 +22,8 @@ pub use program::run;
 pub use status::Status;
 
 #[cfg(test)]
+mod at_cap_tests;
+#[cfg(test)]
 mod bound_tests;
 #[cfg(test)]
 mod cap_tests;

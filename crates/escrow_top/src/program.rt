@@ -3,9 +3,8 @@
 ghost use Rattle.std.specs.Prelude.{◌≡◌, ◌≢◌, ◌↔◌, map, string_bytes, IfSome, IsTrue, OnErr, OnOk};
 ghost use Rattle.escrow_desk.specs.Content.{SaidAll, SaidPart, told_map};
 ghost use Rattle.escrow_desk.specs.Counts.{AllSteady, CountsWrite};
-ghost use Rattle.escrow_top.specs.Ending.{Answers, AnswersPart, AskedAnswers, AskedAnswersPart, IsAccepted, IsAnswerTo, IsCapped, IsNoCommand, IsNotAccepted, IsSaved, LacksFile, MeansYes, OfFiles, OfNamedFiles, SaidOfFiles, WroteCertificate, is_checked};
+ghost use Rattle.escrow_top.specs.Ending.{Answers, AnswersPart, AskedAnswers, AskedAnswersPart, IsAccepted, IsAcceptedAtCap, IsAnswerTo, IsCapped, IsNoCommand, IsNotAccepted, IsSaved, LacksFile, MeansNo, MeansYes, OfFiles, OfNamedFiles, SaidOfFiles, WroteCertificate, is_checked};
 ghost use Rattle.escrow_top.specs.Accepted.{YesExactly};
-ghost use Rattle.escrow_top.specs.NotAccepted.{NotAccepted};
 ghost use Rattle.escrow_top.specs.Answer.{asking_of, cap_names, structure_names};
 ghost use Rattle.escrow_top.specs.Capped.{SaysNoCap, WroteCapped};
 ghost use Rattle.escrow_top.specs.Capping.{Caps, CapsPart, IsCapEnded, PutsOutCap, PutsOutCapPart};
@@ -31,7 +30,7 @@ use std::alloc::Global;
 // The words of each command; those that came later stand at the end.
 const USAGE: &[u8] =
     b"usage: structure ISSUE RATES PRICES CERT | check ISSUE RATES PRICES CERT | make NUMBER ISSUE RATES PRICES \
-    | savings ISSUE RATES PRICES CERT | cap ISSUE RATES PRICES CERT\n";
+    | cap ISSUE RATES PRICES CERT | check-cap RATE ISSUE RATES PRICES CERT | savings ISSUE RATES PRICES CERT\n";
 
 // Says the text of a status that was reached, and answers the status; `WriteFault` where a call of the desk failed.
 fn say_answer<D: Desk>(desk: &mut D, status: Status, text: &[u8]) -> Status
@@ -55,8 +54,8 @@ fn run_asking<D: Desk>(alloc: Global, asking: &Asking<'_>, desk: &mut D) -> Stat
     ensures lacks { result ≡ Status.NoFile → LacksAsked (D.told desk.old) (asking_view asking.now) }
     ensures checked { IsTrue (is_reached result) → IsTrue (is_checked result) }
     ensures yes { result ≡ Status.Done → SaidOfFiles (MeansYes asking.now.inquiry) (D.told desk.old) (names_view asking.now.names) (D.told desk.new) }
-    ensures no { result ≡ Status.No → SaidOfFiles NotAccepted (D.told desk.old) (names_view asking.now.names) (D.told desk.new) }
-    ensures exactly { IsTrue (is_reached result) → OfNamedFiles (YesExactly result) (D.told desk.old) (names_view asking.now.names) }
+    ensures no { result ≡ Status.No → SaidOfFiles (MeansNo asking.now.inquiry) (D.told desk.old) (names_view asking.now.names) (D.told desk.new) }
+    ensures exactly { IsTrue (is_reached result) → OfNamedFiles (YesExactly result asking.now.inquiry) (D.told desk.old) (names_view asking.now.names) }
     ensures bytes { AllSteady (D.counts desk.old) (D.counts desk.new) → result ≢ Status.NoMemory → OfNamedFiles (IsAnswerTo (D.told desk.old) result (D.told desk.new) asking.now.inquiry) (D.told desk.old) (names_view asking.now.names) }
     ensures counts { EndedAs result (D.counts desk.old) (D.counts desk.new) (D.told desk.old) (D.told desk.new) }
 {
@@ -200,16 +199,17 @@ fn run_make<D: Desk>(alloc: Global, making: &Making<'_>, desk: &mut D) -> Status
 /// Carries out the words of a command line, which are those after the program's name, over a desk.
 ///
 /// `check ISSUE RATES PRICES CERT` answers whether the certificate is accepted for the three input files, and says why or why
-/// not. `savings ISSUE RATES PRICES CERT` answers the same, and says of an accepted portfolio what the refunding saves in present
-/// value at the restricted yield, and what idle yield costs. `structure ISSUE RATES PRICES CERT` searches the cheapest permitted
-/// purchases, writes their certificate and says their report; or it writes a certificate which shows that there is no rival, and
-/// says so; or it says that the needs can't be met, or that the budget is spent, with the bound that its tree shows and the best
-/// plan. `cap ISSUE RATES PRICES CERT` searches the greatest common cap on the SLGS rates at which an escrow is found, writes the
-/// certificate for the case at that cap, and says the cap, the summary and why none was found at the next hundredth; or it says
-/// that none was found, and why. `make NUMBER ISSUE RATES PRICES` structures the made-up case of a number from 0 to 2^64 - 1,
-/// written in decimal digits without a leading zero; it writes the three files of the case, in this order, and then says the
-/// number, the summary of what was found and how many nodes the tree has, or what `structure` says where it finds no portfolio.
-/// All other words are `Usage`.
+/// not. `check-cap RATE ISSUE RATES PRICES CERT` answers the same of the case in which each SLGS rate is at most RATE, which is in
+/// percent, in whole hundredths up to 30. `savings ISSUE RATES PRICES CERT` answers as `check`, and says of an accepted portfolio
+/// what the refunding saves in present value at the restricted yield, and what idle yield costs. `structure ISSUE RATES PRICES
+/// CERT` searches the cheapest permitted purchases, writes their certificate and says their report; or it writes a certificate
+/// which shows that there is no rival, and says so; or it says that the needs can't be met, or that the budget is spent, with the
+/// bound that its tree shows and the best plan. `cap ISSUE RATES PRICES CERT` searches the greatest common cap on the SLGS rates at
+/// which an escrow is found, writes the certificate for the case at that cap, and says the cap, the summary and why none was found
+/// at the next hundredth; or it says that none was found, and why. `make NUMBER ISSUE RATES PRICES` structures the made-up case of
+/// a number from 0 to 2^64 - 1, written in decimal digits without a leading zero; it writes the three files of the case, in this
+/// order, and then says the number, the summary of what was found and how many nodes the tree has, or what `structure` says where
+/// it finds no portfolio. All other words are `Usage`.
 ///
 /// It returns for all words and every desk. It writes no file but the certificate of `structure` or `cap` and the files of
 /// `make`, and all texts are built before. The texts are this project's own.
@@ -242,8 +242,10 @@ pub fn run<D: Desk>(alloc: Global, words: &[String], desk: &mut D) -> Status
     ensures no { result ≡ Status.No → IsNotAccepted (D.told desk.old) (map string_bytes words.now) (D.told desk.new) }
     // What `savings` means by its four lines, of the bytes of the four files: they are accepted, and this is what is saved.
     ensures saved { result ≡ Status.Done → IsSaved (D.told desk.old) (map string_bytes words.now) (D.told desk.new) }
-    // `check` and `savings` end as `Done` exactly where no reason stands.
-    ensures exactly { IsTrue (is_reached result) → OfFiles (λ _. YesExactly result) (D.told desk.old) (map string_bytes words.now) }
+    // What `yes` means to `check-cap`, of the case of the files at the cap.
+    ensures yes_at_cap { result ≡ Status.Done → IsAcceptedAtCap (D.told desk.old) (map string_bytes words.now) (D.told desk.new) }
+    // They end as `Done` exactly where no reason stands.
+    ensures exactly { IsTrue (is_reached result) → OfFiles (YesExactly result) (D.told desk.old) (map string_bytes words.now) }
     // Where no call of the desk failed and memory lasted, they say of four files that are there the answer to their bytes.
     ensures bytes { AllSteady (D.counts desk.old) (D.counts desk.new) → result ≢ Status.NoMemory → OfFiles (IsAnswerTo (D.told desk.old) result (D.told desk.new)) (D.told desk.old) (map string_bytes words.now) }
     ensures part { result ≡ Status.WriteFault → AnswersPart (D.told desk.old) (map string_bytes words.now) (D.told desk.new) }

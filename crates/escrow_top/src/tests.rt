@@ -33,7 +33,8 @@ pub(crate) const NO_RIVAL: Files = Files {
     cert: b"escrow-certificate 1\nportfolio none\ngap 0\nnodes 1\nl 0 1000000000000 2000000000\nend\n",
 };
 
-const FIRST_TEXT: &[u8] =
+/// What `check` says of the first files.
+pub(crate) const FIRST_TEXT: &[u8] =
     b"yes\ncost 5000.00\nyield 0.00000000 0.00000000\nlimit 4.00100000\ngap 0.00\n";
 
 // Two needs and two offers.
@@ -50,7 +51,7 @@ pub(crate) const CHECK: [&str; 5] = ["check", "i", "r", "p", "c"];
 /// What is said to words that are no command.
 pub(crate) const USAGE: &[u8] =
     b"usage: structure ISSUE RATES PRICES CERT | check ISSUE RATES PRICES CERT | make NUMBER ISSUE RATES PRICES \
-    | savings ISSUE RATES PRICES CERT | cap ISSUE RATES PRICES CERT\n";
+    | cap ISSUE RATES PRICES CERT | check-cap RATE ISSUE RATES PRICES CERT | savings ISSUE RATES PRICES CERT\n";
 
 /// A file of a name.
 pub(crate) fn named(alloc: Global, name: &str, bytes: &[u8]) -> Result<NamedBytes, Fail>
@@ -737,7 +738,8 @@ fn limits_of_files(rt: HostRuntime) -> Result<(), Fail> {
 
 #[test]
 fn words_that_read_nothing(rt: HostRuntime) -> Result<(), Fail> {
-    let rows: [(&[&str], Status, &[u8]); 4] = [
+    let rows: [(&[&str], Status, &[u8]); 5] = [
+        (&["check-cap", "3", "a", "b", "c"], Status::Usage, USAGE),
         (&[], Status::Usage, USAGE),
         (&["check", "a", "b"], Status::Usage, USAGE),
         (&["savings", "a", "b", "c"], Status::Usage, USAGE),

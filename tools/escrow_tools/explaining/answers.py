@@ -7,13 +7,13 @@ from datetime import date
 from typing import Optional
 
 from .. import program
-from ..amounts import counted, money, money_for_people, yield_text
+from ..amounts import counted, money, money_for_people, rate_text, read_hundredths, yield_text
 from ..case_files import CERT, ISSUE, Refusal
 from ..certificate import Certificate, read_certificate
 from ..report import BadReport, cents_of, read_summary
 from ..securities import indexed
 from ..yields import interval
-from .case_reading import CaseRead, read_whole_case
+from .case_reading import CaseRead, at_cap, read_whole_case
 from .cautions import Cautions
 from .explanation import shown
 from .files import explain_fault
@@ -44,11 +44,15 @@ class Run:
     def first_line(self) -> str:
         return self.lines[0] if self.lines else ""
 
+    @property
+    def cap(self) -> Optional[int]:
+        """The cap of `check-cap`, in thousandths of a percentage point."""
+        return read_hundredths(self.words[1]) if self.command == "check-cap" else None
+
     def read_case(self) -> CaseRead:
         if "read" not in self.__dict__:
-            self.__dict__["read"] = read_whole_case(
-                self.data.get(ISSUE), self.data.get("rates"), self.data.get("prices")
-            )
+            case = read_whole_case(self.data.get(ISSUE), self.data.get("rates"), self.data.get("prices"))
+            self.__dict__["read"] = case if self.cap is None else at_cap(case, self.cap)
         return self.__dict__["read"]
 
     def read_certificate(self) -> Optional[Certificate]:
@@ -89,6 +93,8 @@ def _done(run: Run) -> list[str]:
         "%s, cost %s, and keep to the yield limit of %s percent" % (what, cost, limit),
         "no rival costs less by more than %s: a rival is permitted, pays every need and keeps below the limit" % gap,
     ]
+    if run.cap is not None:
+        lines.append("that is with no SLGS rate above %s percent, which is what is to be subscribed for" % rate_text(run.cap))
     if run.command == "structure":
         lines.append(
             "%s is written; `./escrow check` tries it, and `./escrow page` makes what a verifier signs"
@@ -160,6 +166,8 @@ def _usage(run: Run) -> list[str]:
     if command == "make" and given == len(form) - 1:
         number = shown(run.words[1])
         return ["NUMBER is `%s`: it is from 0 to 18446744073709551615, in digits alone, and without a leading zero" % number]
+    if command == "check-cap" and given == len(form) - 1:
+        return ["RATE is `%s`: it is a rate in percent from 0 to 30, in whole hundredths, such as 3.02" % shown(run.words[1])]
     lines = ["`%s` takes %d words, %s, and here are %d" % (command, len(form) - 1, " ".join(form[1:]), given)]
     if given > len(form) - 1:
         lines.append("a name with blanks in it stands in quotes")

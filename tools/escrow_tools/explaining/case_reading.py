@@ -2,7 +2,7 @@
 
 from __future__ import annotations
 
-from dataclasses import dataclass, field
+from dataclasses import dataclass, field, replace
 from typing import Optional
 
 from ..case_files import (
@@ -97,3 +97,12 @@ def read_whole_case(issue: Optional[bytes], rates: Optional[bytes], prices: Opti
     except Refusal as refusal:
         case.keep(refusal)
     return case
+
+
+def at_cap(case: CaseRead, cap: int) -> CaseRead:
+    """The case in which each SLGS line bears the lesser of its own rate and a cap, in thousandths of a percentage point."""
+    lines = [
+        replace(line, security=replace(line.security, rate=min(line.security.rate, cap))) if line.is_slgs else line
+        for line in case.lines
+    ]
+    return replace(case, lines=lines)

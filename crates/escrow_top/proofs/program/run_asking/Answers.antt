@@ -10,7 +10,7 @@ use Rattle.escrow_top.proofs.program.run_asking.Goals as goal
 
 pub returns-in-Ok-clause-exactly : goal.returns-in-Ok-clause-exactly
 returns-in-Ok-clause-exactly g c = λ reached.
-    subst (λ status. OfNamedFiles (YesExactly status) (g.D.Desk.told c.args.desk.now) (names_view c.args.asking.now.names)) (sym (c.say_answer.ensures.status reached ∙ ap (λ (a : Answer). a.status) c.answer.view_is)) c.in-Ok.ensures.exactly
+    subst (λ status. OfNamedFiles (YesExactly status c.args.asking.now.inquiry) (g.D.Desk.told c.args.desk.now) (names_view c.args.asking.now.names)) (sym (c.say_answer.ensures.status reached ∙ ap (λ (a : Answer). a.status) c.answer.view_is)) c.in-Ok.ensures.exactly
 
 pub returns-in-Ok-clause-bytes : goal.returns-in-Ok-clause-bytes
 returns-in-Ok-clause-bytes g c = λ steady lasts.
