@@ -5,12 +5,18 @@ from __future__ import annotations
 import re
 import unittest
 
-from harness import EXAMPLES, ROOT, FolderTest, run_tool
+from harness import EXAMPLES, ROOT, FolderTest, run_program, run_tool
 from escrow_tools.explaining.case_reading import read_whole_case
 from escrow_tools.explaining.cautions import totals
 
 GUIDE = ROOT / "docs" / "GUIDE.md"
 SERIES = EXAMPLES / "series"
+# One need, and one offer at more than the restricted yield.
+DEAR_OFFER = (
+    "settle,2025-01-15\nneed,2025-07-15,1000.00\nrestricted,3.00\n",
+    "terms,1000,1000\nrate,2025-02-14,2026-01-15,4.00\noffer,2025-07-15,4.00,,2000\n",
+    "",
+)
 
 
 def code_lines(text: str) -> list:
@@ -45,12 +51,20 @@ class GuideTest(FolderTest):
         case = read_whole_case(*((SERIES / name).read_bytes() for name in ("issue.csv", "rates.csv", "prices.csv")))
         self.assertIn("escrow: " + totals(case)[0], shown)
 
+    def answers(self) -> list:
+        """What the program says of a common cap, and of what a refunding saves."""
+        folder = EXAMPLES / "maturity"
+        saved = run_program(folder, "savings", "issue.csv", "rates.csv", "prices.csv", "certificate.txt")
+        capped = run_program(self.folder, "cap", *self.write_case(*DEAR_OFFER))
+        self.assertEqual((saved.status, capped.status), (0, 0))
+        return saved.lines + capped.lines
+
     def test_report(self) -> None:
-        """Each line of the report and of the answer that is shown stands in the example's."""
-        known = (SERIES / "certificate.report.txt").read_text().splitlines() + (
-            SERIES / "expected.txt"
-        ).read_text().splitlines()
-        words = ("buy", "cash", "cost", "yield", "limit", "gap", "pay", "date", "idle", "proof")
+        """Each line of the report and of an answer that is shown stands in the example's, or is what the program says."""
+        known = self.answers()
+        for name in ("certificate.report.txt", "expected.txt"):
+            known += (SERIES / name).read_text().splitlines()
+        words = ("buy", "cash", "cost", "yield", "limit", "gap", "pay", "date", "idle", "proof", "old", "new", "saved", "cap", "next")
         for line in code_lines(self.text):
             if line.split(" ")[0] in words and "," not in line and line != "cash,AMOUNT":
                 self.assertIn(line, known)
