@@ -4,7 +4,7 @@ use Rattle.std.proofs.lemmas.Int.{ints}
 use Rattle.std.proofs.lemmas.List.Elements.{All-map}
 use Rattle.std.proofs.lemmas.List.Kept.{AllPairs-cons}
 use Rattle.jiff_core.proofs.SignedLemmas.{signed_arith}
-use Rattle.escrow_units.specs.Flows.{Rise}
+use Rattle.escrow_units.specs.Flows.{ComeInOrder}
 use Rattle.escrow_units.specs.Series.{days_between_of}
 use Rattle.escrow_units.specs.declared.security.Flow.{Flow}
 use Rattle.escrow_units.proofs.DateFacts.{pos_abs}
@@ -52,10 +52,14 @@ days_between_of-count from to n e = let apart : to -ℤ from ≡ pos n = omega (
 pub days_between_of-some : (from to : ℤ) → from <ℤ to → 0 < days_between_of from to
 days_between_of-some from to less = omega (arith, signed_arith, less, days_between_of-whole from to (omega (arith, signed_arith, less)))
 
--- amounts on days that rise rise
-pub rise-map : (flow : ℤ → Flow) → ((day : ℤ) → (flow day).day ≡ day) → (dates : List ℤ) → AllPairs (λ a b. a <ℤ b) dates → Rise (map flow dates)
-rise-map flow falls [] h = λ i j d lt within. absurd (omega arith)
-rise-map flow falls (x ∷ xs) h =
-    AllPairs-cons (λ (a b : Flow). a.day <ℤ b.day) (flow x) (map flow xs)
-    (All-map (λ (b : Flow). (flow x).day <ℤ b.day) flow xs (λ k d lt. rw (falls x, falls (get_or xs k d)) (h 0 (suc k) d (omega arith) (omega arith))))
-    (rise-map flow falls xs (λ i j d lt within. h (suc i) (suc j) d (omega arith) (omega arith)))
+-- amounts on days that rise come in order, also where each is moved and none past another
+pub order-map : (on : ℤ → ℤ) (flow : ℤ → Flow) → ((a b : ℤ) → a ≤ℤ b → on a ≤ℤ on b) → ((day : ℤ) → (flow day).day ≡ on day)
+    → (dates : List ℤ) → AllPairs (λ a b. a <ℤ b) dates → ComeInOrder (map flow dates)
+order-map on flow keeps falls [] h = λ i j d lt within. absurd (omega arith)
+order-map on flow keeps falls (x ∷ xs) h =
+    AllPairs-cons (λ (a b : Flow). a.day ≤ℤ b.day) (flow x) (map flow xs)
+    (All-map (λ (b : Flow). (flow x).day ≤ℤ b.day) flow xs (λ k d lt.
+    let y = get_or xs k d in
+    let before : x <ℤ y = h 0 (suc k) d (omega arith) (omega arith) in
+    rw (falls x, falls y) (keeps x y (omega (arith, signed_arith, before)))))
+    (order-map on flow keeps falls xs (λ i j d lt within. h (suc i) (suc j) d (omega arith) (omega arith)))

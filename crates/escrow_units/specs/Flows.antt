@@ -1,6 +1,7 @@
 -- Lists of amounts on days: their sum, their order, their span, and their places in the day count of the yield.
-use Rattle.std.specs.Prelude.{◌≡◌, ℕ, ◌-◌, List, [], ◌∷◌, ◌++◌, map, All, AllPairs, sum_by, ℤ, ◌<ℤ◌, ◌≤ℤ◌}
+use Rattle.std.specs.Prelude.{◌≡◌, false, ℕ, ◌-◌, List, [], ◌∷◌, ◌++◌, map, All, AllPairs, sum_by, ℤ, ◌<ℤ◌, ◌≤ℤ◌}
 use Rattle.escrow_units.specs.Calendar.{thirty_day_place_of, years_after_of}
+use Rattle.escrow_units.specs.OpenDays.{Closings, is_closed}
 use Rattle.escrow_units.specs.PresentValue.{IndexedFlow}
 use Rattle.escrow_units.specs.declared.security.Flow.{Flow}
 
@@ -11,6 +12,14 @@ total flows = sum_by (λ flow. flow.cents.0) flows
 -- each amount falls before each later one
 abbrev pub Rise : List Flow → Type 0
 Rise flows = AllPairs (λ earlier later. earlier.day <ℤ later.day) flows
+
+-- no amount falls after a later one of the list
+abbrev pub ComeInOrder : List Flow → Type 0
+ComeInOrder flows = AllPairs (λ earlier later. earlier.day ≤ℤ later.day) flows
+
+-- no amount falls on a closed day
+abbrev pub FallOnOpenDays : Closings → List Flow → Type 0
+FallOnOpenDays closed flows = All (λ flow. is_closed closed flow.day ≡ false) flows
 
 -- each amount falls from one day to another
 abbrev pub FallWithin : ℤ → ℤ → List Flow → Type 0

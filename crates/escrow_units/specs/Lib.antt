@@ -9,6 +9,9 @@ pub mod Digits
 pub mod Flows
 pub mod Interest
 pub mod NumberText
+pub mod OpenDayLaws
+pub mod OpenDays
+pub mod OpenTable
 pub mod PresentValue
 pub mod PriceText
 pub mod Rounding

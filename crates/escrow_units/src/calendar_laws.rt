@@ -1,5 +1,6 @@
 //! What the definitions of dates, series, years, indices and kinds mean.
 ghost use Rattle.escrow_units.specs.CalendarLaws.{DatesAfterAreLater, DatesAreUnique, EachDayIsDated, IndexIsBounded, IndexRises, KindsAreExclusive, KindsAreExhaustive, MonthEndIsSameDayElsewhere, MonthEndStays, NoYearsPass, PreviousIsLast, SameDayKeepsDay, SeriesFalls, SeriesHasDays, SeriesStartsAtMaturity, SeriesStepsByHalfYears, SettlementLeadsToBaseDays, StepsCount180, TextsSpellDays, YearsLeadToDays, YearsPass};
+ghost use Rattle.escrow_units.specs.OpenDayLaws.{NoneIsMoved, OpenDaysAreLeast, OpenDaysAreNear, OpenDaysAreUnique, OpenDaysKeepOrder, OpenDaysStay};
 
 /// What the date of a day number is, the one date of the calendar that has that number, and which bytes spell it.
 pub fn date_laws()
@@ -43,4 +44,15 @@ pub fn index_laws()
 pub fn kind_laws()
     ensures exclusive { KindsAreExclusive }
     ensures exhaustive { KindsAreExhaustive }
+{}
+
+/// What the open day of a day is: the least day at or after it that is open, and there is one. An open day is its own, and a
+/// later day opens no sooner.
+pub fn open_day_laws()
+    ensures least { OpenDaysAreLeast }
+    ensures unique { OpenDaysAreUnique }
+    ensures stay { OpenDaysStay }
+    ensures none { NoneIsMoved }
+    ensures order { OpenDaysKeepOrder }
+    ensures near { OpenDaysAreNear }
 {}

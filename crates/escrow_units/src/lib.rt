@@ -4,6 +4,7 @@
 mod amount;
 mod calendar;
 mod calendar_laws;
+mod closed_days;
 mod date_text;
 mod day;
 mod decimal;
@@ -24,7 +25,8 @@ mod settlement;
 
 pub use amount::{Cents, Price8, Rate, YieldUnits};
 pub use calendar::{days_between, half_back, index360, plain_date, years_after};
-pub use calendar_laws::{date_laws, index_laws, kind_laws, series_laws, year_laws};
+pub use calendar_laws::{date_laws, index_laws, kind_laws, open_day_laws, series_laws, year_laws};
+pub use closed_days::ClosedDays;
 pub use date_text::{print_day, read_day};
 pub use day::Day;
 pub use decimal::whole_number;
