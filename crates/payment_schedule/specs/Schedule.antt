@@ -3,6 +3,7 @@
 -- to the cent once for each payment (this project's own).
 use Rattle.std.specs.Prelude.{ℕ, ◌+◌, ◌*◌, ◌<◌, ◌≤◌, Bool, if◌then◌else◌, ℤ}
 use Rattle.escrow_units.specs.Interest.{earned_of}
+use Rattle.escrow_units.specs.OpenDays.{Closings, open_day}
 use Rattle.escrow_units.specs.declared.interest.Accrual.{Accrual}
 use Rattle.payment_schedule.specs.declared.schedule.ScheduledPayment.{ScheduledPayment}
 use Rattle.escrow_units.specs.declared.security.Flow.{Flow}
@@ -11,9 +12,9 @@ use Rattle.escrow_units.specs.declared.security.Flow.{Flow}
 abbrev pub half_year_accrual : Accrual
 half_year_accrual = record { parts = 1; year = 2 }
 
--- a security's payment of a date falls on that date
-abbrev pub due_on : ℤ → Accrual → Bool → ScheduledPayment
-due_on date accrual principal = record { day = date; accrual = accrual; principal = principal }
+-- a security's payment of a date falls on the open day of that date
+abbrev pub due_on : Closings → ℤ → Accrual → Bool → ScheduledPayment
+due_on closed date accrual principal = record { day = open_day closed date; accrual = accrual; principal = principal }
 
 -- the interest that an amount at par earns to a payment, at a rate
 abbrev pub interest_by : ℕ → ℕ → ScheduledPayment → ℕ

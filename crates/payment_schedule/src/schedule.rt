@@ -1,9 +1,12 @@
 //! A payment by its terms, and what it pays.
 ghost use Rattle.std.specs.Prelude.{All, ◌≡◌, ◌≤◌, length, map};
+ghost use Rattle.escrow_units.specs.OpenDays.{IsBy2190};
 ghost use Rattle.payment_schedule.specs.Schedule.{IsShort, due_on, flow_by, half_year_accrual, principal_by};
 
 use arrayvec::ArrayVec;
-use escrow_units::{AMOUNT_LIMIT, Accrual, Cents, Day, Flow, GREATEST_RATE, Rate, earned};
+use escrow_units::{
+    AMOUNT_LIMIT, Accrual, Cents, ClosedDays, Day, Flow, GREATEST_RATE, Rate, earned,
+};
 use std::default::Default;
 
 /// The part of a year that the interest of a half-year is for.
@@ -31,12 +34,18 @@ impl Default for ScheduledPayment {
 }
 
 impl ScheduledPayment {
-    /// A security's payment of a date, which falls on that date.
-    pub fn due(date: Day, accrual: Accrual, principal: bool) -> ScheduledPayment
-        ensures { result ≡ due_on date accrual principal }
+    /// A security's payment of a date, which falls on the open day of that date. The date is up to 2190-12-31.
+    pub fn due(
+        closed: &ClosedDays,
+        date: Day,
+        accrual: Accrual,
+        principal: bool,
+    ) -> ScheduledPayment
+        requires { IsBy2190 date }
+        ensures { result ≡ due_on closed.now date accrual principal }
     {
         ScheduledPayment {
-            day: date,
+            day: closed.open_day(date),
             accrual,
             principal,
         }
@@ -92,15 +101,23 @@ pub fn scheduled_flows(
 #[cfg(test)]
 mod tests {
     use super::*;
+    use std::test::Fail;
 
+    // 2025-07-18 is a Friday. A day that moves leaves the amounts as they are.
     #[test]
-    fn schedules_pay_interest_and_principal(rt: HostRuntime) {
-        let interest = ScheduledPayment::due(Day::new(20_285), HALF_YEAR, false);
-        let last = ScheduledPayment::due(Day::new(20_469), HALF_YEAR, true);
+    fn schedules_pay_interest_and_principal(rt: HostRuntime) -> Result<(), Fail> {
+        let mut days = Vec::new(rt.alloc());
+        days.push(Day::new(20_287))?;
+        let closed = ClosedDays::new(rt.alloc(), true, days)?;
+        let interest = ScheduledPayment::due(&closed, Day::new(20_287), HALF_YEAR, false);
+        let last = ScheduledPayment::due(&closed, Day::new(20_469), HALF_YEAR, true);
         let flows = scheduled_flows(&[interest, last], Rate(4_000), Cents(10_000_000));
         assert_eq!(rt; flows.len(), 2);
-        for (flow, cents) in flows.as_slice().iter().zip(&[200_000, 10_200_000]) {
+        let expected = [(20_290, 200_000), (20_469, 10_200_000)];
+        for (flow, (day, cents)) in flows.as_slice().iter().zip(&expected) {
+            assert_eq!(rt; flow.day.number(), *day);
             assert_eq!(rt; flow.cents.0, *cents);
         }
+        Ok(())
     }
 }
