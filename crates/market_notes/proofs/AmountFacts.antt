@@ -1,5 +1,5 @@
 -- How much a note can cost and pay.
-use Rattle.std.proofs.Common.{◌≡◌, ℕ, ◌+◌, ◌*◌, ◌^◌, ◌<◌, ◌≤◌, ap, arith, ℤ, ◌≤ℤ◌, ◌<ℤ◌, length}
+use Rattle.std.proofs.Common.{◌≡◌, ℕ, ◌+◌, ◌*◌, ◌^◌, ◌<◌, ◌≤◌, ap, arith, ◌≤ℤ◌, ◌<ℤ◌, length}
 use Rattle.std.specs.Prelude.{All}
 use Rattle.std.proofs.Math.Nat.{mul-le-mul}
 use Rattle.std.proofs.lemmas.List.{length-map}
@@ -12,14 +12,16 @@ use Rattle.escrow_units.specs.Series.{days_between_of}
 use Rattle.escrow_units.specs.declared.security.Flow.{Flow}
 use Rattle.escrow_units.specs.declared.security.StepRule.TheVariants as rule
 use Rattle.escrow_units.proofs.FlowFacts.{days_between_of-whole}
-use Rattle.escrow_units.proofs.LastDates.{half_back_of-reach, half_year-before}
+use Rattle.escrow_units.proofs.LastDates.{half_year-before}
 use Rattle.escrow_units.proofs.RoundingFacts.{near-at-most, near-IsNearest}
 use Rattle.escrow_units.proofs.SeriesAround.{AreCounted, counted, last-recent}
 use Rattle.market_notes.specs.NoteFlows.{payment_dates, note_schedule, accrual_of, accrued_interest, cost_of, previous_date, next_date}
-use Rattle.market_notes.specs.NoteLaws.{IsCouponDate}
+use Rattle.escrow_units.specs.OpenDays.{Closings, open_day}
+use Rattle.escrow_units.proofs.OpenDayFacts.{open_day-least}
+use Rattle.market_notes.specs.NoteLaws.{IsPaymentDay}
 use Rattle.market_notes.specs.NoteTerms.{IsNote}
 use Rattle.market_notes.specs.declared.note.Note.{Note}
-use Rattle.market_notes.proofs.FlowFacts.{note_flows, paid_on, payments-after, payments-by_date, payments-face}
+use Rattle.market_notes.proofs.FlowFacts.{note_flows, paid_on, payments-after, payments-by_date, payments-face, payments-term}
 use Rattle.payment_schedule.proofs.ScheduleFacts.{flows-none, near-nothing}
 use Rattle.market_notes.proofs.SeriesFacts.{term}
 
@@ -30,36 +32,33 @@ dates-counted note h = counted note.maturity rule.MonthEnd note.settle (term not
 pub dates-few : (note : Note) → IsNote note → length (payment_dates note) ≤ 81
 dates-few note h = let c = dates-counted note h in omega (arith, c.has.few, c.has.count)
 
-pub payments-few : (note : Note) (face : ℕ) → IsNote note → length (note_flows note face) ≤ 81
-payments-few note face h = omega (arith, ap length (payments-by_date note face), length-map (payment_dates note) (paid_on note face), dates-few note h)
+pub payments-few : (note : Note) (closed : Closings) (face : ℕ) → IsNote note → length (note_flows note closed face) ≤ 81
+payments-few note closed face h = omega (arith, ap length (payments-by_date note closed face), length-map (payment_dates note) (paid_on note closed face), dates-few note h)
 
--- they fall within 40 years
-pub payments-within : (note : Note) (face : ℕ) → IsNote note → FallWithinFortyYears note.settle (note_flows note face)
-payments-within note face h =
-    All-weaker (λ (flow : Flow). IsCouponDate note flow.day × (note.settle <ℤ flow.day)) (λ flow. (note.settle ≤ℤ flow.day) × (flow.day ≤ℤ years_after_of note.settle 40))
-    (λ flow on.
-    let late = on.1 in
-    let back = on.0.back in
-    let reach = half_back_of-reach note.maturity rule.MonthEnd on.0.steps (term note h).base on.0.few in
-    (omega (arith, signed_arith, late), omega (arith, signed_arith, back, reach, h.term)))
-    (note_flows note face) (payments-after note face (term note h))
+-- they fall within 40 years, where the open day of maturity does
+pub payments-within : (note : Note) (closed : Closings) (face : ℕ) → IsNote note → open_day closed note.maturity ≤ℤ years_after_of note.settle 40
+    → FallWithinFortyYears note.settle (note_flows note closed face)
+payments-within note closed face h last =
+    All-weaker (λ (flow : Flow). (note.settle ≤ℤ flow.day) × (flow.day ≤ℤ open_day closed note.maturity)) (λ flow. (note.settle ≤ℤ flow.day) × (flow.day ≤ℤ years_after_of note.settle 40))
+    (λ flow on. (on.0, omega (arith, signed_arith, on.1, last)))
+    (note_flows note closed face) (payments-term note closed face (term note h))
 
 -- and after settlement
-pub payments-later : (note : Note) (face : ℕ) → IsNote note → All (λ flow. note.settle <ℤ flow.day) (note_flows note face)
-payments-later note face h =
-    All-weaker (λ (flow : Flow). IsCouponDate note flow.day × (note.settle <ℤ flow.day)) (λ flow. note.settle <ℤ flow.day)
-    (λ flow on. on.1) (note_flows note face) (payments-after note face (term note h))
+pub payments-later : (note : Note) (closed : Closings) (face : ℕ) → IsNote note → All (λ flow. note.settle <ℤ flow.day) (note_flows note closed face)
+payments-later note closed face h =
+    All-weaker (λ (flow : Flow). IsPaymentDay note closed flow.day) (λ flow. note.settle <ℤ flow.day)
+    (λ flow on. omega (arith, signed_arith, on.after, on.opens, (open_day-least closed on.date).from)) (note_flows note closed face) (payments-after note closed face (term note h))
 
 -- what they come to: the face, and on each date at most 15 hundredths of the greatest face
-pub payments-come-to : (note : Note) (face : ℕ) → IsNote note → total (note_flows note face) ≡ face + length (note_flows note face) * half_coupon_of face note.coupon.0
-payments-come-to note face h = let c = dates-counted note h in payments-face note face c.count (term note h) c.has
+pub payments-come-to : (note : Note) (closed : Closings) (face : ℕ) → IsNote note → total (note_flows note closed face) ≡ face + length (note_flows note closed face) * half_coupon_of face note.coupon.0
+payments-come-to note closed face h = let c = dates-counted note h in payments-face note closed face c.count (term note h) c.has
 
 half_coupon-small : (face rate : ℕ) → face ≤ 10 ^ 11 → rate ≤ 30_000 → half_coupon_of face rate ≤ 15 * 10 ^ 9
 half_coupon-small face rate few low = near-at-most (face * rate) 200_000 (15 * 10 ^ 9) (omega arith) (omega (arith, mul-le-mul few low))
 
-pub payments-little : (note : Note) (face : ℕ) → IsNote note → face ≤ 10 ^ 11 → total (note_flows note face) ≤ 132 * 10 ^ 10
-payments-little note face h few =
-    omega (arith, payments-come-to note face h, mul-le-mul (payments-few note face h) (half_coupon-small face note.coupon.0 few h.coupon))
+pub payments-little : (note : Note) (closed : Closings) (face : ℕ) → IsNote note → face ≤ 10 ^ 11 → total (note_flows note closed face) ≤ 132 * 10 ^ 10
+payments-little note closed face h few =
+    omega (arith, payments-come-to note closed face h, mul-le-mul (payments-few note closed face h) (half_coupon-small face note.coupon.0 few h.coupon))
 
 -- what a note costs
 price-small : (face price : ℕ) → face ≤ 10 ^ 11 → price ≤ 30_000_000_000 → face_price_of face price ≤ 3 * 10 ^ 11
@@ -123,5 +122,5 @@ cost-none note face none =
     let price : face_price_of face note.price.0 ≡ 0 = near-nothing (face * note.price.0) (10 ^ 10) (rw none (omega arith)) in
     omega (arith, price, none-accrued note face none)
 
-pub payments-none : (note : Note) (face : ℕ) → face ≡ 0 → All (λ flow. flow.cents.0 ≡ 0) (note_flows note face)
-payments-none note face none = flows-none note.coupon.0 face (note_schedule note) none
+pub payments-none : (note : Note) (closed : Closings) (face : ℕ) → face ≡ 0 → All (λ flow. flow.cents.0 ≡ 0) (note_flows note closed face)
+payments-none note closed face none = flows-none note.coupon.0 face (note_schedule note closed) none

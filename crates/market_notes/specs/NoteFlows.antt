@@ -3,6 +3,7 @@
 use Rattle.std.specs.Prelude.{ℕ, ◌+◌, ◌*◌, List, map, ℤ}
 use Rattle.std.specs.Ordering.{int_eq}
 use Rattle.escrow_units.specs.Interest.{earned_of, face_price_of}
+use Rattle.escrow_units.specs.OpenDays.{Closings}
 use Rattle.escrow_units.specs.Series.{dates_after_of, days_between_of, next_date_of, previous_date_of}
 use Rattle.escrow_units.specs.declared.interest.Accrual.{Accrual}
 use Rattle.escrow_units.specs.declared.security.StepRule.TheVariants as rule
@@ -38,9 +39,9 @@ abbrev pub cost_of : Note → ℕ → ℕ
 cost_of note face = face_price_of face note.price.0 + accrued_interest note face
 
 -- the payment of a date: half a year's interest, and the face at maturity
-abbrev pub payment_on : Note → ℤ → ScheduledPayment
-payment_on note date = due_on date half_year_accrual (int_eq date note.maturity)
+abbrev pub payment_on : Note → Closings → ℤ → ScheduledPayment
+payment_on note closed date = due_on closed date half_year_accrual (int_eq date note.maturity)
 
 -- the payments of a note by their terms, in order of date
-unfoldable pub note_schedule : Note → List ScheduledPayment
-note_schedule note = map (payment_on note) (payment_dates note)
+unfoldable pub note_schedule : Note → Closings → List ScheduledPayment
+note_schedule note closed = map (payment_on note closed) (payment_dates note)

@@ -3,6 +3,7 @@ use Rattle.std.specs.Prelude.{◌≡◌, ℕ, ◌+◌, ◌*◌, ◌<◌, ◌≤�
 use Rattle.escrow_units.specs.Calendar.{IsSeriesDate}
 use Rattle.escrow_units.specs.Flows.{total}
 use Rattle.escrow_units.specs.Interest.{face_price_of, half_coupon_of}
+use Rattle.escrow_units.specs.OpenDays.{Closings, no_closings, open_day}
 use Rattle.escrow_units.specs.declared.security.Flow.{Flow}
 use Rattle.escrow_units.specs.declared.security.StepRule.TheVariants as rule
 use Rattle.payment_schedule.specs.Schedule.{flow_by}
@@ -29,9 +30,22 @@ CostsPriceOnCouponDate note face cost = IsCouponDate note note.settle → cost �
 abbrev pub CostsNoLessForMore : Note → ℕ → ℕ → Type 0
 CostsNoLessForMore note face cost = (more : ℕ) → face ≤ more → cost ≤ cost_of note more
 
--- all payments fall on coupon dates after settlement
-abbrev pub AreAfterSettlement : Note → List Flow → Type 0
-AreAfterSettlement note flows = All (λ flow. IsCouponDate note flow.day × (note.settle <ℤ flow.day)) flows
+-- the open day of a coupon date after settlement
+pub record IsPaymentDay (note : Note) (closed : Closings) (day : ℤ) : Type 0 where
+  pub date : ℤ
+  pub coupon : IsCouponDate note date
+  pub after : note.settle <ℤ date
+  pub opens : day ≡ open_day closed date
+
+-- on such days all payments fall
+abbrev pub AreAfterSettlement : Note → Closings → List Flow → Type 0
+AreAfterSettlement note closed flows = All (λ flow. IsPaymentDay note closed flow.day) flows
+
+-- the amounts don't know which days are closed: they are those of a case in which none is
+abbrev pub KeepAmounts : Note → ℕ → List Flow → Type 0
+KeepAmounts note face flows =
+    map (λ flow. flow.cents.0) flows
+    ≡ map (λ flow. flow.cents.0) (map (flow_by note.coupon.0 face) (note_schedule note no_closings))
 
 -- the face is paid once, and half a year's interest with each payment
 abbrev pub PayFaceOnce : Note → ℕ → List Flow → Type 0
@@ -44,5 +58,6 @@ pub record AreAtMost (flows others : List Flow) : Type 0 where
   pub cents : (place : ℕ) (d : Flow) → place < length flows → (get_or flows place d).cents.0 ≤ (get_or others place d).cents.0
 
 -- a greater face doesn't pay less
-abbrev pub PayNoLessForMore : Note → ℕ → List Flow → Type 0
-PayNoLessForMore note face flows = (more : ℕ) → face ≤ more → AreAtMost flows (map (flow_by note.coupon.0 more) (note_schedule note))
+abbrev pub PayNoLessForMore : Note → Closings → ℕ → List Flow → Type 0
+PayNoLessForMore note closed face flows =
+    (more : ℕ) → face ≤ more → AreAtMost flows (map (flow_by note.coupon.0 more) (note_schedule note closed))

@@ -6,7 +6,7 @@ ghost use Rattle.market_notes.specs.NoteTerms.{IsNoteFile};
 
 use crate::{Note, NoteFile, note_cost, note_payments, read_notes};
 use escrow_desk::{CaseError, FileKind, Refusal, RefusalKind, read_rows};
-use escrow_units::{Cents, Day, Price8, Rate, Terms, print_day};
+use escrow_units::{Cents, ClosedDays, Day, Price8, Rate, Terms, print_day};
 use std::alloc::Global;
 use std::test::Fail;
 
@@ -178,7 +178,8 @@ fn costs_price_and_accrued(rt: HostRuntime) {
     };
     assert_eq!(rt; note_cost(&accruing, face).0, 10_052_662);
     assert_eq!(rt; note_cost(&fresh, face).0, 10_000_000);
-    let flows = note_payments(&fresh, face);
+    let closed = ClosedDays::none(rt.alloc());
+    let flows = note_payments(&fresh, face, &closed);
     assert_eq!(rt; flows.len(), 1);
     for flow in flows.as_slice() {
         assert_eq!(rt; flow.day.number(), 20_284);
@@ -209,7 +210,8 @@ fn month_ends_are_kept(rt: HostRuntime) {
         "2029-08-31",
         "2030-02-28",
     ];
-    let flows = note_payments(&note, Cents(10_000_000));
+    let closed = ClosedDays::none(rt.alloc());
+    let flows = note_payments(&note, Cents(10_000_000), &closed);
     assert_eq!(rt; flows.len(), days.len());
     for (flow, day) in flows.as_slice().iter().zip(&days) {
         assert_eq!(rt; print_day(flow.day).as_str(), *day);

@@ -2,15 +2,17 @@
 use Rattle.std.specs.Prelude.{All}
 use Rattle.std.proofs.Common.{◌≡◌, ◌∙◌, ℕ, ◌+◌, ◌*◌, ◌<◌, ◌≤◌, zero, suc, refl, sym, ap, subst, arith, ℤ, ◌≤ℤ◌, ◌<ℤ◌, Bool, true, false, if◌then◌else◌, List, [], ◌∷◌, ◌++◌, ◌-◌, map, length, take, sum_by, get_or, pos, ◌+ℤ◌, ◌^◌, int_lt}
 use Rattle.std.proofs.lemmas.Int.{ints}
-use Rattle.escrow_units.proofs.FlowFacts.{choice-false, choice-true, days_between_of-some, days_between_of-whole, int_lt-not, rise-map}
+use Rattle.escrow_units.proofs.FlowFacts.{choice-false, choice-true, days_between_of-some, days_between_of-whole, int_lt-not, order-map}
 use Rattle.escrow_units.proofs.LastDates.{last_dates, last_dates-all, last_dates-last, last_dates-rise, dates_before, half_back_of-order, half_back_of-reach, half_back_of-zero}
-use Rattle.escrow_units.specs.Flows.{EndsOn, Rise, total}
+use Rattle.escrow_units.specs.Flows.{ComeInOrder, EndsOn, FallOnOpenDays, total}
+use Rattle.escrow_units.specs.OpenDays.{Closings, IsBy2190, is_closed, no_closings, open_day}
+use Rattle.escrow_units.proofs.OpenDayFacts.{open_day-least, open_day-order}
 use Rattle.escrow_units.specs.Interest.{earned_of, half_coupon_of}
 use Rattle.escrow_units.specs.Series.{days_between_of}
 use Rattle.std.specs.Ordering.{int_eq}
 use Rattle.std.proofs.lemmas.Bool.Decides.{Decides-int_eq}
 use Rattle.std.proofs.lemmas.List.{map-append, take_all}
-use Rattle.std.proofs.lemmas.List.Elements.{All-map, All-same}
+use Rattle.std.proofs.lemmas.List.Elements.{All-map, All-same, All-weaker}
 use Rattle.std.proofs.lemmas.List.Sums.{sum_by-cons, sum_by-le}
 use Rattle.std.proofs.lemmas.Simd.{map-map}
 use Rattle.jiff_core.proofs.SignedLemmas.{signed_arith}
@@ -25,60 +27,94 @@ use Rattle.payment_schedule.specs.Schedule.{IsShort, flow_by, half_year_accrual,
 use Rattle.payment_schedule.specs.declared.schedule.ScheduledPayment.{ScheduledPayment}
 use Rattle.payment_schedule.proofs.ScheduleFacts.{each-flow, flows_by, half-coupon, half-short}
 use Rattle.slgs_interest.specs.Payments.{payment_dates, payment_on, slgs_schedule, first_accrual_of, first_period_accrual, certificate_accrual, accrual_of_kind, before_first, second_before_first, has_leap_day, basis_of}
-use Rattle.slgs_interest.specs.PaymentLaws.{AreSmall, EarnLittle, AreWithinTerm, PayPrincipalOnce, PayFaceAlone, PayEqualInterest}
+use Rattle.slgs_interest.specs.PaymentLaws.{AreSmall, EarnLittle, AreWithinTerm, KeepAmounts, PayPrincipalOnce, PayFaceAlone, PayEqualInterest}
 use Rattle.slgs_interest.proofs.Amounts.{interest-at-most, no-interest, whole-period}
 use Rattle.slgs_interest.proofs.Series.{IsPaid}
 
 -- what a face pays, and on a date
-abbrev pub slgs_flows : Slgs → ℕ → List Flow
-slgs_flows slgs face = flows_by slgs.rate.0 face (slgs_schedule slgs)
+abbrev pub slgs_flows : Slgs → Closings → ℕ → List Flow
+slgs_flows slgs closed face = flows_by slgs.rate.0 face (slgs_schedule slgs closed)
 
-abbrev pub paid_on : Slgs → ℕ → ℤ → Flow
-paid_on slgs face date = flow_by slgs.rate.0 face (payment_on slgs date)
+abbrev pub paid_on : Slgs → Closings → ℕ → ℤ → Flow
+paid_on slgs closed face date = flow_by slgs.rate.0 face (payment_on slgs closed date)
 
 -- what a walk over the dates makes
-pub schedule-is : (slgs : Slgs) (schedule : List ScheduledPayment) (i : ℕ) (dates : List ℤ) → schedule ≡ map (payment_on slgs) (take i dates)
-    → length dates ≤ i → dates ≡ payment_dates slgs → schedule ≡ slgs_schedule slgs
+pub schedule-is : (slgs : Slgs) (closed : Closings) (schedule : List ScheduledPayment) (i : ℕ) (dates : List ℤ) → schedule ≡ map (payment_on slgs closed) (take i dates)
+    → length dates ≤ i → dates ≡ payment_dates slgs → schedule ≡ slgs_schedule slgs closed
 unfolding slgs_schedule
-schedule-is slgs schedule i dates e all f = e ∙ ap (map (payment_on slgs)) (take_all i dates all ∙ f)
+schedule-is slgs closed schedule i dates e all f = e ∙ ap (map (payment_on slgs closed)) (take_all i dates all ∙ f)
 
-schedule-series : (slgs : Slgs) (p : IsPaid slgs) → slgs_schedule slgs ≡ map (payment_on slgs) (last_dates slgs.maturity rule.SameDay (p.steps + 1))
+schedule-series : (slgs : Slgs) (closed : Closings) (p : IsPaid slgs) → slgs_schedule slgs closed ≡ map (payment_on slgs closed) (last_dates slgs.maturity rule.SameDay (p.steps + 1))
 unfolding slgs_schedule
-schedule-series slgs p = ap (map (payment_on slgs)) p.dates
+schedule-series slgs closed p = ap (map (payment_on slgs closed)) p.dates
 
 -- what is paid, by the dates
-pub payments-by_date : (slgs : Slgs) (face : ℕ) → slgs_flows slgs face ≡ map (paid_on slgs face) (payment_dates slgs)
+pub payments-by_date : (slgs : Slgs) (closed : Closings) (face : ℕ) → slgs_flows slgs closed face ≡ map (paid_on slgs closed face) (payment_dates slgs)
 unfolding slgs_schedule
-payments-by_date slgs face = map-map (flow_by slgs.rate.0 face) (payment_on slgs) (payment_dates slgs)
+payments-by_date slgs closed face = map-map (flow_by slgs.rate.0 face) (payment_on slgs closed) (payment_dates slgs)
 
-payments-series : (slgs : Slgs) (face : ℕ) (p : IsPaid slgs) → slgs_flows slgs face ≡ map (paid_on slgs face) (last_dates slgs.maturity rule.SameDay (p.steps + 1))
-payments-series slgs face p = payments-by_date slgs face ∙ ap (map (paid_on slgs face)) p.dates
+payments-series : (slgs : Slgs) (closed : Closings) (face : ℕ) (p : IsPaid slgs) → slgs_flows slgs closed face ≡ map (paid_on slgs closed face) (last_dates slgs.maturity rule.SameDay (p.steps + 1))
+payments-series slgs closed face p = payments-by_date slgs closed face ∙ ap (map (paid_on slgs closed face)) p.dates
 
-pub payments-rise : (slgs : Slgs) (face : ℕ) → IsPaid slgs → Rise (slgs_flows slgs face)
-payments-rise slgs face p =
-    subst Rise (sym (payments-series slgs face p)) (rise-map (paid_on slgs face) (λ day. refl) (last_dates slgs.maturity rule.SameDay (p.steps + 1)) (last_dates-rise slgs.maturity rule.SameDay (p.steps + 1) p.base (omega (arith, p.few))))
+pub payments-order : (slgs : Slgs) (closed : Closings) (face : ℕ) → IsPaid slgs → ComeInOrder (slgs_flows slgs closed face)
+payments-order slgs closed face p =
+    subst ComeInOrder (sym (payments-series slgs closed face p))
+    (order-map (open_day closed) (paid_on slgs closed face) (open_day-order closed) (λ day. refl) (last_dates slgs.maturity rule.SameDay (p.steps + 1))
+    (last_dates-rise slgs.maturity rule.SameDay (p.steps + 1) p.base (omega (arith, p.few))))
 
-pub payments-end : (slgs : Slgs) (face : ℕ) → IsPaid slgs → EndsOn slgs.maturity (slgs_flows slgs face)
-payments-end slgs face p =
+-- none on a closed day
+pub payments-open : (slgs : Slgs) (closed : Closings) (face : ℕ) → FallOnOpenDays closed (slgs_flows slgs closed face)
+payments-open slgs closed face =
+    All-same (λ (flow : Flow). is_closed closed flow.day ≡ false) (slgs_flows slgs closed face) (map (paid_on slgs closed face) (payment_dates slgs)) (payments-by_date slgs closed face)
+    (All-map (λ (flow : Flow). is_closed closed flow.day ≡ false) (paid_on slgs closed face) (payment_dates slgs)
+    (λ k d lt. (open_day-least closed (get_or (payment_dates slgs) k d)).is_open))
+
+-- and the same amounts whichever days are closed
+amounts-by_date : (slgs : Slgs) (closed : Closings) (face : ℕ)
+    → map (λ (flow : Flow). flow.cents.0) (slgs_flows slgs closed face) ≡ map (λ (date : ℤ). (paid_on slgs closed face date).cents.0) (payment_dates slgs)
+amounts-by_date slgs closed face =
+    ap (map (λ (flow : Flow). flow.cents.0)) (payments-by_date slgs closed face)
+    ∙ map-map (λ (flow : Flow). flow.cents.0) (paid_on slgs closed face) (payment_dates slgs)
+
+pub payments-amounts : (slgs : Slgs) (closed : Closings) (face : ℕ) → KeepAmounts slgs face (slgs_flows slgs closed face)
+payments-amounts slgs closed face = amounts-by_date slgs closed face ∙ sym (amounts-by_date slgs no_closings face)
+
+pub payments-end : (slgs : Slgs) (closed : Closings) (face : ℕ) → IsPaid slgs → EndsOn (open_day closed slgs.maturity) (slgs_flows slgs closed face)
+payments-end slgs closed face p =
     let less : p.steps + 1 - 1 ≡ p.steps = omega arith in
     let last : last_dates slgs.maturity rule.SameDay (p.steps + 1) ≡ dates_before slgs.maturity rule.SameDay p.steps ++ slgs.maturity ∷ [] =
     rw less at (last_dates-last slgs.maturity rule.SameDay (p.steps + 1) p.base (omega arith)) in
     record {
-      before = map (paid_on slgs face) (dates_before slgs.maturity rule.SameDay p.steps);
-      last = paid_on slgs face slgs.maturity;
-      order = payments-series slgs face p
-          ∙ (ap (map (paid_on slgs face)) last ∙ map-append (paid_on slgs face) (dates_before slgs.maturity rule.SameDay p.steps) (slgs.maturity ∷ []));
+      before = map (paid_on slgs closed face) (dates_before slgs.maturity rule.SameDay p.steps);
+      last = paid_on slgs closed face slgs.maturity;
+      order = payments-series slgs closed face p
+          ∙ (ap (map (paid_on slgs closed face)) last ∙ map-append (paid_on slgs closed face) (dates_before slgs.maturity rule.SameDay p.steps) (slgs.maturity ∷ []));
       falls = refl;
     }
 
-pub payments-within : (slgs : Slgs) (face : ℕ) → IsPaid slgs → AreWithinTerm slgs (slgs_flows slgs face)
-payments-within slgs face p =
-    All-same (λ (flow : Flow). (slgs.settle <ℤ flow.day) × (flow.day ≤ℤ slgs.maturity)) (slgs_flows slgs face) (map (paid_on slgs face) (last_dates slgs.maturity rule.SameDay (p.steps + 1))) (payments-series slgs face p)
-    (All-map (λ (flow : Flow). (slgs.settle <ℤ flow.day) × (flow.day ≤ℤ slgs.maturity)) (paid_on slgs face) (last_dates slgs.maturity rule.SameDay (p.steps + 1))
-    (last_dates-all (λ date. (slgs.settle <ℤ date) × (date ≤ℤ slgs.maturity)) slgs.maturity rule.SameDay (p.steps + 1) (λ j less.
+-- the dates lie after settlement and up to maturity
+dates-within : (slgs : Slgs) (p : IsPaid slgs) → All (λ date. (slgs.settle <ℤ date) × (date ≤ℤ slgs.maturity)) (last_dates slgs.maturity rule.SameDay (p.steps + 1))
+dates-within slgs p =
+    last_dates-all (λ date. (slgs.settle <ℤ date) × (date ≤ℤ slgs.maturity)) slgs.maturity rule.SameDay (p.steps + 1) (λ j less.
     let late = half_back_of-order slgs.maturity rule.SameDay j p.steps p.base (omega arith) (omega (arith, p.few)) in
     let reach = half_back_of-reach slgs.maturity rule.SameDay j p.base (omega (arith, p.few)) in
-    (omega (arith, signed_arith, p.late, p.first, late), omega (arith, signed_arith, reach)))))
+    (omega (arith, signed_arith, p.late, p.first, late), omega (arith, signed_arith, reach)))
+
+pub dates-by : (slgs : Slgs) (p : IsPaid slgs) → All IsBy2190 (payment_dates slgs)
+dates-by slgs p =
+    subst (All IsBy2190) (sym p.dates)
+    (All-weaker (λ date. (slgs.settle <ℤ date) × (date ≤ℤ slgs.maturity)) IsBy2190
+    (λ date within. omega (arith, signed_arith, within.1, p.base.1)) (last_dates slgs.maturity rule.SameDay (p.steps + 1)) (dates-within slgs p))
+
+pub payments-within : (slgs : Slgs) (closed : Closings) (face : ℕ) → IsPaid slgs → AreWithinTerm slgs closed (slgs_flows slgs closed face)
+payments-within slgs closed face p =
+    let dates = last_dates slgs.maturity rule.SameDay (p.steps + 1) in
+    All-same (λ (flow : Flow). (slgs.settle <ℤ flow.day) × (flow.day ≤ℤ open_day closed slgs.maturity)) (slgs_flows slgs closed face) (map (paid_on slgs closed face) dates) (payments-series slgs closed face p)
+    (All-map (λ (flow : Flow). (slgs.settle <ℤ flow.day) × (flow.day ≤ℤ open_day closed slgs.maturity)) (paid_on slgs closed face) dates
+    (λ k d lt.
+    let date = get_or dates k d in
+    let within = dates-within slgs p k d lt in
+    (omega (arith, signed_arith, within.0, (open_day-least closed date).from), open_day-order closed date slgs.maturity within.1)))
 
 -- flows of interest and principal
 flow_of : (ScheduledPayment → ℕ) → (ScheduledPayment → ℕ) → ScheduledPayment → Flow
@@ -108,14 +144,14 @@ principal-sum interest principal payment face maturity (suc k) last none =
       none (suc k) (omega arith) (omega arith),
     )
 
-pub payments-principal : (slgs : Slgs) (face : ℕ) → IsPaid slgs → PayPrincipalOnce slgs face (slgs_flows slgs face)
+pub payments-principal : (slgs : Slgs) (closed : Closings) (face : ℕ) → IsPaid slgs → PayPrincipalOnce slgs closed face (slgs_flows slgs closed face)
 unfolding flow_of cents_of
-payments-principal slgs face p =
+payments-principal slgs closed face p =
     let more : p.steps + 1 ≡ suc p.steps = omega arith in
-    let series : slgs_schedule slgs ≡ map (payment_on slgs) (last_dates slgs.maturity rule.SameDay (suc p.steps)) =
-    schedule-series slgs p ∙ ap (λ (n : ℕ). map (payment_on slgs) (last_dates slgs.maturity rule.SameDay n)) more in
+    let series : slgs_schedule slgs closed ≡ map (payment_on slgs closed) (last_dates slgs.maturity rule.SameDay (suc p.steps)) =
+    schedule-series slgs closed p ∙ ap (λ (n : ℕ). map (payment_on slgs closed) (last_dates slgs.maturity rule.SameDay n)) more in
     subst (λ (schedule : List ScheduledPayment). total (flows_by slgs.rate.0 face schedule) ≡ face + sum_by (interest_by slgs.rate.0 face) schedule) (sym series)
-    (principal-sum (interest_by slgs.rate.0 face) (λ payment. principal_by payment face) (payment_on slgs) face slgs.maturity p.steps
+    (principal-sum (interest_by slgs.rate.0 face) (λ payment. principal_by payment face) (payment_on slgs closed) face slgs.maturity p.steps
     (choice-true (int_eq (half_back_of slgs.maturity 0 rule.SameDay) slgs.maturity) face 0 ((Decides-int_eq (half_back_of slgs.maturity 0 rule.SameDay) slgs.maturity).1 (half_back_of-zero slgs.maturity rule.SameDay p.base)))
     (λ j some few.
     let reach = half_back_of-reach slgs.maturity rule.SameDay j p.base (omega (arith, p.few)) in
@@ -187,27 +223,27 @@ first-of_period slgs other = at slgs.kind other
     at kind.Bond other = refl
 
 -- each payment's interest is for at most sixteen months
-pub schedule-short : (slgs : Slgs) → IsShort (first_accrual_of slgs) → All (λ payment. IsShort payment.accrual) (slgs_schedule slgs)
+pub schedule-short : (slgs : Slgs) (closed : Closings) → IsShort (first_accrual_of slgs) → All (λ payment. IsShort payment.accrual) (slgs_schedule slgs closed)
 unfolding slgs_schedule
-schedule-short slgs first =
-    All-map (λ (payment : ScheduledPayment). IsShort payment.accrual) (payment_on slgs) (payment_dates slgs) (λ k d lt. at (int_eq (get_or (payment_dates slgs) k d) slgs.first))
+schedule-short slgs closed first =
+    All-map (λ (payment : ScheduledPayment). IsShort payment.accrual) (payment_on slgs closed) (payment_dates slgs) (λ k d lt. at (int_eq (get_or (payment_dates slgs) k d) slgs.first))
   where
     at : (t : Bool) → IsShort (if t then first_accrual_of slgs else half_year_accrual)
     at true = first
     at false = half-short
 
 -- no interest without a rate
-interest-none : (slgs : Slgs) (face : ℕ) → IsShort (first_accrual_of slgs) → slgs.rate.0 ≡ 0 → All (λ payment. interest_by slgs.rate.0 face payment ≤ 0) (slgs_schedule slgs)
-interest-none slgs face first none = λ k d lt.
-    let payment = get_or (slgs_schedule slgs) k d in
-    omega (arith, no-interest face slgs.rate.0 payment.accrual.parts payment.accrual.year none (schedule-short slgs first k d lt).year)
+interest-none : (slgs : Slgs) (closed : Closings) (face : ℕ) → IsShort (first_accrual_of slgs) → slgs.rate.0 ≡ 0 → All (λ payment. interest_by slgs.rate.0 face payment ≤ 0) (slgs_schedule slgs closed)
+interest-none slgs closed face first none = λ k d lt.
+    let payment = get_or (slgs_schedule slgs closed) k d in
+    omega (arith, no-interest face slgs.rate.0 payment.accrual.parts payment.accrual.year none (schedule-short slgs closed first k d lt).year)
 
-pub payments-face : (slgs : Slgs) (face : ℕ) → IsPaid slgs → IsShort (first_accrual_of slgs) → PayFaceAlone slgs face (slgs_flows slgs face)
-payments-face slgs face p short = λ none.
+pub payments-face : (slgs : Slgs) (closed : Closings) (face : ℕ) → IsPaid slgs → IsShort (first_accrual_of slgs) → PayFaceAlone slgs face (slgs_flows slgs closed face)
+payments-face slgs closed face p short = λ none.
     omega (
       arith,
-      payments-principal slgs face p,
-      sum_by-le (interest_by slgs.rate.0 face) 0 (slgs_schedule slgs) (interest-none slgs face short none),
+      payments-principal slgs closed face p,
+      sum_by-le (interest_by slgs.rate.0 face) 0 (slgs_schedule slgs closed) (interest-none slgs closed face short none),
     )
 
 -- equal interest
@@ -236,52 +272,52 @@ first-whole slgs face p other e = at slgs.kind other
     at kind.Note other = earns (first_period_accrual slgs) of_period
     at kind.Bond other = earns (first_period_accrual slgs) of_period
 
-interest-equal : (slgs : Slgs) (face : ℕ) (date : ℤ) → earned_of face slgs.rate.0 (first_accrual_of slgs).parts (first_accrual_of slgs).year ≡ half_coupon_of face slgs.rate.0
-    → interest_by slgs.rate.0 face (payment_on slgs date) ≡ half_coupon_of face slgs.rate.0
-interest-equal slgs face date first = at (int_eq date slgs.first)
+interest-equal : (slgs : Slgs) (closed : Closings) (face : ℕ) (date : ℤ) → earned_of face slgs.rate.0 (first_accrual_of slgs).parts (first_accrual_of slgs).year ≡ half_coupon_of face slgs.rate.0
+    → interest_by slgs.rate.0 face (payment_on slgs closed date) ≡ half_coupon_of face slgs.rate.0
+interest-equal slgs closed face date first = at (int_eq date slgs.first)
   where
     at : (t : Bool) → earned_of face slgs.rate.0 (if t then first_accrual_of slgs else half_year_accrual).parts (if t then first_accrual_of slgs else half_year_accrual).year
         ≡ half_coupon_of face slgs.rate.0
     at true = first
     at false = half-coupon face slgs.rate.0
 
-all-equal : (slgs : Slgs) (face : ℕ) → earned_of face slgs.rate.0 (first_accrual_of slgs).parts (first_accrual_of slgs).year ≡ half_coupon_of face slgs.rate.0
-    → All (λ payment. (flow_by slgs.rate.0 face payment).cents.0 ≡ half_coupon_of face slgs.rate.0 + principal_by payment face) (slgs_schedule slgs)
+all-equal : (slgs : Slgs) (closed : Closings) (face : ℕ) → earned_of face slgs.rate.0 (first_accrual_of slgs).parts (first_accrual_of slgs).year ≡ half_coupon_of face slgs.rate.0
+    → All (λ payment. (flow_by slgs.rate.0 face payment).cents.0 ≡ half_coupon_of face slgs.rate.0 + principal_by payment face) (slgs_schedule slgs closed)
 unfolding slgs_schedule
-all-equal slgs face first =
-    All-map (λ (payment : ScheduledPayment). (flow_by slgs.rate.0 face payment).cents.0 ≡ half_coupon_of face slgs.rate.0 + principal_by payment face) (payment_on slgs) (payment_dates slgs)
+all-equal slgs closed face first =
+    All-map (λ (payment : ScheduledPayment). (flow_by slgs.rate.0 face payment).cents.0 ≡ half_coupon_of face slgs.rate.0 + principal_by payment face) (payment_on slgs closed) (payment_dates slgs)
     (λ k d lt.
     let date = get_or (payment_dates slgs) k d in
-    ap (λ (n : ℕ). n + principal_by (payment_on slgs date) face) (interest-equal slgs face date first))
+    ap (λ (n : ℕ). n + principal_by (payment_on slgs closed date) face) (interest-equal slgs closed face date first))
 
-pub payments-equal : (slgs : Slgs) (face : ℕ) → IsPaid slgs → PayEqualInterest slgs face (slgs_flows slgs face)
-payments-equal slgs face p = λ other e.
-    each-flow (λ payment flow. flow.cents.0 ≡ half_coupon_of face slgs.rate.0 + principal_by payment face) slgs.rate.0 face (slgs_schedule slgs)
-    (all-equal slgs face (first-whole slgs face p other e))
+pub payments-equal : (slgs : Slgs) (closed : Closings) (face : ℕ) → IsPaid slgs → PayEqualInterest slgs closed face (slgs_flows slgs closed face)
+payments-equal slgs closed face p = λ other e.
+    each-flow (λ payment flow. flow.cents.0 ≡ half_coupon_of face slgs.rate.0 + principal_by payment face) slgs.rate.0 face (slgs_schedule slgs closed)
+    (all-equal slgs closed face (first-whole slgs face p other e))
 
 -- no interest is above 400 million dollars
-pub interest-little : (slgs : Slgs) (face : ℕ) → IsShort (first_accrual_of slgs) → face ≤ 10 ^ 11 → slgs.rate.0 ≤ 30_000
-    → All (λ payment. interest_by slgs.rate.0 face payment ≤ 4 * 10 ^ 10) (slgs_schedule slgs)
-interest-little slgs face first f r = λ k d lt.
-    let short = schedule-short slgs first k d lt in
-    let payment = get_or (slgs_schedule slgs) k d in
+pub interest-little : (slgs : Slgs) (closed : Closings) (face : ℕ) → IsShort (first_accrual_of slgs) → face ≤ 10 ^ 11 → slgs.rate.0 ≤ 30_000
+    → All (λ payment. interest_by slgs.rate.0 face payment ≤ 4 * 10 ^ 10) (slgs_schedule slgs closed)
+interest-little slgs closed face first f r = λ k d lt.
+    let short = schedule-short slgs closed first k d lt in
+    let payment = get_or (slgs_schedule slgs closed) k d in
     interest-at-most face slgs.rate.0 payment.accrual.parts payment.accrual.year f r short.year short.parts
 
-pub payments-interest : (slgs : Slgs) (face : ℕ) → IsShort (first_accrual_of slgs) → face ≤ 10 ^ 11 → slgs.rate.0 ≤ 30_000
-    → EarnLittle slgs face (slgs_flows slgs face)
-payments-interest slgs face short f r =
-    each-flow (λ payment flow. flow.cents.0 ≤ 4 * 10 ^ 10 + principal_by payment face) slgs.rate.0 face (slgs_schedule slgs)
-    (λ k d lt. more _ _ (interest-little slgs face short f r k d lt))
+pub payments-interest : (slgs : Slgs) (closed : Closings) (face : ℕ) → IsShort (first_accrual_of slgs) → face ≤ 10 ^ 11 → slgs.rate.0 ≤ 30_000
+    → EarnLittle slgs closed face (slgs_flows slgs closed face)
+payments-interest slgs closed face short f r =
+    each-flow (λ payment flow. flow.cents.0 ≤ 4 * 10 ^ 10 + principal_by payment face) slgs.rate.0 face (slgs_schedule slgs closed)
+    (λ k d lt. more _ _ (interest-little slgs closed face short f r k d lt))
   where
     more : (m n : ℕ) → m ≤ 4 * 10 ^ 10 → m + n ≤ 4 * 10 ^ 10 + n
     more m n a = omega arith
 
 -- and no principal above the greatest face
-pub payments-small : (slgs : Slgs) (face : ℕ) → IsShort (first_accrual_of slgs) → face ≤ 10 ^ 11 → slgs.rate.0 ≤ 30_000
-    → AreSmall (slgs_flows slgs face)
-payments-small slgs face short f r =
-    All-map (λ (flow : Flow). flow.cents.0 ≤ 2 * 10 ^ 11) (flow_by slgs.rate.0 face) (slgs_schedule slgs)
-    (λ k d lt. sum_at_most _ _ (interest-little slgs face short f r k d lt) (choice-most (get_or (slgs_schedule slgs) k d).principal face 0 (10 ^ 11) f (omega arith)))
+pub payments-small : (slgs : Slgs) (closed : Closings) (face : ℕ) → IsShort (first_accrual_of slgs) → face ≤ 10 ^ 11 → slgs.rate.0 ≤ 30_000
+    → AreSmall (slgs_flows slgs closed face)
+payments-small slgs closed face short f r =
+    All-map (λ (flow : Flow). flow.cents.0 ≤ 2 * 10 ^ 11) (flow_by slgs.rate.0 face) (slgs_schedule slgs closed)
+    (λ k d lt. sum_at_most _ _ (interest-little slgs closed face short f r k d lt) (choice-most (get_or (slgs_schedule slgs closed) k d).principal face 0 (10 ^ 11) f (omega arith)))
   where
     choice-most : (t : Bool) (a b c : ℕ) → a ≤ c → b ≤ c → (if t then a else b) ≤ c
     choice-most true a b c e f = e

@@ -3,6 +3,7 @@
 use Rattle.std.specs.Prelude.{ℕ, zero, suc, ◌+◌, ◌*◌, ◌==◌, Bool, false, ◌&&◌, ◌||◌, if◌then◌else◌, List, map, filter, length, ℤ, pos, ◌+ℤ◌, int_lt, int_le}
 use Rattle.std.specs.Ordering.{int_eq}
 use Rattle.escrow_units.specs.Calendar.{date_of, half_back_of}
+use Rattle.escrow_units.specs.OpenDays.{Closings}
 use Rattle.escrow_units.specs.Series.{days_between_of, series_of}
 use Rattle.escrow_units.specs.declared.interest.Accrual.{Accrual}
 use Rattle.escrow_units.specs.declared.security.Slgs.{Slgs}
@@ -63,10 +64,10 @@ unfoldable pub first_accrual_of : Slgs → Accrual
 first_accrual_of slgs = accrual_of_kind slgs.kind slgs
 
 -- the payment of a date: its interest, the first or else half a year's, and the face at maturity
-abbrev pub payment_on : Slgs → ℤ → ScheduledPayment
-payment_on slgs date =
-    due_on date (if int_eq date slgs.first then first_accrual_of slgs else half_year_accrual) (int_eq date slgs.maturity)
+abbrev pub payment_on : Slgs → Closings → ℤ → ScheduledPayment
+payment_on slgs closed date =
+    due_on closed date (if int_eq date slgs.first then first_accrual_of slgs else half_year_accrual) (int_eq date slgs.maturity)
 
 -- the payments of a security by their terms, in order of date
-unfoldable pub slgs_schedule : Slgs → List ScheduledPayment
-slgs_schedule slgs = map (payment_on slgs) (payment_dates slgs)
+unfoldable pub slgs_schedule : Slgs → Closings → List ScheduledPayment
+slgs_schedule slgs closed = map (payment_on slgs closed) (payment_dates slgs)

@@ -1,11 +1,16 @@
 //! Worked payments.
-ghost use Rattle.std.specs.Prelude.{◌≡◌, ◌≤◌, IfSome};
+ghost use Rattle.std.specs.Prelude.{◌≡◌, ◌≤◌, ◌≤ℤ◌, pos, All, IfOk, IfSome};
 ghost use Rattle.escrow_units.specs.Calendar.{IsBaseDay};
+ghost use Rattle.escrow_units.specs.OpenDays.{IsBy2190};
 ghost use Rattle.escrow_units.specs.SlgsTerms.{IsSettlement, IsSlgs};
 
 use crate::flows::payments;
 use arrayvec::ArrayVec;
-use escrow_units::{Cents, Day, Flow, Rate, Slgs, SlgsKind, StepRule, half_back, years_after};
+use escrow_units::{
+    Cents, ClosedDays, Day, Flow, Rate, Slgs, SlgsKind, StepRule, half_back, years_after,
+};
+use std::alloc::{AllocError, Global};
+use std::test::Fail;
 
 // A payment by its day number and cents.
 #[derive(Clone, Copy)]
@@ -80,6 +85,7 @@ fn note(settle: Day, maturity: Day, steps: u32) -> Option<Slgs>
 #[test]
 fn pays_certificates(rt: HostRuntime) {
     let face = Cents(10_000_000);
+    let closed = ClosedDays::none(rt.alloc());
     let plain = [Paid {
         day: 20193,
         cents: 10_098_630,
@@ -89,11 +95,11 @@ fn pays_certificates(rt: HostRuntime) {
         cents: 10_098_361,
     }];
     match certificate(Day::new(20103), Day::new(20193)) {
-        Some(slgs) => assert!(rt; are_paid(&payments(&slgs, face), &plain)),
+        Some(slgs) => assert!(rt; are_paid(&payments(&slgs, face, &closed), &plain)),
         None => assert!(rt; false),
     }
     match certificate(Day::new(19737), Day::new(19827)) {
-        Some(slgs) => assert!(rt; are_paid(&payments(&slgs, face), &leap)),
+        Some(slgs) => assert!(rt; are_paid(&payments(&slgs, face, &closed), &leap)),
         None => assert!(rt; false),
     }
 }
@@ -102,6 +108,7 @@ fn pays_certificates(rt: HostRuntime) {
 #[test]
 fn pays_short_first_periods(rt: HostRuntime) {
     let face = Cents(10_000_000);
+    let closed = ClosedDays::none(rt.alloc());
     let early = [
         Paid {
             day: 20193,
@@ -117,7 +124,7 @@ fn pays_short_first_periods(rt: HostRuntime) {
         },
     ];
     match note(Day::new(20103), Day::new(20558), 2) {
-        Some(slgs) => assert!(rt; are_paid(&payments(&slgs, face), &early)),
+        Some(slgs) => assert!(rt; are_paid(&payments(&slgs, face, &closed), &early)),
         None => assert!(rt; false),
     }
 }
@@ -126,6 +133,7 @@ fn pays_short_first_periods(rt: HostRuntime) {
 #[test]
 fn pays_long_first_periods(rt: HostRuntime) {
     let face = Cents(10_000_000);
+    let closed = ClosedDays::none(rt.alloc());
     let year = [
         Paid {
             day: 20468,
@@ -169,15 +177,53 @@ fn pays_long_first_periods(rt: HostRuntime) {
         },
     ];
     match note(Day::new(20103), Day::new(20833), 2) {
-        Some(slgs) => assert!(rt; are_paid(&payments(&slgs, face), &year)),
+        Some(slgs) => assert!(rt; are_paid(&payments(&slgs, face, &closed), &year)),
         None => assert!(rt; false),
     }
     match note(Day::new(20103), Day::new(20469), 1) {
-        Some(slgs) => assert!(rt; are_paid(&payments(&slgs, face), &found)),
+        Some(slgs) => assert!(rt; are_paid(&payments(&slgs, face, &closed), &found)),
         None => assert!(rt; false),
     }
     match note(Day::new(19781), Day::new(20696), 3) {
-        Some(slgs) => assert!(rt; are_paid(&payments(&slgs, face), &february)),
+        Some(slgs) => assert!(rt; are_paid(&payments(&slgs, face, &closed), &february)),
         None => assert!(rt; false),
     }
+}
+
+// Closed on so many days in a row, from a day on.
+fn closed_from(alloc: Global, first: Day, count: u32) -> Result<ClosedDays, AllocError>
+    requires first { first ≤ℤ pos 70_000 }
+    requires count { count ≤ 1000 }
+{
+    let mut days = Vec::new(alloc);
+    for place in 0..count {
+        days.push(Day::new(first.number() + place as i32))?;
+    }
+    ClosedDays::new(alloc, false, days)
+}
+
+// The first payment 90 days after settlement. It and the second open on one day, each with its own interest.
+#[test]
+fn dates_that_open_on_one_day_are_paid_each(rt: HostRuntime) -> Result<(), Fail> {
+    let face = Cents(10_000_000);
+    let closed = closed_from(rt.alloc(), Day::new(20193), 184)?;
+    let moved = [
+        Paid {
+            day: 20377,
+            cents: 98_901,
+        },
+        Paid {
+            day: 20377,
+            cents: 200_000,
+        },
+        Paid {
+            day: 20558,
+            cents: 10_200_000,
+        },
+    ];
+    match note(Day::new(20103), Day::new(20558), 2) {
+        Some(slgs) => assert!(rt; are_paid(&payments(&slgs, face, &closed), &moved)),
+        None => assert!(rt; false),
+    }
+    Ok(())
 }

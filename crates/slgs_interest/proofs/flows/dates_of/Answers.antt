@@ -1,9 +1,12 @@
-use Rattle.std.proofs.Common.{arith, ◌≡◌, ◌∙◌, ◌+ℤ◌, ap, length, pos, List, ℤ}
+use Rattle.std.proofs.Common.{arith, subst, sym, ◌≡◌, ◌∙◌, ◌+ℤ◌, ap, length, pos, List, ℤ}
 use Rattle.std.proofs.lemmas.Int.{ints}
 use Rattle.jiff_core.proofs.SignedLemmas.{signed_arith}
 use Rattle.escrow_units.specs.Calendar.{half_back_of}
 use Rattle.escrow_units.specs.declared.security.StepRule.TheVariants as rule
 use Rattle.escrow_units.proofs.LastDates.{half_back_of-reach}
+use Rattle.std.specs.Prelude.{All}
+use Rattle.escrow_units.specs.OpenDays.{IsBy2190}
+use Rattle.slgs_interest.proofs.PaymentFacts.{dates-by}
 use Rattle.slgs_interest.proofs.Series.{paid, dates-from-first}
 use Rattle.slgs_interest.proofs.flows.dates_of.Goals as goal
 
@@ -33,3 +36,7 @@ pub returns-clause-before : goal.returns-clause-before
 returns-clause-before c =
     c.series_around.ensures.previous
     ∙ ap (λ (dates : List ℤ). half_back_of c.args.slgs.now.maturity (length dates) rule.SameDay) (dates-from-first c.args.slgs.now c.new-day_before.result (day-before c))
+
+pub returns-clause-by : goal.returns-clause-by
+returns-clause-by c =
+    subst (All IsBy2190) (sym (returns-clause-dates c)) (dates-by c.args.slgs.now (paid c.args.slgs.now c.requires.settlement c.requires.terms))
