@@ -1,4 +1,5 @@
 pub mod BondFacts
+pub mod DayFacts
 pub mod InterestFacts
 pub mod NeedFacts
 pub mod PaymentFacts

@@ -1,5 +1,7 @@
 -- The issue file: its rows, and what they give or where they are refused. The rows are this project's own.
-use Rattle.std.specs.Prelude.{ℕ, ◌==◌, ◌||◌, ◌&&◌, Bool, nat_lt, nat_le, int_lt, int_le, if◌then◌else◌, List, [], ◌∷◌, ◌++◌, length, is_some, unwrap_or, Option, Some, None, Result, Ok, Err, codes, ℤ}
+use Rattle.std.specs.Prelude.{ℕ, ◌==◌, ◌||◌, ◌&&◌, Bool, true, false, nat_lt, nat_le, int_lt, int_le, if◌then◌else◌, List, [], ◌∷◌, ◌++◌, length, is_some, unwrap_or, Option, Some, None, Result, Ok, Err, codes, ℤ}
+use Rattle.std.specs.List.{list_any}
+use Rattle.std.specs.Ordering.{int_eq}
 use Rattle.escrow_units.specs.declared.limits.TheConstants.{AMOUNT_LIMIT}
 use Rattle.escrow_desk.specs.declared.refusal.FileKind.TheVariants as file
 use Rattle.escrow_desk.specs.declared.refusal.Refusal.{Refusal}
@@ -72,6 +74,14 @@ price_row_of number row = do
 abbrev pub budget_row_of : Row → Result ℕ RefusalKind
 budget_row_of row = of_width 2 row (or_refused (count_of (field_of row 1)))
 
+-- `weekends`
+abbrev pub weekends_row_of : Row → Result IssueRow RefusalKind
+weekends_row_of row = of_width 1 row (Ok issue_row.Weekends)
+
+-- `closed,DATE`
+abbrev pub closed_row_of : ℤ → Row → Result ℤ RefusalKind
+closed_row_of last row = of_width 2 row (day_by_of last (field_of row 1))
+
 -- what a row says, by its number from 1
 abbrev pub issue_row_of : ℤ → ℕ → Row → Result IssueRow RefusalKind
 issue_row_of last number row =
@@ -85,7 +95,9 @@ issue_row_of last number row =
     (if is_word (codes "pay") (field_of row 0) then (flow_row_of last row >>= (λ pay. Ok (issue_row.Pay pay))) else
     (if is_word (codes "allowance") (field_of row 0) then (cents_row_of row >>= (λ allowance. Ok (issue_row.Allowance allowance))) else
     (if is_word (codes "budget") (field_of row 0) then (budget_row_of row >>= (λ budget. Ok (issue_row.Budget budget))) else
-    Err kind.UnknownRow)))))))))
+    (if is_word (codes "weekends") (field_of row 0) then weekends_row_of row else
+    (if is_word (codes "closed") (field_of row 0) then (closed_row_of last row >>= (λ day. Ok (issue_row.Closed day))) else
+    Err kind.UnknownRow)))))))))))
 
 -- the one call, which is after settlement
 abbrev pub with_call : IssueRead → Call → Result IssueRead RefusalKind
@@ -132,6 +144,16 @@ with_allowance read allowance = if is_some read.allowance then Err kind.Repeated
 abbrev pub with_budget : IssueRead → ℕ → Result IssueRead RefusalKind
 with_budget read budget = if is_some read.budget then Err kind.Repeated else Ok (record read { budget = Some budget })
 
+-- the weekends, which are closed once
+abbrev pub with_weekends : IssueRead → Result IssueRead RefusalKind
+with_weekends read = if read.weekends then Err kind.Repeated else Ok (record read { weekends = true })
+
+-- one more closed day, after settlement, that no earlier row closes
+abbrev pub with_closed : IssueRead → ℤ → Result IssueRead RefusalKind
+with_closed read day =
+    if int_le day read.settle then Err kind.DateOrder else
+    (if list_any (int_eq day) read.closed then Err kind.Repeated else Ok (record read { closed = read.closed ++ day ∷ [] }))
+
 -- what was read, with what one more row says; `settle` stands once, in row 1
 abbrev pub with_read_row : IssueRead → IssueRow → Result IssueRead RefusalKind
 with_read_row read (issue_row.Settle day) = Err kind.Repeated
@@ -144,6 +166,8 @@ with_read_row read (issue_row.Price price) = with_price read price
 with_read_row read (issue_row.Pay pay) = with_pay read pay
 with_read_row read (issue_row.Allowance allowance) = with_allowance read allowance
 with_read_row read (issue_row.Budget budget) = with_budget read budget
+with_read_row read issue_row.Weekends = with_weekends read
+with_read_row read (issue_row.Closed day) = with_closed read day
 
 abbrev pub with_row : IssueRead → ℕ → Row → Result IssueRead RefusalKind
 with_row read number row = issue_row_of (years_after_of read.settle 40) number row >>= with_read_row read
@@ -165,6 +189,8 @@ bare_read settle = record {
   pays = [];
   allowance = None;
   budget = None;
+  weekends = false;
+  closed = [];
 }
 
 -- what the rows give, numbered from 1, or the first refusal of a row; an empty file has no row 1
@@ -197,16 +223,18 @@ issue_with_of read restricted = record {
   pays = read.pays;
   allowance = unwrap_or read.allowance (record { 0 = 0 });
   budget = unwrap_or read.budget 1000;
+  closed = record { weekends = read.weekends; days = read.closed };
 }
 
 -- the needs, and the payments, are at most 10^13 cents together
 abbrev pub is_within_limit_of : Issue → Bool
 is_within_limit_of issue = nat_le (needs_total issue) AMOUNT_LIMIT && nat_le (total issue.pays) AMOUNT_LIMIT
 
--- and there are at most 480 need dates
+-- and there are at most 480 need dates, and at most 1,000 days that rows close
 abbrev pub within_limits_of : Issue → Result Issue RefusalKind
 within_limits_of issue =
-    if is_within_limit_of issue then (if nat_lt 480 (need_dates issue) then Err kind.TooManyDates else Ok issue)
+    if is_within_limit_of issue
+    then (if nat_lt 480 (need_dates issue) || nat_lt 1000 (length issue.closed.days) then Err kind.TooManyDates else Ok issue)
     else Err kind.NeedsTooLarge
 
 -- what all the rows give, or a refusal of the whole file

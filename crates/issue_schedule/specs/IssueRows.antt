@@ -1,5 +1,5 @@
 -- What each row of an issue file that is read keeps, whatever stands before it. The limits are this project's own.
-use Rattle.std.specs.Prelude.{ℕ, ◌≤◌, ◌≤ℤ◌, ℤ}
+use Rattle.std.specs.Prelude.{ℕ, ◌≤◌, ◌≤ℤ◌, ℤ, ⊤}
 use Rattle.escrow_units.specs.declared.limits.TheConstants.{AMOUNT_LIMIT, GREATEST_GIVEN_YIELD, GREATEST_PRICE, GREATEST_RATE, LEAST_PRICE}
 use Rattle.escrow_units.specs.SlgsTerms.{IsSettlement}
 use Rattle.escrow_units.specs.declared.amount.Cents.{Cents}
@@ -57,3 +57,5 @@ IsIssueRow last (issue_row.Price price) = IsIssuePrice price
 IsIssueRow last (issue_row.Pay pay) = IsFlowRow last pay
 IsIssueRow last (issue_row.Allowance allowance) = IsCents allowance
 IsIssueRow last (issue_row.Budget budget) = IsBudget budget
+IsIssueRow last issue_row.Weekends = ⊤
+IsIssueRow last (issue_row.Closed day) = day ≤ℤ last

@@ -1,6 +1,7 @@
 -- What each issue that is read keeps. The limits are this project's own.
 use Rattle.std.specs.Prelude.{◌≡◌, ℕ, ◌≤◌, ◌<ℤ◌, ◌≤ℤ◌, ℤ, length, All, IfSome}
 use Rattle.escrow_units.specs.Calendar.{years_after_of}
+use Rattle.escrow_units.specs.OpenDays.{Closings}
 use Rattle.escrow_units.specs.SlgsTerms.{IsSettlement}
 use Rattle.escrow_units.specs.declared.limits.TheConstants.{AMOUNT_LIMIT, GREATEST_GIVEN_YIELD, GREATEST_PRICE, GREATEST_RATE, LEAST_PRICE, MOST_NEED_DATES}
 use Rattle.escrow_units.specs.declared.security.Flow.{Flow}
@@ -54,6 +55,7 @@ pub record IsRead (read : IssueRead) : Type 0 where
   pub pays : All (IsPay read.settle) read.pays
   pub allowance : IfSome read.allowance IsCents
   pub budget : IfSome read.budget IsBudget
+  pub closed : All (IsLater read.settle) read.closed
 
 -- and its rows name days up to 40 years after settlement
 pub record IsDraft (last : ℤ) (read : IssueRead) : Type 0 where
@@ -81,6 +83,11 @@ abbrev pub IsRestricted : Restricted → Type 0
 IsRestricted (Given units) = units.0 ≤ GREATEST_GIVEN_YIELD
 IsRestricted (Computed row price) = (1 ≤ price.0) × (price.0 ≤ AMOUNT_LIMIT)
 
+-- closed days, at most 1,000 of which are listed, each after settlement
+pub record AreClosed (settle : ℤ) (closed : Closings) : Type 0 where
+  pub few : length closed.days ≤ 1_000
+  pub days : All (IsLater settle) closed.days
+
 -- what each issue that is read keeps
 pub record IsIssue (issue : Issue) : Type 0 where
   pub needs : HasNeeds issue
@@ -91,3 +98,4 @@ pub record IsIssue (issue : Issue) : Type 0 where
   pub pays_limit : total issue.pays ≤ AMOUNT_LIMIT
   pub allowance : issue.allowance.0 ≤ AMOUNT_LIMIT
   pub budget : IsBudget issue.budget
+  pub closed : AreClosed issue.settle issue.closed

@@ -1,4 +1,5 @@
 pub mod BondLaws
+pub mod DistinctDays
 pub mod IssueForm
 pub mod IssueRows
 pub mod IssueTerms

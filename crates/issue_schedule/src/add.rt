@@ -1,16 +1,16 @@
 //! One more row of an issue file.
-ghost use Rattle.std.specs.Prelude.{◌≡◌, Ok};
+ghost use Rattle.std.specs.Prelude.{◌≡◌, ◌≤ℤ◌, Ok};
 ghost use Rattle.std.specs.Result.{result_and};
 ghost use Rattle.escrow_units.specs.Calendar.{years_after_of};
 ghost use Rattle.row_fields.specs.RowForm.{RowAnswers};
-ghost use Rattle.issue_schedule.specs.IssueForm.{with_allowance, with_bond, with_budget, with_call, with_cash, with_need, with_pay, with_price, with_restricted, with_row};
+ghost use Rattle.issue_schedule.specs.IssueForm.{with_allowance, with_bond, with_budget, with_call, with_cash, with_closed, with_need, with_pay, with_price, with_restricted, with_row, with_weekends};
 ghost use Rattle.issue_schedule.specs.IssueRows.{IsBondRow, IsBudget, IsCallRow, IsCents, IsFlowRow, IsGivenYield, IsIssuePrice};
 
 use crate::draft::{Draft, IssuePrice};
 use crate::issue::{Bond, Call};
 use crate::row::{IssueRow, issue_row};
 use escrow_desk::RefusalKind;
-use escrow_units::{Cents, Flow, YieldUnits};
+use escrow_units::{Cents, Day, Flow, YieldUnits};
 use row_fields::{Row, RowFault};
 
 impl Draft {
@@ -131,6 +131,32 @@ impl Draft {
         Ok(())
     }
 
+    // The weekends, which are closed once.
+    fn add_weekends(&mut self) -> Result<(), RowFault>
+        ensures { RowAnswers (result_and result (Ok self.new)) (with_weekends self.old) }
+    {
+        if self.read.weekends {
+            return Err(RowFault::Refused(RefusalKind::Repeated));
+        }
+        self.read.weekends = true;
+        Ok(())
+    }
+
+    // One more closed day, after settlement, that no earlier row closes.
+    fn add_closed(&mut self, day: Day) -> Result<(), RowFault>
+        requires { day ≤ℤ years_after_of self.old.settle 40 }
+        ensures { RowAnswers (result_and result (Ok self.new)) (with_closed self.old day) }
+    {
+        if day <= self.read.settle {
+            return Err(RowFault::Refused(RefusalKind::DateOrder));
+        }
+        if self.read.closed.contains(day) {
+            return Err(RowFault::Refused(RefusalKind::Repeated));
+        }
+        self.read.closed.push(day)?;
+        Ok(())
+    }
+
     /// One more row, by its number from 1.
     pub(crate) fn add_row(&mut self, row: &Row, number: u32) -> Result<(), RowFault>
         ensures { RowAnswers (result_and result (Ok self.new)) (with_row self.old number row.now) }
@@ -146,6 +172,8 @@ impl Draft {
             IssueRow::Pay(pay) => self.add_pay(pay),
             IssueRow::Allowance(allowance) => self.add_allowance(allowance),
             IssueRow::Budget(budget) => self.add_budget(budget),
+            IssueRow::Weekends => self.add_weekends(),
+            IssueRow::Closed(day) => self.add_closed(day),
         }
     }
 }

@@ -4,6 +4,7 @@ ghost use Rattle.escrow_units.specs.SlgsTerms.{IsSettlement};
 ghost use Rattle.issue_schedule.specs.IssueForm.{bare_read};
 ghost use Rattle.issue_schedule.specs.IssueTerms.{IsRead};
 
+use crate::distinct_days::DistinctDays;
 use crate::issue::Call;
 use crate::lists::{Bonds, Flows};
 use escrow_units::{Cents, Day, YieldUnits, years_after};
@@ -31,6 +32,8 @@ pub(crate) struct IssueRead {
     pub pays: Flows,
     pub allowance: Option<Cents>,
     pub budget: Option<u32>,
+    pub weekends: bool,
+    pub closed: DistinctDays,
 }
 
 /// What has been read of an issue file so far. Contracts see what its rows say.
@@ -71,6 +74,8 @@ impl Draft {
                 pays: Flows::none(alloc),
                 allowance: None,
                 budget: None,
+                weekends: false,
+                closed: DistinctDays::none(alloc),
             },
             last: years_after(settle, 40),
         }

@@ -1,6 +1,6 @@
 //! What an issue file says.
 use crate::lists::{Bonds, Flows};
-use escrow_units::{Cents, Day, Price8, Rate, YieldUnits};
+use escrow_units::{Cents, ClosedDays, Day, Price8, Rate, YieldUnits};
 
 /// An old bond that is refunded. It pays interest by the half-year, last at maturity.
 #[derive(Clone, Copy, Debug, Default, PartialEq, Eq)]
@@ -57,4 +57,6 @@ pub struct Issue {
     pub allowance: Cents,
     /// The greatest number of nodes of the search, from 1 to 10,000; 1,000 where not given.
     pub budget: u32,
+    /// The days on which no receipt comes: weekends or not, and at most 1,000 days, each after settlement.
+    pub closed: ClosedDays,
 }

@@ -3,6 +3,7 @@
 
 mod add;
 mod bond;
+mod distinct_days;
 mod draft;
 mod issue;
 mod laws;

@@ -12,8 +12,8 @@ use crate::issue::{Issue, Restricted};
 use crate::limits::{limited_bonds, limited_sum};
 use crate::row::first_settle;
 use crate::schedule::needs;
-use escrow_desk::{CaseError, FileKind, RefusalKind, Rows};
-use escrow_units::{AMOUNT_LIMIT, Cents, Day};
+use escrow_desk::{CaseError, FileKind, NoMemory, RefusalKind, Rows};
+use escrow_units::{AMOUNT_LIMIT, Cents, ClosedDays, Day};
 use row_fields::{Row, RowFault, at_row, row_answer};
 use std::alloc::Global;
 
@@ -62,10 +62,12 @@ fn restricted_yield(read: &IssueRead) -> Result<Restricted, RefusalKind>
 }
 
 // What the rows say, before the limits are tried.
-fn issue_with(read: IssueRead, restricted: Restricted) -> Issue
-    ensures { result ≡ issue_with_of read restricted }
+fn issue_with(alloc: Global, read: IssueRead, restricted: Restricted) -> Result<Issue, NoMemory>
+    requires { IsRead read }
+    ensures { IfOk result (λ issue. issue ≡ issue_with_of read restricted) }
 {
-    Issue {
+    let closed = ClosedDays::new(alloc, read.weekends, read.closed.into_vec())?;
+    Ok(Issue {
         settle: read.settle,
         call: read.call,
         bonds: read.bonds,
@@ -75,7 +77,8 @@ fn issue_with(read: IssueRead, restricted: Restricted) -> Issue
         pays: read.pays,
         allowance: read.allowance.unwrap_or(Cents(0)),
         budget: read.budget.unwrap_or(1000),
-    }
+        closed,
+    })
 }
 
 // Whether the needs, and the payments, keep to the limit together.
@@ -101,13 +104,14 @@ fn within_limits(alloc: Global, issue: Issue) -> Result<Issue, RowFault>
     ensures same { IfOk result (λ answer. answer ≡ issue) }
     ensures needs { OnOk result (HasNeeds issue) }
     ensures dates { OnOk result (need_dates issue ≤ 480) }
+    ensures closed { OnOk result (length issue.closed.days ≤ 1000) }
     ensures pays { OnOk result (total issue.pays ≤ AMOUNT_LIMIT) }
 {
     if !is_within_limit(&issue) {
         return Err(RowFault::Refused(RefusalKind::NeedsTooLarge));
     }
     let dates = needs(alloc, &issue)?;
-    if dates.len() > 480 {
+    if dates.len() > 480 || issue.closed.days().len() > 1000 {
         return Err(RowFault::Refused(RefusalKind::TooManyDates));
     }
     Ok(issue)
@@ -120,7 +124,7 @@ fn finished(alloc: Global, draft: Draft) -> Result<Issue, RowFault>
 {
     let read = draft.into_read();
     let restricted = restricted_yield(&read)?;
-    within_limits(alloc, issue_with(read, restricted))
+    within_limits(alloc, issue_with(alloc, read, restricted)?)
 }
 
 /// Reads an issue file: row 1 is `settle`, and the other rows come in any order.
@@ -130,10 +134,11 @@ fn finished(alloc: Global, draft: Draft) -> Result<Issue, RowFault>
 /// `Refused` with the first row that is faulty, from 1, and the first of its faults: in row 1 `Missing` where it isn't
 /// `settle`; then `UnknownRow`, `WrongFields`, the fault of a field (`BadNumber`, `BadDate`, `OutOfRange`, `PriceRange`)
 /// from left to right, where a day past settlement + 40 years is `OutOfRange`; `Repeated` for a word that may stand once,
-/// and where a restricted yield stands beside a price or payments; and `DateOrder` for a day on the wrong side of
-/// settlement. After all rows `Refused` with row 0: `Missing` where there is neither a restricted yield nor a price with
-/// payments, `NeedsTooLarge` where the needs or the payments together are over 10^13 cents, and `TooManyDates` where there
-/// are more than 480 need dates. `NoMemory` where memory ran out.
+/// for a day that an earlier `closed` row closes, and where a restricted yield stands beside a price or payments; and
+/// `DateOrder` for a day on the wrong side of settlement. After all rows `Refused` with row 0: `Missing` where there is
+/// neither a restricted yield nor a price with payments, `NeedsTooLarge` where the needs or the payments together are over
+/// 10^13 cents, and `TooManyDates` where there are more than 480 need dates, or more than 1,000 `closed` rows. `NoMemory`
+/// where memory ran out.
 #[tactic(auto, unfolding(crate::specs::IssueForm::issue_of))]
 pub fn read_issue(alloc: Global, rows: &Rows) -> Result<Issue, CaseError>
     ensures issue { Answers result (issue_of rows.now) }

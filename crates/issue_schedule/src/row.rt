@@ -1,7 +1,8 @@
 //! The rows of an issue file.
-ghost use Rattle.std.specs.Prelude.{◌≡◌, IfOk};
+ghost use Rattle.std.specs.Prelude.{◌≡◌, ◌≤ℤ◌, IfOk};
 ghost use Rattle.escrow_units.specs.SlgsTerms.{IsSettlement};
-ghost use Rattle.issue_schedule.specs.IssueForm.{bond_row_of, budget_row_of, call_row_of, cents_row_of, first_settle_of, flow_row_of, issue_row_of, price_row_of, settle_row_of, yield_row_of};
+ghost use Rattle.issue_schedule.specs.IssueForm.{bond_row_of, budget_row_of, call_row_of, cents_row_of, closed_row_of, first_settle_of, flow_row_of, issue_row_of, price_row_of, settle_row_of, weekends_row_of, yield_row_of};
+ghost use Rattle.issue_schedule.specs.declared.row.IssueRow.TheVariants as issue_row_kind;
 ghost use Rattle.issue_schedule.specs.IssueRows.{IsBondRow, IsBudget, IsCallRow, IsCents, IsFlowRow, IsGivenYield, IsIssuePrice, IsIssueRow};
 
 use crate::draft::IssuePrice;
@@ -36,6 +37,10 @@ pub(crate) enum IssueRow {
     Allowance(Cents),
     /// `budget,COUNT`
     Budget(u32),
+    /// `weekends`
+    Weekends,
+    /// `closed,DATE`
+    Closed(Day),
 }
 
 // `settle,DATE`, from 2000-01-01 to 2150-01-01.
@@ -153,6 +158,28 @@ fn budget_row(row: &Row) -> Result<u32, RefusalKind>
     read_count(row.field(1)).map_err(refusal_kind)
 }
 
+// `weekends`
+fn weekends_row(row: &Row) -> Result<IssueRow, RefusalKind>
+    ensures value { result ≡ weekends_row_of row.now }
+    ensures row { IfOk result (λ read. read ≡ issue_row_kind.Weekends) }
+{
+    if row.width() != 1 {
+        return Err(RefusalKind::WrongFields);
+    }
+    Ok(IssueRow::Weekends)
+}
+
+// `closed,DATE`, with a date up to the last day.
+fn closed_row(row: &Row, last: Day) -> Result<Day, RefusalKind>
+    ensures value { result ≡ closed_row_of last row.now }
+    ensures day { IfOk result (λ day. day ≤ℤ last) }
+{
+    if row.width() != 2 {
+        return Err(RefusalKind::WrongFields);
+    }
+    day_by(row.field(1), last)
+}
+
 /// A row by its number, from 1; it names days up to the last one.
 pub(crate) fn issue_row(row: &Row, number: u32, last: Day) -> Result<IssueRow, RefusalKind>
     ensures value { result ≡ issue_row_of last number row.now }
@@ -179,6 +206,10 @@ pub(crate) fn issue_row(row: &Row, number: u32, last: Day) -> Result<IssueRow, R
         Ok(IssueRow::Allowance(cents_row(row)?))
     } else if word == b"budget".as_slice() {
         Ok(IssueRow::Budget(budget_row(row)?))
+    } else if word == b"weekends".as_slice() {
+        weekends_row(row)
+    } else if word == b"closed".as_slice() {
+        Ok(IssueRow::Closed(closed_row(row, last)?))
     } else {
         Err(RefusalKind::UnknownRow)
     }

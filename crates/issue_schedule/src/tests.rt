@@ -1,13 +1,13 @@
 //! Worked figures.
 
-ghost use Rattle.std.specs.Prelude.{IfOk};
+ghost use Rattle.std.specs.Prelude.{◌≤◌, IfOk};
 ghost use Rattle.escrow_units.specs.DayNumber.{IsDayNumber};
 ghost use Rattle.issue_schedule.specs.IssueTerms.{IsIssue};
 
 use crate::{Bonds, Call, Flows, Issue, Restricted, bond_laws, needs, needs_laws, read_issue};
 use escrow_desk::{CaseError, FileKind, Refusal, RefusalKind, read_rows};
-use escrow_units::{Cents, Day, Flow, Price8, YieldUnits};
-use std::alloc::Global;
+use escrow_units::{Cents, Day, Flow, Price8, YieldUnits, print_day};
+use std::alloc::{AllocError, Global};
 use std::test::Fail;
 
 // The issue of a text.
@@ -25,7 +25,7 @@ fn issue_of(alloc: Global, text: &[u8]) -> Result<Result<Issue, CaseError>, Fail
 
 #[test]
 fn faulty_rows_are_refused(rt: HostRuntime) -> Result<(), Fail> {
-    let faults: [(&[u8], u32, RefusalKind); 72] = [
+    let faults: [(&[u8], u32, RefusalKind); 82] = [
         (b"", 1, RefusalKind::Missing),
         (b"need,2025-01-15,5.00", 1, RefusalKind::Missing),
         (b"bond", 1, RefusalKind::Missing),
@@ -260,6 +260,48 @@ fn faulty_rows_are_refused(rt: HostRuntime) -> Result<(), Fail> {
             3,
             RefusalKind::Repeated,
         ),
+        (
+            b"settle,2025-01-15\nweekends,1",
+            2,
+            RefusalKind::WrongFields,
+        ),
+        (
+            b"settle,2025-01-15\nweekends\nweekends",
+            3,
+            RefusalKind::Repeated,
+        ),
+        (b"settle,2025-01-15\nclosed", 2, RefusalKind::WrongFields),
+        (
+            b"settle,2025-01-15\nclosed,2025-02-30",
+            2,
+            RefusalKind::BadDate,
+        ),
+        (
+            b"settle,2025-01-15\nclosed,2065-01-16",
+            2,
+            RefusalKind::OutOfRange,
+        ),
+        (
+            b"settle,2025-01-15\nclosed,2025-01-15",
+            2,
+            RefusalKind::DateOrder,
+        ),
+        (
+            b"settle,2025-01-15\nclosed,2025-01-14",
+            2,
+            RefusalKind::DateOrder,
+        ),
+        (
+            b"settle,2025-01-15\nclosed,2025-01-16\nclosed,2025-01-16",
+            3,
+            RefusalKind::Repeated,
+        ),
+        (
+            b"settle,2025-01-15\nclosed,2025-03-01\nclosed,2025-02-01\nclosed,2025-03-01",
+            4,
+            RefusalKind::Repeated,
+        ),
+        (b"settle,2025-01-15\nWeekends", 2, RefusalKind::UnknownRow),
         (b"settle,2025-01-15\ncash,1", 0, RefusalKind::Missing),
         (b"settle,2025-01-15\nprice,1", 0, RefusalKind::Missing),
         (
@@ -301,7 +343,7 @@ fn faulty_rows_are_refused(rt: HostRuntime) -> Result<(), Fail> {
 
 #[test]
 fn last_good_values_are_read(rt: HostRuntime) -> Result<(), Fail> {
-    let texts: [&[u8]; 12] = [
+    let texts: [&[u8]; 14] = [
         b"settle,2000-01-01\nrestricted,29.99",
         b"settle,2150-01-01\nrestricted,0",
         b"settle,2025-01-15\nrestricted,4\ncall,2065-01-15,10",
@@ -314,6 +356,8 @@ fn last_good_values_are_read(rt: HostRuntime) -> Result<(), Fail> {
         b"settle,2025-01-15\nrestricted,4\nallowance,100000000000",
         b"settle,2025-01-15\nrestricted,4\nbudget,1",
         b"settle,2025-01-15\nprice,0.01\npay,2025-01-16,100000000000",
+        b"settle,2025-01-15\nclosed,2025-01-16\nrestricted,4\nweekends",
+        b"settle,2025-01-15\nrestricted,4\nclosed,2065-01-15",
     ];
     for text in &texts {
         let read = issue_of(rt.alloc(), text)?;
@@ -341,6 +385,58 @@ fn need_dates_are_limited(rt: HostRuntime) -> Result<(), Fail> {
     };
     let read = issue_of(rt.alloc(), more)?;
     assert_eq!(rt; read.map(|_| ()), Err(CaseError::Refused(refusal)));
+    Ok(())
+}
+
+// An issue with so many `closed` rows, of days one after the other.
+fn closing(alloc: Global, count: u32) -> Result<Vec<u8>, AllocError>
+    requires { count ≤ 2_000 }
+{
+    let mut text = Vec::from_slice(alloc, b"settle,2025-01-15\nrestricted,4\n")?;
+    for place in 0..count {
+        text.extend_from_slice(b"closed,")?;
+        let day = Day::new(20_104 + place as i32);
+        text.extend_from_slice(print_day(day).as_str().as_bytes())?;
+        text.extend_from_slice(b"\n")?;
+    }
+    Ok(text)
+}
+
+#[test]
+fn closed_days_are_limited(rt: HostRuntime) -> Result<(), Fail> {
+    let text = closing(rt.alloc(), 1000)?;
+    let issue = issue_of(rt.alloc(), text.as_slice())??;
+    assert_eq!(rt; issue.closed.days().len(), 1000);
+    let more = closing(rt.alloc(), 1001)?;
+    let refusal = Refusal {
+        file: FileKind::Issue,
+        row: 0,
+        kind: RefusalKind::TooManyDates,
+    };
+    let read = issue_of(rt.alloc(), more.as_slice())?;
+    assert_eq!(rt; read.map(|_| ()), Err(CaseError::Refused(refusal)));
+    Ok(())
+}
+
+// 2026-08-15 is a Saturday.
+#[test]
+fn closed_days_are_read(rt: HostRuntime) -> Result<(), Fail> {
+    let rows: [(&[u8], i32); 4] = [
+        (b"settle,2025-01-15\nrestricted,4\n", 20_680),
+        (b"settle,2025-01-15\nrestricted,4\nweekends\n", 20_682),
+        (
+            b"settle,2025-01-15\nclosed,2026-08-15\nrestricted,4\n",
+            20_681,
+        ),
+        (
+            b"settle,2025-01-15\nclosed,2026-08-17\nweekends\nrestricted,4\n",
+            20_683,
+        ),
+    ];
+    for (text, opens) in &rows {
+        let issue = issue_of(rt.alloc(), text)??;
+        assert_eq!(rt; issue.closed.open_day(Day::new(20_680)).number(), *opens);
+    }
     Ok(())
 }
 
