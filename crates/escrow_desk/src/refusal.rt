@@ -52,7 +52,7 @@ pub enum RefusalKind {
     Matured,
     /// The needs together are over their limit.
     NeedsTooLarge,
-    /// There are more need dates than the limit.
+    /// There are more need dates, or more closed days, than the limit.
     TooManyDates,
     /// No range of rates holds the offer's maturity.
     NoRate,
@@ -66,6 +66,8 @@ pub enum RefusalKind {
     FirstDate,
     /// There are more lines than the limit.
     TooManyLines,
+    /// What is offered matures on a day that opens more than 40 years after settlement.
+    ClosedPastEnd,
 }
 
 /// Where a file is refused, and why.

@@ -1,5 +1,5 @@
 -- The book of three files.
-use Rattle.std.proofs.Common.{◌≡◌, ℕ, ◌<◌, ◌≤◌, refl, arith, inl, inr, ◌⊎◌, length, List, ◌++◌, ℤ, Bool, true, false, nat_lt, if◌then◌else◌, Result, Ok, Err}
+use Rattle.std.proofs.Common.{◌≡◌, ℕ, ◌<◌, ◌≤◌, refl, arith, inl, inr, length, List, ◌++◌, Bool, true, false, nat_lt, if◌then◌else◌, Result, Ok, Err}
 use Rattle.std.specs.Prelude.{All}
 use Rattle.std.proofs.lemmas.Bool.Decides.{nat_tests}
 use Rattle.std.proofs.lemmas.List.{length-append}
@@ -16,12 +16,13 @@ use Rattle.rate_table.specs.declared.table.RateFile.{RateFile}
 use Rattle.market_notes.specs.NoteTerms.{IsNoteFile}
 use Rattle.market_notes.specs.declared.note.NoteFile.{NoteFile}
 use Rattle.offer_book.specs.Book.{BookContents, IsBook, IsNeeds, IsSecurityLine}
-use Rattle.offer_book.specs.CaseBook.{IsBookOf, IsTooMany, book_of, book_of_files, lines_on_offer, too_many_lines, within_most_lines}
-use Rattle.offer_book.specs.MarketLines.{note_lines_of}
-use Rattle.offer_book.specs.Offers.{AreLinesOf, IsFirstFaulty, slgs_lines_of}
+use Rattle.offer_book.specs.CaseBook.{IsBookOf, IsBookRefusal, book_of, book_of_files, issue_days, lines_on_offer, too_many_lines, within_most_lines}
+use Rattle.offer_book.specs.MarketLines.{AreLinesOfNotes, note_lines_of}
+use Rattle.offer_book.specs.Offers.{AreLinesOf, slgs_lines_of}
 use Rattle.offer_book.specs.declared.line.Line.{Line}
-use Rattle.offer_book.proofs.MarketFacts.{notes-count, notes-keep_rules}
+use Rattle.offer_book.proofs.MarketFacts.{notes-count, notes-keep_rules, refusals-name_first_late}
 use Rattle.offer_book.proofs.OfferFacts.{bound-err, bound-ok, lines-count, lines-keep_rules, refusals-name_first_fault}
+use Rattle.offer_book.specs.declared.payment_days.PaymentDays.{PaymentDays}
 
 -- the needs of an issue are those of a book
 needs-kept : (issue : Issue) → IsIssue issue → IsNeeds issue.settle (needs_of issue.settle issue.call issue.direct issue.bonds)
@@ -34,7 +35,7 @@ needs-kept issue is = record {
 }
 
 -- the book of an issue within its limits and of lines on offer is within the limits of books
-pub book-kept : (issue : Issue) (offers : List Line) → IsIssue issue → All (IsSecurityLine issue.settle) offers → length offers ≤ MOST_LINES → IsBook (book_of issue offers)
+pub book-kept : (issue : Issue) (offers : List Line) → IsIssue issue → All (IsSecurityLine (issue_days issue)) offers → length offers ≤ MOST_LINES → IsBook (book_of issue offers)
 book-kept issue offers is good few = record {
   settlement = is.needs.settle;
   needs = needs-kept issue is;
@@ -64,46 +65,65 @@ many-lines count refusal e = at (nat_lt MOST_LINES count) refl e
     at false is e = absurd (cc)
 
 -- lines of offers and notes together
-pub lines-kept : (settle : ℤ) (rates : RateFile) (notes : NoteFile) (offers : List Line) → IsNoteFile settle notes → AreLinesOf settle rates offers → All (IsSecurityLine settle) offers
-    → lines_on_offer rates notes ≤ MOST_LINES → All (IsSecurityLine settle) (offers ++ note_lines_of notes) × (length (offers ++ note_lines_of notes) ≤ MOST_LINES)
-lines-kept settle rates notes offers is sold good few = (
-  All-append (IsSecurityLine settle) offers (note_lines_of notes) good (notes-keep_rules settle notes is).1,
-  omega (arith, length-append offers (note_lines_of notes), lines-count settle rates offers sold, notes-count settle notes is, few),
+pub lines-kept : (days : PaymentDays) (rates : RateFile) (notes : NoteFile) (offers market : List Line) → AreLinesOf days rates offers → All (IsSecurityLine days) offers
+    → AreLinesOfNotes days notes market → All (IsSecurityLine days) market
+    → lines_on_offer rates notes ≤ MOST_LINES → All (IsSecurityLine days) (offers ++ market) × (length (offers ++ market) ≤ MOST_LINES)
+lines-kept days rates notes offers market sold good of_notes kept few = (
+  All-append (IsSecurityLine days) offers market good kept,
+  omega (arith, length-append offers market, lines-count days rates offers sold, notes-count days notes market of_notes, few),
 )
+
+-- what is answered once the offers are lines, and once the notes are
+abbrev with_notes : Issue → RateFile → NoteFile → List Line → List Line → Result BookContents Refusal
+with_notes issue rates notes offers market = within_most_lines (lines_on_offer rates notes) >>= (λ none. Ok (book_of issue (offers ++ market)))
+
+abbrev with_offers : Issue → RateFile → NoteFile → List Line → Result BookContents Refusal
+with_offers issue rates notes offers = note_lines_of (issue_days issue) notes >>= with_notes issue rates notes offers
 
 pub books-are_of_their_files : (issue : Issue) (rates : RateFile) (notes : NoteFile) (book : BookContents) → IsIssue issue → IsRateFile rates
     → IsNoteFile issue.settle notes → book_of_files issue rates notes ≡ Ok book → IsBookOf issue rates notes book × IsBook book
 unfolding book_of_files
 books-are_of_their_files issue rates notes book is rates_are notes_are e =
-    let one = bound-ok (slgs_lines_of issue.settle rates)
-    (λ offers. within_most_lines (lines_on_offer rates notes) >>= (λ none. Ok (book_of issue (offers ++ note_lines_of notes)))) book e in
-    let two = bound-ok (within_most_lines (lines_on_offer rates notes)) (λ none. Ok (book_of issue (one.first ++ note_lines_of notes))) book one.rest in
-    let few = few-lines (lines_on_offer rates notes) two.first two.is in
-    let offers = lines-keep_rules issue.settle rates one.first is.needs.settle rates_are one.is in
-    let market = notes-keep_rules issue.settle notes notes_are in
-    let all = lines-kept issue.settle rates notes one.first notes_are offers.0 offers.1 few in
-    let same : book ≡ book_of issue (one.first ++ note_lines_of notes) = cc (two.rest) in
+    let days = issue_days issue in
+    let one = bound-ok (slgs_lines_of days rates) (with_offers issue rates notes) book e in
+    let two = bound-ok (note_lines_of days notes) (with_notes issue rates notes one.first) book one.rest in
+    let three = bound-ok (within_most_lines (lines_on_offer rates notes)) (λ none. Ok (book_of issue (one.first ++ two.first))) book two.rest in
+    let few = few-lines (lines_on_offer rates notes) three.first three.is in
+    let offers = lines-keep_rules days rates one.first is.needs.settle rates_are one.is in
+    let market = notes-keep_rules days notes two.first notes_are two.is in
+    let all = lines-kept days rates notes one.first two.first offers.0 offers.1 market.0 market.1 few in
+    let same : book ≡ book_of issue (one.first ++ two.first) = cc (three.rest) in
     rw same (
-      record { settle = refl; needs = refl; offers = one.first; market = note_lines_of notes; lines = refl; of_offers = offers.0; of_notes = market.0 },
-      book-kept issue (one.first ++ note_lines_of notes) is all.0 all.1,
+      record { days = refl; needs = refl; offers = one.first; market = two.first; lines = refl; of_offers = offers.0; of_notes = market.0 },
+      book-kept issue (one.first ++ two.first) is all.0 all.1,
     )
 
 pub books-are_refused_in_order : (issue : Issue) (rates : RateFile) (notes : NoteFile) (refusal : Refusal) → IsIssue issue → IsRateFile rates
-    → book_of_files issue rates notes ≡ Err refusal → IsFirstFaulty issue.settle rates refusal ⊎ IsTooMany issue rates notes refusal
+    → IsNoteFile issue.settle notes → book_of_files issue rates notes ≡ Err refusal → IsBookRefusal issue rates notes refusal
 unfolding book_of_files
-books-are_refused_in_order issue rates notes refusal is rates_are e =
-    elim (bound-err (slgs_lines_of issue.settle rates)
-    (λ offers. within_most_lines (lines_on_offer rates notes) >>= (λ none. Ok (book_of issue (offers ++ note_lines_of notes)))) refusal e) [
-      | inl faulty ↦ inl (refusals-name_first_fault issue.settle rates refusal is.needs.settle rates_are faulty)
-      | inr next ↦ elim (bound-err (within_most_lines (lines_on_offer rates notes)) (λ none. Ok (book_of issue (next.first ++ note_lines_of notes))) refusal next.rest) [
-        | inl many ↦
-            let over = many-lines (lines_on_offer rates notes) refusal many in
-            inr (record {
-              name = over.name;
+books-are_refused_in_order issue rates notes refusal is rates_are notes_are e =
+    elim (bound-err (slgs_lines_of (issue_days issue) rates) (with_offers issue rates notes) refusal e) [
+      | inl faulty ↦ inl (refusals-name_first_fault (issue_days issue) rates refusal is.needs.settle rates_are faulty)
+      | inr next ↦
+          let sold = (lines-keep_rules (issue_days issue) rates next.first is.needs.settle rates_are next.is).0 in
+          elim (bound-err (note_lines_of (issue_days issue) notes) (with_notes issue rates notes next.first) refusal next.rest) [
+            | inl late ↦ inr (inl (record {
               lines = next.first;
-              sold = (lines-keep_rules issue.settle rates next.first is.needs.settle rates_are next.is).0;
-              over = over.over;
-            })
-        | inr never ↦ absurd (cc (never.rest))
-      ]
+              sold = sold;
+              late = refusals-name_first_late (issue_days issue) notes refusal late;
+            }))
+            | inr after ↦ elim (bound-err (within_most_lines (lines_on_offer rates notes)) (λ none. Ok (book_of issue (next.first ++ after.first))) refusal after.rest) [
+              | inl many ↦
+                  let over = many-lines (lines_on_offer rates notes) refusal many in
+                  inr (inr (record {
+                    name = over.name;
+                    lines = next.first;
+                    sold = sold;
+                    market = after.first;
+                    of_notes = (notes-keep_rules (issue_days issue) notes after.first notes_are after.is).0;
+                    over = over.over;
+                  }))
+              | inr never ↦ absurd (cc (never.rest))
+            ]
+          ]
     ]

@@ -24,6 +24,7 @@ use Rattle.offer_book.specs.declared.line.LineKind.TheVariants.{Cash, Market, Se
 use Rattle.offer_book.proofs.CoefficientFacts.{coefficients-enclose}
 use Rattle.offer_book.proofs.LineFacts.{line_payments-little, schedule-few, security-at_most}
 use Rattle.offer_book.proofs.ScheduleFacts.{cash-coefficients}
+use Rattle.offer_book.specs.declared.payment_days.PaymentDays.{PaymentDays}
 
 -- a quotient rounded up is at most one more than the one rounded down
 ceiling-close : (a b : ℕ) → div_ceil a b ≤ a / b + 1
@@ -59,8 +60,8 @@ pay-close rate step payment =
       slack = slack-small rate;
     }
 
-pub pays-close : (settle : ℤ) (line : Line) → All IsClose (pay_coefficients settle line)
-pays-close settle line = All-map IsClose (pay_by (kind_rate line.kind) line.step) (schedule_of settle line) (λ k d lt. pay-close (kind_rate line.kind) line.step (get_or (schedule_of settle line) k d))
+pub pays-close : (days : PaymentDays) (line : Line) → All IsClose (pay_coefficients days line)
+pays-close days line = All-map IsClose (pay_by (kind_rate line.kind) line.step) (schedule_of days line) (λ k d lt. pay-close (kind_rate line.kind) line.step (get_or (schedule_of days line) k d))
 
 -- coefficients of a cost are apart by at most two, and the slack is at most a cent
 pub record IsCostClose (line : Line) : Type 0 where
@@ -99,19 +100,19 @@ cost-close line = record { ordered = low line.kind; close = high line.kind; slac
     slack (Market note) = omega arith
 
 -- units of a line of securities are at most 10^9
-pub units-few : (settle : ℤ) (line : Line) (units : ℕ) → IsSecurityLine settle line → units ≤ line.most → units ≤ 10 ^ 9
-units-few settle line units security few = omega (arith, mul-le-mul few security.step_at_least, security.cap)
+pub units-few : (days : PaymentDays) (line : Line) (units : ℕ) → IsSecurityLine days line → units ≤ line.most → units ≤ 10 ^ 9
+units-few days line units security few = omega (arith, mul-le-mul few security.step_at_least, security.cap)
 
 -- what the upper side of a cost comes to
-pub cost-high_small : (settle : ℤ) (line : Line) (units : ℕ) → IsSettlement settle → IsLine settle line → units ≤ line.most
+pub cost-high_small : (days : PaymentDays) (line : Line) (units : ℕ) → IsSettlement days.settle → IsLine days line → units ≤ line.most
     → (cost_coefficients line).high * units + (cost_coefficients line).slack ≤ 10 ^ 22
-cost-high_small settle line units h is_line few = elim is_line [
+cost-high_small days line units h is_line few = elim is_line [
   | inl cash ↦ of_cash line.kind cash.kind cash.step (omega (arith, few, cash.most))
   | inr own ↦
-      let enclosed = (coefficients-enclose settle line h (inr own) units).costs in
+      let enclosed = (coefficients-enclose days line h (inr own) units).costs in
       let close = cost-close line in
       let high : (cost_coefficients line).high * units ≤ ((cost_coefficients line).low + 2) * units = mul-le-mul_right units close.close in
-      omega (arith, high, close.slack, enclosed.least, security-at_most settle line units own few, units-few settle line units own few)
+      omega (arith, high, close.slack, enclosed.least, security-at_most days line units own few, units-few days line units own few)
 ]
   where
     of_cash : (kind : LineKind) → kind ≡ Cash → line.step ≡ 1 → units ≤ 10 ^ 13 → (kind_costs kind line.step).high * units + (kind_costs kind line.step).slack ≤ 10 ^ 22
@@ -146,19 +147,19 @@ sum-high units (pay ∷ pays) (flow ∷ flows) enclosed close =
     rw (sum_by-cons (high_of units) pay pays, sum_by-cons cents_of flow flows)
     (sum-more COEFFICIENT_SCALE units (length flows) (high_of units pay) (cents_of flow) (sum_by (high_of units) pays) (sum_by cents_of flows) first rest)
 
-pub pays-high_small : (settle : ℤ) (line : Line) (units : ℕ) → IsSettlement settle → IsLine settle line → units ≤ line.most
-    → sum_by (λ pay. pay.high * units + pay.slack) (pay_coefficients settle line) ≤ 10 ^ 22
+pub pays-high_small : (days : PaymentDays) (line : Line) (units : ℕ) → IsSettlement days.settle → IsLine days line → units ≤ line.most
+    → sum_by (λ pay. pay.high * units + pay.slack) (pay_coefficients days line) ≤ 10 ^ 22
 unfolding high_of cents_of
-pays-high_small settle line units h is_line few = elim is_line [
-  | inl cash ↦ subst (λ (pays : List PayCoefficients). sum_by (λ pay. pay.high * units + pay.slack) pays ≤ 10 ^ 22) (sym (cash-coefficients settle line cash.kind)) (of_cash line.step cash.step (omega (arith, few, cash.most)))
+pays-high_small days line units h is_line few = elim is_line [
+  | inl cash ↦ subst (λ (pays : List PayCoefficients). sum_by (λ pay. pay.high * units + pay.slack) pays ≤ 10 ^ 22) (sym (cash-coefficients days line cash.kind)) (of_cash line.step cash.step (omega (arith, few, cash.most)))
   | inr own ↦
-      let enclosed = (coefficients-enclose settle line h (inr own) units).pays in
-      let sum = sum-high units (pay_coefficients settle line) (line_payments settle line units) enclosed (pays-close settle line) in
-      let few_flows : length (line_payments settle line units) ≤ 84 = omega (arith, length-map (schedule_of settle line) (flow_by (kind_rate line.kind) (par line units)), schedule-few settle line h own) in
+      let enclosed = (coefficients-enclose days line h (inr own) units).pays in
+      let sum = sum-high units (pay_coefficients days line) (line_payments days line units) enclosed (pays-close days line) in
+      let few_flows : length (line_payments days line units) ≤ 84 = omega (arith, length-map (schedule_of days line) (flow_by (kind_rate line.kind) (par line units)), schedule-few days line h own) in
       let count = mul-le-mul_right (COEFFICIENT_SCALE + units) few_flows in
-      omega (arith, sum, count, line_payments-little settle line units h own few, units-few settle line units own few)
+      omega (arith, sum, count, line_payments-little days line units h own few, units-few days line units own few)
 ]
   where
     of_cash : (step : ℕ) → step ≡ 1 → units ≤ 10 ^ 13
-        → sum_by (λ (pay : PayCoefficients). pay.high * units + pay.slack) (record { day = settle; low = COEFFICIENT_SCALE * step; high = COEFFICIENT_SCALE * step; slack = 0 } ∷ []) ≤ 10 ^ 22
+        → sum_by (λ (pay : PayCoefficients). pay.high * units + pay.slack) (record { day = days.settle; low = COEFFICIENT_SCALE * step; high = COEFFICIENT_SCALE * step; slack = 0 } ∷ []) ≤ 10 ^ 22
     of_cash step one few = rw one (omega (arith, few))

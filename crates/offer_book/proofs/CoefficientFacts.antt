@@ -29,6 +29,7 @@ use Rattle.offer_book.specs.declared.line.LineKind.{LineKind}
 use Rattle.offer_book.specs.declared.line.LineKind.TheVariants.{Cash, Market, Security}
 use Rattle.payment_schedule.proofs.ScheduleFacts.{flows_by}
 use Rattle.offer_book.proofs.ScheduleFacts.{schedule-short}
+use Rattle.offer_book.specs.declared.payment_days.PaymentDays.{PaymentDays}
 
 -- a factor above 0 of both sides
 cancel : (b m n : ℕ) → 0 < b → b * m ≤ b * n → m ≤ n
@@ -154,18 +155,18 @@ exactly : (step units : ℕ) → Encloses (record { low = COEFFICIENT_SCALE * st
 exactly step units = record { least = omega arith; most = omega arith }
 
 -- each kind of line
-kind-cost-enclosed : (settle : ℤ) (kind : LineKind) (step units : ℕ) → IsSecurity settle kind → Encloses (kind_costs kind step) units (kind_cost kind (step * units))
-kind-cost-enclosed settle Cash step units security = absurd security
-kind-cost-enclosed settle (Security slgs) step units security = exactly step units
-kind-cost-enclosed settle (Market note) step units security =
+kind-cost-enclosed : (days : PaymentDays) (kind : LineKind) (step units : ℕ) → IsSecurity days kind → Encloses (kind_costs kind step) units (kind_cost kind (step * units))
+kind-cost-enclosed days Cash step units security = absurd security
+kind-cost-enclosed days (Security slgs) step units security = exactly step units
+kind-cost-enclosed days (Market note) step units security =
     sum-enclosed _ _ _ _ _ _ units (face_price_of (step * units) note.price.0) (notes.accrued_interest note (step * units))
     (price-enclosed step note.price.0 units) (accrued-enclosed note step units security.1) refl refl
 
-pub coefficients-enclose : (settle : ℤ) (line : Line) → IsSettlement settle → IsLine settle line → (units : ℕ) → EnclosesUnits settle line units
-coefficients-enclose settle line h is_line units = record {
+pub coefficients-enclose : (days : PaymentDays) (line : Line) → IsSettlement days.settle → IsLine days line → (units : ℕ) → EnclosesUnits days line units
+coefficients-enclose days line h is_line units = record {
   costs = elim is_line [
     | inl cash ↦ subst (λ kind. Encloses (kind_costs kind line.step) units (kind_cost kind (par line units))) (sym cash.kind) (exactly line.step units)
-    | inr own ↦ kind-cost-enclosed settle line.kind line.step units own.security
+    | inr own ↦ kind-cost-enclosed days line.kind line.step units own.security
   ];
-  pays = schedule-enclosed (kind_rate line.kind) line.step units (schedule_of settle line) (schedule-short settle line h is_line);
+  pays = schedule-enclosed (kind_rate line.kind) line.step units (schedule_of days line) (schedule-short days line h is_line);
 }

@@ -18,18 +18,19 @@ use Rattle.offer_book.specs.declared.line.Line.{Line}
 use Rattle.offer_book.specs.declared.line.LineKind.{LineKind}
 use Rattle.offer_book.specs.declared.line.LineKind.TheVariants.{Cash, Market, Security}
 use Rattle.offer_book.proofs.LineFacts.{is_short}
+use Rattle.offer_book.specs.declared.payment_days.PaymentDays.{PaymentDays}
 
 -- each payment of a line bears interest for at most sixteen months
-kind-short : (settle : ℤ) (kind : LineKind) → IsSettlement settle → IsSecurity settle kind → All (λ payment. IsShort payment.accrual) (kind_schedule settle kind)
-kind-short settle Cash h security = absurd security
-kind-short settle (Security security) h own = slgs.schedule-short security (is_short settle security h own)
-kind-short settle (Market note) h own = notes.schedule-short note
+kind-short : (days : PaymentDays) (kind : LineKind) → IsSettlement days.settle → IsSecurity days kind → All (λ payment. IsShort payment.accrual) (kind_schedule days kind)
+kind-short days Cash h security = absurd security
+kind-short days (Security security) h own = slgs.schedule-short security days.closed (is_short days security h own)
+kind-short days (Market note) h own = notes.schedule-short note days.closed
 
-pub schedule-short : (settle : ℤ) (line : Line) → IsSettlement settle → IsLine settle line → All (λ payment. IsShort payment.accrual) (schedule_of settle line)
-schedule-short settle line h (inl cash) =
-    subst (λ kind. All (λ payment. IsShort payment.accrual) (kind_schedule settle kind)) (sym cash.kind)
-    (All-cons (λ (payment : ScheduledPayment). IsShort payment.accrual) (cash_due settle) [] half-short (All-nil (λ (payment : ScheduledPayment). IsShort payment.accrual)))
-schedule-short settle line h (inr own) = kind-short settle line.kind h own.security
+pub schedule-short : (days : PaymentDays) (line : Line) → IsSettlement days.settle → IsLine days line → All (λ payment. IsShort payment.accrual) (schedule_of days line)
+schedule-short days line h (inl cash) =
+    subst (λ kind. All (λ payment. IsShort payment.accrual) (kind_schedule days kind)) (sym cash.kind)
+    (All-cons (λ (payment : ScheduledPayment). IsShort payment.accrual) (cash_due days.settle) [] half-short (All-nil (λ (payment : ScheduledPayment). IsShort payment.accrual)))
+schedule-short days line h (inr own) = kind-short days line.kind h own.security
 
 -- opening cash bears no interest
 none-of : (a b : ℕ) → a ≡ 0 → 0 < b → a / b ≡ 0
@@ -47,6 +48,6 @@ cash-pay settle step = (λ i. record { day = settle; low = low i; high = high i;
         nothing : (step : ℕ) → COEFFICIENT_SCALE * (step * 0 * 1) ≡ 0
         nothing step = omega arith
 
-pub cash-coefficients : (settle : ℤ) (line : Line) → line.kind ≡ Cash
-    → pay_coefficients settle line ≡ record { day = settle; low = COEFFICIENT_SCALE * line.step; high = COEFFICIENT_SCALE * line.step; slack = 0 } ∷ []
-cash-coefficients settle line is = subst (λ kind. map (pay_by (kind_rate kind) line.step) (kind_schedule settle kind) ≡ record { day = settle; low = COEFFICIENT_SCALE * line.step; high = COEFFICIENT_SCALE * line.step; slack = 0 } ∷ []) (sym is) (cash-pay settle line.step)
+pub cash-coefficients : (days : PaymentDays) (line : Line) → line.kind ≡ Cash
+    → pay_coefficients days line ≡ record { day = days.settle; low = COEFFICIENT_SCALE * line.step; high = COEFFICIENT_SCALE * line.step; slack = 0 } ∷ []
+cash-coefficients days line is = subst (λ kind. map (pay_by (kind_rate kind) line.step) (kind_schedule days kind) ≡ record { day = days.settle; low = COEFFICIENT_SCALE * line.step; high = COEFFICIENT_SCALE * line.step; slack = 0 } ∷ []) (sym is) (cash-pay days.settle line.step)

@@ -18,6 +18,7 @@ use Rattle.offer_book.specs.declared.coefficients.TheConstants.{COEFFICIENT_SCAL
 use Rattle.offer_book.specs.declared.line.Line.{Line}
 use Rattle.offer_book.specs.declared.line.LineKind.{LineKind}
 use Rattle.offer_book.specs.declared.line.LineKind.TheVariants.{Cash, Market, Security}
+use Rattle.offer_book.specs.declared.payment_days.PaymentDays.{PaymentDays}
 
 -- coefficients of one amount: at x units, the scale times the amount lies from low * x - slack to high * x + slack
 pub record Enclosure : Type 0 where
@@ -66,8 +67,8 @@ abbrev pub cost_coefficients : Line → Enclosure
 cost_coefficients line = kind_costs line.kind line.step
 
 -- and of what it pays, in order of date: what one unit comes to at par, seen so by the schedule of the line
-abbrev pub pay_coefficients : ℤ → Line → List PayCoefficients
-pay_coefficients settle line = map (pay_by (kind_rate line.kind) line.step) (schedule_of settle line)
+abbrev pub pay_coefficients : PaymentDays → Line → List PayCoefficients
+pay_coefficients days line = map (pay_by (kind_rate line.kind) line.step) (schedule_of days line)
 
 -- an amount of cents that is paid is enclosed, on the same day
 pub record EnclosesPayment (units : ℕ) (pay : PayCoefficients) (flow : Flow) : Type 0 where
@@ -75,9 +76,9 @@ pub record EnclosesPayment (units : ℕ) (pay : PayCoefficients) (flow : Flow) :
   pub amount : Encloses (record { low = pay.low; high = pay.high; slack = pay.slack }) units flow.cents.0
 
 -- for every number of units, the coefficients of a line enclose what they cost and each payment
-pub record EnclosesUnits (settle : ℤ) (line : Line) (units : ℕ) : Type 0 where
+pub record EnclosesUnits (days : PaymentDays) (line : Line) (units : ℕ) : Type 0 where
   pub costs : Encloses (cost_coefficients line) units (line_cost line units)
-  pub pays : AllZip (EnclosesPayment units) (pay_coefficients settle line) (line_payments settle line units)
+  pub pays : AllZip (EnclosesPayment units) (pay_coefficients days line) (line_payments days line units)
 
 abbrev pub CoefficientsEnclose : Type 0
-CoefficientsEnclose = (settle : ℤ) (line : Line) → IsSettlement settle → IsLine settle line → (units : ℕ) → EnclosesUnits settle line units
+CoefficientsEnclose = (days : PaymentDays) (line : Line) → IsSettlement days.settle → IsLine days line → (units : ℕ) → EnclosesUnits days line units

@@ -10,6 +10,7 @@ use Rattle.market_notes.specs.NoteFlows.{cost_of as note_cost_of}
 use Rattle.offer_book.specs.declared.line.LineKind.{LineKind}
 use Rattle.offer_book.specs.declared.line.LineKind.TheVariants.{Cash, Market, Security}
 use Rattle.offer_book.specs.declared.line.Line.{Line}
+use Rattle.offer_book.specs.declared.payment_days.PaymentDays.{PaymentDays}
 use Rattle.offer_book.specs.Book.{BookContents}
 use Rattle.offer_book.specs.Schedule.{kind_rate, schedule_of}
 
@@ -42,12 +43,12 @@ abbrev pub line_cost : Line → ℕ → ℕ
 line_cost line units = kind_cost line.kind (par line units)
 
 -- the payments of units of a line, in order of date: what they come to at par pays by the schedule of the line
-abbrev pub line_payments : ℤ → Line → ℕ → List Flow
-line_payments settle line units = map (flow_by (kind_rate line.kind) (par line units)) (schedule_of settle line)
+abbrev pub line_payments : PaymentDays → Line → ℕ → List Flow
+line_payments days line units = map (flow_by (kind_rate line.kind) (par line units)) (schedule_of days line)
 
 -- the payments of a portfolio, in the order of the lines
 abbrev pub payments : BookContents → List ℕ → List Flow
-payments book plan = flat_map (λ p. line_payments book.settle p.0 p.1) (zip book.lines plan)
+payments book plan = flat_map (λ p. line_payments book.days p.0 p.1) (zip book.lines plan)
 
 -- on every day the payments up to and on that day are at least the needs up to and on it. So a receipt serves a need
 -- of its day, and carried cash earns nothing (this project's own)
@@ -73,4 +74,4 @@ security_cost book plan = sum_by (λ p. line_cost p.0 p.1) (drop 1 (zip book.lin
 
 -- what the securities pay, summed by day: in order of day, each day once, none of 0 cents
 abbrev pub security_flows : BookContents → List ℕ → List Flow
-security_flows book plan = summed (flat_map (λ p. line_payments book.settle p.0 p.1) (drop 1 (zip book.lines plan)))
+security_flows book plan = summed (flat_map (λ p. line_payments book.days p.0 p.1) (drop 1 (zip book.lines plan)))

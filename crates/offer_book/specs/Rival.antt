@@ -11,4 +11,4 @@ use Rattle.offer_book.specs.Portfolio.{IsPermitted, Meets, security_cost, securi
 pub record IsRival (limit : ℕ) (book : BookContents) (plan : List ℕ) : Type 0 where
   pub permitted : IsPermitted book plan
   pub covered : Meets book plan
-  pub yields : PresentValueAtMost (limit - 1) (indexed book.settle (security_flows book plan)) (security_cost book plan)
+  pub yields : PresentValueAtMost (limit - 1) (indexed book.days.settle (security_flows book plan)) (security_cost book plan)

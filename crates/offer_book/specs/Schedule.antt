@@ -7,6 +7,7 @@ use Rattle.payment_schedule.specs.declared.schedule.ScheduledPayment.{ScheduledP
 use Rattle.market_notes.specs.NoteFlows.{accrual_of, note_schedule}
 use Rattle.slgs_interest.specs.Payments.{slgs_schedule}
 use Rattle.offer_book.specs.declared.line.Line.{Line}
+use Rattle.offer_book.specs.declared.payment_days.PaymentDays.{PaymentDays}
 use Rattle.offer_book.specs.declared.line.LineKind.{LineKind}
 use Rattle.offer_book.specs.declared.line.LineKind.TheVariants.{Cash, Market, Security}
 
@@ -21,15 +22,15 @@ abbrev pub cash_due : ℤ → ScheduledPayment
 cash_due settle = record { day = settle; accrual = half_year_accrual; principal = true }
 
 -- when a kind pays, for which part of a year it bears interest, and when its principal is paid: opening cash is there on the
--- settlement day, and a SLGS security and a note pay by their terms
-abbrev pub kind_schedule : ℤ → LineKind → List ScheduledPayment
-kind_schedule settle Cash = cash_due settle ∷ []
-kind_schedule settle (Security security) = slgs_schedule security
-kind_schedule settle (Market note) = note_schedule note
+-- settlement day, and a SLGS security and a note pay by their terms, on open days
+abbrev pub kind_schedule : PaymentDays → LineKind → List ScheduledPayment
+kind_schedule days Cash = cash_due days.settle ∷ []
+kind_schedule days (Security security) = slgs_schedule security days.closed
+kind_schedule days (Market note) = note_schedule note days.closed
 
 -- the payments of a line by their terms, in order of date
-abbrev pub schedule_of : ℤ → Line → List ScheduledPayment
-schedule_of settle line = kind_schedule settle line.kind
+abbrev pub schedule_of : PaymentDays → Line → List ScheduledPayment
+schedule_of days line = kind_schedule days line.kind
 
 -- the part of a year for which a buyer pays the interest that has accrued: none but that of a note
 abbrev pub kind_accrued : LineKind → Accrual

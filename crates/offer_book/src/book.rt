@@ -9,17 +9,18 @@ ghost use Rattle.offer_book.specs.declared.line.Line.{Line};
 
 use crate::coefficients::Coefficients;
 use crate::line::Line;
+use crate::payment_days::PaymentDays;
 use arrayvec::ArrayVec;
-use escrow_units::{Cents, Day, Flow};
+use escrow_units::{Cents, ClosedDays, Day, Flow};
 use std::marker::Model;
 
-/// The settlement day, the needs and the lines of one case.
+/// The settlement day and the closed days, the needs and the lines of one case.
 ///
-/// Line 0 is opening cash, and the lines from 1 are securities. Contracts see a book as the record of its settlement
-/// day, its needs and its lines, which keeps every limit.
+/// Line 0 is opening cash, and the lines from 1 are securities. Contracts see a book as the record of its payment days, its
+/// needs and its lines, which keeps every limit.
 #[derive(Drop)]
 pub struct Book {
-    settle: Day,
+    days: PaymentDays,
     needs: Vec<Flow>,
     lines: Vec<Line>,
 }
@@ -29,19 +30,20 @@ impl Model for Book {
 
     ghost Value = { BookContents };
 
-    ghost view = { λ b. record { settle = b.settle; needs = b.needs.items; lines = b.lines.items } };
+    ghost view = { λ b. record { days = b.days; needs = b.needs.items; lines = b.lines.items } };
 
-    ghost invariant = { λ b. IsBook (record { settle = b.settle; needs = b.needs.items; lines = b.lines.items }) };
+    ghost invariant = { λ b. IsBook (record { days = b.days; needs = b.needs.items; lines = b.lines.items }) };
 }
 
 impl Book {
-    /// A book of these needs, in order of day, and lines, opening cash first. It takes no memory.
-    pub fn make(settle: Day, needs: Vec<Flow>, lines: Vec<Line>) -> Book
-        requires limits { IsBook (record { settle = settle; needs = needs.items; lines = lines.items }) }
-        ensures { result ≡ record { settle = settle; needs = needs.items; lines = lines.items } }
+    /// A book of these needs, in order of day, and lines, opening cash first, in a case with these closed days. It takes no
+    /// memory.
+    pub fn make(settle: Day, needs: Vec<Flow>, lines: Vec<Line>, closed: ClosedDays) -> Book
+        requires limits { IsBook (record { days = record { settle = settle; closed = closed }; needs = needs.items; lines = lines.items }) }
+        ensures { result ≡ record { days = record { settle = settle; closed = closed }; needs = needs.items; lines = lines.items } }
     {
         Book {
-            settle,
+            days: PaymentDays { settle, closed },
             needs,
             lines,
         }
@@ -49,9 +51,23 @@ impl Book {
 
     /// The settlement day.
     pub fn settle(&self) -> Day
-        ensures { result ≡ self.now.settle }
+        ensures { result ≡ self.now.days.settle }
     {
-        self.settle
+        self.days.settle
+    }
+
+    /// The days on which no receipt comes.
+    pub fn closed(&self) -> &ClosedDays
+        ensures { result.now ≡ self.now.days.closed }
+    {
+        &self.days.closed
+    }
+
+    /// The settlement day and the closed days.
+    pub fn payment_days(&self) -> &PaymentDays
+        ensures { result.now ≡ self.now.days }
+    {
+        &self.days
     }
 
     /// How many need dates there are: at most 480.
@@ -111,17 +127,17 @@ impl Book {
         self.lines[line as usize].cost(units)
     }
 
-    /// What units of a line pay, in order of date. The line is counted from 0, and the units are at most its `most`.
+    /// What units of a line pay, in order of date, on open days. The line is counted from 0, and the units are at most its `most`.
     ///
     /// 0 units pay 0 cents on each date. It takes no memory.
     pub fn line_payments(&self, line: u16, units: u64) -> ArrayVec<Flow, 84>
         requires line { line < length self.now.lines }
         requires units { (d : Line) → units ≤ (slice_index_or self.now.lines line d).most }
-        ensures value { (d : Line) → result.items ≡ line_payments_of self.now.settle (slice_index_or self.now.lines line d) units }
-        ensures within { FallWithinFortyYears self.now.settle result.items }
+        ensures value { (d : Line) → result.items ≡ line_payments_of self.now.days (slice_index_or self.now.lines line d) units }
+        ensures within { FallWithinFortyYears self.now.days.settle result.items }
         ensures bound { total result.items ≤ 2 * 10 ^ 13 }
     {
-        self.lines[line as usize].payments(self.settle, units)
+        self.lines[line as usize].payments(&self.days, units)
     }
 
     /// What one unit of a line costs and pays, scaled and rounded outward, as [`Line::coefficients`] says. The line is counted
@@ -129,9 +145,9 @@ impl Book {
     pub fn coefficients(&self, line: u16) -> Coefficients
         requires { line < length self.now.lines }
         ensures costs { (d : Line) → cost_coefficients (slice_index_or self.now.lines line d) ≡ record { low = result.cost_low; high = result.cost_high; slack = result.cost_slack } }
-        ensures pays { (d : Line) → result.pays.items ≡ pay_coefficients self.now.settle (slice_index_or self.now.lines line d) }
-        ensures enclosing { (d : Line) (units : ℕ) → EnclosesUnits self.now.settle (slice_index_or self.now.lines line d) units }
+        ensures pays { (d : Line) → result.pays.items ≡ pay_coefficients self.now.days (slice_index_or self.now.lines line d) }
+        ensures enclosing { (d : Line) (units : ℕ) → EnclosesUnits self.now.days (slice_index_or self.now.lines line d) units }
     {
-        self.lines[line as usize].coefficients(self.settle)
+        self.lines[line as usize].coefficients(&self.days)
     }
 }

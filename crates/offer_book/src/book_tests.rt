@@ -2,10 +2,11 @@
 
 ghost use Rattle.std.specs.Prelude.{◌≡◌, pos, IfOk};
 ghost use Rattle.escrow_units.specs.SlgsTerms.{IsSettlement};
+ghost use Rattle.escrow_units.specs.OpenDays.{no_closings};
 ghost use Rattle.offer_book.specs.Book.{IsCashLine, IsSecurityLine};
 
 use crate::{Book, Line, LineKind};
-use escrow_units::{AskedRate, Cents, Day, Flow, Rate};
+use escrow_units::{AskedRate, Cents, ClosedDays, Day, Flow, Rate};
 use slgs_rules::classify;
 use std::alloc::Global;
 use std::process::Abort;
@@ -26,7 +27,7 @@ fn opening_cash() -> Line
 // A security of 1,000 to 1,000,000 dollars in steps of 100.
 fn security_line(rt: &impl Abort, settle: Day, maturity: Day, rate: u32) -> Result<Line, Fail>
     requires { IsSettlement settle }
-    ensures { IfOk result (λ line. IsSecurityLine settle line) }
+    ensures { IfOk result (λ line. IsSecurityLine (record { settle = settle; closed = no_closings }) line) }
 {
     let asked = AskedRate::At(Rate(rate));
     let slgs = classify(settle, maturity, asked, None, Some(Rate(rate)))?;
@@ -51,7 +52,7 @@ fn sample(rt: &impl Abort, alloc: Global) -> Result<Book, Fail> {
     ]?;
     let note = security_line(rt, settle, Day::new(20_469), 4_000)?;
     let lines = vec![in alloc; opening_cash(), note]?;
-    Ok(Book::make(settle, needs, lines))
+    Ok(Book::make(settle, needs, lines, ClosedDays::none(alloc)))
 }
 
 // A payment by its day number and cents.

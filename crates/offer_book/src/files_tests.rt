@@ -256,3 +256,63 @@ fn at_most_256_lines_are_on_offer(rt: HostRuntime) -> Result<(), Fail> {
     }
     Ok(())
 }
+
+// An issue in which a day is closed, with the rest of its date.
+const CLOSED: &[u8] =
+    b"settle,2025-01-15\nneed,2025-07-15,102000.00\nrestricted,4.00\nclosed,2065-01-1";
+
+fn closed_on(alloc: Global, digit: u8) -> Result<Vec<u8>, Fail> {
+    let mut text = Vec::from_slice(alloc, CLOSED)?;
+    text.push(digit)?;
+    Ok(text)
+}
+
+// The closed day 2065-01-15 is the last of the 40 years, on which the first offer, the first note and the second note mature.
+// That such a note is refused comes before the number of lines.
+#[test]
+fn a_maturity_opens_by_the_end(rt: HostRuntime) -> Result<(), Fail> {
+    let offer = b"terms,1000,1000\noffer,2065-01-15,0.00,,2000\n";
+    let note = b"terms,1000,1000\nnote,2065-01-15,4.000,100,200000\n";
+    let later =
+        b"terms,1000,1000\nnote,2025-07-15,4.000,100,2000\nnote,2065-01-15,4.000,100,2000\n";
+    let many = repeated(rt.alloc(), b"offer,2025-04-15,0.00,,10000\n", 257)?;
+    let refused: [(&[u8], &[u8], FileKind, u32); 5] = [
+        (offer, b"", FileKind::Rates, 2),
+        (b"", note, FileKind::Prices, 2),
+        (b"", later, FileKind::Prices, 3),
+        (offer, note, FileKind::Rates, 2),
+        (many.as_slice(), note, FileKind::Prices, 2),
+    ];
+    let issue = closed_on(rt.alloc(), b'5')?;
+    for (rates, prices, file, row) in &refused {
+        let refusal = Refusal {
+            file: *file,
+            row: *row,
+            kind: RefusalKind::ClosedPastEnd,
+        };
+        let book = book_in(rt.alloc(), issue.as_slice(), rates, prices)?;
+        assert_eq!(rt; book.map(|_| ()), Err(CaseError::Refused(refusal)));
+    }
+    Ok(())
+}
+
+// Where 2065-01-14 is closed, what matures on it is paid on 2065-01-15.
+#[test]
+fn a_payment_comes_on_the_next_open_day(rt: HostRuntime) -> Result<(), Fail> {
+    let issue = closed_on(rt.alloc(), b'4')?;
+    let rates = b"terms,1000,1000\noffer,2065-01-14,0.00,,2000\n";
+    let book = book_in(rt.alloc(), issue.as_slice(), rates, b"")??;
+    assert_eq!(rt; book.closed().days().len(), 1);
+    let row = Row {
+        line: 1,
+        units: 1,
+        cost: 100_000,
+        count: 80,
+        last: Paid {
+            day: 34_713,
+            cents: 100_000,
+        },
+    };
+    try_row(&rt, &book, &row);
+    Ok(())
+}

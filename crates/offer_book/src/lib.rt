@@ -8,12 +8,14 @@ mod files;
 mod line;
 mod market;
 mod offers;
+mod payment_days;
 
 pub use book::Book;
 pub use coefficients::{COEFFICIENT_SCALE, Coefficients, PayCoefficients, coefficient_laws};
 pub use files::{book_laws, make_book};
 pub use line::{Line, LineKind};
 pub use offers::{offer_laws, slgs_lines};
+pub use payment_days::PaymentDays;
 
 #[cfg(test)]
 mod book_tests;

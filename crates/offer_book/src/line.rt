@@ -6,6 +6,7 @@ ghost use Rattle.market_notes.specs.NoteTerms.{IsNote};
 ghost use Rattle.offer_book.specs.Schedule.{cash_due};
 
 use crate::coefficients::{Coefficients, ScaledCost, cost_at_par, pays_of, scaled_note_cost};
+use crate::payment_days::PaymentDays;
 use arrayvec::ArrayVec;
 use escrow_units::{Accrual, Cents, Day, Flow, Rate, Slgs, Terms, earned, face_price};
 use market_notes::{Note, accrual, note_cost, note_schedule};
@@ -70,6 +71,7 @@ impl Line {
     ghost use Rattle.payment_schedule.specs.Schedule.{IsShort};
     ghost use Rattle.std.specs.Prelude.{All, ℕ, ℤ};
     ghost use Rattle.offer_book.specs.Book.{IsLine};
+    ghost use Rattle.offer_book.specs.declared.payment_days.PaymentDays.{PaymentDays as Days};
     ghost use Rattle.offer_book.specs.Coefficients.{EnclosesUnits, cost_coefficients, pay_coefficients};
     ghost use Rattle.offer_book.specs.Denominations.{line_of};
     ghost use Rattle.offer_book.specs.Schedule.{kind_accrued, kind_rate, schedule_of};
@@ -108,7 +110,7 @@ impl Line {
     ///
     /// The line is one of a book, and the units are at most its `most`.
     pub fn cost(&self, units: u64) -> Cents
-        requires line { (settle : ℤ) × IsLine settle self.now }
+        requires line { (days : Days) × IsLine days self.now }
         requires units { units ≤ self.now.most }
         ensures { result.0 ≡ line_cost self.now units }
     {
@@ -123,17 +125,17 @@ impl Line {
     /// What units of the line pay, in order of date, by its [`schedule`](Line::schedule): opening cash its amount on the
     /// settlement day, and a SLGS security and a marketable note their interest and their face.
     ///
-    /// Settlement is from 2000-01-01 to 2150-01-01, the line is one of a book with that settlement, and the units are at
+    /// Settlement is from 2000-01-01 to 2150-01-01, the line is one of a book with these days, and the units are at
     /// most its `most`. 0 units pay 0 cents on each date. It takes no memory.
-    pub fn payments(&self, settle: Day, units: u64) -> ArrayVec<Flow, 84>
-        requires settlement { IsSettlement settle }
-        requires line { IsLine settle self.now }
+    pub fn payments(&self, days: &PaymentDays, units: u64) -> ArrayVec<Flow, 84>
+        requires settlement { IsSettlement days.now.settle }
+        requires line { IsLine days.now self.now }
         requires units { units ≤ self.now.most }
-        ensures value { result.items ≡ line_payments settle self.now units }
-        ensures within { FallWithinFortyYears settle result.items }
+        ensures value { result.items ≡ line_payments days.now self.now units }
+        ensures within { FallWithinFortyYears days.now.settle result.items }
         ensures bound { total result.items ≤ 2 * 10 ^ 13 }
     {
-        let schedule = self.schedule(settle);
+        let schedule = self.schedule(days);
         scheduled_flows(schedule.as_slice(), self.rate(), self.par(units))
     }
 
@@ -151,25 +153,25 @@ impl Line {
     /// The payments of the line by their terms, in order of date: opening cash is there on the settlement day, and a SLGS
     /// security and a note pay by theirs. By them any number of units is paid, and no calendar has to be read again.
     ///
-    /// Settlement is from 2000-01-01 to 2150-01-01, and the line is one of a book with that settlement; then each payment bears
+    /// Settlement is from 2000-01-01 to 2150-01-01, and the line is one of a book with these days; then each payment bears
     /// interest for at most sixteen months. It takes no memory.
-    pub fn schedule(&self, settle: Day) -> ArrayVec<ScheduledPayment, 84>
-        requires settlement { IsSettlement settle }
-        requires line { IsLine settle self.now }
-        ensures value { result.items ≡ schedule_of settle self.now }
+    pub fn schedule(&self, days: &PaymentDays) -> ArrayVec<ScheduledPayment, 84>
+        requires settlement { IsSettlement days.now.settle }
+        requires line { IsLine days.now self.now }
+        ensures value { result.items ≡ schedule_of days.now self.now }
         ensures short { All (λ payment. IsShort payment.accrual) result.items }
     {
         match self.kind {
-            LineKind::Cash => cash_schedule(settle),
-            LineKind::Security(slgs) => slgs_interest::schedule(&slgs),
-            LineKind::Market(note) => note_schedule(&note),
+            LineKind::Cash => cash_schedule(days.settle),
+            LineKind::Security(slgs) => slgs_interest::schedule(&slgs, &days.closed),
+            LineKind::Market(note) => note_schedule(&note, &days.closed),
         }
     }
 
     /// The part of a year for which a buyer pays the interest that has accrued, which a note alone has: at most 184 days. The line
     /// is one of a book.
     pub fn accrued(&self) -> Accrual
-        requires { (settle : ℤ) × IsLine settle self.now }
+        requires { (days : Days) × IsLine days self.now }
         ensures value { result ≡ kind_accrued self.now.kind }
         ensures days { result.parts ≤ 184 }
     {
@@ -182,7 +184,7 @@ impl Line {
     /// What units of the line cost, in cents, as [`Line::cost`] says, by the line's [`accrued`](Line::accrued): it reads no
     /// calendar.
     pub fn cost_by(&self, accrued: Accrual, units: u64) -> Cents
-        requires line { (settle : ℤ) × IsLine settle self.now }
+        requires line { (days : Days) × IsLine days self.now }
         requires accrued { accrued ≡ kind_accrued self.now.kind }
         requires days { accrued.parts ≤ 184 }
         requires units { units ≤ self.now.most }
@@ -197,7 +199,7 @@ impl Line {
 
     // What one unit of the line costs, scaled and rounded outward.
     fn scaled_cost(&self) -> ScaledCost
-        requires { (settle : ℤ) × IsLine settle self.now }
+        requires { (days : Days) × IsLine days self.now }
         ensures { cost_coefficients self.now ≡ record { low = result.low; high = result.high; slack = result.slack } }
     {
         let step = Cents(self.step);
@@ -211,17 +213,17 @@ impl Line {
     ///
     /// For every number of units, `cost_low * units - cost_slack` to `cost_high * units + cost_slack` holds
     /// [`COEFFICIENT_SCALE`](crate::COEFFICIENT_SCALE) times what they cost, in cents, and so for each payment, in order of
-    /// date. Settlement is from 2000-01-01 to 2150-01-01, and the line is one of a book with that settlement. It takes no
+    /// date. Settlement is from 2000-01-01 to 2150-01-01, and the line is one of a book with these days. It takes no
     /// memory.
-    pub fn coefficients(&self, settle: Day) -> Coefficients
-        requires settlement { IsSettlement settle }
-        requires line { IsLine settle self.now }
+    pub fn coefficients(&self, days: &PaymentDays) -> Coefficients
+        requires settlement { IsSettlement days.now.settle }
+        requires line { IsLine days.now self.now }
         ensures costs { cost_coefficients self.now ≡ record { low = result.cost_low; high = result.cost_high; slack = result.cost_slack } }
-        ensures pays { result.pays.items ≡ pay_coefficients settle self.now }
-        ensures enclosing { (units : ℕ) → EnclosesUnits settle self.now units }
+        ensures pays { result.pays.items ≡ pay_coefficients days.now self.now }
+        ensures enclosing { (units : ℕ) → EnclosesUnits days.now self.now units }
     {
         let cost = self.scaled_cost();
-        let schedule = self.schedule(settle);
+        let schedule = self.schedule(days);
         Coefficients {
             cost_low: cost.low,
             cost_high: cost.high,

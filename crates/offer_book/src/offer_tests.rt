@@ -1,12 +1,14 @@
 //! Worked figures of offers.
 
-ghost use Rattle.std.specs.Prelude.{IfOk};
+ghost use Rattle.std.specs.Prelude.{◌≡◌, IfOk, pos};
+ghost use Rattle.escrow_units.specs.OpenDays.{no_closings};
 ghost use Rattle.rate_table.specs.Table.{IsRateFile};
 
 use crate::line::{Line, LineKind};
 use crate::offers::{offer_laws, slgs_lines};
+use crate::payment_days::PaymentDays;
 use escrow_desk::{CaseError, FileKind, Refusal, RefusalKind, read_rows};
-use escrow_units::{Day, Rate, Slgs, SlgsKind};
+use escrow_units::{ClosedDays, Day, Rate, Slgs, SlgsKind};
 use rate_table::{RateFile, read_rates};
 use std::alloc::Global;
 use std::test::Fail;
@@ -24,6 +26,16 @@ fn rates_of(alloc: Global, text: &[u8]) -> Result<RateFile, Fail>
     match read_rates(alloc, Day::new(20_103), &rows) {
         Ok(file) => Ok(file),
         Err(_) => Err(Fail::new("refused")),
+    }
+}
+
+// Settlement on 2025-01-15, without a closed day.
+fn open_days(alloc: Global) -> PaymentDays
+    ensures { result ≡ record { settle = pos 20_103; closed = no_closings } }
+{
+    PaymentDays {
+        settle: Day::new(20_103),
+        closed: ClosedDays::none(alloc),
     }
 }
 
@@ -61,6 +73,7 @@ fn the_first_faulty_offer_is_refused(rt: HostRuntime) -> Result<(), Fail> {
             RefusalKind::TooShort,
         ),
     ];
+    let days = open_days(rt.alloc());
     for (text, row, kind) in &faults {
         let rates = rates_of(rt.alloc(), text)?;
         let refusal = Refusal {
@@ -68,7 +81,7 @@ fn the_first_faulty_offer_is_refused(rt: HostRuntime) -> Result<(), Fail> {
             row: *row,
             kind: *kind,
         };
-        let lines = slgs_lines(rt.alloc(), Day::new(20_103), &rates);
+        let lines = slgs_lines(rt.alloc(), &days, &rates);
         assert_eq!(rt;
             lines.map(|_| ()),
             Err(CaseError::Refused(refusal)),
@@ -101,7 +114,7 @@ fn offers_become_lines_in_their_order(rt: HostRuntime) -> Result<(), Fail> {
         b"terms,1000,100\noffer,2025-04-15,0.00,,10000\noffer,2040-01-15,0.00,,10099\n\
         rate,2025-01-15,2030-01-15,4.00\noffer,2027-01-15,max,2026-01-15,1000",
     )?;
-    let lines = slgs_lines(rt.alloc(), Day::new(20_103), &rates)?;
+    let lines = slgs_lines(rt.alloc(), &open_days(rt.alloc()), &rates)?;
     let expected = [
         line_of(
             Day::new(20_193),
@@ -132,7 +145,7 @@ fn offers_become_lines_in_their_order(rt: HostRuntime) -> Result<(), Fail> {
 #[test]
 fn no_rows_have_no_lines(rt: HostRuntime) -> Result<(), Fail> {
     let rates = rates_of(rt.alloc(), b"")?;
-    let lines = slgs_lines(rt.alloc(), Day::new(20_103), &rates)?;
+    let lines = slgs_lines(rt.alloc(), &open_days(rt.alloc()), &rates)?;
     assert_eq!(rt; lines.len(), 0);
     offer_laws();
     Ok(())

@@ -1,6 +1,5 @@
-use Rattle.std.proofs.Common.{◌≡◌, map, take}
-use Rattle.offer_book.specs.MarketLines.{note_line}
+use Rattle.offer_book.proofs.MarketFacts.{IsSoldUpTo}
 use Rattle.offer_book.proofs.market.note_lines.Given as goal
 
-abbrev pub invariant-loop-note : goal.invariant-loop-note
-invariant-loop-note l = l.lines.items ≡ map (note_line l.terms) (take l.note-index l.note-items)
+abbrev pub invariant-loop-place : goal.invariant-loop-place
+invariant-loop-place l = IsSoldUpTo l.fn.days l.terms l.fn.file.notes l.place l.lines.items
