@@ -20,6 +20,7 @@ use Rattle.escrow_check.proofs.PurchaseFacts.{none-found, one-plan, plan-buys, r
 use Rattle.escrow_check.specs.Acceptance.{plan_of}
 use Rattle.escrow_check.specs.Meaning.{Bought, IsOffered}
 use Rattle.branch_search.specs.Purchases.{purchases_from, purchases_of}
+use Rattle.offer_book.specs.declared.payment_days.PaymentDays.{PaymentDays}
 
 -- a purchase is of a plan whose first line has a number
 pub record IsOfPlan (line : ℕ) (plan : List ℕ) (buy : Buy) : Type 0 where
@@ -158,18 +159,18 @@ plan-again book plan permitted =
     one-plan book (purchases_of plan) (plan_of book (purchases_of plan)) plan (plan-buys book (purchases_of plan) rises none) (plan-bought book plan permitted)
 
 -- ---- their sizes
-pub most-small : (settle : ℤ) (line : Line) → IsLine settle line → line.most ≤ 10 ^ 13
-most-small settle line (inl cash) = omega (arith, cash.most)
-most-small settle line (inr security) = omega (arith, mul-le-mul_left line.most security.step_at_least, security.cap)
+pub most-small : (days : PaymentDays) (line : Line) → IsLine days line → line.most ≤ 10 ^ 13
+most-small days line (inl cash) = omega (arith, cash.most)
+most-small days line (inr security) = omega (arith, mul-le-mul_left line.most security.step_at_least, security.cap)
 
-lines-few : (settle : ℤ) (lines : List Line) → AreLines settle lines → length lines ≤ 257
-lines-few settle [] are = absurd are
-lines-few settle (cash ∷ securities) are = omega (arith, are.2)
+lines-few : (days : PaymentDays) (lines : List Line) → AreLines days lines → length lines ≤ 257
+lines-few days [] are = absurd are
+lines-few days (cash ∷ securities) are = omega (arith, are.2)
 
 -- purchases of a permitted plan of a book are those of a certificate
 pub plan-buys_well : (book : BookContents) (plan : List ℕ) → IsBook book → IsPermitted book plan → AreBuys (purchases_of plan)
 plan-buys_well book plan limits permitted =
-    let few = lines-few book.settle book.lines limits.lines in
+    let few = lines-few book.days book.lines limits.lines in
     record {
       few = omega (arith, purchases-few 0 plan, permitted.same_length, few);
       range = All-weaker (IsOfPlan 0 plan) IsBuy (range few) (purchases_of plan) (all-of_plan 0 plan);
@@ -180,6 +181,6 @@ plan-buys_well book plan limits permitted =
     range few buy is =
         let within : buy.line < length book.lines = omega (arith, is.within, permitted.same_length) in
         let line : Line = get_or book.lines buy.line (cash_line 0) in
-        let small = most-small book.settle line (All-get_or (IsLine book.settle) book.lines buy.line (cash_line 0) within (all-lines book.settle book.lines limits.lines)) in
+        let small = most-small book.days line (All-get_or (IsLine book.days) book.lines buy.line (cash_line 0) within (all-lines book.days book.lines limits.lines)) in
         let units = permitted_few line (get_or plan buy.line 0) (permitted-at book plan buy.line permitted within) in
         (omega (arith, within, few), omega (arith, is.some), omega (arith, units-at plan buy is, units, small))

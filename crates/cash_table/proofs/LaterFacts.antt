@@ -1,5 +1,5 @@
 -- Where securities are bought, one pays above 0 at an index of 1 or more.
-use Rattle.std.proofs.Common.{◌≡◌, ◌∙◌, ◌⊎◌, ℕ, zero, suc, ◌+◌, ◌<◌, ◌≤◌, refl, sym, ap, subst, arith, ℤ, pos, ◌+ℤ◌, ◌≤ℤ◌, inl, inr, List, [], ◌∷◌, ◌++◌, map, if◌then◌else◌}
+use Rattle.std.proofs.Common.{◌≡◌, ◌∙◌, ◌⊎◌, ℕ, zero, suc, ◌+◌, ◌<◌, ◌≤◌, ◌<ℤ◌, refl, sym, ap, subst, arith, ℤ, pos, ◌+ℤ◌, ◌≤ℤ◌, inl, inr, List, [], ◌∷◌, ◌++◌, map, if◌then◌else◌}
 use Rattle.std.specs.Ordering.{int_eq}
 use Rattle.std.specs.List.{All, Any, flat_map, zip}
 use Rattle.std.proofs.lemmas.Bool.{cases_lt}
@@ -15,7 +15,11 @@ use Rattle.escrow_units.specs.PresentValue.{IndexedFlow}
 use Rattle.escrow_units.specs.SlgsTerms.{IsSettlement}
 use Rattle.escrow_units.specs.declared.security.Flow.{Flow}
 use Rattle.escrow_units.proofs.FlowFacts.{choice-true}
+use Rattle.escrow_units.proofs.DayFacts.{thirty_day_place_of-mono}
 use Rattle.escrow_units.proofs.IndexFacts.{thirty_day_place_of-apart}
+use Rattle.escrow_units.proofs.OpenDayFacts.{open_day-least}
+use Rattle.escrow_units.specs.OpenDays.{open_day}
+use Rattle.std.proofs.lemmas.Bool.Decides.{Decides-int_eq}
 use Rattle.escrow_units.proofs.YearFacts.{settlement-base}
 use Rattle.fixed_powers.specs.PresentValues.{HasLaterAmount}
 use Rattle.day_sums.specs.Summed.{cents_on, summed}
@@ -25,13 +29,13 @@ use Rattle.day_sums.proofs.Uniqueness.{here, here-same}
 use Rattle.market_notes.specs.NoteFlows.{payment_dates}
 use Rattle.market_notes.specs.declared.note.Note.{Note}
 use Rattle.market_notes.proofs.AmountFacts.{dates-counted}
-use Rattle.market_notes.proofs.FlowFacts.{note_flows, paid_on, payments-by_date, payments-end}
+use Rattle.market_notes.proofs.FlowFacts.{note_flows, paid_on, payments-last}
 use Rattle.market_notes.proofs.SeriesFacts.{term}
 use Rattle.slgs_interest.proofs.PaymentFacts.{slgs_flows}
 use Rattle.offer_book.specs.declared.line.LineKind.{LineKind}
 use Rattle.offer_book.specs.declared.line.LineKind.TheVariants.{Cash, Market, Security}
 use Rattle.offer_book.specs.declared.line.Line.{Line}
-use Rattle.offer_book.specs.Book.{AreLines, BookContents, IsBook, IsSecurity, IsSecurityLine}
+use Rattle.offer_book.specs.Book.{AreLines, BookContents, EndsInTime, IsBook, IsSecurity, IsSecurityLine, OpensInTime}
 use Rattle.offer_book.specs.Portfolio.{par, security_flows}
 use Rattle.offer_book.proofs.LineFacts.{is_paid, kind_flows, line_payments-none, line_payments-par, line_payments-within, par-some, slgs_flows-late}
 use Rattle.cash_table.specs.LaterFlows.{HaveLaterAmount}
@@ -39,6 +43,7 @@ use Rattle.cash_table.proofs.BalanceLaws.{any_here, any_later, eq_test, some_on}
 use Rattle.cash_table.proofs.PaymentFacts.{pair_payments, total-payments}
 use Rattle.cash_table.proofs.PortfolioLaws.{empty_from_nothing}
 use Rattle.cash_table.proofs.ZipFacts.{sum_by-zero}
+use Rattle.offer_book.specs.declared.payment_days.PaymentDays.{PaymentDays}
 
 -- an amount above 0 at an index of 1 or more
 abbrev IsLaterAmount : ℤ → Flow → Type 0
@@ -75,60 +80,63 @@ some_above settle (flow ∷ flows) h late within some = elim (cases_lt 0 flow.ce
       (omega (arith, some, none, sum_by-cons (λ (f : Flow). f.cents.0) flow flows)))
 ]
 
--- a note pays its face at maturity
-note_parts : (note : Note) (face : ℕ) → All (λ flow. flow.cents.0 ≡ earned_of face note.coupon.0 1 2 + (if int_eq flow.day note.maturity then face else 0)) (note_flows note face)
-note_parts note face =
-    All-same (λ (flow : Flow). flow.cents.0 ≡ earned_of face note.coupon.0 1 2 + (if int_eq flow.day note.maturity then face else 0)) (note_flows note face) (map (paid_on note face) (payment_dates note)) (payments-by_date note face)
-    (All-map (λ (flow : Flow). flow.cents.0 ≡ earned_of face note.coupon.0 1 2 + (if int_eq flow.day note.maturity then face else 0)) (paid_on note face) (payment_dates note) (λ k d lt. refl))
+-- a day that isn't earlier has no less an index
+index_more : (settle day opens : ℤ) → IsSettlement settle → settle ≤ℤ day → 1 ≤ index360_of settle day → day ≤ℤ opens → opens ≤ℤ years_after_of settle 40 → 1 ≤ index360_of settle opens
+index_more settle day opens h from index later within =
+    let base = settlement-base settle day h from (omega (arith, ints, later, within)) in
+    let opens_base = settlement-base settle opens h (omega (arith, ints, from, later)) within in
+    let is_day : IsDayNumber day = (omega (arith, ints, base.0), omega (arith, ints, base.1)) in
+    let is_opens : IsDayNumber opens = (omega (arith, ints, opens_base.0), omega (arith, ints, opens_base.1)) in
+    omega (arith, index, thirty_day_place_of-mono day opens is_day is_opens later)
 
-last_of : (P : Flow → Type 0) (before : List Flow) (last : Flow) → All P (before ++ last ∷ []) → P last
-last_of P [] last all = All-head P last [] all
-last_of P (flow ∷ before) last all = last_of P before last (All-tail P flow (before ++ last ∷ []) all)
-
-note_later : (settle : ℤ) (note : Note) (face : ℕ) → IsSecurity settle (Market note) → 1 ≤ face → Any (IsLaterAmount settle) (note_flows note face)
-note_later settle note face security some =
+-- a note pays its face on the open day of its maturity
+note_later : (days : PaymentDays) (note : Note) (face : ℕ) → IsSettlement days.settle → IsSecurity days (Market note) → OpensInTime days note.maturity → 1 ≤ face → Any (IsLaterAmount days.settle) (note_flows note days.closed face)
+note_later days note face h security ends some =
     let dates = dates-counted note security.1 in
-    let «end» = payments-end note face dates.count (term note security.1) dates.has in
-    let parts = last_of (λ flow. flow.cents.0 ≡ earned_of face note.coupon.0 1 2 + (if int_eq flow.day note.maturity then face else 0)) «end».before «end».last (rw «end».order at (note_parts note face)) in
-    let principal = choice-true (int_eq «end».last.day note.maturity) face 0 (eq_test «end».last.day note.maturity «end».falls) in
-    let index : 1 ≤ index360_of settle «end».last.day = rw («end».falls, ← security.0) security.1.index in
-    rw «end».order (any_back (IsLaterAmount settle) «end».before («end».last ∷ []) (any_here (IsLaterAmount settle) «end».last [] (omega (arith, parts, principal, some), index)))
+    let «end» = payments-last note days.closed face dates.count (term note security.1) dates.has in
+    let last = paid_on note days.closed face note.maturity in
+    let principal = choice-true (int_eq note.maturity note.maturity) face 0 ((Decides-int_eq note.maturity note.maturity).1 refl) in
+    let index : 1 ≤ index360_of days.settle note.maturity = subst (λ day. 1 ≤ index360_of day note.maturity) security.0 security.1.index in
+    let opens = (open_day-least days.closed note.maturity).from in
+    let from : days.settle <ℤ note.maturity = rw security.0 at security.1.after in
+    let more = index_more days.settle note.maturity (open_day days.closed note.maturity) h (omega (arith, ints, from)) index opens ends in
+    rw «end».order (any_back (IsLaterAmount days.settle) «end».before (last ∷ []) (any_here (IsLaterAmount days.settle) last [] (omega (arith, principal, some), more)))
 
 -- a bought security pays later
-line_later : (settle : ℤ) (line : Line) (units : ℕ) → IsSettlement settle → IsSecurityLine settle line → 1 ≤ units → Any (IsLaterAmount settle) (pair_payments settle (line, units))
-line_later settle line units h security some =
+line_later : (days : PaymentDays) (line : Line) (units : ℕ) → IsSettlement days.settle → IsSecurityLine days line → 1 ≤ units → Any (IsLaterAmount days.settle) (pair_payments days (line, units))
+line_later days line units h security some =
     of_kind line.kind refl
   where
-    of_kind : (kind : LineKind) → line.kind ≡ kind → Any (IsLaterAmount settle) (pair_payments settle (line, units))
-    of_kind Cash is = absurd (subst (IsSecurity settle) is security.security)
+    of_kind : (kind : LineKind) → line.kind ≡ kind → Any (IsLaterAmount days.settle) (pair_payments days (line, units))
+    of_kind Cash is = absurd (subst (IsSecurity days) is security.security)
     of_kind (Security slgs) is =
-        let own = subst (IsSecurity settle) is security.security in
-        let pays : pair_payments settle (line, units) ≡ slgs_flows slgs (par line units) = ap (λ (kind : LineKind). kind_flows settle kind (par line units)) is in
-        let late : All (λ flow. (settle +ℤ pos 15) ≤ℤ flow.day) (slgs_flows slgs (par line units)) =
-        All-weaker (λ (flow : Flow). (slgs.settle +ℤ pos 15) ≤ℤ flow.day) (λ flow. (settle +ℤ pos 15) ≤ℤ flow.day) (λ flow far. omega (arith, ints, far, own.0)) (slgs_flows slgs (par line units)) (slgs_flows-late slgs (par line units) (is_paid settle slgs h own)) in
-        some_above settle (pair_payments settle (line, units)) h (rw pays late) (line_payments-within settle line units h (inr security))
-        (omega (arith, line_payments-par settle line units h security, par-some settle line units security some))
+        let own = subst (IsSecurity days) is security.security in
+        let pays : pair_payments days (line, units) ≡ slgs_flows slgs days.closed (par line units) = ap (λ (kind : LineKind). kind_flows days kind (par line units)) is in
+        let late : All (λ flow. (days.settle +ℤ pos 15) ≤ℤ flow.day) (slgs_flows slgs days.closed (par line units)) =
+        All-weaker (λ (flow : Flow). (slgs.settle +ℤ pos 15) ≤ℤ flow.day) (λ flow. (days.settle +ℤ pos 15) ≤ℤ flow.day) (λ flow far. omega (arith, ints, far, own.0)) (slgs_flows slgs days.closed (par line units)) (slgs_flows-late slgs days.closed (par line units) (is_paid days slgs h own)) in
+        some_above days.settle (pair_payments days (line, units)) h (rw pays late) (line_payments-within days line units h (inr security))
+        (omega (arith, line_payments-par days line units h security, par-some days line units security some))
     of_kind (Market note) is =
-        let own = subst (IsSecurity settle) is security.security in
-        let pays : pair_payments settle (line, units) ≡ note_flows note (par line units) = ap (λ (kind : LineKind). kind_flows settle kind (par line units)) is in
-        rw pays (note_later settle note (par line units) own (omega (arith, par-some settle line units security some)))
+        let own = subst (IsSecurity days) is security.security in
+        let pays : pair_payments days (line, units) ≡ note_flows note days.closed (par line units) = ap (λ (kind : LineKind). kind_flows days kind (par line units)) is in
+        rw pays (note_later days note (par line units) h own (subst (EndsInTime days) is security.ends) (omega (arith, par-some days line units security some)))
 
 abbrev AreNone : List Flow → Type 0
 AreNone flows = All (λ flow. flow.cents.0 ≡ 0) flows
 
 -- nothing is paid, or something later
-lines_later : (settle : ℤ) (lines : List Line) (plan : List ℕ) → IsSettlement settle → All (IsSecurityLine settle) lines
-    → AreNone (flat_map (pair_payments settle) (zip lines plan)) ⊎ Any (IsLaterAmount settle) (flat_map (pair_payments settle) (zip lines plan))
-lines_later settle [] plan h securities = inl (All-nil (λ (flow : Flow). flow.cents.0 ≡ 0))
-lines_later settle (line ∷ lines) [] h securities = inl (All-nil (λ (flow : Flow). flow.cents.0 ≡ 0))
-lines_later settle (line ∷ lines) (units ∷ plan) h securities =
-    let first = pair_payments settle (line, units) in
-    let others = flat_map (pair_payments settle) (zip lines plan) in
+lines_later : (days : PaymentDays) (lines : List Line) (plan : List ℕ) → IsSettlement days.settle → All (IsSecurityLine days) lines
+    → AreNone (flat_map (pair_payments days) (zip lines plan)) ⊎ Any (IsLaterAmount days.settle) (flat_map (pair_payments days) (zip lines plan))
+lines_later days [] plan h securities = inl (All-nil (λ (flow : Flow). flow.cents.0 ≡ 0))
+lines_later days (line ∷ lines) [] h securities = inl (All-nil (λ (flow : Flow). flow.cents.0 ≡ 0))
+lines_later days (line ∷ lines) (units ∷ plan) h securities =
+    let first = pair_payments days (line, units) in
+    let others = flat_map (pair_payments days) (zip lines plan) in
     elim (cases_lt 0 units) [
-      | inl some ↦ inr (any_front (IsLaterAmount settle) first others (line_later settle line units h (All-head (IsSecurityLine settle) line lines securities) some))
-      | inr none ↦ elim (lines_later settle lines plan h (All-tail (IsSecurityLine settle) line lines securities)) [
-        | inl nothing ↦ inl (All-append (λ (flow : Flow). flow.cents.0 ≡ 0) first others (line_payments-none settle line units (omega (arith, none))) nothing)
-        | inr later ↦ inr (any_back (IsLaterAmount settle) first others later)
+      | inl some ↦ inr (any_front (IsLaterAmount days.settle) first others (line_later days line units h (All-head (IsSecurityLine days) line lines securities) some))
+      | inr none ↦ elim (lines_later days lines plan h (All-tail (IsSecurityLine days) line lines securities)) [
+        | inl nothing ↦ inl (All-append (λ (flow : Flow). flow.cents.0 ≡ 0) first others (line_payments-none days line units (omega (arith, none))) nothing)
+        | inr later ↦ inr (any_back (IsLaterAmount days.settle) first others later)
       ]
     ]
 
@@ -158,15 +166,15 @@ sums_later settle flows (k, x, within, at, holds) =
     let summed_up : cents_on x.day (summed flows) ≡ cents_on x.day flows = count-summed (λ d. int_eq d x.day) flows in
     indexed_later settle x.day (summed flows) (above-summed flows) (some_on x.day (summed flows) (omega (arith, on, summed_up))) holds.1
 
-pub flows_later : (book : BookContents) (plan : List ℕ) → IsBook book → HaveLaterAmount book.settle (security_flows book plan)
+pub flows_later : (book : BookContents) (plan : List ℕ) → IsBook book → HaveLaterAmount book.days.settle (security_flows book plan)
 flows_later book plan limits = of_lines book.lines plan limits.lines refl
   where
-    of_lines : (lines : List Line) (plan : List ℕ) → AreLines book.settle lines → book.lines ≡ lines → HaveLaterAmount book.settle (security_flows book plan)
+    of_lines : (lines : List Line) (plan : List ℕ) → AreLines book.days lines → book.lines ≡ lines → HaveLaterAmount book.days.settle (security_flows book plan)
     of_lines [] plan are is = absurd are
     of_lines (cash ∷ securities) [] are is = inl (empty_from_nothing book [] (rw is refl))
-    of_lines (cash ∷ securities) (units ∷ plan) are is = elim (lines_later book.settle securities plan limits.settlement are.1) [
+    of_lines (cash ∷ securities) (units ∷ plan) are is = elim (lines_later book.days securities plan limits.settlement are.1) [
       | inl nothing ↦
           inl (empty_from_nothing book (units ∷ plan)
-          (rw is (omega (arith, total-payments book.settle (zip securities plan), sum_by-zero (λ (flow : Flow). flow.cents.0) (flat_map (pair_payments book.settle) (zip securities plan)) nothing))))
-      | inr later ↦ inr (rw is (sums_later book.settle (flat_map (pair_payments book.settle) (zip securities plan)) later))
+          (rw is (omega (arith, total-payments book.days (zip securities plan), sum_by-zero (λ (flow : Flow). flow.cents.0) (flat_map (pair_payments book.days) (zip securities plan)) nothing))))
+      | inr later ↦ inr (rw is (sums_later book.days.settle (flat_map (pair_payments book.days) (zip securities plan)) later))
     ]

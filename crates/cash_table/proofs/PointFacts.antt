@@ -35,10 +35,11 @@ use Rattle.cash_table.proofs.FlowFacts.{flows_within, securities_at_most}
 use Rattle.cash_table.proofs.LaterFacts.{flows_later}
 use Rattle.cash_table.proofs.PaymentFacts.{pair_payments}
 use Rattle.cash_table.proofs.ZipFacts.{sum_by-at_room, sum_by-zero}
+use Rattle.offer_book.specs.declared.payment_days.PaymentDays.{PaymentDays}
 
 -- what a line's payments are worth, as a function of its pair
-abbrev pub pair_value : Side → ℕ → ℤ → Line × ℕ → ℕ
-pair_value side n settle p = present_value side n (indexed settle (pair_payments settle p))
+abbrev pub pair_value : Side → ℕ → PaymentDays → Line × ℕ → ℕ
+pair_value side n days p = present_value side n (indexed days.settle (pair_payments days p))
 
 value_of : Side → ℕ → IndexedFlow → ℕ
 value_of side n flow = flow.cents * power_of side n flow.index
@@ -79,37 +80,37 @@ value-append side n settle front back =
     ∙ sum_by-append (value_of side n) (indexed settle front) (indexed settle back)
 
 -- and a portfolio's payments what those of its lines are
-pub value-payments : (side : Side) (n : ℕ) (settle : ℤ) (pairs : List (Line × ℕ)) → present_value side n (indexed settle (flat_map (pair_payments settle) pairs)) ≡ sum_by (pair_value side n settle) pairs
-value-payments side n settle [] = refl
-value-payments side n settle (pair ∷ pairs) =
+pub value-payments : (side : Side) (n : ℕ) (days : PaymentDays) (pairs : List (Line × ℕ)) → present_value side n (indexed days.settle (flat_map (pair_payments days) pairs)) ≡ sum_by (pair_value side n days) pairs
+value-payments side n days [] = refl
+value-payments side n days (pair ∷ pairs) =
     omega (
       arith,
-      value-append side n settle (pair_payments settle pair) (flat_map (pair_payments settle) pairs),
-      value-payments side n settle pairs,
-      sum_by-cons (pair_value side n settle) pair pairs,
+      value-append side n days.settle (pair_payments days pair) (flat_map (pair_payments days) pairs),
+      value-payments side n days pairs,
+      sum_by-cons (pair_value side n days) pair pairs,
     )
 
 -- a line without units is worth nothing
-pub value-none : (side : Side) (n : ℕ) (settle : ℤ) (line : Line) (units : ℕ) → units ≡ 0 → pair_value side n settle (line, units) ≡ 0
-value-none side n settle line units none =
-    value-weighted side n settle (pair_payments settle (line, units))
-    ∙ sum_by-zero (λ (flow : Flow). flow.cents.0 * power_of side n (index360_of settle flow.day)) (pair_payments settle (line, units))
-    (λ k d lt. rw (line_payments-none settle line units none k d lt) (omega arith))
+pub value-none : (side : Side) (n : ℕ) (days : PaymentDays) (line : Line) (units : ℕ) → units ≡ 0 → pair_value side n days (line, units) ≡ 0
+value-none side n days line units none =
+    value-weighted side n days.settle (pair_payments days (line, units))
+    ∙ sum_by-zero (λ (flow : Flow). flow.cents.0 * power_of side n (index360_of days.settle flow.day)) (pair_payments days (line, units))
+    (λ k d lt. rw (line_payments-none days line units none k d lt) (omega arith))
 
 -- the value of a permitted portfolio's securities
 pub value-securities : (side : Side) (n : ℕ) (book : BookContents) (plan : List ℕ)
-    → present_value side n (indexed book.settle (security_flows book plan)) ≡ sum_by (pair_value side n book.settle) (drop 1 (zip book.lines plan))
+    → present_value side n (indexed book.days.settle (security_flows book plan)) ≡ sum_by (pair_value side n book.days) (drop 1 (zip book.lines plan))
 value-securities side n book plan =
-    value-summed side n book.settle (flat_map (pair_payments book.settle) (drop 1 (zip book.lines plan))) ∙ value-payments side n book.settle (drop 1 (zip book.lines plan))
+    value-summed side n book.days.settle (flat_map (pair_payments book.days) (drop 1 (zip book.lines plan))) ∙ value-payments side n book.days (drop 1 (zip book.lines plan))
 
-pub value-at_most : (side : Side) (n : ℕ) (book : BookContents) (plan : List ℕ) → IsBook book → IsPermitted book plan → sum_by (pair_value side n book.settle) (drop 1 (zip book.lines plan)) ≤ one * (89 * 10 ^ 13)
+pub value-at_most : (side : Side) (n : ℕ) (book : BookContents) (plan : List ℕ) → IsBook book → IsPermitted book plan → sum_by (pair_value side n book.days) (drop 1 (zip book.lines plan)) ≤ one * (89 * 10 ^ 13)
 value-at_most side n book plan limits permitted =
-    let flows = flat_map (pair_payments book.settle) (drop 1 (zip book.lines plan)) in
+    let flows = flat_map (pair_payments book.days) (drop 1 (zip book.lines plan)) in
     omega (
       arith,
-      value-payments side n book.settle (drop 1 (zip book.lines plan)),
-      value-within side n (indexed book.settle flows),
-      total-indexed book.settle flows,
+      value-payments side n book.days (drop 1 (zip book.lines plan)),
+      value-within side n (indexed book.days.settle flows),
+      total-indexed book.days.settle flows,
       securities_at_most book plan limits permitted,
     )
 
@@ -143,7 +144,7 @@ excluded_tells book n plan limits =
 pub no_rival : ExcludedAreNoRivals
 no_rival limit book plan excluded rival = elim excluded [
   | inl short ↦ omega (arith, short.1, rival.covered short.0)
-  | inr dearer ↦ low_value-excludes (limit - 1) (indexed book.settle (security_flows book plan)) (security_cost book plan) dearer rival.yields
+  | inr dearer ↦ low_value-excludes (limit - 1) (indexed book.days.settle (security_flows book plan)) (security_cost book plan) dearer rival.yields
 ]
 
 -- indexes of flows within 40 years
@@ -169,10 +170,10 @@ nothing_beyond limit settle flows cost none outside =
 
 pub beyond_limit : BeyondLimitAreExcluded
 beyond_limit limit book plan limits some most outside = elim (flows_later book plan limits) [
-  | inl none ↦ absurd (nothing_beyond limit book.settle (security_flows book plan) (security_cost book plan) none outside)
+  | inl none ↦ absurd (nothing_beyond limit book.days.settle (security_flows book plan) (security_cost book plan) none outside)
   | inr later ↦
-      inr (dearer_below_limit limit (indexed book.settle (security_flows book plan)) (security_cost book plan)
-      (indexes_near book.settle (security_flows book plan) limits.settlement (flows_within book plan limits)) later some most outside).rounded
+      inr (dearer_below_limit limit (indexed book.days.settle (security_flows book plan)) (security_cost book plan)
+      (indexes_near book.days.settle (security_flows book plan) limits.settlement (flows_within book plan limits)) later some most outside).rounded
 ]
 
 pub beyond_no_rival : BeyondLimitAreNoRivals

@@ -18,6 +18,7 @@ use Rattle.cash_table.specs.Receipts.{cents_by}
 use Rattle.cash_table.specs.Reach.{AreAllShort, IsInReach, plan_of_most}
 use Rattle.cash_table.proofs.CostFacts.{PairIsPermitted, permitted_few}
 use Rattle.cash_table.proofs.PaymentFacts.{pair_payments}
+use Rattle.offer_book.specs.declared.payment_days.PaymentDays.{PaymentDays}
 
 -- choices, of which neither falls
 pub choice_more : (t : Bool) (a b c d : ℕ) → a ≤ c → b ≤ d → (if t then a else b) ≤ (if t then c else d)
@@ -34,31 +35,31 @@ total_by_more t f g (p ∷ ps) same more =
     omega (arith, sum_by-cons (cents_by t) (f p) (map f ps), sum_by-cons (cents_by t) (g p) (map g ps), here, total_by_more t f g ps same more)
 
 -- more units of a line pay no less by any day
-pub line_pays_more : (t settle : ℤ) (line : Line) (units more : ℕ) → units ≤ more → total_by t (line_payments settle line units) ≤ total_by t (line_payments settle line more)
-line_pays_more t settle line units more le =
-    total_by_more t (flow_by (kind_rate line.kind) (par line units)) (flow_by (kind_rate line.kind) (par line more)) (schedule_of settle line) (λ payment. refl)
+pub line_pays_more : (t : ℤ) (days : PaymentDays) (line : Line) (units more : ℕ) → units ≤ more → total_by t (line_payments days line units) ≤ total_by t (line_payments days line more)
+line_pays_more t days line units more le =
+    total_by_more t (flow_by (kind_rate line.kind) (par line units)) (flow_by (kind_rate line.kind) (par line more)) (schedule_of days line) (λ payment. refl)
     (λ payment. flow-more (kind_rate line.kind) (par line units) (par line more) payment (mul-le-mul_left line.step le))
 
 abbrev most_of : Line → ℕ
 most_of line = line.most
 
 -- no permitted portfolio pays more by any day than the most of every line
-most_pays : (t settle : ℤ) (lines : List Line) (plan : List ℕ) → length plan ≡ length lines → All PairIsPermitted (zip lines plan)
-    → total_by t (flat_map (pair_payments settle) (zip lines plan)) ≤ total_by t (flat_map (pair_payments settle) (zip lines (map most_of lines)))
-most_pays t settle [] plan same permitted = omega arith
-most_pays t settle (line ∷ lines) [] same permitted = absurd (omega (arith, same))
-most_pays t settle (line ∷ lines) (units ∷ plan) same permitted =
+most_pays : (t : ℤ) (days : PaymentDays) (lines : List Line) (plan : List ℕ) → length plan ≡ length lines → All PairIsPermitted (zip lines plan)
+    → total_by t (flat_map (pair_payments days) (zip lines plan)) ≤ total_by t (flat_map (pair_payments days) (zip lines (map most_of lines)))
+most_pays t days [] plan same permitted = omega arith
+most_pays t days (line ∷ lines) [] same permitted = absurd (omega (arith, same))
+most_pays t days (line ∷ lines) (units ∷ plan) same permitted =
     let few = permitted_few line units (All-head PairIsPermitted (line, units) (zip lines plan) permitted) in
     omega (
       arith,
-      sum_by-append (cents_by t) (pair_payments settle (line, units)) (flat_map (pair_payments settle) (zip lines plan)),
-      sum_by-append (cents_by t) (pair_payments settle (line, line.most)) (flat_map (pair_payments settle) (zip lines (map most_of lines))),
-      line_pays_more t settle line units line.most few,
-      most_pays t settle lines plan (omega (arith, same)) (All-tail PairIsPermitted (line, units) (zip lines plan) permitted),
+      sum_by-append (cents_by t) (pair_payments days (line, units)) (flat_map (pair_payments days) (zip lines plan)),
+      sum_by-append (cents_by t) (pair_payments days (line, line.most)) (flat_map (pair_payments days) (zip lines (map most_of lines))),
+      line_pays_more t days line units line.most few,
+      most_pays t days lines plan (omega (arith, same)) (All-tail PairIsPermitted (line, units) (zip lines plan) permitted),
     )
 
 pub most_pays_no_less : (book : BookContents) (plan : List ℕ) (t : ℤ) → IsPermitted book plan → total_by t (payments book plan) ≤ total_by t (payments book (plan_of_most book))
-most_pays_no_less book plan t permitted = most_pays t book.settle book.lines plan permitted.same_length permitted.units
+most_pays_no_less book plan t permitted = most_pays t book.days book.lines plan permitted.same_length permitted.units
 
 -- the most of a line is permitted
 cash_most : (line : Line) → IsCashLine line → IsPermittedUnits line line.most
@@ -68,21 +69,21 @@ cash_most line cash = at line.most refl
     at zero is = inl refl
     at (suc most) is = inr (omega (arith, cash.least), omega (arith, is))
 
-securities_most : (settle : ℤ) (lines : List Line) → All (IsSecurityLine settle) lines → All PairIsPermitted (zip lines (map most_of lines))
-securities_most settle [] securities = All-nil PairIsPermitted
-securities_most settle (line ∷ lines) securities =
-    All-cons PairIsPermitted (line, line.most) (zip lines (map most_of lines)) (inr ((All-head (IsSecurityLine settle) line lines securities).ordered, omega arith))
-    (securities_most settle lines (All-tail (IsSecurityLine settle) line lines securities))
+securities_most : (days : PaymentDays) (lines : List Line) → All (IsSecurityLine days) lines → All PairIsPermitted (zip lines (map most_of lines))
+securities_most days [] securities = All-nil PairIsPermitted
+securities_most days (line ∷ lines) securities =
+    All-cons PairIsPermitted (line, line.most) (zip lines (map most_of lines)) (inr ((All-head (IsSecurityLine days) line lines securities).ordered, omega arith))
+    (securities_most days lines (All-tail (IsSecurityLine days) line lines securities))
 
-lines_most : (settle : ℤ) (lines : List Line) → AreLines settle lines → All PairIsPermitted (zip lines (map most_of lines))
-lines_most settle [] lines = absurd lines
-lines_most settle (cash ∷ securities) lines =
-    All-cons PairIsPermitted (cash, cash.most) (zip securities (map most_of securities)) (cash_most cash lines.0) (securities_most settle securities lines.1)
+lines_most : (days : PaymentDays) (lines : List Line) → AreLines days lines → All PairIsPermitted (zip lines (map most_of lines))
+lines_most days [] lines = absurd lines
+lines_most days (cash ∷ securities) lines =
+    All-cons PairIsPermitted (cash, cash.most) (zip securities (map most_of securities)) (cash_most cash lines.0) (securities_most days securities lines.1)
 
 pub most_is_permitted : (book : BookContents) → IsBook book → IsPermitted book (plan_of_most book)
 most_is_permitted book limits = record {
   same_length = length-map book.lines most_of;
-  units = lines_most book.settle book.lines limits.lines;
+  units = lines_most book.days book.lines limits.lines;
 }
 
 -- so the case is in reach exactly where the most of every line meets the needs

@@ -16,6 +16,7 @@ use Rattle.offer_book.proofs.LineFacts.{line_payments-none}
 use Rattle.cash_table.specs.Receipts.{cents_by, AreReceipts}
 use Rattle.cash_table.proofs.PaymentFacts.{pair_payments, payments_more}
 use Rattle.cash_table.proofs.ZipFacts.{StandAt, sum_by-at_more, sum_by-zero}
+use Rattle.offer_book.specs.declared.payment_days.PaymentDays.{PaymentDays}
 
 pub lt_from_test : (a b : ℤ) → int_lt a b ≡ true → a <ℤ b
 lt_from_test a b h = grind (arith, ints)
@@ -81,16 +82,16 @@ cents_by-none t flow none = counted-zero (int_le flow.day t) flow.cents.0 none
 total_by-none : (t : ℤ) (flows : List Flow) → All (λ flow. flow.cents.0 ≡ 0) flows → total_by t flows ≡ 0
 total_by-none t flows none = sum_by-zero (cents_by t) flows (λ k d lt. cents_by-none t (get_or flows k d) (none k d lt))
 
-pub nothing_by : (t settle : ℤ) (line : Line) (units : ℕ) → units ≡ 0 → total_by t (pair_payments settle (line, units)) ≡ 0
-nothing_by t settle line units none = total_by-none t (pair_payments settle (line, units)) (line_payments-none settle line units none)
+pub nothing_by : (t : ℤ) (days : PaymentDays) (line : Line) (units : ℕ) → units ≡ 0 → total_by t (pair_payments days (line, units)) ≡ 0
+nothing_by t days line units none = total_by-none t (pair_payments days (line, units)) (line_payments-none days line units none)
 
 -- the payments of one line more
-pub receipts_more : (needs : List Flow) (settle : ℤ) (lines : List Line) (plan : List ℕ) (i : ℕ) (line : Line) (units : ℕ) (old new : List ℕ) → StandAt lines plan i line units
-    → AreReceipts needs (flat_map (pair_payments settle) (take i (zip lines plan))) old
-    → ((k : ℕ) (d : Flow) → k < length needs → sum (take (k + 1) new) ≡ sum (take (k + 1) old) + total_by (get_or needs k d).day (pair_payments settle (line, units)))
-    → AreReceipts needs (flat_map (pair_payments settle) (take (i + 1) (zip lines plan))) new
-receipts_more needs settle lines plan i line units old new at had added = λ k d within.
+pub receipts_more : (needs : List Flow) (days : PaymentDays) (lines : List Line) (plan : List ℕ) (i : ℕ) (line : Line) (units : ℕ) (old new : List ℕ) → StandAt lines plan i line units
+    → AreReceipts needs (flat_map (pair_payments days) (take i (zip lines plan))) old
+    → ((k : ℕ) (d : Flow) → k < length needs → sum (take (k + 1) new) ≡ sum (take (k + 1) old) + total_by (get_or needs k d).day (pair_payments days (line, units)))
+    → AreReceipts needs (flat_map (pair_payments days) (take (i + 1) (zip lines plan))) new
+receipts_more needs days lines plan i line units old new at had added = λ k d within.
     let t = (get_or needs k d).day in
-    let parts = ap (total_by t) (payments_more settle lines plan i line units at)
-    ∙ sum_by-append (cents_by t) (flat_map (pair_payments settle) (take i (zip lines plan))) (pair_payments settle (line, units)) in
+    let parts = ap (total_by t) (payments_more days lines plan i line units at)
+    ∙ sum_by-append (cents_by t) (flat_map (pair_payments days) (take i (zip lines plan))) (pair_payments days (line, units)) in
     omega (arith, parts, had k d within, added k d within)

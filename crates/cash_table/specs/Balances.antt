@@ -33,12 +33,12 @@ entries_of settle receipts needs = filter (is_listed settle) (map (entry_on rece
 
 -- the balances of a portfolio. Opening cash is received on the settlement day
 unfoldable pub balances_of : BookContents → List ℕ → List Balance
-balances_of book plan = entries_of book.settle (payments book plan) book.needs
+balances_of book plan = entries_of book.days.settle (payments book plan) book.needs
 
 -- the settlement day, a need date, or a day on which securities pay
 abbrev pub IsCashDay : BookContents → List ℕ → ℤ → Type 0
 IsCashDay book plan day =
-    (day ≡ book.settle) ⊎ Any (λ need. need.day ≡ day) book.needs ⊎ Any (λ flow. flow.day ≡ day) (security_flows book plan)
+    (day ≡ book.days.settle) ⊎ Any (λ need. need.day ≡ day) book.needs ⊎ Any (λ flow. flow.day ≡ day) (security_flows book plan)
 
 -- entries are those of the cash days, each once, in order, and with each balance the needs so far come to the receipts so far
 pub record AreBalances (book : BookContents) (plan : List ℕ) (entries : List Balance) : Type 0 where

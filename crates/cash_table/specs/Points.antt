@@ -19,7 +19,7 @@ IsShort book plan = (t : ℤ) × (total_by t (payments book plan) < total_by t b
 
 -- what the securities are worth at the yield n, rounded down, in units of 2^-62 of a cent
 abbrev pub low_value : BookContents → ℕ → List ℕ → ℕ
-low_value book n plan = present_value Low n (indexed book.settle (security_flows book plan))
+low_value book n plan = present_value Low n (indexed book.days.settle (security_flows book plan))
 
 -- at the yield n a portfolio is excluded: it is short on a day, or its securities are worth more than they cost
 abbrev pub IsExcluded : BookContents → ℕ → List ℕ → Type 0
@@ -31,7 +31,7 @@ is_excluded book n plan = is_some (first_short_of book plan) || nat_lt (one * se
 
 -- the yield of a portfolio's securities, as an interval
 abbrev pub plan_yield : BookContents → List ℕ → YieldAnswer
-plan_yield book plan = yield_answer_of (indexed book.settle (security_flows book plan)) (security_cost book plan)
+plan_yield book plan = yield_answer_of (indexed book.days.settle (security_flows book plan)) (security_cost book plan)
 
 -- a portfolio's yield is within a limit
 abbrev pub is_within_limit : ℕ → BookContents → List ℕ → Bool

@@ -14,7 +14,7 @@ ghost use Rattle.cash_table.specs.Receipts.{AreReceipts, IsCovered, IsFirstUncov
 
 use crate::plan::Plan;
 use escrow_units::{Day, Flow, MOST_NEED_DATES};
-use offer_book::{Book, Line};
+use offer_book::{Book, Line, PaymentDays};
 
 /// The first day on which a permitted portfolio doesn't meet the needs; None exactly where it meets them.
 ///
@@ -41,7 +41,7 @@ pub(crate) fn first_short_of_units(book: &Book, units: &[u64]) -> Option<Day>
     add_bought(
         &mut receipts,
         book.needs(),
-        book.settle(),
+        book.payment_days(),
         book.lines(),
         units,
     );
@@ -61,7 +61,7 @@ pub fn receipts(book: &Book, plan: &Plan) -> [u64; MOST_NEED_DATES]
     add_bought(
         &mut receipts,
         book.needs(),
-        book.settle(),
+        book.payment_days(),
         book.lines(),
         plan.units(),
     );
@@ -75,7 +75,7 @@ pub fn receipts(book: &Book, plan: &Plan) -> [u64; MOST_NEED_DATES]
 pub fn line_receipts(book: &Book, line: u16, units: u64) -> [u64; MOST_NEED_DATES]
     requires line { line < length book.now.lines }
     requires units { (d : Line) → units ≤ (slice_index_or book.now.lines line d).most }
-    ensures receipts { (d : Line) → AreReceipts book.now.needs (line_payments book.now.settle (slice_index_or book.now.lines line d) units) result }
+    ensures receipts { (d : Line) → AreReceipts book.now.needs (line_payments book.now.days (slice_index_or book.now.lines line d) units) result }
     ensures bound { sum result ≤ 2 * 10 ^ 13 }
 {
     let mut receipts = [0; MOST_NEED_DATES];
@@ -89,20 +89,26 @@ pub fn line_receipts(book: &Book, line: u16, units: u64) -> [u64; MOST_NEED_DATE
 
 // Adds what the bought lines pay, each payment at the first need date on or after its day. A line without units pays
 // nothing, so its dates aren't looked for.
-fn add_bought(receipts: &mut [u64], needs: &[Flow], settle: Day, lines: &[Line], plan: &[u64])
+fn add_bought(
+    receipts: &mut [u64],
+    needs: &[Flow],
+    days: &PaymentDays,
+    lines: &[Line],
+    plan: &[u64],
+)
     requires places { length needs.now ≤ length receipts.old }
     requires rising { Rise needs.now }
     requires zero { sum receipts.old ≡ 0 }
-    requires settlement { IsSettlement settle }
-    requires lines { All (λ line. IsLine settle line) lines.now }
+    requires settlement { IsSettlement days.now.settle }
+    requires lines { All (λ line. IsLine days.now line) lines.now }
     requires permitted { All (λ p. IsPermittedUnits p.0 p.1) (zip lines.now plan.now) }
-    requires room { total (flat_map (λ p. line_payments settle p.0 p.1) (zip lines.now plan.now)) < 2 ^ 64 }
-    ensures receipts { AreReceipts needs.now (flat_map (λ p. line_payments settle p.0 p.1) (zip lines.now plan.now)) receipts.new }
+    requires room { total (flat_map (λ p. line_payments days.now p.0 p.1) (zip lines.now plan.now)) < 2 ^ 64 }
+    ensures receipts { AreReceipts needs.now (flat_map (λ p. line_payments days.now p.0 p.1) (zip lines.now plan.now)) receipts.new }
     ensures bound { sum receipts.new < 2 ^ 64 }
 {
     for (line, units) in lines.iter().zip(plan) {
         if *units > 0 {
-            add_receipts(receipts, needs, line.payments(settle, *units).as_slice());
+            add_receipts(receipts, needs, line.payments(days, *units).as_slice());
         }
     }
 }

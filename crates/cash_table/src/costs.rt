@@ -2,6 +2,7 @@
 
 ghost use Rattle.std.specs.Prelude.{◌≡◌, ◌^◌, ◌<◌, ◌≤◌, length, ◌*◌, ℤ};
 ghost use Rattle.std.specs.List.{All, sum_by, zip};
+ghost use Rattle.offer_book.specs.declared.payment_days.PaymentDays.{PaymentDays};
 ghost use Rattle.offer_book.specs.Book.{IsLine};
 ghost use Rattle.offer_book.specs.Portfolio.{IsPermitted, IsPermittedUnits, line_cost, cost as cost_of, security_cost as security_cost_of};
 
@@ -28,7 +29,7 @@ pub fn security_cost(book: &Book, plan: &Plan) -> Cents
 
 // What units of lines cost, one number of units a line.
 fn lines_cost(lines: &[Line], plan: &[u64]) -> u64
-    requires lines { (settle : ℤ) × All (λ line. IsLine settle line) lines.now }
+    requires lines { (days : PaymentDays) × All (λ line. IsLine days line) lines.now }
     requires permitted { All (λ p. IsPermittedUnits p.0 p.1) (zip lines.now plan.now) }
     requires room { sum_by (λ p. line_cost p.0 p.1) (zip lines.now plan.now) < 2 ^ 64 }
     ensures { result ≡ sum_by (λ p. line_cost p.0 p.1) (zip lines.now plan.now) }

@@ -46,7 +46,7 @@ pub fn balances(alloc: Global, book: &Book, plan: &Plan) -> Result<Vec<Balance>,
     let settle = book.settle();
     let last = years_after(settle, 40);
     let mut receipts = DaySums::between(alloc, settle, last)?;
-    add_bought(&mut receipts, settle, lines, plan.units());
+    add_bought(&mut receipts, book.payment_days(), lines, plan.units());
     let mut needs = DaySums::between(alloc, settle, last)?;
     needs.add(book.needs());
     entries(alloc, settle, &receipts, &needs)

@@ -27,7 +27,7 @@ pub fn zero_yield()
         → IsBook book
         → AreWithoutInterest book.lines
         → IsPermitted book plan
-        → YieldLiesIn (indexed book.settle (security_flows book plan)) (security_cost book plan) 0 0 }
+        → YieldLiesIn (indexed book.days.settle (security_flows book plan)) (security_cost book plan) 0 0 }
 {}
 
 /// A law: without interest the security flows of a permitted portfolio come to its security cost.
@@ -44,10 +44,10 @@ pub fn zero_interest_total()
 pub fn flow_days()
     ensures within { (book : BookContents) (plan : List ℕ)
         → IsBook book
-        → FallWithinFortyYears book.settle (security_flows book plan) }
+        → FallWithinFortyYears book.days.settle (security_flows book plan) }
     ensures later { (book : BookContents) (plan : List ℕ)
         → IsBook book
-        → HaveLaterAmount book.settle (security_flows book plan) }
+        → HaveLaterAmount book.days.settle (security_flows book plan) }
 {}
 
 /// A law: a permitted portfolio costs at most 910 billion dollars, and its securities pay at most 8,900 billion. So what they

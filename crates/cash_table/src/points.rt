@@ -16,7 +16,7 @@ use crate::costs::security_cost;
 use crate::plan::Plan;
 use escrow_units::{Day, Flow, GREATEST_INDEX, index360};
 use fixed_powers::{ONE, Powers};
-use offer_book::{Book, Line};
+use offer_book::{Book, Line, PaymentDays};
 
 /// Whether a permitted portfolio is short on a day, or its securities are worth more than they cost at the yield of the
 /// powers, rounded down.
@@ -42,24 +42,24 @@ fn is_dearer(book: &Book, powers: &Powers, plan: &Plan) -> bool
     ensures { result ≡ nat_lt (one * security_cost_of book.now plan.now) (low_value book.now powers.now.yield_units plan.now) }
 {
     let lines = book.lines();
-    let worth = lines_value(powers, book.settle(), &lines[1..], &plan.units()[1..]);
+    let worth = lines_value(powers, book.payment_days(), &lines[1..], &plan.units()[1..]);
     ONE as u128 * (security_cost(book, plan).0 as u128) < worth
 }
 
 // What the payments of the bought lines are worth, in units of 2^-62 of a cent. A line without units pays nothing, so its
 // dates aren't looked for.
-fn lines_value(powers: &Powers, settle: Day, lines: &[Line], plan: &[u64]) -> u128
+fn lines_value(powers: &Powers, days: &PaymentDays, lines: &[Line], plan: &[u64]) -> u128
     requires longest { GREATEST_INDEX ≤ powers.now.longest }
-    requires settlement { IsSettlement settle }
-    requires lines { All (λ line. IsLine settle line) lines.now }
+    requires settlement { IsSettlement days.now.settle }
+    requires lines { All (λ line. IsLine days.now line) lines.now }
     requires permitted { All (λ p. IsPermittedUnits p.0 p.1) (zip lines.now plan.now) }
-    requires room { sum_by (λ p. present_value powers.now.side powers.now.yield_units (indexed settle (line_payments settle p.0 p.1))) (zip lines.now plan.now) < 2 ^ 128 }
-    ensures { result ≡ sum_by (λ p. present_value powers.now.side powers.now.yield_units (indexed settle (line_payments settle p.0 p.1))) (zip lines.now plan.now) }
+    requires room { sum_by (λ p. present_value powers.now.side powers.now.yield_units (indexed days.now.settle (line_payments days.now p.0 p.1))) (zip lines.now plan.now) < 2 ^ 128 }
+    ensures { result ≡ sum_by (λ p. present_value powers.now.side powers.now.yield_units (indexed days.now.settle (line_payments days.now p.0 p.1))) (zip lines.now plan.now) }
 {
     let mut total = 0;
     for (line, units) in lines.iter().zip(plan) {
         if *units > 0 {
-            total += flows_value(powers, settle, line.payments(settle, *units).as_slice());
+            total += flows_value(powers, days.settle, line.payments(days, *units).as_slice());
         }
     }
     total

@@ -14,8 +14,8 @@ ghost use Rattle.offer_book.specs.Portfolio.{IsPermitted, IsPermittedUnits, line
 use crate::plan::Plan;
 use day_sums::DaySums;
 use escrow_desk::NoMemory;
-use escrow_units::{Day, Flow, years_after};
-use offer_book::{Book, Line};
+use escrow_units::{Flow, years_after};
+use offer_book::{Book, Line, PaymentDays};
 use std::alloc::Global;
 
 /// What the securities of a permitted portfolio pay, summed by day: in order of day, each day once, none of 0 cents.
@@ -28,29 +28,34 @@ pub fn flows(alloc: Global, book: &Book, plan: &Plan) -> Result<Vec<Flow>, NoMem
     ensures value { IfOk result (λ flows. flows.items ≡ security_flows book.now plan.now) }
     ensures rise { IfOk result (λ flows. Rise flows.items) }
     ensures above { IfOk result (λ flows. AreAboveZero flows.items) }
-    ensures within { IfOk result (λ flows. FallWithinFortyYears book.now.settle flows.items) }
-    ensures later { IfOk result (λ flows. HaveLaterAmount book.now.settle flows.items) }
+    ensures within { IfOk result (λ flows. FallWithinFortyYears book.now.days.settle flows.items) }
+    ensures later { IfOk result (λ flows. HaveLaterAmount book.now.days.settle flows.items) }
     ensures bound { IfOk result (λ flows. total flows.items ≤ 89 * 10 ^ 13) }
 {
     let lines = book.lines();
     let settle = book.settle();
     let mut sums = DaySums::between(alloc, settle, years_after(settle, 40))?;
-    add_bought(&mut sums, settle, &lines[1..], &plan.units()[1..]);
+    add_bought(
+        &mut sums,
+        book.payment_days(),
+        &lines[1..],
+        &plan.units()[1..],
+    );
     sums.into_flows(alloc)
 }
 
 // Adds what the bought lines pay. A line without units pays nothing, so its dates aren't looked for.
-pub(crate) fn add_bought(sums: &mut DaySums, settle: Day, lines: &[Line], plan: &[u64])
-    requires none { sums.old ≡ record { from = settle; to = years_after_of settle 40; sums = [] } }
-    requires settlement { IsSettlement settle }
-    requires lines { All (λ line. IsLine settle line) lines.now }
+pub(crate) fn add_bought(sums: &mut DaySums, days: &PaymentDays, lines: &[Line], plan: &[u64])
+    requires none { sums.old ≡ record { from = days.now.settle; to = years_after_of days.now.settle 40; sums = [] } }
+    requires settlement { IsSettlement days.now.settle }
+    requires lines { All (λ line. IsLine days.now line) lines.now }
     requires permitted { All (λ p. IsPermittedUnits p.0 p.1) (zip lines.now plan.now) }
-    requires room { total (flat_map (λ p. line_payments settle p.0 p.1) (zip lines.now plan.now)) < 2 ^ 64 }
-    ensures { sums.new ≡ record sums.old { sums = summed (flat_map (λ p. line_payments settle p.0 p.1) (zip lines.now plan.now)) } }
+    requires room { total (flat_map (λ p. line_payments days.now p.0 p.1) (zip lines.now plan.now)) < 2 ^ 64 }
+    ensures { sums.new ≡ record sums.old { sums = summed (flat_map (λ p. line_payments days.now p.0 p.1) (zip lines.now plan.now)) } }
 {
     for (line, units) in lines.iter().zip(plan) {
         if *units > 0 {
-            sums.add(line.payments(settle, *units).as_slice());
+            sums.add(line.payments(days, *units).as_slice());
         }
     }
 }

@@ -3,6 +3,7 @@
 ghost use Rattle.std.specs.Prelude.{◌≡◌, length, IfOk};
 ghost use Rattle.escrow_units.specs.SlgsTerms.{IsSettlement};
 ghost use Rattle.escrow_units.specs.DayNumber.{IsDayNumber};
+ghost use Rattle.escrow_units.specs.OpenDays.{no_closings};
 ghost use Rattle.offer_book.specs.Book.{IsCashLine, IsSecurityLine};
 
 use crate::{
@@ -11,7 +12,9 @@ use crate::{
     point_excluded, receipts, security_cost, within_limit, zero_interest_total, zero_yield,
 };
 use escrow_desk::{FILE_LIMIT, read_rows};
-use escrow_units::{AskedRate, Cents, Day, Flow, GREATEST_INDEX, GREATEST_YIELD, Rate, YieldUnits};
+use escrow_units::{
+    AskedRate, Cents, ClosedDays, Day, Flow, GREATEST_INDEX, GREATEST_YIELD, Rate, YieldUnits,
+};
 use fixed_powers::{Powers, Side};
 use issue_schedule::read_issue;
 use market_notes::read_notes;
@@ -38,7 +41,7 @@ fn opening_cash() -> Line
 // A security without interest, of 1,000 to 10,000 dollars in steps of 100.
 fn security_line(rt: &impl Abort, settle: Day, maturity: Day) -> Result<Line, Fail>
     requires { IsSettlement settle }
-    ensures { IfOk result (λ line. IsSecurityLine settle line) }
+    ensures { IfOk result (λ line. IsSecurityLine (record { settle = settle; closed = no_closings }) line) }
 {
     let slgs = classify(settle, maturity, AskedRate::At(Rate(0)), None, None)?;
     assert_eq!(rt; slgs.settle, settle);
@@ -79,7 +82,7 @@ fn sample(rt: &impl Abort, alloc: Global) -> Result<Book, Fail> {
     let note = security_line(rt, settle, Day::new(20_469))?;
     let bond = security_line(rt, settle, Day::new(25_581))?;
     let lines = vec![in alloc; opening_cash(), early, late, again, note, bond]?;
-    Ok(Book::make(settle, needs, lines))
+    Ok(Book::make(settle, needs, lines, ClosedDays::none(alloc)))
 }
 
 // A day's flow, by its number.

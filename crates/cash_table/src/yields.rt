@@ -23,7 +23,7 @@ use yield_enclosure::{YieldAnswer, interval, within};
 pub fn plan_yield(alloc: Global, book: &Book, plan: &Plan) -> Result<YieldAnswer, NoMemory>
     requires { IsPermitted book.now plan.now }
     ensures value { IfOk result (λ answer. answer ≡ plan_yield_of book.now plan.now) }
-    ensures meaning { IfOk result (λ answer. IsYieldAnswer (indexed book.now.settle (security_flows book.now plan.now)) (security_cost_of book.now plan.now) answer) }
+    ensures meaning { IfOk result (λ answer. IsYieldAnswer (indexed book.now.days.settle (security_flows book.now plan.now)) (security_cost_of book.now plan.now) answer) }
 {
     let flows = flows(alloc, book, plan)?;
     let cost = security_cost(book, plan);

@@ -28,59 +28,60 @@ use Rattle.dual_bound.specs.declared.tree.Leaf.{Leaf}
 use Rattle.dual_bound.proofs.FormFacts.{form_of-is}
 use Rattle.dual_bound.proofs.Signed.{signed_sum_more}
 use Rattle.dual_bound.proofs.Sizes.{IsLight, abs-sum, cash-once, cost-sized, cost_worth-light, paid_worth-light, pays-few, pays-sized, pays_slack-small, pays_slope, pays_slope-small, side-small}
+use Rattle.offer_book.specs.declared.payment_days.PaymentDays.{PaymentDays}
 
 -- ---- the form of a line
 -- a slope, by the step of the line and how many dates it pays on
-form-slope : (n : ℕ) (book : BookContents) (leaf : Leaf) (line : Line) → IsSettlement book.settle → IsLeaf (length book.needs) leaf → IsLine book.settle line
+form-slope : (n : ℕ) (book : BookContents) (leaf : Leaf) (line : Line) → IsSettlement book.days.settle → IsLeaf (length book.needs) leaf → IsLine book.days line
     → unsigned_abs (form_of n book leaf line).slope
-    ≤ PRICE_SCALE * (4_000_000_000 * line.step) + length (pay_coefficients book.settle line) * (2 * PRICE_SCALE * (1_400_000_000 * line.step))
+    ≤ PRICE_SCALE * (4_000_000_000 * line.step) + length (pay_coefficients book.days line) * (2 * PRICE_SCALE * (1_400_000_000 * line.step))
 form-slope n book leaf line h well is =
     let weight = paid_worth n book leaf line.kind in
     let own = cost_worth leaf line.kind in
-    let costs = cost-sized book.settle line is in
+    let costs = cost-sized book.days line is in
     let first = side-small own (cost_coefficients line).low (cost_coefficients line).high PRICE_SCALE (4_000_000_000 * line.step) (cost_worth-light leaf line.kind well.limit) costs.low costs.high in
-    let rest = pays_slope-small weight line.step (pay_coefficients book.settle line) (paid_worth-light n book leaf line.kind well) (pays-sized book.settle line h is) in
+    let rest = pays_slope-small weight line.step (pay_coefficients book.days line) (paid_worth-light n book leaf line.kind well) (pays-sized book.days line h is) in
     omega (
       arith,
       first,
       rest,
       ap (λ (f : Form). unsigned_abs f.slope) (form_of-is n book leaf line),
-      abs-sum (least_side own (cost_coefficients line).low (cost_coefficients line).high) (pays_slope weight (pay_coefficients book.settle line)),
+      abs-sum (least_side own (cost_coefficients line).low (cost_coefficients line).high) (pays_slope weight (pay_coefficients book.days line)),
     )
 
-pub form-slack : (n : ℕ) (book : BookContents) (leaf : Leaf) (line : Line) → IsSettlement book.settle → IsLeaf (length book.needs) leaf → IsLine book.settle line
+pub form-slack : (n : ℕ) (book : BookContents) (leaf : Leaf) (line : Line) → IsSettlement book.days.settle → IsLeaf (length book.needs) leaf → IsLine book.days line
     → (form_of n book leaf line).slack ≤ 10 ^ 23
 form-slack n book leaf line h well is =
     let weight = paid_worth n book leaf line.kind in
-    let first = mul-le-mul (cost_worth-light leaf line.kind well.limit) (cost-sized book.settle line is).slack in
-    let rest = pays_slack-small weight line.step (pay_coefficients book.settle line) (paid_worth-light n book leaf line.kind well) (pays-sized book.settle line h is) in
+    let first = mul-le-mul (cost_worth-light leaf line.kind well.limit) (cost-sized book.days line is).slack in
+    let rest = pays_slack-small weight line.step (pay_coefficients book.days line) (paid_worth-light n book leaf line.kind well) (pays-sized book.days line h is) in
     omega (arith, first, rest, ap (λ (f : Form). f.slack) (form_of-is n book leaf line), few is)
   where
-    few : IsLine book.settle line → length (pay_coefficients book.settle line) ≤ 84
-    few (inl cash) = omega (arith, cash-once book.settle line cash)
-    few (inr security) = pays-few book.settle line h security
+    few : IsLine book.days line → length (pay_coefficients book.days line) ≤ 84
+    few (inl cash) = omega (arith, cash-once book.days line cash)
+    few (inr security) = pays-few book.days line h security
 
 -- what units of a line of securities add by the slope
-form-units : (n : ℕ) (book : BookContents) (leaf : Leaf) (line : Line) (units : ℕ) → IsSettlement book.settle → IsLeaf (length book.needs) leaf → IsSecurityLine book.settle line → units ≤ line.most
+form-units : (n : ℕ) (book : BookContents) (leaf : Leaf) (line : Line) (units : ℕ) → IsSettlement book.days.settle → IsLeaf (length book.needs) leaf → IsSecurityLine book.days line → units ≤ line.most
     → unsigned_abs (form_of n book leaf line).slope * units ≤ 24 * 10 ^ 33
 form-units n book leaf line units h well security most =
     let slope = form-slope n book leaf line h well (inr security) in
-    let few = mul-le-mul_right (2 * PRICE_SCALE * (1_400_000_000 * line.step)) (pays-few book.settle line h security) in
+    let few = mul-le-mul_right (2 * PRICE_SCALE * (1_400_000_000 * line.step)) (pays-few book.days line h security) in
     let whole : unsigned_abs (form_of n book leaf line).slope ≤ 239_200_000_000_000_000_000_000 * line.step = omega (arith, slope, few) in
-    omega (arith, mul-le-mul_right units whole, par-at_most book.settle line units security most)
+    omega (arith, mul-le-mul_right units whole, par-at_most book.days line units security most)
 
-form-cash : (n : ℕ) (book : BookContents) (leaf : Leaf) (line : Line) (units : ℕ) → IsSettlement book.settle → IsLeaf (length book.needs) leaf → IsCashLine line → units ≤ line.most
+form-cash : (n : ℕ) (book : BookContents) (leaf : Leaf) (line : Line) (units : ℕ) → IsSettlement book.days.settle → IsLeaf (length book.needs) leaf → IsCashLine line → units ≤ line.most
     → unsigned_abs (form_of n book leaf line).slope * units ≤ 7 * 10 ^ 34
 form-cash n book leaf line units h well cash most =
     let slope = form-slope n book leaf line h well (inl cash) in
-    let once = ap (λ k. k * (2 * PRICE_SCALE * (1_400_000_000 * line.step))) (cash-once book.settle line cash) in
+    let once = ap (λ k. k * (2 * PRICE_SCALE * (1_400_000_000 * line.step))) (cash-once book.days line cash) in
     let whole : unsigned_abs (form_of n book leaf line).slope ≤ 6_800_000_000_000_000_000_000 = omega (arith, slope, once, cash.step) in
     omega (arith, mul-le-mul whole (few line.most most cash.most))
   where
     few : (most : ℕ) → units ≤ most → most ≤ AMOUNT_LIMIT → units ≤ 10_000_000_000_000
     few most a b = omega arith
 
-pub form-times : (n : ℕ) (book : BookContents) (leaf : Leaf) (line : Line) (units : ℕ) → IsSettlement book.settle → IsLeaf (length book.needs) leaf → IsLine book.settle line → units ≤ line.most
+pub form-times : (n : ℕ) (book : BookContents) (leaf : Leaf) (line : Line) (units : ℕ) → IsSettlement book.days.settle → IsLeaf (length book.needs) leaf → IsLine book.days line → units ≤ line.most
     → unsigned_abs (form_of n book leaf line).slope * units ≤ 7 * 10 ^ 34
 form-times n book leaf line units h well (inl cash) most = form-cash n book leaf line units h well cash most
 form-times n book leaf line units h well (inr security) most = omega (arith, form-units n book leaf line units h well security most)
@@ -102,14 +103,14 @@ worth-small weight (flow ∷ flows) light =
     )
 
 reduced-within : (n : ℕ) (book : BookContents) (leaf : Leaf) (line : Line) (units cost paid : ℕ) → IsLeaf (length book.needs) leaf
-    → line_cost line units ≤ cost → total (line_payments book.settle line units) ≤ paid
+    → line_cost line units ≤ cost → total (line_payments book.days line units) ≤ paid
     → unsigned_abs (reduced_cost n book leaf line units) ≤ COEFFICIENT_SCALE * (PRICE_SCALE * cost + 2 * PRICE_SCALE * paid)
 unfolding reduced_cost
 reduced-within n book leaf line units cost paid well few little =
     let weight = paid_worth n book leaf line.kind in
     let own = cost_worth leaf line.kind in
-    let sum = signed_sum (λ (flow : Flow). weight flow.day *ℤ pos flow.cents.0) (line_payments book.settle line units) in
-    let worth = worth-small weight (line_payments book.settle line units) (paid_worth-light n book leaf line.kind well) in
+    let sum = signed_sum (λ (flow : Flow). weight flow.day *ℤ pos flow.cents.0) (line_payments book.days line units) in
+    let worth = worth-small weight (line_payments book.days line units) (paid_worth-light n book leaf line.kind well) in
     let first = mul-le-mul (cost_worth-light leaf line.kind well.limit) few in
     let product = unsigned_abs-mul own (pos (line_cost line units)) in
     let whole = unsigned_abs-mul (pos COEFFICIENT_SCALE) (own *ℤ pos (line_cost line units) -ℤ sum) in
@@ -120,15 +121,15 @@ reduced-within n book leaf line units cost paid well few little =
     abs-apart : (a b : ℤ) → unsigned_abs (a -ℤ b) ≤ unsigned_abs a + unsigned_abs b
     abs-apart a b = omega (arith, ints)
 
-reduced-cash : (n : ℕ) (book : BookContents) (leaf : Leaf) (line : Line) (units : ℕ) → IsSettlement book.settle → IsLeaf (length book.needs) leaf → IsCashLine line → units ≤ line.most
+reduced-cash : (n : ℕ) (book : BookContents) (leaf : Leaf) (line : Line) (units : ℕ) → IsSettlement book.days.settle → IsLeaf (length book.needs) leaf → IsCashLine line → units ≤ line.most
     → unsigned_abs (reduced_cost n book leaf line units) ≤ 5 * 10 ^ 34
 reduced-cash n book leaf line units h well cash most =
-    omega (arith, reduced-within n book leaf line units (10 ^ 13) (2 * 10 ^ 13) well (cash-at_most line units cash most) (line_payments-total book.settle line units h (inl cash) most))
+    omega (arith, reduced-within n book leaf line units (10 ^ 13) (2 * 10 ^ 13) well (cash-at_most line units cash most) (line_payments-total book.days line units h (inl cash) most))
 
-reduced-security : (n : ℕ) (book : BookContents) (leaf : Leaf) (line : Line) (units : ℕ) → IsSettlement book.settle → IsLeaf (length book.needs) leaf → IsSecurityLine book.settle line → units ≤ line.most
+reduced-security : (n : ℕ) (book : BookContents) (leaf : Leaf) (line : Line) (units : ℕ) → IsSettlement book.days.settle → IsLeaf (length book.needs) leaf → IsSecurityLine book.days line → units ≤ line.most
     → unsigned_abs (reduced_cost n book leaf line units) ≤ 8 * 10 ^ 33
 reduced-security n book leaf line units h well security most =
-    omega (arith, reduced-within n book leaf line units (316 * 10 ^ 9) (346 * 10 ^ 10) well (security-at_most book.settle line units security most) (line_payments-little book.settle line units h security most))
+    omega (arith, reduced-within n book leaf line units (316 * 10 ^ 9) (346 * 10 ^ 10) well (security-at_most book.days line units security most) (line_payments-little book.days line units h security most))
 
 -- ---- the least of a line
 min-small : (a b : ℤ) (most : ℕ) → unsigned_abs a ≤ most → unsigned_abs b ≤ most → unsigned_abs (int_min a b) ≤ most
@@ -157,7 +158,7 @@ least-within n book leaf line interval most ordered room order exact at = by (in
     by false e true f (inr none) = absurd (grind (arith, low, room, ordered))
     by false e false f order = min-small (form_at (form_of n book leaf line) interval.low) (form_at (form_of n book leaf line) interval.high) most (at interval.low low) (at interval.high room)
 
-least-cash : (n : ℕ) (book : BookContents) (leaf : Leaf) (line : Line) (interval : Interval) → IsSettlement book.settle → IsLeaf (length book.needs) leaf → IsCashLine line
+least-cash : (n : ℕ) (book : BookContents) (leaf : Leaf) (line : Line) (interval : Interval) → IsSettlement book.days.settle → IsLeaf (length book.needs) leaf → IsCashLine line
     → interval.low ≤ interval.high → HasRoomFor line interval → unsigned_abs (least_within n book leaf line interval) ≤ 71 * 10 ^ 33
 least-cash n book leaf line interval h well cash ordered room =
     least-within n book leaf line interval (71 * 10 ^ 33) ordered room (order line.most refl)
@@ -168,14 +169,14 @@ least-cash n book leaf line interval h well cash ordered room =
     order zero e = inr e
     order (suc m) e = inl (omega (arith, cash.least, e))
 
-least-security : (n : ℕ) (book : BookContents) (leaf : Leaf) (line : Line) (interval : Interval) → IsSettlement book.settle → IsLeaf (length book.needs) leaf → IsSecurityLine book.settle line
+least-security : (n : ℕ) (book : BookContents) (leaf : Leaf) (line : Line) (interval : Interval) → IsSettlement book.days.settle → IsLeaf (length book.needs) leaf → IsSecurityLine book.days line
     → interval.low ≤ interval.high → HasRoomFor line interval → unsigned_abs (least_within n book leaf line interval) ≤ 25 * 10 ^ 33
 least-security n book leaf line interval h well security ordered room =
     least-within n book leaf line interval (25 * 10 ^ 33) ordered room (inl security.ordered)
     (λ units most. omega (arith, reduced-security n book leaf line units h well security most))
     (λ units most. omega (arith, at-small (form_of n book leaf line) units (24 * 10 ^ 33) (form-units n book leaf line units h well security most) (form-slack n book leaf line h well (inr security))))
 
-pub least-small : (n : ℕ) (book : BookContents) (leaf : Leaf) (line : Line) (interval : Interval) → IsSettlement book.settle → IsLeaf (length book.needs) leaf → IsLine book.settle line
+pub least-small : (n : ℕ) (book : BookContents) (leaf : Leaf) (line : Line) (interval : Interval) → IsSettlement book.days.settle → IsLeaf (length book.needs) leaf → IsLine book.days line
     → interval.low ≤ interval.high → HasRoomFor line interval → unsigned_abs (least_within n book leaf line interval) ≤ 71 * 10 ^ 33
 least-small n book leaf line interval h well (inl cash) ordered room = least-cash n book leaf line interval h well cash ordered room
 least-small n book leaf line interval h well (inr security) ordered room = omega (arith, least-security n book leaf line interval h well security ordered room)
@@ -194,19 +195,19 @@ priced-small (need ∷ needs) (price ∷ prices) small =
       priced-small needs prices (All-tail (λ (p : ℕ). p ≤ 2 * PRICE_SCALE) price prices small),
     )
 
-securities-sum : (n : ℕ) (book : BookContents) (leaf : Leaf) (lines : List Line) (ranges : List Interval) → IsSettlement book.settle → IsLeaf (length book.needs) leaf
-    → All (IsSecurityLine book.settle) lines → AllZip HasRoomFor lines ranges → All (λ interval. interval.low ≤ interval.high) ranges
+securities-sum : (n : ℕ) (book : BookContents) (leaf : Leaf) (lines : List Line) (ranges : List Interval) → IsSettlement book.days.settle → IsLeaf (length book.needs) leaf
+    → All (IsSecurityLine book.days) lines → AllZip HasRoomFor lines ranges → All (λ interval. interval.low ≤ interval.high) ranges
     → unsigned_abs (signed_sum (λ (p : Line × Interval). least_within n book leaf p.0 p.1) (zip lines ranges)) ≤ length lines * (25 * 10 ^ 33)
 securities-sum n book leaf [] [] h well are room ordered = omega arith
 securities-sum n book leaf [] (interval ∷ ranges) h well are room ordered = absurd room
 securities-sum n book leaf (line ∷ lines) [] h well are room ordered = absurd room
 securities-sum n book leaf (line ∷ lines) (interval ∷ ranges) h well are room ordered =
-    let own = least-security n book leaf line interval h well (All-head (IsSecurityLine book.settle) line lines are) (All-head (λ (i : Interval). i.low ≤ i.high) interval ranges ordered) room.0 in
-    let rest = securities-sum n book leaf lines ranges h well (All-tail (IsSecurityLine book.settle) line lines are) room.1 (All-tail (λ (i : Interval). i.low ≤ i.high) interval ranges ordered) in
+    let own = least-security n book leaf line interval h well (All-head (IsSecurityLine book.days) line lines are) (All-head (λ (i : Interval). i.low ≤ i.high) interval ranges ordered) room.0 in
+    let rest = securities-sum n book leaf lines ranges h well (All-tail (IsSecurityLine book.days) line lines are) room.1 (All-tail (λ (i : Interval). i.low ≤ i.high) interval ranges ordered) in
     omega (arith, own, rest, abs-sum (least_within n book leaf line interval) (signed_sum (λ (p : Line × Interval). least_within n book leaf p.0 p.1) (zip lines ranges)))
 
-lines-sum : (n : ℕ) (book : BookContents) (leaf : Leaf) (lines : List Line) (ranges : List Interval) → IsSettlement book.settle → IsLeaf (length book.needs) leaf
-    → AreLines book.settle lines → AllZip HasRoomFor lines ranges → All (λ interval. interval.low ≤ interval.high) ranges
+lines-sum : (n : ℕ) (book : BookContents) (leaf : Leaf) (lines : List Line) (ranges : List Interval) → IsSettlement book.days.settle → IsLeaf (length book.needs) leaf
+    → AreLines book.days lines → AllZip HasRoomFor lines ranges → All (λ interval. interval.low ≤ interval.high) ranges
     → unsigned_abs (signed_sum (λ (p : Line × Interval). least_within n book leaf p.0 p.1) (zip lines ranges)) ≤ 71 * 10 ^ 33 + 256 * (25 * 10 ^ 33)
 lines-sum n book leaf [] ranges h well are room ordered = absurd are
 lines-sum n book leaf (cash ∷ lines) [] h well are room ordered = absurd room
@@ -275,12 +276,12 @@ least-between n book leaf line interval form is apart some =
     rw (test, from) (ap (λ (f : Form). int_min (form_at f interval.low) (form_at f interval.high)) is)
 
 -- the least purchase of a line whose interval has more than one number
-pub least-room : (settle : ℤ) (line : Line) (interval : Interval) → IsLine settle line → interval.low ≤ interval.high → HasRoomFor line interval → (interval.low ≡ interval.high → ⊥) → line.least ≤ line.most
-least-room settle line interval (inl cash) ordered room apart = omega (arith, cash.least, some)
+pub least-room : (days : PaymentDays) (line : Line) (interval : Interval) → IsLine days line → interval.low ≤ interval.high → HasRoomFor line interval → (interval.low ≡ interval.high → ⊥) → line.least ≤ line.most
+least-room days line interval (inl cash) ordered room apart = omega (arith, cash.least, some)
   where
     some : 1 ≤ line.most
     some = grind (arith, ordered, room, apart)
-least-room settle line interval (inr security) ordered room apart = security.ordered
+least-room days line interval (inr security) ordered room apart = security.ordered
 
 -- ---- the needs, one after another
 abbrev pub priced_need : Flow × ℕ → ℕ
@@ -329,6 +330,6 @@ bound-all n book ranges leaf place bound all so_far =
     so_far ∙ ap (λ pairs. pos (COEFFICIENT_SCALE * priced_needs book.needs leaf.prices) +ℤ signed_sum (λ (p : Line × Interval). least_within n book leaf p.0 p.1) pairs)
     (take_all place (zip book.lines ranges) (omega (arith, length-zip book.lines ranges)))
 
-pub lines-few : (settle : ℤ) (lines : List Line) → AreLines settle lines → length lines ≤ 257
-lines-few settle [] are = absurd are
-lines-few settle (cash ∷ securities) are = omega (arith, are.2)
+pub lines-few : (days : PaymentDays) (lines : List Line) → AreLines days lines → length lines ≤ 257
+lines-few days [] are = absurd are
+lines-few days (cash ∷ securities) are = omega (arith, are.2)

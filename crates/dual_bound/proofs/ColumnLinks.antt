@@ -42,10 +42,10 @@ none = record { above = 0; below = 0 }
 placed : (n : ℕ) (book : BookContents) (leaf : Leaf) (kind : LineKind) (days : List PricedDay) (payment : ScheduledPayment) (place : ℕ) → length leaf.prices ≡ length book.needs
     → IsPlace n book kind days payment place
     → worth_at (map (worth_on leaf) days) place
-    ≡ worth_between (price_on book.needs leaf.prices payment.day) (limit_price n book.settle (limit_weight leaf kind) payment.day)
+    ≡ worth_between (price_on book.needs leaf.prices payment.day) (limit_price n book.days.settle (limit_weight leaf kind) payment.day)
 placed n book leaf kind days payment place same at =
     let d : PricedDay = record { need = 0; power = 0 } in
-    let limit = ap (λ power. leaf.mu * power / one) (at.priced d).power ∙ limited n book.settle leaf kind payment.day in
+    let limit = ap (λ power. leaf.mu * power / one) (at.priced d).power ∙ limited n book.days.settle leaf kind payment.day in
     get_or-map (worth_on leaf) days place d (record { above = 0; below = 0 }) at.there ∙ (λ i. worth_between ((at.priced d).need leaf.prices same i) (limit i))
 
 -- a price less what the limit takes
@@ -150,7 +150,7 @@ half-year p e = by (p.accrual.parts == 1) (p.accrual.year == 2) p.principal refl
 -- ---- a column's payments
 worth-is : (n : ℕ) (book : BookContents) (leaf : Leaf) (kind : LineKind) (days : List PricedDay) (worths : List Worth) (p : ScheduledPayment) (place : ℕ)
     → length leaf.prices ≡ length book.needs → worths ≡ map (worth_on leaf) days → IsPlace n book kind days p place
-    → worth_at worths place ≡ worth_between (price_on book.needs leaf.prices p.day) (limit_price n book.settle (limit_weight leaf kind) p.day)
+    → worth_at worths place ≡ worth_between (price_on book.needs leaf.prices p.day) (limit_price n book.days.settle (limit_weight leaf kind) p.day)
 worth-is n book leaf kind days worths p place same is at = ap (λ ws. worth_at ws place) is ∙ placed n book leaf kind days p place same at
 
 -- so it is worth what the definition says
@@ -159,16 +159,16 @@ worth-signed : (n : ℕ) (book : BookContents) (leaf : Leaf) (kind : LineKind) (
     → paid_worth n book leaf kind p.day ≡ signed_worth (worth_at worths place)
 worth-signed n book leaf kind days worths p place same is at =
     sym (ap signed_worth (worth-is n book leaf kind days worths p place same is at)
-    ∙ signed-between (price_on book.needs leaf.prices p.day) (limit_price n book.settle (limit_weight leaf kind) p.day))
+    ∙ signed-between (price_on book.needs leaf.prices p.day) (limit_price n book.days.settle (limit_weight leaf kind) p.day))
 
 slope-shared : (n : ℕ) (book : BookContents) (leaf : Leaf) (line : Line) (days : List PricedDay) (worths : List Worth) (column : Column)
     → length leaf.prices ≡ length book.needs → worths ≡ map (worth_on leaf) days → IsColumn n book days line column
-    → pays_slope (paid_worth n book leaf line.kind) (pay_coefficients book.settle line)
+    → pays_slope (paid_worth n book leaf line.kind) (pay_coefficients book.days line)
     ≡ (pos (column.regular.low * (worth_together worths column.places.items).below) -ℤ pos (column.regular.high * (worth_together worths column.places.items).above))
     +ℤ (other_forms worths column.others.items).slope
 slope-shared n book leaf line days worths column same is h =
-    mapped-sum side pay (schedule_of book.settle line)
-    ∙ shared-sum (λ p. side (pay p)) g other (IsPlace n book line.kind days) (IsOther n book line days) regular others (schedule_of book.settle line) column.places.items column.others.items h.places h.others
+    mapped-sum side pay (schedule_of book.days line)
+    ∙ shared-sum (λ p. side (pay p)) g other (IsPlace n book line.kind days) (IsOther n book line days) regular others (schedule_of book.days line) column.places.items column.others.items h.places h.others
     ∙ ap (λ z. z +ℤ signed_sum other column.others.items) together
   where
     pay : ScheduledPayment → PayCoefficients
@@ -195,7 +195,7 @@ slope-shared n book leaf line days worths column same is h =
     regular p k test at =
         let half = half-year p test in
         let price = price_on book.needs leaf.prices p.day in
-        let limit = limit_price n book.settle (limit_weight leaf line.kind) p.day in
+        let limit = limit_price n book.days.settle (limit_weight leaf line.kind) p.day in
         let worth = worth-is n book leaf line.kind days worths p k same is at in
         let low : (pay_by (kind_rate line.kind) line.step p).low ≡ column.regular.low =
         (λ i. interest_low line.step (kind_rate line.kind) (half.accrual i) + COEFFICIENT_SCALE * (if half.principal i then line.step else 0)) ∙ ap (λ (c : PayCoefficients). c.low) (sym h.regular) in
@@ -219,13 +219,13 @@ slope-shared n book leaf line days worths column same is h =
 
 slack-shared : (n : ℕ) (book : BookContents) (leaf : Leaf) (line : Line) (days : List PricedDay) (worths : List Worth) (column : Column)
     → length leaf.prices ≡ length book.needs → worths ≡ map (worth_on leaf) days → IsColumn n book days line column
-    → sum_by (pay_slack (paid_worth n book leaf line.kind)) (pay_coefficients book.settle line)
+    → sum_by (pay_slack (paid_worth n book leaf line.kind)) (pay_coefficients book.days line)
     ≡ column.regular.slack * ((worth_together worths column.places.items).above + (worth_together worths column.places.items).below)
     + (other_forms worths column.others.items).slack
 slack-shared n book leaf line days worths column same is h =
-    mapped-count (pay_slack (paid_worth n book leaf line.kind)) (pay_by (kind_rate line.kind) line.step) (schedule_of book.settle line)
+    mapped-count (pay_slack (paid_worth n book leaf line.kind)) (pay_by (kind_rate line.kind) line.step) (schedule_of book.days line)
     ∙ shared-count (λ p. pay_slack (paid_worth n book leaf line.kind) (pay_by (kind_rate line.kind) line.step p)) g other (IsPlace n book line.kind days) (IsOther n book line days) regular others
-    (schedule_of book.settle line) column.places.items column.others.items h.places h.others
+    (schedule_of book.days line) column.places.items column.others.items h.places h.others
     ∙ ap (λ z. z + sum_by other column.others.items) together
   where
     g : ℕ → ℕ
@@ -239,7 +239,7 @@ slack-shared n book leaf line days worths column same is h =
         ≡ column.regular.slack * ((worth_at worths k).above + (worth_at worths k).below)
     regular p k test at =
         let price = price_on book.needs leaf.prices p.day in
-        let limit = limit_price n book.settle (limit_weight leaf line.kind) p.day in
+        let limit = limit_price n book.days.settle (limit_weight leaf line.kind) p.day in
         let worth = worth-is n book leaf line.kind days worths p k same is at in
         let size = abs-split price limit ∙ (λ i. (sym worth i).above + (sym worth i).below) in
         let slack : (pay_by (kind_rate line.kind) line.step p).slack ≡ column.regular.slack = ap (λ (c : PayCoefficients). c.slack) (sym h.regular) in
@@ -278,22 +278,22 @@ column-form n book leaf line days worths column same is h =
     joined-count a a' b c s e f = omega arith
 
     slope : (column_form (cost_worth leaf line.kind) worths column).slope
-        ≡ least_side (cost_worth leaf line.kind) (cost_coefficients line).low (cost_coefficients line).high +ℤ pays_slope (paid_worth n book leaf line.kind) (pay_coefficients book.settle line)
+        ≡ least_side (cost_worth leaf line.kind) (cost_coefficients line).low (cost_coefficients line).high +ℤ pays_slope (paid_worth n book leaf line.kind) (pay_coefficients book.days line)
     slope = joined _ _ _ _ _ (λ i. least_side (cost_worth leaf line.kind) (sym h.costs i).low (sym h.costs i).high) (slope-shared n book leaf line days worths column same is h)
 
     slack : (column_form (cost_worth leaf line.kind) worths column).slack
-        ≡ unsigned_abs (cost_worth leaf line.kind) * (cost_coefficients line).slack + sum_by (pay_slack (paid_worth n book leaf line.kind)) (pay_coefficients book.settle line)
+        ≡ unsigned_abs (cost_worth leaf line.kind) * (cost_coefficients line).slack + sum_by (pay_slack (paid_worth n book leaf line.kind)) (pay_coefficients book.days line)
     slack = joined-count _ _ _ _ _ (λ i. unsigned_abs (cost_worth leaf line.kind) * (sym h.costs i).slack) (slack-shared n book leaf line days worths column same is h)
 
 -- what a column pays is what its line pays
 paid-shared : (n : ℕ) (book : BookContents) (leaf : Leaf) (line : Line) (days : List PricedDay) (worths : List Worth) (column : Column) (units : ℕ)
     → length leaf.prices ≡ length book.needs → worths ≡ map (worth_on leaf) days → IsColumn n book days line column
-    → signed_sum (λ (flow : Flow). paid_worth n book leaf line.kind flow.day *ℤ pos flow.cents.0) (line_payments book.settle line units)
+    → signed_sum (λ (flow : Flow). paid_worth n book leaf line.kind flow.day *ℤ pos flow.cents.0) (line_payments book.days line units)
     ≡ column_paid (kind_rate line.kind) (par line units) worths column
 paid-shared n book leaf line days worths column units same is h =
-    mapped-sum (λ (flow : Flow). paid_worth n book leaf line.kind flow.day *ℤ pos flow.cents.0) (flow_by (kind_rate line.kind) (par line units)) (schedule_of book.settle line)
+    mapped-sum (λ (flow : Flow). paid_worth n book leaf line.kind flow.day *ℤ pos flow.cents.0) (flow_by (kind_rate line.kind) (par line units)) (schedule_of book.days line)
     ∙ shared-sum (λ p. paid_worth n book leaf line.kind p.day *ℤ pos (flow_by (kind_rate line.kind) (par line units) p).cents.0) g other (IsPlace n book line.kind days) (IsOther n book line days) regular others
-    (schedule_of book.settle line) column.places.items column.others.items h.places h.others
+    (schedule_of book.days line) column.places.items column.others.items h.places h.others
     ∙ ap (λ z. z +ℤ signed_sum other column.others.items) (together (earned_of (par line units) (kind_rate line.kind) 1 2))
   where
     g : ℕ → ℤ

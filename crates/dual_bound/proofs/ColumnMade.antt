@@ -18,6 +18,7 @@ use Rattle.dual_bound.specs.declared.column.Column.{Column}
 use Rattle.dual_bound.specs.declared.column.OtherPayment.{OtherPayment}
 use Rattle.dual_bound.specs.declared.worth.PricedDay.{PricedDay}
 use Rattle.dual_bound.proofs.FormFacts.{pays-within}
+use Rattle.offer_book.specs.declared.payment_days.PaymentDays.{PaymentDays}
 
 -- pairs, one more
 pub zip-push : {A B : Type 0} (R : A → B → Type 0) (xs : List A) (ys : List B) (x : A) (y : B) → AllZip R xs ys → R x y → AllZip R (xs ++ x ∷ []) (ys ++ y ∷ [])
@@ -63,8 +64,8 @@ column-stays n book days more e line column h = record {
   costs = h.costs;
   accrued = h.accrued;
   regular = h.regular;
-  places = zip-weaker (IsPlace n book line.kind days) (IsPlace n book line.kind more) (filter is_regular (schedule_of book.settle line)) column.places.items (place-stays n book line.kind days more e) h.places;
-  others = zip-weaker (IsOther n book line days) (IsOther n book line more) (filter is_other (schedule_of book.settle line)) column.others.items (other-stays n book line days more e) h.others;
+  places = zip-weaker (IsPlace n book line.kind days) (IsPlace n book line.kind more) (filter is_regular (schedule_of book.days line)) column.places.items (place-stays n book line.kind days more e) h.places;
+  others = zip-weaker (IsOther n book line days) (IsOther n book line more) (filter is_other (schedule_of book.days line)) column.others.items (other-stays n book line days more e) h.others;
 }
 
 pub extends-same : (days : List PricedDay) → Extends days days
@@ -109,15 +110,15 @@ one-more n book days more line schedule i payment place old new few is e h at pl
 }
 
 -- the payments of a schedule fall within forty years
-pub schedule-within : (settle : ℤ) (line : Line) → IsSettlement settle → IsLine settle line → All (λ payment. (settle ≤ℤ payment.day) × (payment.day ≤ℤ years_after_of settle 40)) (schedule_of settle line)
-schedule-within settle line h is =
+pub schedule-within : (days : PaymentDays) (line : Line) → IsSettlement days.settle → IsLine days line → All (λ payment. (days.settle ≤ℤ payment.day) × (payment.day ≤ℤ years_after_of days.settle 40)) (schedule_of days line)
+schedule-within days line h is =
     let pay : ScheduledPayment → PayCoefficients = pay_by (kind_rate line.kind) line.step in
-    let P : PayCoefficients → Type 0 = λ pay. (settle ≤ℤ pay.day) × (pay.day ≤ℤ years_after_of settle 40) in
-    λ k d few. subst P (get_or-map pay (schedule_of settle line) k d) (pays-within settle line h is k (pay d) (omega (arith, length-map (schedule_of settle line) pay, few)))
+    let P : PayCoefficients → Type 0 = λ pay. (days.settle ≤ℤ pay.day) × (pay.day ≤ℤ years_after_of days.settle 40) in
+    λ k d few. subst P (get_or-map pay (schedule_of days line) k d) (pays-within days line h is k (pay d) (omega (arith, length-map (schedule_of days line) pay, few)))
 
 -- all that a column has, and its size
-pub made : (n : ℕ) (book : BookContents) (days : List PricedDay) (line : Line) (schedule : List ScheduledPayment) (i : ℕ) (start column : Column) → schedule ≡ schedule_of book.settle line
-    → length schedule ≤ i → HasHead book.settle line start → KeepsHead start column → IsSoFar n book days line schedule i column → IsColumn n book days line column
+pub made : (n : ℕ) (book : BookContents) (days : List PricedDay) (line : Line) (schedule : List ScheduledPayment) (i : ℕ) (start column : Column) → schedule ≡ schedule_of book.days line
+    → length schedule ≤ i → HasHead book.days.settle line start → KeepsHead start column → IsSoFar n book days line schedule i column → IsColumn n book days line column
 made n book days line schedule i start column is all head keeps h = record {
   costs = head.costs ∙ (λ j. record { low = sym keeps.cost_low j; high = sym keeps.cost_high j; slack = sym keeps.cost_slack j });
   accrued = keeps.accrued ∙ head.accrued;
@@ -127,7 +128,7 @@ made n book days line schedule i start column is all head keeps h = record {
 }
 
 pub made-small : (n : ℕ) (book : BookContents) (days : List PricedDay) (line : Line) (schedule : List ScheduledPayment) (i : ℕ) (start column : Column)
-    → i ≤ 84 → HasHead book.settle line start → KeepsHead start column → IsSoFar n book days line schedule i column → IsSmallColumn column
+    → i ≤ 84 → HasHead book.days.settle line start → KeepsHead start column → IsSoFar n book days line schedule i column → IsSmallColumn column
 made-small n book days line schedule i start column few head keeps h = record {
   head = record {
     cost_low = omega (arith, keeps.cost_low, head.small.cost_low);

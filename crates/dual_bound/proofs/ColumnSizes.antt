@@ -14,13 +14,14 @@ use Rattle.dual_bound.specs.Columns.{IsSmallHead, IsSmallPay}
 use Rattle.dual_bound.specs.declared.column.Column.{Column}
 use Rattle.dual_bound.proofs.Sizes.{cost-sized, pay-sized, principal-little, step-small}
 use Rattle.offer_book.proofs.LineFacts.{rate-low}
+use Rattle.offer_book.specs.declared.payment_days.PaymentDays.{PaymentDays}
 
 -- the coefficients of a payment
-pub pay-small : (settle : ℤ) (line : Line) (payment : ScheduledPayment) → IsLine settle line → IsShort payment.accrual
+pub pay-small : (days : PaymentDays) (line : Line) (payment : ScheduledPayment) → IsLine days line → IsShort payment.accrual
     → IsSmallPay (pay_by (kind_rate line.kind) line.step payment)
-pay-small settle line payment is short =
-    let sized = pay-sized (kind_rate line.kind) line.step payment (rate-low settle line is) short in
-    let step = step-small settle line is in
+pay-small days line payment is short =
+    let sized = pay-sized (kind_rate line.kind) line.step payment (rate-low days line is) short in
+    let step = step-small days line is in
     record { low = omega (arith, sized.low, step); high = omega (arith, sized.high, step); slack = omega (arith, sized.slack) }
 
 -- interest of at most sixteen months is at most what bears it
@@ -39,16 +40,16 @@ pub cents-little : (amount rate : ℕ) (payment : ScheduledPayment) → rate ≤
 cents-little amount rate payment low short = omega (arith, earned-little amount rate payment.accrual low short, principal-little payment amount)
 
 -- what a column has before its payments
-pub head-small : (settle : ℤ) (line : Line) (column : Column) → IsLine settle line
+pub head-small : (days : PaymentDays) (line : Line) (column : Column) → IsLine days line
     → cost_coefficients line ≡ record { low = column.cost_low; high = column.cost_high; slack = column.cost_slack }
     → column.accrued.parts ≤ 184 → IsSmallPay column.regular → IsSmallHead column
-head-small settle line column is costs days regular =
-    let sized = cost-sized settle line is in
-    let step = step-small settle line is in
+head-small days line column is costs few regular =
+    let sized = cost-sized days line is in
+    let step = step-small days line is in
     record {
       cost_low = omega (arith, ap (λ (e : Enclosure). e.low) costs, sized.low, step);
       cost_high = omega (arith, ap (λ (e : Enclosure). e.high) costs, sized.high, step);
       cost_slack = omega (arith, ap (λ (e : Enclosure). e.slack) costs, sized.slack);
-      accrued = days;
+      accrued = few;
       regular = regular;
     }

@@ -20,6 +20,7 @@ use Rattle.dual_bound.specs.declared.form.Form.{Form}
 use Rattle.dual_bound.specs.declared.tree.Leaf.{Leaf}
 use Rattle.dual_bound.proofs.Signed.{signed_sum_more}
 use Rattle.dual_bound.proofs.Sizes.{abs-neg, pay_slack, pays_slope}
+use Rattle.offer_book.specs.declared.payment_days.PaymentDays.{PaymentDays}
 
 -- the form of what is paid, by a weight for each day, and of what is costed
 abbrev pub form_with : (ℤ → ℤ) → ℤ → Enclosure → List PayCoefficients → Form
@@ -29,7 +30,7 @@ form_with weight own costs pays = record {
 }
 
 pub form_of-is : (n : ℕ) (book : BookContents) (leaf : Leaf) (line : Line)
-    → form_of n book leaf line ≡ form_with (paid_worth n book leaf line.kind) (cost_worth leaf line.kind) (cost_coefficients line) (pay_coefficients book.settle line)
+    → form_of n book leaf line ≡ form_with (paid_worth n book leaf line.kind) (cost_worth leaf line.kind) (cost_coefficients line) (pay_coefficients book.days line)
 unfolding form_of
 form_of-is n book leaf line = refl
 
@@ -82,6 +83,6 @@ zip-within settle units (pay ∷ pays) (flow ∷ flows) same within =
     (omega (arith, ints, same.0.day, own.0), omega (arith, ints, same.0.day, own.1)))
     (zip-within settle units pays flows same.1 (All-tail (λ (f : Flow). (settle ≤ℤ f.day) × (f.day ≤ℤ years_after_of settle 40)) flow flows within))
 
-pub pays-within : (settle : ℤ) (line : Line) → IsSettlement settle → IsLine settle line → All (λ pay. (settle ≤ℤ pay.day) × (pay.day ≤ℤ years_after_of settle 40)) (pay_coefficients settle line)
-pays-within settle line h is =
-    zip-within settle 0 (pay_coefficients settle line) (line_payments settle line 0) (coefficients-enclose settle line h is 0).pays (line_payments-within settle line 0 h is)
+pub pays-within : (days : PaymentDays) (line : Line) → IsSettlement days.settle → IsLine days line → All (λ pay. (days.settle ≤ℤ pay.day) × (pay.day ≤ℤ years_after_of days.settle 40)) (pay_coefficients days line)
+pays-within days line h is =
+    zip-within days.settle 0 (pay_coefficients days line) (line_payments days line 0) (coefficients-enclose days line h is 0).pays (line_payments-within days line 0 h is)

@@ -91,15 +91,15 @@ pays-le weight units (pay ∷ pays) (flow ∷ flows) all =
     joined whole a b c d e slack now later first rest slope paid all_slack = omega (arith, ints)
 
 -- the form of a line is never above its reduced cost
-form-le : (n : ℕ) (book : BookContents) (leaf : Leaf) (line : Line) (units : ℕ) → EnclosesUnits book.settle line units
+form-le : (n : ℕ) (book : BookContents) (leaf : Leaf) (line : Line) (units : ℕ) → EnclosesUnits book.days line units
     → form_at (form_of n book leaf line) units ≤ℤ reduced_cost n book leaf line units
 unfolding form_of reduced_cost
 form-le n book leaf line units encloses =
     let weight = paid_worth n book leaf line.kind in
     let own = cost_worth leaf line.kind in
     let costs = cost_coefficients line in
-    let flows = line_payments book.settle line units in
-    let pays = pay_coefficients book.settle line in
+    let flows = line_payments book.days line units in
+    let pays = pay_coefficients book.days line in
     let side = side-le own costs.low costs.high costs.slack units (line_cost line units) encloses.costs.least encloses.costs.most in
     let paid = pays-le weight units pays flows encloses.pays in
     let slope = add-mul (least_side own costs.low costs.high) (pays_slope weight pays) (pos units) in
@@ -133,10 +133,10 @@ unfolding reduced_cost
 reduced_cost-none n book leaf line units none =
     let own : cost_worth leaf line.kind *ℤ pos (line_cost line units) ≡ cost_worth leaf line.kind *ℤ pos 0 = ap (λ m. cost_worth leaf line.kind *ℤ pos m) (line_cost-none line units none) in
     let nothing : cost_worth leaf line.kind *ℤ pos 0 ≡ pos 0 = omega (arith, ints) in
-    let paid = worth-none (paid_worth n book leaf line.kind) (line_payments book.settle line units) (line_payments-none book.settle line units none) in
+    let paid = worth-none (paid_worth n book leaf line.kind) (line_payments book.days line units) (line_payments-none book.days line units none) in
     (λ i. pos COEFFICIENT_SCALE *ℤ ((own ∙ nothing) i -ℤ paid i))
 
-pub least-le : (n : ℕ) (book : BookContents) (leaf : Leaf) (line : Line) (interval : Interval) (units : ℕ) → EnclosesUnits book.settle line units
+pub least-le : (n : ℕ) (book : BookContents) (leaf : Leaf) (line : Line) (interval : Interval) (units : ℕ) → EnclosesUnits book.days line units
     → IsPermittedUnits line units → LieIn interval units
     → least_within n book leaf line interval ≤ℤ reduced_cost n book leaf line units
 least-le n book leaf line interval units encloses permitted inside = at (interval.low == interval.high) refl (interval.low == 0) refl

@@ -8,6 +8,7 @@ use Rattle.offer_book.specs.declared.line.Line.{Line}
 use Rattle.dual_bound.specs.Ranges.{AreTight, CoversBy, Hold, IsTight, LieIn, RootHoldsAll, RootIsTight, SidesAreTight, SingleHoldOne, SplitsCover, TightHold, is_proper, is_single, narrowed, root_of, side_of, tightened, whole_interval}
 use Rattle.dual_bound.specs.declared.ranges.Interval.{Interval}
 use Rattle.dual_bound.proofs.RangeFacts.{sides-tight, splits-at}
+use Rattle.offer_book.specs.declared.payment_days.PaymentDays.{PaymentDays}
 
 pub sides_are_tight : SidesAreTight
 sides_are_tight lines ranges line at right tight proper = sides-tight lines ranges line at right tight proper
@@ -165,17 +166,17 @@ cash-order line cash = by line.most refl
     by zero e = inr e
     by (suc n) e = inl (omega (arith, cash.least, e))
 
-securities-tight : (settle : ℤ) (lines : List Line) → All (IsSecurityLine settle) lines → AreTight lines (root_of lines)
-securities-tight settle [] are = tt
-securities-tight settle (line ∷ lines) are =
-    (whole-tight line (inl (All-head (IsSecurityLine settle) line lines are).ordered), securities-tight settle lines (All-tail (IsSecurityLine settle) line lines are))
+securities-tight : (days : PaymentDays) (lines : List Line) → All (IsSecurityLine days) lines → AreTight lines (root_of lines)
+securities-tight days [] are = tt
+securities-tight days (line ∷ lines) are =
+    (whole-tight line (inl (All-head (IsSecurityLine days) line lines are).ordered), securities-tight days lines (All-tail (IsSecurityLine days) line lines are))
 
-lines-tight : (settle : ℤ) (lines : List Line) → AreLines settle lines → AreTight lines (root_of lines)
-lines-tight settle [] are = absurd are
-lines-tight settle (cash ∷ securities) are = (whole-tight cash (cash-order cash are.0), securities-tight settle securities are.1)
+lines-tight : (days : PaymentDays) (lines : List Line) → AreLines days lines → AreTight lines (root_of lines)
+lines-tight days [] are = absurd are
+lines-tight days (cash ∷ securities) are = (whole-tight cash (cash-order cash are.0), securities-tight days securities are.1)
 
 pub root_is_tight : RootIsTight
-root_is_tight book limits = lines-tight book.settle book.lines limits.lines
+root_is_tight book limits = lines-tight book.days book.lines limits.lines
 
 abbrev PairIsPermitted : Line × ℕ → Type 0
 PairIsPermitted p = IsPermittedUnits p.0 p.1

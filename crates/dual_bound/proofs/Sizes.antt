@@ -36,6 +36,7 @@ use Rattle.dual_bound.specs.LeafBound.{cost_weight, cost_worth, least_side, limi
 use Rattle.dual_bound.specs.Tree.{IsLeaf}
 use Rattle.dual_bound.specs.declared.prices.TheConstants.{PRICE_SCALE}
 use Rattle.dual_bound.specs.declared.tree.Leaf.{Leaf}
+use Rattle.offer_book.specs.declared.payment_days.PaymentDays.{PaymentDays}
 
 -- ---- weights
 pub price_on-small : (needs : List Flow) (prices : List ℕ) (day : ℤ) → All (λ price. price ≤ 2 * PRICE_SCALE) prices → price_on needs prices day ≤ 2 * PRICE_SCALE
@@ -75,9 +76,9 @@ abs-difference a b most first second = omega (arith, ints)
 -- what a cent is worth is at most 2, and what it costs counts at most 1
 pub paid_worth-light : (n : ℕ) (book : BookContents) (leaf : Leaf) (kind : LineKind) → IsLeaf (length book.needs) leaf → (day : ℤ) → unsigned_abs (paid_worth n book leaf kind day) ≤ 2 * PRICE_SCALE
 paid_worth-light n book leaf kind well day =
-    abs-difference (price_on book.needs leaf.prices day) (limit_price n book.settle (limit_weight leaf kind) day) (2 * PRICE_SCALE)
+    abs-difference (price_on book.needs leaf.prices day) (limit_price n book.days.settle (limit_weight leaf kind) day) (2 * PRICE_SCALE)
     (price_on-small book.needs leaf.prices day well.range)
-    (omega (arith, limit_price-small n book.settle (limit_weight leaf kind) day (limit_weight-small leaf kind well.limit)))
+    (omega (arith, limit_price-small n book.days.settle (limit_weight leaf kind) day (limit_weight-small leaf kind well.limit)))
 
 pub cost_worth-light : (leaf : Leaf) (kind : LineKind) → leaf.mu ≤ PRICE_SCALE → unsigned_abs (cost_worth leaf kind) ≤ PRICE_SCALE
 cost_worth-light leaf kind small =
@@ -101,9 +102,9 @@ div-le a b most some within = elim (cases_lt most (a / b)) [
 ]
 
 -- a step is at most 1,000,000 dollars
-pub step-small : (settle : ℤ) (line : Line) → IsLine settle line → line.step ≤ 10 ^ 8
-step-small settle line (inl cash) = omega (arith, cash.step)
-step-small settle line (inr security) = security.step_at_most
+pub step-small : (days : PaymentDays) (line : Line) → IsLine days line → line.step ≤ 10 ^ 8
+step-small days line (inl cash) = omega (arith, cash.step)
+step-small days line (inr security) = security.step_at_most
 
 -- what a date pays of a step: at most fourteen tenths of it, scaled
 pub record IsSized (step : ℕ) (pay : PayCoefficients) : Type 0 where
@@ -148,10 +149,10 @@ pay-sized rate step payment low short = record {
   slack = interest_slack-small rate;
 }
 
-pub pays-sized : (settle : ℤ) (line : Line) → IsSettlement settle → IsLine settle line → All (IsSized line.step) (pay_coefficients settle line)
-pays-sized settle line h is =
-    All-map (IsSized line.step) (pay_by (kind_rate line.kind) line.step) (schedule_of settle line)
-    (λ k d few. pay-sized (kind_rate line.kind) line.step (get_or (schedule_of settle line) k d) (rate-low settle line is) (schedule-short settle line h is k d few))
+pub pays-sized : (days : PaymentDays) (line : Line) → IsSettlement days.settle → IsLine days line → All (IsSized line.step) (pay_coefficients days line)
+pays-sized days line h is =
+    All-map (IsSized line.step) (pay_by (kind_rate line.kind) line.step) (schedule_of days line)
+    (λ k d few. pay-sized (kind_rate line.kind) line.step (get_or (schedule_of days line) k d) (rate-low days line is) (schedule-short days line h is k d few))
 
 -- what a line costs of a step: at most four steps, scaled
 pub record IsCostSized (line : Line) : Type 0 where
@@ -167,10 +168,10 @@ record IsKindSized (kind : LineKind) (step : ℕ) : Type 0 where
   high : (kind_costs kind step).high ≤ 4_000_000_000 * step
   slack : (kind_costs kind step).slack ≤ COEFFICIENT_SCALE
 
-kind-cost-sized : (settle : ℤ) (kind : LineKind) (step : ℕ) → IsSecurity settle kind → IsKindSized kind step
-kind-cost-sized settle Cash step security = absurd security
-kind-cost-sized settle (Security security) step keeps = record { low = omega arith; high = omega arith; slack = omega arith }
-kind-cost-sized settle (Market note) step keeps =
+kind-cost-sized : (days : PaymentDays) (kind : LineKind) (step : ℕ) → IsSecurity days kind → IsKindSized kind step
+kind-cost-sized days Cash step security = absurd security
+kind-cost-sized days (Security security) step keeps = record { low = omega arith; high = omega arith; slack = omega arith }
+kind-cost-sized days (Market note) step keeps =
     let some = accrual-some note keeps.1 in
     let few = accrual-short note keeps.1 in
     let price = price-within step note.price.0 keeps.1.most_price in
@@ -182,25 +183,25 @@ kind-cost-sized settle (Market note) step keeps =
       slack = omega arith;
     }
 
-pub cost-sized : (settle : ℤ) (line : Line) → IsLine settle line → IsCostSized line
-cost-sized settle line (inl cash) =
+pub cost-sized : (days : PaymentDays) (line : Line) → IsLine days line → IsCostSized line
+cost-sized days line (inl cash) =
     let is = sym cash.kind in
     record {
       low = subst (λ kind. (kind_costs kind line.step).low ≤ 4_000_000_000 * line.step) is (omega arith);
       high = subst (λ kind. (kind_costs kind line.step).high ≤ 4_000_000_000 * line.step) is (omega arith);
       slack = subst (λ kind. (kind_costs kind line.step).slack ≤ COEFFICIENT_SCALE) is (omega arith);
     }
-cost-sized settle line (inr security) =
-    let sized = kind-cost-sized settle line.kind line.step security.security in
+cost-sized days line (inr security) =
+    let sized = kind-cost-sized days line.kind line.step security.security in
     record { low = sized.low; high = sized.high; slack = sized.slack }
 
 -- a line pays on at most 84 dates, and opening cash on one
-pub pays-few : (settle : ℤ) (line : Line) → IsSettlement settle → IsSecurityLine settle line → length (pay_coefficients settle line) ≤ 84
-pays-few settle line h security =
-    omega (arith, length-map (schedule_of settle line) (pay_by (kind_rate line.kind) line.step), schedule-few settle line h security)
+pub pays-few : (days : PaymentDays) (line : Line) → IsSettlement days.settle → IsSecurityLine days line → length (pay_coefficients days line) ≤ 84
+pays-few days line h security =
+    omega (arith, length-map (schedule_of days line) (pay_by (kind_rate line.kind) line.step), schedule-few days line h security)
 
-pub cash-once : (settle : ℤ) (line : Line) → IsCashLine line → length (pay_coefficients settle line) ≡ 1
-cash-once settle line cash = ap (λ kind. length (map (pay_by (kind_rate kind) line.step) (kind_schedule settle kind))) cash.kind
+pub cash-once : (days : PaymentDays) (line : Line) → IsCashLine line → length (pay_coefficients days line) ≡ 1
+cash-once days line cash = ap (λ kind. length (map (pay_by (kind_rate kind) line.step) (kind_schedule days kind))) cash.kind
 
 -- ---- forms
 -- a weight times a side
@@ -248,6 +249,6 @@ pays_slack-small weight step (pay ∷ pays) light sized =
     omega (arith, first, rest, sum_by-cons (pay_slack weight) pay pays)
 
 -- ---- reduced costs
-pub line_cost-small : (settle : ℤ) (line : Line) (units : ℕ) → IsLine settle line → units ≤ line.most → line_cost line units ≤ 10 ^ 13
-line_cost-small settle line units (inl cash) few = cash-at_most line units cash few
-line_cost-small settle line units (inr security) few = omega (arith, security-at_most settle line units security few)
+pub line_cost-small : (days : PaymentDays) (line : Line) (units : ℕ) → IsLine days line → units ≤ line.most → line_cost line units ≤ 10 ^ 13
+line_cost-small days line units (inl cash) few = cash-at_most line units cash few
+line_cost-small days line units (inr security) few = omega (arith, security-at_most days line units security few)

@@ -33,6 +33,7 @@ use Rattle.dual_bound.specs.declared.tree.Leaf.{Leaf}
 use Rattle.dual_bound.proofs.Coverage.{covered-worth, paid_at}
 use Rattle.dual_bound.proofs.LineBound.{least-le}
 use Rattle.dual_bound.proofs.Signed.{add-mul, mul-sub, neg-mul, pos-mul, signed_sum-difference, signed_sum-scaled}
+use Rattle.offer_book.specs.declared.payment_days.PaymentDays.{PaymentDays}
 
 -- ---- sums over the lines of a portfolio
 -- a sum over all payments, line by line
@@ -44,10 +45,10 @@ sum-flat_map amount flows (x ∷ xs) =
 -- ---- what a line adds, as a difference
 -- what the limit takes from the payments of a line
 abbrev limited : ℕ → BookContents → Leaf → Line × ℕ → ℕ
-limited n book leaf p = sum_by (at_rate (limit_price n book.settle (limit_weight leaf p.0.kind))) (line_payments book.settle p.0 p.1)
+limited n book leaf p = sum_by (at_rate (limit_price n book.days.settle (limit_weight leaf p.0.kind))) (line_payments book.days p.0 p.1)
 
 abbrev priced : BookContents → Leaf → Line × ℕ → ℕ
-priced book leaf p = paid_at book.needs leaf.prices (line_payments book.settle p.0 p.1)
+priced book leaf p = paid_at book.needs leaf.prices (line_payments book.days p.0 p.1)
 
 abbrev pair_cost : Line × ℕ → ℕ
 pair_cost p = line_cost p.0 p.1
@@ -80,7 +81,7 @@ reduced-parts : (n : ℕ) (book : BookContents) (leaf : Leaf) (p : Line × ℕ)
 unfolding reduced_cost
 reduced-parts n book leaf p =
     let own = difference-mul (cost_weight leaf) (limit_weight leaf p.0.kind) (pair_cost p) in
-    let paid = worth-parts (price_on book.needs leaf.prices) (limit_price n book.settle (limit_weight leaf p.0.kind)) (line_payments book.settle p.0 p.1) in
+    let paid = worth-parts (price_on book.needs leaf.prices) (limit_price n book.days.settle (limit_weight leaf p.0.kind)) (line_payments book.days p.0 p.1) in
     ap (λ z. pos COEFFICIENT_SCALE *ℤ z)
     (joined (cost_weight leaf * pair_cost p) (limit_weight leaf p.0.kind * pair_cost p) (priced book leaf p) (limited n book leaf p) _ _ own paid)
   where
@@ -100,22 +101,22 @@ reduced-sum n book leaf pairs =
     each (p ∷ xs) = (λ i. reduced-parts n book leaf p i +ℤ each xs i)
 
 -- the lines of a book
-pub all-lines : (settle : ℤ) (lines : List Line) → AreLines settle lines → All (IsLine settle) lines
-all-lines settle [] are = absurd are
-all-lines settle (cash ∷ securities) are =
-    All-cons (IsLine settle) cash securities (inl are.0) (All-weaker (IsSecurityLine settle) (IsLine settle) (λ line is. inr is) securities are.1)
+pub all-lines : (days : PaymentDays) (lines : List Line) → AreLines days lines → All (IsLine days) lines
+all-lines days [] are = absurd are
+all-lines days (cash ∷ securities) are =
+    All-cons (IsLine days) cash securities (inl are.0) (All-weaker (IsSecurityLine days) (IsLine days) (λ line is. inr is) securities are.1)
 
 -- the least of each line is at most its reduced cost
 least-sum : (n : ℕ) (book : BookContents) (leaf : Leaf) (lines : List Line) (ranges : List Interval) (plan : List ℕ)
-    → ((line : Line) (units : ℕ) → IsLine book.settle line → EnclosesUnits book.settle line units) → All (IsLine book.settle) lines
+    → ((line : Line) (units : ℕ) → IsLine book.days line → EnclosesUnits book.days line units) → All (IsLine book.days) lines
     → All (λ p. IsPermittedUnits p.0 p.1) (zip lines plan) → length plan ≡ length lines → IsWithin ranges plan
     → signed_sum (λ p. least_within n book leaf p.0 p.1) (zip lines ranges) ≤ℤ signed_sum (λ p. reduced_cost n book leaf p.0 p.1) (zip lines plan)
 least-sum n book leaf [] ranges plan enclose are permitted same inside = omega (arith, ints)
 least-sum n book leaf (line ∷ lines) ranges [] enclose are permitted same inside = absurd (omega arith)
 least-sum n book leaf (line ∷ lines) [] (units ∷ plan) enclose are permitted same inside = absurd inside
 least-sum n book leaf (line ∷ lines) (interval ∷ ranges) (units ∷ plan) enclose are permitted same inside =
-    let own = least-le n book leaf line interval units (enclose line units (All-head (IsLine book.settle) line lines are)) (All-head (λ (p : Line × ℕ). IsPermittedUnits p.0 p.1) (line, units) (zip lines plan) permitted) inside.0 in
-    let rest = least-sum n book leaf lines ranges plan enclose (All-tail (IsLine book.settle) line lines are) (All-tail (λ (p : Line × ℕ). IsPermittedUnits p.0 p.1) (line, units) (zip lines plan) permitted) (omega arith) inside.1 in
+    let own = least-le n book leaf line interval units (enclose line units (All-head (IsLine book.days) line lines are)) (All-head (λ (p : Line × ℕ). IsPermittedUnits p.0 p.1) (line, units) (zip lines plan) permitted) inside.0 in
+    let rest = least-sum n book leaf lines ranges plan enclose (All-tail (IsLine book.days) line lines are) (All-tail (λ (p : Line × ℕ). IsPermittedUnits p.0 p.1) (line, units) (zip lines plan) permitted) (omega arith) inside.1 in
     omega (arith, ints, own, rest)
 
 -- ---- the inequality of duality, in whole numbers
@@ -159,10 +160,10 @@ bound-le n book ranges leaf plan limits well permitted covered inside granted =
     let pairs = zip book.lines plan in
     let worth = covered-worth book.needs leaf.prices (payments book plan) limits.needs.rising well.falling (sym well.every_date) covered in
     let by_line : paid_at book.needs leaf.prices (payments book plan) ≡ sum_by (priced book leaf) pairs =
-    sum-flat_map (at_rate (price_on book.needs leaf.prices)) (λ (p : Line × ℕ). line_payments book.settle p.0 p.1) pairs in
+    sum-flat_map (at_rate (price_on book.needs leaf.prices)) (λ (p : Line × ℕ). line_payments book.days p.0 p.1) pairs in
     let charges = charged-sum n book leaf pairs in
     let credits = credited-sum book leaf pairs in
-    let least = least-sum n book leaf book.lines ranges plan (λ line units is. coefficients-enclose book.settle line limits.settlement is units) (all-lines book.settle book.lines limits.lines)
+    let least = least-sum n book leaf book.lines ranges plan (λ line units is. coefficients-enclose book.days line limits.settlement is units) (all-lines book.days book.lines limits.lines)
     permitted.units permitted.same_length inside in
     let exact = reduced-sum n book leaf pairs in
     let whole : priced_needs book.needs leaf.prices + sum_by (charged n book leaf) pairs ≤ cost_weight leaf * cost book plan + sum_by (credited book leaf) pairs = omega arith in
@@ -187,7 +188,7 @@ flows-free n settle weight (flow ∷ flows) none =
     omega (arith, sum_by-cons (at_rate (limit_price n settle weight)) flow flows, nothing, flows-free n settle weight flows none)
 
 limited-free : (n : ℕ) (book : BookContents) (leaf : Leaf) (line : Line) (units : ℕ) → limit_weight leaf line.kind ≡ 0 → limited n book leaf (line, units) ≡ 0
-limited-free n book leaf line units none = flows-free n book.settle (limit_weight leaf line.kind) (line_payments book.settle line units) none
+limited-free n book leaf line units none = flows-free n book.days.settle (limit_weight leaf line.kind) (line_payments book.days line units) none
 
 weightless : (leaf : Leaf) (kind : LineKind) → leaf.mu ≡ 0 → limit_weight leaf kind ≡ 0
 weightless leaf Cash none = refl
@@ -234,39 +235,39 @@ value-by_day n settle (flow ∷ flows) =
 cash-weight : (leaf : Leaf) (line : Line) → IsCashLine line → limit_weight leaf line.kind ≡ 0
 cash-weight leaf line cash = ap (limit_weight leaf) cash.kind
 
-security-weight : (settle : ℤ) (leaf : Leaf) (kind : LineKind) → IsSecurity settle kind → limit_weight leaf kind ≡ leaf.mu
-security-weight settle leaf Cash security = absurd security
-security-weight settle leaf (Security slgs) security = refl
-security-weight settle leaf (Market note) security = refl
+security-weight : (days : PaymentDays) (leaf : Leaf) (kind : LineKind) → IsSecurity days kind → limit_weight leaf kind ≡ leaf.mu
+security-weight days leaf Cash security = absurd security
+security-weight days leaf (Security slgs) security = refl
+security-weight days leaf (Market note) security = refl
 
-abbrev security_payments : ℤ → List (Line × ℕ) → List Flow
-security_payments settle pairs = flat_map (λ p. line_payments settle p.0 p.1) pairs
+abbrev security_payments : PaymentDays → List (Line × ℕ) → List Flow
+security_payments days pairs = flat_map (λ p. line_payments days p.0 p.1) pairs
 
-securities-limited : (n : ℕ) (book : BookContents) (leaf : Leaf) (lines : List Line) (plan : List ℕ) → All (IsSecurityLine book.settle) lines
-    → sum_by (limited n book leaf) (zip lines plan) ≡ sum_by (at_rate (limit_price n book.settle leaf.mu)) (security_payments book.settle (zip lines plan))
+securities-limited : (n : ℕ) (book : BookContents) (leaf : Leaf) (lines : List Line) (plan : List ℕ) → All (IsSecurityLine book.days) lines
+    → sum_by (limited n book leaf) (zip lines plan) ≡ sum_by (at_rate (limit_price n book.days.settle leaf.mu)) (security_payments book.days (zip lines plan))
 securities-limited n book leaf [] plan are = refl
 securities-limited n book leaf (line ∷ lines) [] are = refl
 securities-limited n book leaf (line ∷ lines) (units ∷ plan) are =
-    let weight = security-weight book.settle leaf line.kind (All-head (IsSecurityLine book.settle) line lines are).security in
-    let own = ap (λ w. sum_by (at_rate (limit_price n book.settle w)) (line_payments book.settle line units)) weight in
-    let rest = securities-limited n book leaf lines plan (All-tail (IsSecurityLine book.settle) line lines are) in
+    let weight = security-weight book.days leaf line.kind (All-head (IsSecurityLine book.days) line lines are).security in
+    let own = ap (λ w. sum_by (at_rate (limit_price n book.days.settle w)) (line_payments book.days line units)) weight in
+    let rest = securities-limited n book leaf lines plan (All-tail (IsSecurityLine book.days) line lines are) in
     omega (
       arith,
       sum_by-cons (limited n book leaf) (line, units) (zip lines plan),
       own,
       rest,
-      sum_by-append (at_rate (limit_price n book.settle leaf.mu)) (line_payments book.settle line units) (security_payments book.settle (zip lines plan)),
+      sum_by-append (at_rate (limit_price n book.days.settle leaf.mu)) (line_payments book.days line units) (security_payments book.days (zip lines plan)),
     )
 
-securities-credit : (book : BookContents) (leaf : Leaf) (lines : List Line) (plan : List ℕ) → All (IsSecurityLine book.settle) lines
+securities-credit : (book : BookContents) (leaf : Leaf) (lines : List Line) (plan : List ℕ) → All (IsSecurityLine book.days) lines
     → sum_by (limit_credit leaf) (zip lines plan) ≡ leaf.mu * sum_by pair_cost (zip lines plan)
 unfolding limit_credit
 securities-credit book leaf [] plan are = omega arith
 securities-credit book leaf (line ∷ lines) [] are = omega arith
 securities-credit book leaf (line ∷ lines) (units ∷ plan) are =
-    let weight = security-weight book.settle leaf line.kind (All-head (IsSecurityLine book.settle) line lines are).security in
+    let weight = security-weight book.days leaf line.kind (All-head (IsSecurityLine book.days) line lines are).security in
     let own = ap (λ w. w * line_cost line units) weight in
-    let rest = securities-credit book leaf lines plan (All-tail (IsSecurityLine book.settle) line lines are) in
+    let rest = securities-credit book leaf lines plan (All-tail (IsSecurityLine book.days) line lines are) in
     omega (
       arith,
       sum_by-cons (limit_credit leaf) (line, units) (zip lines plan),
@@ -285,28 +286,28 @@ rival-limited limit book leaf rival limits is =
     n = limit - 1
 
     rate : ℤ → ℕ
-    rate = λ day. low n (index360_of book.settle day)
+    rate = λ day. low n (index360_of book.days.settle day)
 
     bought : List (Line × ℕ)
     bought = drop 1 (zip book.lines rival)
 
-    within : present_value Low n (indexed book.settle (security_flows book rival)) ≤ one * security_cost book rival
-    within = elim (cases_lt (one * security_cost book rival) (present_value Low n (indexed book.settle (security_flows book rival)))) [
-      | inl more ↦ absurd (low_value-excludes n (indexed book.settle (security_flows book rival)) (security_cost book rival) more is.yields)
+    within : present_value Low n (indexed book.days.settle (security_flows book rival)) ≤ one * security_cost book rival
+    within = elim (cases_lt (one * security_cost book rival) (present_value Low n (indexed book.days.settle (security_flows book rival)))) [
+      | inl more ↦ absurd (low_value-excludes n (indexed book.days.settle (security_flows book rival)) (security_cost book rival) more is.yields)
       | inr least ↦ least
     ]
 
-    worth : sum_by (at_rate rate) (security_payments book.settle bought) ≤ one * sum_by pair_cost bought
-    worth = omega (arith, within, value-by_day n book.settle (security_flows book rival), rate-summed rate (security_payments book.settle bought))
+    worth : sum_by (at_rate rate) (security_payments book.days bought) ≤ one * sum_by pair_cost bought
+    worth = omega (arith, within, value-by_day n book.days.settle (security_flows book rival), rate-summed rate (security_payments book.days bought))
 
-    securities : sum_by (at_rate (limit_price n book.settle leaf.mu)) (security_payments book.settle bought) ≤ leaf.mu * sum_by pair_cost bought
+    securities : sum_by (at_rate (limit_price n book.days.settle leaf.mu)) (security_payments book.days bought) ≤ leaf.mu * sum_by pair_cost bought
     securities =
-        let taken = limited-le n book.settle leaf.mu (security_payments book.settle bought) in
+        let taken = limited-le n book.days.settle leaf.mu (security_payments book.days bought) in
         let most = mul-le-mul_left leaf.mu worth in
         cancel-le _ _ one (omega arith) (omega (arith, taken, most))
 
-    split : (lines : List Line) (plan : List ℕ) → AreLines book.settle lines
-        → sum_by (at_rate (limit_price n book.settle leaf.mu)) (security_payments book.settle (drop 1 (zip lines plan))) ≤ leaf.mu * sum_by pair_cost (drop 1 (zip lines plan))
+    split : (lines : List Line) (plan : List ℕ) → AreLines book.days lines
+        → sum_by (at_rate (limit_price n book.days.settle leaf.mu)) (security_payments book.days (drop 1 (zip lines plan))) ≤ leaf.mu * sum_by pair_cost (drop 1 (zip lines plan))
         → sum_by (limited n book leaf) (zip lines plan) ≤ sum_by (limit_credit leaf) (zip lines plan)
     split [] plan are taken = absurd are
     split (cash ∷ lines) [] are taken = omega arith

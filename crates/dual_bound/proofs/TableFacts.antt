@@ -34,14 +34,14 @@ pushed n book old new day h within is same = record {
   known = λ after place d e.
       let was = h.known after place d (ap (λ xs. get_or xs after None) (sym same) ∙ e) in
       let more = extended old.days.items day new.days.items is in
-      (omega (arith, was.0, more.0), subst (IsPricedDay book (book.settle +ℤ pos after) (low n (index360_of book.settle (book.settle +ℤ pos after)))) (sym (more.1 place d was.0)) was.1);
+      (omega (arith, was.0, more.0), subst (IsPricedDay book (book.days.settle +ℤ pos after) (low n (index360_of book.days.settle (book.days.settle +ℤ pos after)))) (sym (more.1 place d was.0)) was.1);
 }
 
 -- the place of a day that is so many days after settlement is kept
 pub kept : (n : ℕ) (book : BookContents) (old new : DayTable) (after place : ℕ) → IsDayTable n book old → new.days.items ≡ old.days.items
     → ((other : ℕ) → get_or new.places.items other None ≡ (if other == after then Some place else get_or old.places.items other None))
     → place < length old.days.items
-    → ((d : PricedDay) → IsPricedDay book (book.settle +ℤ pos after) (low n (index360_of book.settle (book.settle +ℤ pos after))) (get_or old.days.items place d))
+    → ((d : PricedDay) → IsPricedDay book (book.days.settle +ℤ pos after) (low n (index360_of book.days.settle (book.days.settle +ℤ pos after))) (get_or old.days.items place d))
     → IsDayTable n book new
 kept n book old new after place h same places there priced = record {
   powers = subst (All (λ p. p.power ≤ one)) (sym same) h.powers;
@@ -49,41 +49,41 @@ kept n book old new after place h same places there priced = record {
 }
   where
     moved : (other k : ℕ) (d : PricedDay) → (k < length old.days.items)
-        × IsPricedDay book (book.settle +ℤ pos other) (low n (index360_of book.settle (book.settle +ℤ pos other))) (get_or old.days.items k d)
-        → (k < length new.days.items) × IsPricedDay book (book.settle +ℤ pos other) (low n (index360_of book.settle (book.settle +ℤ pos other))) (get_or new.days.items k d)
+        × IsPricedDay book (book.days.settle +ℤ pos other) (low n (index360_of book.days.settle (book.days.settle +ℤ pos other))) (get_or old.days.items k d)
+        → (k < length new.days.items) × IsPricedDay book (book.days.settle +ℤ pos other) (low n (index360_of book.days.settle (book.days.settle +ℤ pos other))) (get_or new.days.items k d)
     moved other k d h = (
       omega (arith, h.0, ap length same),
-      subst (IsPricedDay book (book.settle +ℤ pos other) (low n (index360_of book.settle (book.settle +ℤ pos other)))) (ap (λ xs. get_or xs k d) (sym same)) h.1,
+      subst (IsPricedDay book (book.days.settle +ℤ pos other) (low n (index360_of book.days.settle (book.days.settle +ℤ pos other)))) (ap (λ xs. get_or xs k d) (sym same)) h.1,
     )
 
     own : (other k : ℕ) (d : PricedDay) → other ≡ after → place ≡ k → (k < length old.days.items)
-        × IsPricedDay book (book.settle +ℤ pos other) (low n (index360_of book.settle (book.settle +ℤ pos other))) (get_or old.days.items k d)
+        × IsPricedDay book (book.days.settle +ℤ pos other) (low n (index360_of book.days.settle (book.days.settle +ℤ pos other))) (get_or old.days.items k d)
     own other k d o p = rw (o, ← p) (there, priced d)
 
     at : (other k : ℕ) (d : PricedDay) (t : Bool) → (other == after) ≡ t → (if t then Some place else get_or old.places.items other None) ≡ Some k
-        → (k < length new.days.items) × IsPricedDay book (book.settle +ℤ pos other) (low n (index360_of book.settle (book.settle +ℤ pos other))) (get_or new.days.items k d)
+        → (k < length new.days.items) × IsPricedDay book (book.days.settle +ℤ pos other) (low n (index360_of book.days.settle (book.days.settle +ℤ pos other))) (get_or new.days.items k d)
     at other k d true test e = moved other k d (own other k d (grind (arith, nat_tests)) (cc))
     at other k d false test e = moved other k d (h.known other k d e)
 
 -- a day that is there
-pub known-day : (n : ℕ) (book : BookContents) (table : DayTable) (after place : ℕ) (day : ℤ) → IsDayTable n book table → book.settle +ℤ pos after ≡ day
+pub known-day : (n : ℕ) (book : BookContents) (table : DayTable) (after place : ℕ) (day : ℤ) → IsDayTable n book table → book.days.settle +ℤ pos after ≡ day
     → get_or table.places.items after None ≡ Some place
-    → (place < length table.days.items) × ((d : PricedDay) → IsPricedDay book day (low n (index360_of book.settle day)) (get_or table.days.items place d))
+    → (place < length table.days.items) × ((d : PricedDay) → IsPricedDay book day (low n (index360_of book.days.settle day)) (get_or table.days.items place d))
 known-day n book table after place day h on e = (
   (h.known after place (record { need = 0; power = 0 }) e).0,
-  λ d. subst (λ z. IsPricedDay book z (low n (index360_of book.settle z)) (get_or table.days.items place d)) on (h.known after place d e).1,
+  λ d. subst (λ z. IsPricedDay book z (low n (index360_of book.days.settle z)) (get_or table.days.items place d)) on (h.known after place d e).1,
 )
 
 -- a day that is put
-pub put-day : (n : ℕ) (book : BookContents) (old mid new : DayTable) (priced : PricedDay) (after place : ℕ) (day : ℤ) → IsDayTable n book old → book.settle +ℤ pos after ≡ day
-    → IsPricedDay book day (low n (index360_of book.settle day)) priced → priced.power ≤ one → place ≡ length old.days.items
+pub put-day : (n : ℕ) (book : BookContents) (old mid new : DayTable) (priced : PricedDay) (after place : ℕ) (day : ℤ) → IsDayTable n book old → book.days.settle +ℤ pos after ≡ day
+    → IsPricedDay book day (low n (index360_of book.days.settle day)) priced → priced.power ≤ one → place ≡ length old.days.items
     → mid.days.items ≡ old.days.items ++ priced ∷ [] → mid.places.items ≡ old.places.items → new.days.items ≡ mid.days.items
     → ((other : ℕ) → get_or new.places.items other None ≡ (if other == after then Some place else get_or mid.places.items other None))
     → IsDayTable n book new
 put-day n book old mid new priced after place day h on is within at days places same put =
     kept n book mid new after place (pushed n book old mid priced h within days places) same put
     (omega (arith, at, ap length days, length-append old.days.items (priced ∷ [])))
-    (λ d. subst (λ z. IsPricedDay book z (low n (index360_of book.settle z)) (get_or mid.days.items place d)) (sym on) (subst (IsPricedDay book day (low n (index360_of book.settle day))) (sym (last d)) is))
+    (λ d. subst (λ z. IsPricedDay book z (low n (index360_of book.days.settle z)) (get_or mid.days.items place d)) (sym on) (subst (IsPricedDay book day (low n (index360_of book.days.settle day))) (sym (last d)) is))
   where
     last : (d : PricedDay) → get_or mid.days.items place d ≡ priced
     last d = (λ i. get_or (days i) (at i) d) ∙ get_or-append_seam old.days.items priced [] d

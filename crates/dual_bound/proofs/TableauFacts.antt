@@ -55,7 +55,7 @@ light-worth dates leaf day well power =
 
 -- what is known of a line and its column
 pub record IsReady (book : BookContents) (tableau : Tableau) (line : Line) (column : Column) : Type 0 where
-  pub is_line : IsLine book.settle line
+  pub is_line : IsLine book.days line
   pub is_column : IsColumn tableau.yield_units.0 book tableau.days.items line column
   pub small : IsSmallColumn column
   pub there : All (λ place. place < length tableau.worths.items) column.places.items
@@ -65,12 +65,12 @@ pub record IsReady (book : BookContents) (tableau : Tableau) (line : Line) (colu
 pub ready : (book : BookContents) (t : Tableau) (place : ℕ) (line : Line) (column : Column) → IsBook book → IsTableau book t → place < length book.lines
     → line ≡ get_or book.lines place line → column ≡ get_or t.columns.items place column → IsReady book t line column
 ready book t place line column limits h few is column_is = record {
-  is_line = subst (IsLine book.settle) (sym is) (all-lines book.settle book.lines limits.lines place line few);
+  is_line = subst (IsLine book.days) (sym is) (all-lines book.days book.lines limits.lines place line few);
   is_column = own;
   small = subst IsSmallColumn (sym column_is) (h.small place column (omega (arith, few, columns-long)));
-  there = zip-right (IsPlace t.yield_units.0 book line.kind t.days.items) (λ place. place < length t.worths.items) (filter is_regular (schedule_of book.settle line)) column.places.items
+  there = zip-right (IsPlace t.yield_units.0 book line.kind t.days.items) (λ place. place < length t.worths.items) (filter is_regular (schedule_of book.days line)) column.places.items
       (λ p k at. omega (arith, at.there, days)) own.places;
-  others_there = zip-right (IsOther t.yield_units.0 book line t.days.items) (λ (o : OtherPayment). o.place < length t.worths.items) (filter is_other (schedule_of book.settle line)) column.others.items
+  others_there = zip-right (IsOther t.yield_units.0 book line t.days.items) (λ (o : OtherPayment). o.place < length t.worths.items) (filter is_other (schedule_of book.days line)) column.others.items
       (λ p o at. omega (arith, at.place.there, days)) own.others;
   light = All-same IsLightWorth t.worths.items (map (worth_on t.leaf) t.days.items) h.worths
       (All-map IsLightWorth (worth_on t.leaf) t.days.items (λ k d lt. light-worth (length book.needs) t.leaf (get_or t.days.items k d) h.leaf (h.powers k d lt)));
@@ -94,7 +94,7 @@ pub columns-there : (n : ℕ) (book : BookContents) (days : List PricedDay) (lin
 columns-there n book days lines columns h =
     zip-right (IsColumn n book days) (λ (column : Column). All (λ place. place < length days) column.places.items) lines columns
     (λ line column own.
-    zip-right (IsPlace n book line.kind days) (λ place. place < length days) (filter is_regular (schedule_of book.settle line)) column.places.items (λ p k at. at.there) own.places) h
+    zip-right (IsPlace n book line.kind days) (λ place. place < length days) (filter is_regular (schedule_of book.days line)) column.places.items (λ p k at. at.there) own.places) h
 
 -- days are worth at most 2 each
 pub worths-light : (dates : ℕ) (leaf : Leaf) (days : List PricedDay) (worths : List Worth) → IsLeaf dates leaf → All (λ (priced : PricedDay). priced.power ≤ one) days
@@ -106,7 +106,7 @@ worths-light dates leaf days worths well powers is =
 pub lines-few : (book : BookContents) → IsBook book → length book.lines ≤ 257
 lines-few book h = few book.lines h.lines
   where
-    few : (lines : List Line) → AreLines book.settle lines → length lines ≤ 257
+    few : (lines : List Line) → AreLines book.days lines → length lines ≤ 257
     few [] is = absurd is
     few (cash ∷ securities) is = omega (arith, is.2)
 

@@ -79,7 +79,7 @@ worth_together worths places = record {
 pub record IsDayTable (n : ℕ) (book : BookContents) (table : DayTable) : Type 0 where
   pub powers : All (λ priced. priced.power ≤ one) table.days.items
   pub known : (after place : ℕ) (d : PricedDay) → slice_index_or table.places.items after None ≡ Some place
-      → (place < length table.days.items) × IsPricedDay book (book.settle +ℤ pos after) (low n (index360_of book.settle (book.settle +ℤ pos after))) (slice_index_or table.days.items place d)
+      → (place < length table.days.items) × IsPricedDay book (book.days.settle +ℤ pos after) (low n (index360_of book.days.settle (book.days.settle +ℤ pos after))) (slice_index_or table.days.items place d)
 
 -- what is there stays where it is
 abbrev pub Extends : {X : Type 0} → List X → List X → Type 0
@@ -106,7 +106,7 @@ regular_on day = record { day = day; accrual = half_year_accrual; principal = fa
 -- a payment of a kind falls on the day at a place
 pub record IsPlace (n : ℕ) (book : BookContents) (kind : LineKind) (days : List PricedDay) (payment : ScheduledPayment) (place : ℕ) : Type 0 where
   pub there : place < length days
-  pub priced : (d : PricedDay) → IsPricedDay book payment.day (kind_power n book.settle kind payment.day) (slice_index_or days place d)
+  pub priced : (d : PricedDay) → IsPricedDay book payment.day (kind_power n book.days.settle kind payment.day) (slice_index_or days place d)
 
 -- another payment of a line, with its coefficients
 pub record IsOther (n : ℕ) (book : BookContents) (line : Line) (days : List PricedDay) (payment : ScheduledPayment) (other : OtherPayment) : Type 0 where
@@ -119,9 +119,9 @@ pub record IsOther (n : ℕ) (book : BookContents) (line : Line) (days : List Pr
 pub record IsColumn (n : ℕ) (book : BookContents) (days : List PricedDay) (line : Line) (column : Column) : Type 0 where
   pub costs : cost_coefficients line ≡ record { low = column.cost_low; high = column.cost_high; slack = column.cost_slack }
   pub accrued : column.accrued ≡ kind_accrued line.kind
-  pub regular : column.regular ≡ pay_by (kind_rate line.kind) line.step (regular_on book.settle)
-  pub places : AllZip (IsPlace n book line.kind days) (filter is_regular (schedule_of book.settle line)) column.places.items
-  pub others : AllZip (IsOther n book line days) (filter is_other (schedule_of book.settle line)) column.others.items
+  pub regular : column.regular ≡ pay_by (kind_rate line.kind) line.step (regular_on book.days.settle)
+  pub places : AllZip (IsPlace n book line.kind days) (filter is_regular (schedule_of book.days line)) column.places.items
+  pub others : AllZip (IsOther n book line days) (filter is_other (schedule_of book.days line)) column.others.items
 
 -- coefficients with room for their products
 pub record IsSmallPay (pay : PayCoefficients) : Type 0 where

@@ -56,14 +56,14 @@ cost_worth leaf kind = pos (cost_weight leaf) -ℤ pos (limit_weight leaf kind)
 -- what a cent that a line pays on a day is worth: its price, less what the limit takes
 abbrev pub paid_worth : ℕ → BookContents → Leaf → LineKind → ℤ → ℤ
 paid_worth n book leaf kind day =
-    pos (price_on book.needs leaf.prices day) -ℤ pos (limit_price n book.settle (limit_weight leaf kind) day)
+    pos (price_on book.needs leaf.prices day) -ℤ pos (limit_price n book.days.settle (limit_weight leaf kind) day)
 
 -- the reduced cost of units of a line, scaled: what they cost less what their payments are worth, exactly
 unfoldable pub reduced_cost : ℕ → BookContents → Leaf → Line → ℕ → ℤ
 reduced_cost n book leaf line units =
     pos COEFFICIENT_SCALE
     *ℤ (cost_worth leaf line.kind *ℤ pos (line_cost line units)
-    -ℤ signed_sum (λ flow. paid_worth n book leaf line.kind flow.day *ℤ pos flow.cents.0) (line_payments book.settle line units))
+    -ℤ signed_sum (λ flow. paid_worth n book leaf line.kind flow.day *ℤ pos flow.cents.0) (line_payments book.days line units))
 
 -- an affine form at a number of units
 abbrev pub form_at : Form → ℕ → ℤ
@@ -77,9 +77,9 @@ least_side weight low high = if int_le (pos 0) weight then weight *ℤ pos low e
 unfoldable pub form_of : ℕ → BookContents → Leaf → Line → Form
 form_of n book leaf line = record {
   slope = least_side (cost_worth leaf line.kind) (cost_coefficients line).low (cost_coefficients line).high
-      +ℤ signed_sum (λ pay. least_side (neg_ℤ (paid_worth n book leaf line.kind pay.day)) pay.low pay.high) (pay_coefficients book.settle line);
+      +ℤ signed_sum (λ pay. least_side (neg_ℤ (paid_worth n book leaf line.kind pay.day)) pay.low pay.high) (pay_coefficients book.days line);
   slack = unsigned_abs (cost_worth leaf line.kind) * (cost_coefficients line).slack
-      + sum_by (λ pay. unsigned_abs (paid_worth n book leaf line.kind pay.day) * pay.slack) (pay_coefficients book.settle line);
+      + sum_by (λ pay. unsigned_abs (paid_worth n book leaf line.kind pay.day) * pay.slack) (pay_coefficients book.days line);
 }
 
 -- the least that a line can add within an interval: exactly where it holds one number, else by the form at its ends; an

@@ -1,4 +1,5 @@
 //! A line as a column of the linear program.
+ghost use Rattle.offer_book.specs.declared.payment_days.PaymentDays.{PaymentDays};
 ghost use Rattle.std.specs.Prelude.{All, List, ◌≡◌, ◌+◌, ◌*◌, ◌^◌, ◌<◌, ◌≤◌, ◌+ℤ◌, ◌-ℤ◌, ◌*ℤ◌, ℕ, ℤ, [], ◌∷◌, ◌++◌, cond, IfOk, OnOk, length, pos, unsigned_abs};
 ghost use Rattle.escrow_units.specs.Interest.{earned_of};
 ghost use Rattle.escrow_units.specs.SlgsTerms.{IsSettlement};
@@ -19,7 +20,7 @@ use crate::worth::Worth;
 use escrow_desk::NoMemory;
 use escrow_units::{Accrual, Cents, Day, GREATEST_RATE, Rate, earned};
 use fixed_powers::Powers;
-use offer_book::{Book, Line, PayCoefficients};
+use offer_book::{Book, Line, PayCoefficients, PaymentDays as Days};
 use payment_schedule::{HALF_YEAR, ScheduledPayment};
 use std::alloc::Global;
 
@@ -62,7 +63,7 @@ fn is_regular(payment: &ScheduledPayment) -> bool
 
 // What a unit of a line pays by a payment, scaled.
 fn coefficients_of(line: &Line, payment: &ScheduledPayment) -> PayCoefficients
-    requires line { (settle : ℤ) × IsLine settle line.now }
+    requires line { (days : PaymentDays) × IsLine days line.now }
     requires short { IsShort payment.now.accrual }
     ensures value { result ≡ pay_by (kind_rate line.now.kind) line.now.step payment.now }
     ensures small { IsSmallPay result }
@@ -72,7 +73,7 @@ fn coefficients_of(line: &Line, payment: &ScheduledPayment) -> PayCoefficients
 
 // Another payment of a line, by the place of its day.
 fn other_payment(line: &Line, payment: &ScheduledPayment, place: u16) -> OtherPayment
-    requires line { (settle : ℤ) × IsLine settle line.now }
+    requires line { (days : PaymentDays) × IsLine days line.now }
     requires short { IsShort payment.now.accrual }
     ensures value { result ≡ record { place = place; payment = payment.now; coefficients = pay_by (kind_rate line.now.kind) line.now.step payment.now } }
     ensures small { IsSmallOther result }
@@ -162,20 +163,20 @@ fn paid_in_all(regular: i128, others: i128) -> i128
 
 impl Column {
     // The column of a line before its payments.
-    fn without_payments(alloc: Global, settle: Day, line: &Line) -> Column
-        requires settlement { IsSettlement settle }
-        requires line { IsLine settle line.now }
-        ensures head { HasHead settle line.now result }
+    fn without_payments(alloc: Global, days: &Days, line: &Line) -> Column
+        requires settlement { IsSettlement days.now.settle }
+        requires line { IsLine days.now line.now }
+        ensures head { HasHead days.now.settle line.now result }
         ensures places { result.places.items ≡ [] }
         ensures others { result.others.items ≡ [] }
     {
-        let coefficients = line.coefficients(settle);
+        let coefficients = line.coefficients(days);
         Column {
             cost_low: coefficients.cost_low,
             cost_high: coefficients.cost_high,
             cost_slack: coefficients.cost_slack,
             accrued: line.accrued(),
-            regular: coefficients_of(line, &regular_payment(settle)),
+            regular: coefficients_of(line, &regular_payment(days.settle)),
             places: Vec::new(alloc),
             others: Vec::new(alloc),
         }
@@ -183,7 +184,7 @@ impl Column {
 
     // Puts a payment at the place of its day.
     fn put(&mut self, line: &Line, payment: &ScheduledPayment, place: u16) -> Result<(), NoMemory>
-        requires line { (settle : ℤ) × IsLine settle line.now }
+        requires line { (days : PaymentDays) × IsLine days line.now }
         requires short { IsShort payment.now.accrual }
         ensures head { OnOk result (KeepsHead self.old self.new) }
         ensures places { OnOk result (self.new.places.items ≡ self.old.places.items ++ cond (is_regular_of payment.now) (place ∷ []) []) }
@@ -214,7 +215,7 @@ impl Column {
     ) -> Result<Column, NoMemory>
         requires limits { IsBook book.now }
         requires powers { IsLowTable powers.now }
-        requires line { IsLine book.now.settle line.now }
+        requires line { IsLine book.now.days line.now }
         requires few { length table.old.days.items + 84 ≤ 65_535 }
         requires table { IsDayTable powers.now.yield_units book.now table.old }
         ensures table { OnOk result (IsDayTable powers.now.yield_units book.now table.new) }
@@ -223,8 +224,8 @@ impl Column {
         ensures column { IfOk result (IsColumn powers.now.yield_units book.now table.new.days.items line.now) }
         ensures small { IfOk result IsSmallColumn }
     {
-        let mut column = Column::without_payments(alloc, book.settle(), line);
-        let schedule = line.schedule(book.settle());
+        let mut column = Column::without_payments(alloc, book.payment_days(), line);
+        let schedule = line.schedule(book.payment_days());
         for payment in schedule.as_slice() {
             let place = table.place(book, powers, line.kind, payment)?;
             column.put(line, payment, place)?;
@@ -322,7 +323,7 @@ impl Column {
         units: u64,
     ) -> i128
         requires small { IsSmallColumn self.now }
-        requires line { (settle : ℤ) × IsLine settle line.now }
+        requires line { (days : PaymentDays) × IsLine days line.now }
         requires units { units ≤ line.now.most }
         requires accrued { self.now.accrued ≡ kind_accrued line.now.kind }
         requires own { unsigned_abs own ≤ PRICE_SCALE }

@@ -8,7 +8,7 @@ ghost use Rattle.dual_bound.specs.Tree.{IsLeaf};
 
 use crate::{Columns, Leaf, PRICE_SCALE, Prices, Ranges, bound, priced_needs, range_laws};
 use escrow_units::{
-    Cents, Day, Flow, GREATEST_INDEX, Rate, Slgs, SlgsKind, YieldUnits, years_after,
+    Cents, ClosedDays, Day, Flow, GREATEST_INDEX, Rate, Slgs, SlgsKind, YieldUnits, years_after,
 };
 use fixed_powers::{Powers, Side};
 use offer_book::{Book, Line, LineKind};
@@ -67,7 +67,7 @@ fn sample(rt: &impl Abort, alloc: Global) -> Result<Book, Fail> {
         },
     ]?;
     let lines = vec![in alloc; no_cash(), line]?;
-    Ok(Book::make(settle, needs, lines))
+    Ok(Book::make(settle, needs, lines, ClosedDays::none(alloc)))
 }
 
 // A leaf without a weight of the limit.

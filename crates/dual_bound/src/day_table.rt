@@ -69,9 +69,9 @@ fn cash_day(book: &Book, day: Day) -> PricedDay
 fn security_day(book: &Book, powers: &Powers, day: Day) -> PricedDay
     requires limits { IsBook book.now }
     requires powers { IsLowTable powers.now }
-    requires from { book.now.settle ≤ℤ day }
-    requires to { day ≤ℤ years_after_of book.now.settle 40 }
-    ensures value { IsPricedDay book.now day (low powers.now.yield_units (index360_of book.now.settle day)) result }
+    requires from { book.now.days.settle ≤ℤ day }
+    requires to { day ≤ℤ years_after_of book.now.days.settle 40 }
+    ensures value { IsPricedDay book.now day (low powers.now.yield_units (index360_of book.now.days.settle day)) result }
     ensures within { result.power ≤ one }
 {
     PricedDay {
@@ -132,15 +132,15 @@ impl DayTable {
     fn security_place(&mut self, book: &Book, powers: &Powers, day: Day) -> Result<u16, NoMemory>
         requires limits { IsBook book.now }
         requires powers { IsLowTable powers.now }
-        requires from { book.now.settle ≤ℤ day }
-        requires to { day ≤ℤ years_after_of book.now.settle 40 }
+        requires from { book.now.days.settle ≤ℤ day }
+        requires to { day ≤ℤ years_after_of book.now.days.settle 40 }
         requires few { length self.old.days.items < 65_535 }
         requires table { IsDayTable powers.now.yield_units book.now self.old }
         ensures table { OnOk result (IsDayTable powers.now.yield_units book.now self.new) }
         ensures extends { OnOk result (Extends self.old.days.items self.new.days.items) }
         ensures more { OnOk result (length self.new.days.items ≤ length self.old.days.items + 1) }
         ensures there { IfOk result (λ place. place < length self.new.days.items) }
-        ensures priced { IfOk result (λ place. (d : PricedDay) → IsPricedDay book.now day (low powers.now.yield_units (index360_of book.now.settle day)) (slice_index_or self.new.days.items place d)) }
+        ensures priced { IfOk result (λ place. (d : PricedDay) → IsPricedDay book.now day (low powers.now.yield_units (index360_of book.now.days.settle day)) (slice_index_or self.new.days.items place d)) }
     {
         let after = days_after(book.settle(), day);
         if let Some(place) = self.known(after) {
@@ -174,8 +174,8 @@ impl DayTable {
     ) -> Result<u16, NoMemory>
         requires limits { IsBook book.now }
         requires powers { IsLowTable powers.now }
-        requires from { book.now.settle ≤ℤ payment.now.day }
-        requires to { payment.now.day ≤ℤ years_after_of book.now.settle 40 }
+        requires from { book.now.days.settle ≤ℤ payment.now.day }
+        requires to { payment.now.day ≤ℤ years_after_of book.now.days.settle 40 }
         requires few { length self.old.days.items < 65_535 }
         requires table { IsDayTable powers.now.yield_units book.now self.old }
         ensures table { OnOk result (IsDayTable powers.now.yield_units book.now self.new) }

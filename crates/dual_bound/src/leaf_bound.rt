@@ -73,8 +73,8 @@ fn limit_price(settle: Day, powers: &Powers, weight: u64, day: Day) -> u64
 fn paid_worth(book: &Book, powers: &Powers, leaf: &Leaf, kind: LineKind, day: Day) -> i128
     requires leaf { IsLeaf (length book.now.needs) leaf.now }
     requires powers { IsLowTable powers.now }
-    requires from { book.now.settle ≤ℤ day }
-    requires to { day ≤ℤ years_after_of book.now.settle 40 }
+    requires from { book.now.days.settle ≤ℤ day }
+    requires to { day ≤ℤ years_after_of book.now.days.settle 40 }
     ensures value { result ≡ paid_worth_of powers.now.yield_units book.now leaf.now kind day }
     ensures light { unsigned_abs result ≤ 2 * PRICE_SCALE }
 {
@@ -89,10 +89,10 @@ fn form(book: &Book, powers: &Powers, leaf: &Leaf, line: &Line) -> Form
     requires limits { IsBook book.now }
     requires leaf { IsLeaf (length book.now.needs) leaf.now }
     requires powers { IsLowTable powers.now }
-    requires line { IsLine book.now.settle line.now }
+    requires line { IsLine book.now.days line.now }
     ensures { result ≡ form_of powers.now.yield_units book.now leaf.now line.now }
 {
-    let coefficients = line.coefficients(book.settle());
+    let coefficients = line.coefficients(book.payment_days());
     let mut form = Form::of_amount(
         cost_worth(leaf, line.kind),
         coefficients.cost_low,
@@ -131,12 +131,12 @@ fn reduced_cost(book: &Book, powers: &Powers, leaf: &Leaf, line: &Line, units: u
     requires limits { IsBook book.now }
     requires leaf { IsLeaf (length book.now.needs) leaf.now }
     requires powers { IsLowTable powers.now }
-    requires line { IsLine book.now.settle line.now }
+    requires line { IsLine book.now.days line.now }
     requires units { units ≤ line.now.most }
     ensures { result ≡ reduced_cost_of powers.now.yield_units book.now leaf.now line.now units }
 {
     let mut paid = 0i128;
-    for flow in line.payments(book.settle(), units).as_slice() {
+    for flow in line.payments(book.payment_days(), units).as_slice() {
         let worth = paid_worth(book, powers, leaf, line.kind, flow.day);
         paid += weighed(worth, flow.cents);
     }
@@ -149,7 +149,7 @@ fn least(book: &Book, powers: &Powers, leaf: &Leaf, line: &Line, interval: Inter
     requires limits { IsBook book.now }
     requires leaf { IsLeaf (length book.now.needs) leaf.now }
     requires powers { IsLowTable powers.now }
-    requires line { IsLine book.now.settle line.now }
+    requires line { IsLine book.now.days line.now }
     requires ordered { interval.low ≤ interval.high }
     requires high { interval.high ≤ line.now.most }
     ensures value { result ≡ least_within powers.now.yield_units book.now leaf.now line.now interval }

@@ -20,6 +20,7 @@ use Rattle.dual_bound.specs.declared.ranges.Interval.{Interval}
 use Rattle.dual_bound.specs.declared.tree.Leaf.{Leaf}
 use Rattle.dual_bound.specs.Tree.{with_price}
 use Rattle.dual_tune.specs.Payers.{IsAside, IsElsewhere}
+use Rattle.offer_book.specs.declared.payment_days.PaymentDays.{PaymentDays}
 
 set-other : (xs : List ℕ) (place other v : ℕ) → ¬ (other ≡ place) → get_or (set xs place v) other 0 ≡ get_or xs other 0
 set-other [] place other v apart = refl
@@ -47,7 +48,7 @@ weight-same leaf place price (Market note) = refl
 worth-elsewhere : (n : ℕ) (book : BookContents) (leaf : Leaf) (place price : ℕ) (kind : LineKind) (day : ℤ) → length leaf.prices ≡ length book.needs → IsElsewhere book.needs place day
     → paid_worth n book (with_price leaf place price) kind day ≡ paid_worth n book leaf kind day
 worth-elsewhere n book leaf place price kind day same e =
-    λ i. pos (price-elsewhere book.needs leaf.prices place price day same e i) -ℤ pos (limit_price n book.settle (weight-same leaf place price kind i) day)
+    λ i. pos (price-elsewhere book.needs leaf.prices place price day same e i) -ℤ pos (limit_price n book.days.settle (weight-same leaf place price kind i) day)
 
 cost-same : (leaf : Leaf) (place price : ℕ) (kind : LineKind) → cost_worth (with_price leaf place price) kind ≡ cost_worth leaf kind
 cost-same leaf place price kind = λ i. pos (cost_weight leaf) -ℤ pos (weight-same leaf place price kind i)
@@ -68,36 +69,36 @@ mapped : {X Y : Type 0} (P : Y → Type 0) (f : X → Y) (xs : List X) → All (
 mapped P f [] h = λ k d lt. absurd (omega arith)
 mapped P f (x ∷ xs) h = All-cons P (f x) (map f xs) (h 0 x (omega arith)) (mapped P f xs (λ k d lt. h (suc k) d (omega arith)))
 
-pays-elsewhere : (settle : ℤ) (needs : List Flow) (place : ℕ) (line : Line) → IsAside settle needs place line
-    → All (λ (pay : PayCoefficients). IsElsewhere needs place pay.day) (pay_coefficients settle line)
-pays-elsewhere settle needs place line aside =
-    mapped (λ (pay : PayCoefficients). IsElsewhere needs place pay.day) (pay_by (kind_rate line.kind) line.step) (schedule_of settle line) aside
+pays-elsewhere : (days : PaymentDays) (needs : List Flow) (place : ℕ) (line : Line) → IsAside days needs place line
+    → All (λ (pay : PayCoefficients). IsElsewhere needs place pay.day) (pay_coefficients days line)
+pays-elsewhere days needs place line aside =
+    mapped (λ (pay : PayCoefficients). IsElsewhere needs place pay.day) (pay_by (kind_rate line.kind) line.step) (schedule_of days line) aside
 
-flows-elsewhere : (settle : ℤ) (needs : List Flow) (place : ℕ) (line : Line) (units : ℕ) → IsAside settle needs place line
-    → All (λ (flow : Flow). IsElsewhere needs place flow.day) (line_payments settle line units)
-flows-elsewhere settle needs place line units aside =
-    mapped (λ (flow : Flow). IsElsewhere needs place flow.day) (flow_by (kind_rate line.kind) (par line units)) (schedule_of settle line) aside
+flows-elsewhere : (days : PaymentDays) (needs : List Flow) (place : ℕ) (line : Line) (units : ℕ) → IsAside days needs place line
+    → All (λ (flow : Flow). IsElsewhere needs place flow.day) (line_payments days line units)
+flows-elsewhere days needs place line units aside =
+    mapped (λ (flow : Flow). IsElsewhere needs place flow.day) (flow_by (kind_rate line.kind) (par line units)) (schedule_of days line) aside
 
-form-aside : (n : ℕ) (book : BookContents) (leaf : Leaf) (place price : ℕ) (line : Line) → length leaf.prices ≡ length book.needs → IsAside book.settle book.needs place line
+form-aside : (n : ℕ) (book : BookContents) (leaf : Leaf) (place price : ℕ) (line : Line) → length leaf.prices ≡ length book.needs → IsAside book.days book.needs place line
     → form_of n book (with_price leaf place price) line ≡ form_of n book leaf line
 unfolding form_of
 form-aside n book leaf place price line same aside =
     let own = cost-same leaf place price line.kind in
-    let pays = pays-elsewhere book.settle book.needs place line aside in
+    let pays = pays-elsewhere book.days book.needs place line aside in
     let slope = signed-same (λ (pay : PayCoefficients). IsElsewhere book.needs place pay.day)
     (λ (pay : PayCoefficients). least_side (neg_ℤ (paid_worth n book (with_price leaf place price) line.kind pay.day)) pay.low pay.high)
     (λ (pay : PayCoefficients). least_side (neg_ℤ (paid_worth n book leaf line.kind pay.day)) pay.low pay.high)
-    (pay_coefficients book.settle line) (λ pay e. ap (λ z. least_side (neg_ℤ z) pay.low pay.high) (worth-elsewhere n book leaf place price line.kind pay.day same e)) pays in
+    (pay_coefficients book.days line) (λ pay e. ap (λ z. least_side (neg_ℤ z) pay.low pay.high) (worth-elsewhere n book leaf place price line.kind pay.day same e)) pays in
     let slack = sum-same (λ (pay : PayCoefficients). IsElsewhere book.needs place pay.day)
     (λ (pay : PayCoefficients). unsigned_abs (paid_worth n book (with_price leaf place price) line.kind pay.day) * pay.slack)
     (λ (pay : PayCoefficients). unsigned_abs (paid_worth n book leaf line.kind pay.day) * pay.slack)
-    (pay_coefficients book.settle line) (λ pay e. ap (λ z. unsigned_abs z * pay.slack) (worth-elsewhere n book leaf place price line.kind pay.day same e)) pays in
+    (pay_coefficients book.days line) (λ pay e. ap (λ z. unsigned_abs z * pay.slack) (worth-elsewhere n book leaf place price line.kind pay.day same e)) pays in
     λ i. record {
       slope = least_side (own i) (cost_coefficients line).low (cost_coefficients line).high +ℤ slope i;
       slack = unsigned_abs (own i) * (cost_coefficients line).slack + slack i;
     }
 
-reduced-aside : (n : ℕ) (book : BookContents) (leaf : Leaf) (place price : ℕ) (line : Line) (units : ℕ) → length leaf.prices ≡ length book.needs → IsAside book.settle book.needs place line
+reduced-aside : (n : ℕ) (book : BookContents) (leaf : Leaf) (place price : ℕ) (line : Line) (units : ℕ) → length leaf.prices ≡ length book.needs → IsAside book.days book.needs place line
     → reduced_cost n book (with_price leaf place price) line units ≡ reduced_cost n book leaf line units
 unfolding reduced_cost
 reduced-aside n book leaf place price line units same aside =
@@ -105,12 +106,12 @@ reduced-aside n book leaf place price line units same aside =
     let paid = signed-same (λ (flow : Flow). IsElsewhere book.needs place flow.day)
     (λ (flow : Flow). paid_worth n book (with_price leaf place price) line.kind flow.day *ℤ pos flow.cents.0)
     (λ (flow : Flow). paid_worth n book leaf line.kind flow.day *ℤ pos flow.cents.0)
-    (line_payments book.settle line units) (λ flow e. ap (λ z. z *ℤ pos flow.cents.0) (worth-elsewhere n book leaf place price line.kind flow.day same e))
-    (flows-elsewhere book.settle book.needs place line units aside) in
+    (line_payments book.days line units) (λ flow e. ap (λ z. z *ℤ pos flow.cents.0) (worth-elsewhere n book leaf place price line.kind flow.day same e))
+    (flows-elsewhere book.days book.needs place line units aside) in
     λ i. pos COEFFICIENT_SCALE *ℤ (own i *ℤ pos (line_cost line units) -ℤ paid i)
 
 pub least-aside : (n : ℕ) (book : BookContents) (leaf : Leaf) (place price : ℕ) (line : Line) (interval : Interval) → length leaf.prices ≡ length book.needs
-    → IsAside book.settle book.needs place line
+    → IsAside book.days book.needs place line
     → least_within n book (with_price leaf place price) line interval ≡ least_within n book leaf line interval
 least-aside n book leaf place price line interval same aside =
     let form = form-aside n book leaf place price line same aside in

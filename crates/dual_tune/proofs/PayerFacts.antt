@@ -27,7 +27,7 @@ put-kept by_date place old new few is kept date e other lt has =
 -- a line is put for the first so many of its payments
 pub record AreAdded (book : BookContents) (line place : ℕ) (schedule : List ScheduledPayment) (paid : ℕ) (lines : List ℕ) : Type 0 where
   pub rising : IsRisingTo line lines
-  pub others : (other : ℕ) (d : Line) → other < line → (Contains lines other → ⊥) → IsAside book.settle book.needs place (get_or book.lines other d)
+  pub others : (other : ℕ) (d : Line) → other < line → (Contains lines other → ⊥) → IsAside book.days book.needs place (get_or book.lines other d)
   pub own : (Contains lines line → ⊥) → (k : ℕ) (d : ScheduledPayment) → k < paid → IsElsewhere book.needs place (get_or schedule k d).day
 
 pub added-none : (book : BookContents) (line place : ℕ) (schedule : List ScheduledPayment) (lines : List ℕ) → ArePayers book line place lines → AreAdded book line place schedule 0 lines
@@ -54,7 +54,7 @@ added-more book line place schedule paid at old new h rising kept there serves =
 }
 
 pub added-all : (book : BookContents) (line place : ℕ) (schedule : List ScheduledPayment) (paid : ℕ) (lines : List ℕ) → AreAdded book line place schedule paid lines → length schedule ≤ paid
-    → ((d : Line) → schedule ≡ schedule_of book.settle (get_or book.lines line d)) → ArePayers book (line + 1) place lines
+    → ((d : Line) → schedule ≡ schedule_of book.days (get_or book.lines line d)) → ArePayers book (line + 1) place lines
 added-all book line place schedule paid lines h all scheduled = record {
   rising = h.rising.rising;
   there = λ k d lt. omega (arith, h.rising.within k d lt);
@@ -63,7 +63,7 @@ added-all book line place schedule paid lines h all scheduled = record {
         | inl before ↦ h.others other d before none
         | inr from ↦
             let is : line ≡ other = omega (arith, lt, from) in
-            subst (λ j. IsAside book.settle book.needs place (get_or book.lines j d)) is
+            subst (λ j. IsAside book.days book.needs place (get_or book.lines j d)) is
             (subst (All (λ payment. IsElsewhere book.needs place payment.day)) (scheduled d) (λ k e few. h.own (λ c. none (subst (Contains lines) is c)) k e (omega (arith, few, all))))
       ];
 }

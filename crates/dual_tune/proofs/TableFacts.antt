@@ -43,7 +43,7 @@ unfolding reduced_cost
 reduced_cost-none n book leaf line units none =
     let own : cost_worth leaf line.kind *ℤ pos (line_cost line units) ≡ cost_worth leaf line.kind *ℤ pos 0 = ap (λ m. cost_worth leaf line.kind *ℤ pos m) (line_cost-none line units none) in
     let nothing : cost_worth leaf line.kind *ℤ pos 0 ≡ pos 0 = omega (arith, ints) in
-    let paid = worth-none (paid_worth n book leaf line.kind) (line_payments book.settle line units) (line_payments-none book.settle line units none) in
+    let paid = worth-none (paid_worth n book leaf line.kind) (line_payments book.days line units) (line_payments-none book.days line units none) in
     (λ i. pos COEFFICIENT_SCALE *ℤ ((own ∙ nothing) i -ℤ paid i))
 
 pub least-none : (n : ℕ) (book : BookContents) (leaf : Leaf) (line : Line) (interval : Interval) → interval.low ≤ interval.high → interval.high ≡ 0
@@ -58,7 +58,7 @@ form-light n book priced leaf line interval form units limits is few most =
     omega (
       arith,
       ap (λ (f : Form). unsigned_abs f.slope * units) (is.value some-line),
-      form-times n book leaf (get_or book.lines line some-line) units limits.settlement is.well_formed (all-lines book.settle book.lines limits.lines line some-line few) most,
+      form-times n book leaf (get_or book.lines line some-line) units limits.settlement is.well_formed (all-lines book.days book.lines limits.lines line some-line few) most,
     )
 
 pub form-thin : (n : ℕ) (book : BookContents) (priced leaf : Leaf) (line : ℕ) (interval : Interval) (form : Form) → IsBook book
@@ -67,7 +67,7 @@ form-thin n book priced leaf line interval form limits is few =
     omega (
       arith,
       ap (λ (f : Form). f.slack) (is.value some-line),
-      form-slack n book leaf (get_or book.lines line some-line) limits.settlement is.well_formed (all-lines book.settle book.lines limits.lines line some-line few),
+      form-slack n book leaf (get_or book.lines line some-line) limits.settlement is.well_formed (all-lines book.days book.lines limits.lines line some-line few),
     )
 
 -- where ranges hold no point, any leaf will do

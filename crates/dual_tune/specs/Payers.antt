@@ -7,6 +7,7 @@ use Rattle.offer_book.specs.Schedule.{schedule_of}
 use Rattle.offer_book.specs.declared.line.Line.{Line}
 use Rattle.dual_bound.specs.LeafBound.{price_on}
 use Rattle.dual_tune.specs.declared.payers.Payers.{Payers}
+use Rattle.offer_book.specs.declared.payment_days.PaymentDays.{PaymentDays}
 
 -- a day's price is that of the need at a place, whatever the prices are; behind the last need, nothing
 abbrev pub Serves : List Flow → ℤ → ℕ → Type 0
@@ -17,8 +18,8 @@ abbrev pub IsElsewhere : List Flow → ℕ → ℤ → Type 0
 IsElsewhere needs place day = (other : ℕ) × ¬ (other ≡ place) × Serves needs day other
 
 -- a line pays nothing for the need at a place
-abbrev pub IsAside : ℤ → List Flow → ℕ → Line → Type 0
-IsAside settle needs place line = All (λ payment. IsElsewhere needs place payment.day) (schedule_of settle line)
+abbrev pub IsAside : PaymentDays → List Flow → ℕ → Line → Type 0
+IsAside days needs place line = All (λ payment. IsElsewhere needs place payment.day) (schedule_of days line)
 
 -- numbers rise, up to one at most
 pub record IsRisingTo (most : ℕ) (numbers : List ℕ) : Type 0 where
@@ -29,7 +30,7 @@ pub record IsRisingTo (most : ℕ) (numbers : List ℕ) : Type 0 where
 pub record ArePayers (book : BookContents) (count place : ℕ) (lines : List ℕ) : Type 0 where
   pub rising : AllPairs (λ earlier later. earlier < later) lines
   pub there : All (λ line. line < count) lines
-  pub others : (line : ℕ) (d : Line) → line < count → ¬ Contains lines line → IsAside book.settle book.needs place (slice_index_or book.lines line d)
+  pub others : (line : ℕ) (d : Line) → line < count → ¬ Contains lines line → IsAside book.days book.needs place (slice_index_or book.lines line d)
 
 -- so it is for each need date
 pub record ArePayersByDate (book : BookContents) (count : ℕ) (by_date : List Payers) : Type 0 where

@@ -88,7 +88,7 @@ fn add_line(book: &Book, line: u16, by_date: &mut [Payers]) -> Result<(), NoMemo
     ensures after { OnOk result (ArePayersByDate book.now (line + 1) by_date.new) }
 {
     let needs = book.needs();
-    for payment in book.line(line).schedule(book.settle()).as_slice() {
+    for payment in book.line(line).schedule(book.payment_days()).as_slice() {
         add_payer(by_date, served(needs, payment.day), line)?;
     }
     Ok(())

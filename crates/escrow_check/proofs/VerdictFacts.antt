@@ -114,8 +114,8 @@ answer-lies flows cost limit near within = at ((length flows == 0) && (cost == 0
 
 yields-within : (limit : ℕ) (book : BookContents) (plan : List ℕ) → IsBook book → is_within_limit limit book plan ≡ true → YieldsWithin limit book plan
 yields-within limit book plan limits within =
-    answer-lies (indexed book.settle (security_flows book plan)) (security_cost book plan) limit
-    (last_index-le 14_400 (indexed book.settle (security_flows book plan)) (indexes_near book.settle (security_flows book plan) limits.settlement (flows_within book plan limits))) within
+    answer-lies (indexed book.days.settle (security_flows book plan)) (security_cost book plan) limit
+    (last_index-le 14_400 (indexed book.days.settle (security_flows book plan)) (indexes_near book.days.settle (security_flows book plan) limits.settlement (flows_within book plan limits))) within
 
 -- ---- a yes with a portfolio
 -- what its verdict tells

@@ -41,7 +41,7 @@ LiesInEnds Above flows cost limit = ⊥
 
 -- the exact yield of a portfolio's securities lies in its interval, and within a limit
 abbrev pub YieldsWithin : ℕ → BookContents → List ℕ → Type 0
-YieldsWithin limit book plan = LiesInEnds (plan_yield book plan) (indexed book.settle (security_flows book plan)) (security_cost book plan) limit
+YieldsWithin limit book plan = LiesInEnds (plan_yield book plan) (indexed book.days.settle (security_flows book plan)) (security_cost book plan) limit
 
 -- no rival costs less by more than the gap
 abbrev pub NoRivalSaves : ℕ → ℕ → BookContents → List ℕ → Type 0

@@ -11,6 +11,7 @@ use Rattle.offer_book.specs.Book.{AreLines, BookContents, IsBook, IsLine}
 use Rattle.offer_book.specs.CaseBook.{cash_line}
 use Rattle.offer_book.specs.declared.line.Line.{Line}
 use Rattle.halving_tree.specs.Halving.{IsHalved, IsWidest, middle_at, width_at}
+use Rattle.offer_book.specs.declared.payment_days.PaymentDays.{PaymentDays}
 
 abbrev pub no_interval : Interval
 no_interval = record { low = 0; high = 0 }
@@ -32,8 +33,8 @@ several (interval ∷ ranges) more = by (interval.low == interval.high) refl (λ
     by false other rest = record { place = 0; there = omega arith; apart = λ same. grind (arith, nat_tests) }
 
 -- what a line of a book steps by
-step-some : (settle : ℤ) (line : Line) → IsLine settle line → 0 < line.step
-step-some settle line is = elim is [
+step-some : (days : PaymentDays) (line : Line) → IsLine days line → 0 < line.step
+step-some days line is = elim is [
   | inl cash ↦ omega (arith, cash.step)
   | inr security ↦ omega (arith, security.step_at_least)
 ]
@@ -48,7 +49,7 @@ some-width book ranges line limits tight more widest =
     let best : Interval = get_or ranges line no_interval in
     let same : length book.lines ≡ length ranges = tight-length book.lines ranges tight in
     let within : place < length book.lines = omega (arith, found.there, same) in
-    let step : 0 < (get_or book.lines place (cash_line 0)).step = step-some book.settle (get_or book.lines place (cash_line 0)) (all-lines book.settle book.lines limits.lines place (cash_line 0) within) in
+    let step : 0 < (get_or book.lines place (cash_line 0)).step = step-some book.days (get_or book.lines place (cash_line 0)) (all-lines book.days book.lines limits.lines place (cash_line 0) within) in
     let ordered = (tight-at book.lines ranges place (cash_line 0) no_interval tight found.there).ordered in
     let wide : own.high - own.low ≤ (own.high - own.low) * (get_or book.lines place (cash_line 0)).step = le-mul_of_pos_right (own.high - own.low) step in
     let apart : own.low ≡ own.high → ⊥ = found.apart in
@@ -72,9 +73,9 @@ halved-proper book ranges line at limits tight more is =
     tests low high at one other = grind (arith, nat_tests)
 
 -- a book has lines
-pub lines-some : (settle : ℤ) (lines : List Line) → AreLines settle lines → 0 < length lines
-lines-some settle [] are = absurd are
-lines-some settle (line ∷ lines) are = omega arith
+pub lines-some : (days : PaymentDays) (lines : List Line) → AreLines days lines → 0 < length lines
+lines-some days [] are = absurd are
+lines-some days (line ∷ lines) are = omega arith
 
 -- the middle as the code has it
 middle-same : (low high : ℕ) → low ≤ high → low + (high - low) / 2 ≡ (low + high) / 2

@@ -7,7 +7,7 @@ ghost use Rattle.node_pool.specs.Way.{AreProper, IsWay, Step, ranges_at};
 
 use crate::{NodeId, Pool};
 use dual_bound::{Ranges, range_laws};
-use escrow_units::Day;
+use escrow_units::{ClosedDays, Day};
 use offer_book::{Book, Line, LineKind};
 use std::alloc::Global;
 use std::process::Abort;
@@ -24,7 +24,12 @@ fn cash_book(alloc: Global) -> Result<Book, Fail>
         most: 100_000,
     };
     let lines = vec![in alloc; cash]?;
-    Ok(Book::make(Day::new(20_103), Vec::new(alloc), lines))
+    Ok(Book::make(
+        Day::new(20_103),
+        Vec::new(alloc),
+        lines,
+        ClosedDays::none(alloc),
+    ))
 }
 
 // The ranges of the root, which are tight.

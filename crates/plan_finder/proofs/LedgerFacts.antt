@@ -25,6 +25,7 @@ use Rattle.dual_bound.proofs.ColumnSizes.{cents-little}
 use Rattle.plan_finder.specs.Ledger.{AreHeld, AreTerms, IsPurchase, IsTerms, flows_worth}
 use Rattle.plan_finder.specs.declared.terms.LineTerms.{LineTerms}
 use Rattle.plan_finder.specs.declared.terms.Purchase.{Purchase}
+use Rattle.offer_book.specs.declared.payment_days.PaymentDays.{PaymentDays}
 
 -- what a flow is worth by a power, as a function of their pair
 abbrev pub pair_worth : ℕ × Flow → ℕ
@@ -88,7 +89,7 @@ push-each R ys i y count before own = λ k b within. elim (cases_lt k i) [
 
 -- what is held once a line has other units
 pub held-set : (n : ℕ) (book : BookContents) (plan : List ℕ) (held : List Purchase) (i units : ℕ) (after : Purchase) → i < length book.lines → length plan ≡ length book.lines
-    → AreHeld n book plan held → ((d : Line) → IsPurchase n book.settle (get_or book.lines i d) units after) → AreHeld n book (set plan i units) (set held i after)
+    → AreHeld n book plan held → ((d : Line) → IsPurchase n book.days (get_or book.lines i d) units after) → AreHeld n book (set plan i units) (set held i after)
 held-set n book plan held i units after within same was now = record {
   count = length-set held i after ∙ was.count;
   each = λ k own here line. elim (cases_eq k i) [
@@ -98,29 +99,29 @@ held-set n book plan held i units after within same was now = record {
 }
 
 -- the lines of a book, and the terms of each
-pub book-line : (book : BookContents) (i : ℕ) (d : Line) → IsBook book → i < length book.lines → IsLine book.settle (get_or book.lines i d)
-book-line book i d limits within = all_lines book.settle book.lines limits.lines i d within
+pub book-line : (book : BookContents) (i : ℕ) (d : Line) → IsBook book → i < length book.lines → IsLine book.days (get_or book.lines i d)
+book-line book i d limits within = all_lines book.days book.lines limits.lines i d within
 
-pub line-is : (book : BookContents) (i : ℕ) (line : Line) → IsBook book → i < length book.lines → line ≡ get_or book.lines i line → IsLine book.settle line
-line-is book i line limits within at = subst (IsLine book.settle) (sym at) (book-line book i line limits within)
+pub line-is : (book : BookContents) (i : ℕ) (line : Line) → IsBook book → i < length book.lines → line ≡ get_or book.lines i line → IsLine book.days line
+line-is book i line limits within at = subst (IsLine book.days) (sym at) (book-line book i line limits within)
 
 pub terms-at : (n : ℕ) (book : BookContents) (terms : List LineTerms) (i : ℕ) (line : Line) (own : LineTerms) → AreTerms n book terms → i < length book.lines
-    → line ≡ get_or book.lines i line → own ≡ get_or terms i own → IsTerms n book.settle line own
+    → line ≡ get_or book.lines i line → own ≡ get_or terms i own → IsTerms n book.days line own
 terms-at n book terms i line own are within at here =
-    subst (λ x. IsTerms n book.settle x own) (sym at) (subst (λ y. IsTerms n book.settle (get_or book.lines i line) y) (sym here) (are.each i own within line))
+    subst (λ x. IsTerms n book.days x own) (sym at) (subst (λ y. IsTerms n book.days (get_or book.lines i line) y) (sym here) (are.each i own within line))
 
 -- a purchase pays little
-pub purchase-little : (n : ℕ) (settle : ℤ) (line : Line) (units : ℕ) (purchase : Purchase) → IsSettlement settle → IsLine settle line → units ≤ line.most
-    → IsPurchase n settle line units purchase → total purchase.payments.items ≤ 2 * 10 ^ 13
-purchase-little n settle line units purchase settled is few own =
-    subst (λ flows. total flows ≤ 2 * 10 ^ 13) (sym own.payments) (line_payments-total settle line units settled is few)
+pub purchase-little : (n : ℕ) (days : PaymentDays) (line : Line) (units : ℕ) (purchase : Purchase) → IsSettlement days.settle → IsLine days line → units ≤ line.most
+    → IsPurchase n days line units purchase → total purchase.payments.items ≤ 2 * 10 ^ 13
+purchase-little n days line units purchase settled is few own =
+    subst (λ flows. total flows ≤ 2 * 10 ^ 13) (sym own.payments) (line_payments-total days line units settled is few)
 
 pub held-little : (n : ℕ) (book : BookContents) (plan : List ℕ) (held : List Purchase) (i : ℕ) (own : Purchase) → IsBook book → IsPermitted book plan → AreHeld n book plan held
     → i < length book.lines → own ≡ get_or held i own → total own.payments.items ≤ 2 * 10 ^ 13
 held-little n book plan held i own limits permitted are within at =
     let line = get_or book.lines i some_line in
     subst (λ (purchase : Purchase). total purchase.payments.items ≤ 2 * 10 ^ 13) (sym at)
-    (purchase-little n book.settle line (get_or plan i 0) (get_or held i own) limits.settlement (book-line book i some_line limits within)
+    (purchase-little n book.days line (get_or plan i 0) (get_or held i own) limits.settlement (book-line book i some_line limits within)
     (permitted_few line (get_or plan i 0) (permitted-at book plan i within permitted some_line)) (are.each i own within some_line))
 
 -- what holds of a line of a book holds of it by its place

@@ -19,6 +19,7 @@ use Rattle.backward_build.specs.Spare.{ArePaid}
 use Rattle.plan_finder.specs.Ledger.{AreHeld, AreTerms, IsAccount, line_worth}
 use Rattle.plan_finder.specs.declared.account.Account.{Account}
 use Rattle.plan_finder.proofs.PutFacts.{pair_line_worth}
+use Rattle.offer_book.specs.declared.payment_days.PaymentDays.{PaymentDays}
 
 -- a plan that buys nothing
 abbrev pub AreNone : List ℕ → Type 0
@@ -36,15 +37,15 @@ none-permitted (line ∷ lines) [] none = All-nil PairIsPermitted
 none-permitted (line ∷ lines) (units ∷ plan) none =
     All-cons PairIsPermitted (line, units) (zip lines plan) (inl (first-none units plan none)) (none-permitted lines plan (rest-none units plan none))
 
-pub none-paid : (t settle : ℤ) (lines : List Line) (plan : List ℕ) → AreNone plan → total_by t (flat_map (pair_payments settle) (zip lines plan)) ≡ 0
-none-paid t settle [] plan none = refl
-none-paid t settle (line ∷ lines) [] none = refl
-none-paid t settle (line ∷ lines) (units ∷ plan) none =
+pub none-paid : (t : ℤ) (days : PaymentDays) (lines : List Line) (plan : List ℕ) → AreNone plan → total_by t (flat_map (pair_payments days) (zip lines plan)) ≡ 0
+none-paid t days [] plan none = refl
+none-paid t days (line ∷ lines) [] none = refl
+none-paid t days (line ∷ lines) (units ∷ plan) none =
     omega (
       arith,
-      sum_by-append (cents_by t) (pair_payments settle (line, units)) (flat_map (pair_payments settle) (zip lines plan)),
-      nothing_by t settle line units (first-none units plan none),
-      none-paid t settle lines plan (rest-none units plan none),
+      sum_by-append (cents_by t) (pair_payments days (line, units)) (flat_map (pair_payments days) (zip lines plan)),
+      nothing_by t days line units (first-none units plan none),
+      none-paid t days lines plan (rest-none units plan none),
     )
 
 pub none-cost : (lines : List Line) (plan : List ℕ) → AreNone plan → sum_by pair_cost (zip lines plan) ≡ 0
@@ -53,20 +54,20 @@ none-cost (line ∷ lines) [] none = refl
 none-cost (line ∷ lines) (units ∷ plan) none =
     omega (arith, sum_by-cons pair_cost (line, units) (zip lines plan), line_cost-none line units (first-none units plan none), none-cost lines plan (rest-none units plan none))
 
-line-none : (n : ℕ) (settle : ℤ) (line : Line) (units : ℕ) → units ≡ 0 → line_worth n settle line units ≡ 0
-line-none n settle line units none =
-    sum_by-zero (λ (flow : Flow). flow.cents.0 * kind_power n settle line.kind flow.day) (pair_payments settle (line, units))
-    (λ k d within. rw (line_payments-none settle line units none k d within) (omega arith))
+line-none : (n : ℕ) (days : PaymentDays) (line : Line) (units : ℕ) → units ≡ 0 → line_worth n days line units ≡ 0
+line-none n days line units none =
+    sum_by-zero (λ (flow : Flow). flow.cents.0 * kind_power n days.settle line.kind flow.day) (pair_payments days (line, units))
+    (λ k d within. rw (line_payments-none days line units none k d within) (omega arith))
 
-pub none-worth : (n : ℕ) (settle : ℤ) (lines : List Line) (plan : List ℕ) → AreNone plan → sum_by (pair_line_worth n settle) (zip lines plan) ≡ 0
-none-worth n settle [] plan none = refl
-none-worth n settle (line ∷ lines) [] none = refl
-none-worth n settle (line ∷ lines) (units ∷ plan) none =
+pub none-worth : (n : ℕ) (days : PaymentDays) (lines : List Line) (plan : List ℕ) → AreNone plan → sum_by (pair_line_worth n days) (zip lines plan) ≡ 0
+none-worth n days [] plan none = refl
+none-worth n days (line ∷ lines) [] none = refl
+none-worth n days (line ∷ lines) (units ∷ plan) none =
     omega (
       arith,
-      sum_by-cons (pair_line_worth n settle) (line, units) (zip lines plan),
-      line-none n settle line units (first-none units plan none),
-      none-worth n settle lines plan (rest-none units plan none),
+      sum_by-cons (pair_line_worth n days) (line, units) (zip lines plan),
+      line-none n days line units (first-none units plan none),
+      none-worth n days lines plan (rest-none units plan none),
     )
 
 pub zeros : (n : ℕ) → AreNone (replicate n 0)
@@ -83,7 +84,7 @@ make-ledger n book ledger limits plan terms held needed received cost worth =
       terms = terms;
       held = rw plan held;
       needed = needed;
-      received = rw plan (λ k d within. omega (arith, received k within, none-paid (get_or book.needs k d).day book.settle book.lines (replicate (length book.lines) 0) none));
+      received = rw plan (λ k d within. omega (arith, received k within, none-paid (get_or book.needs k d).day book.days book.lines (replicate (length book.lines) 0) none));
       cost = rw plan (omega (arith, cost, none-cost book.lines (replicate (length book.lines) 0) none));
-      worth = rw plan (omega (arith, worth, none-worth n book.settle book.lines (replicate (length book.lines) 0) none));
+      worth = rw plan (omega (arith, worth, none-worth n book.days book.lines (replicate (length book.lines) 0) none));
     }

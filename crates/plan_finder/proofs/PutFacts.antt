@@ -27,29 +27,30 @@ use Rattle.plan_finder.specs.Ledger.{AreHeld, IsAccount, IsPurchase, flows_worth
 use Rattle.plan_finder.specs.declared.account.Account.{Account}
 use Rattle.plan_finder.specs.declared.terms.Purchase.{Purchase}
 use Rattle.plan_finder.proofs.LedgerFacts.{held-set, sum-exchange, sum-part}
+use Rattle.offer_book.specs.declared.payment_days.PaymentDays.{PaymentDays}
 
 -- what a line is worth, as a function of its pair
-abbrev pub pair_line_worth : ℕ → ℤ → Line × ℕ → ℕ
-pair_line_worth n settle p = line_worth n settle p.0 p.1
+abbrev pub pair_line_worth : ℕ → PaymentDays → Line × ℕ → ℕ
+pair_line_worth n days p = line_worth n days p.0 p.1
 
 -- what is held of a line is its purchase
 pub held-is : (n : ℕ) (book : BookContents) (plan : List ℕ) (held : List Purchase) (i : ℕ) (own : Purchase) → AreHeld n book plan held → i < length book.lines
-    → own ≡ get_or held i own → (d : Line) → IsPurchase n book.settle (get_or book.lines i d) (get_or plan i 0) own
-held-is n book plan held i own are within at d = subst (IsPurchase n book.settle (get_or book.lines i d) (get_or plan i 0)) (sym at) (are.each i own within d)
+    → own ≡ get_or held i own → (d : Line) → IsPurchase n book.days (get_or book.lines i d) (get_or plan i 0) own
+held-is n book plan held i own are within at d = subst (IsPurchase n book.days (get_or book.lines i d) (get_or plan i 0)) (sym at) (are.each i own within d)
 
 -- what a line pays by a day is a part of what the plan pays by then
 pub line-paid : (t : ℤ) (book : BookContents) (plan : List ℕ) (i : ℕ) (d : Line) → i < length book.lines → length plan ≡ length book.lines
-    → total_by t (line_payments book.settle (get_or book.lines i d) (get_or plan i 0)) ≤ total_by t (payments_of book plan)
+    → total_by t (line_payments book.days (get_or book.lines i d) (get_or plan i 0)) ≤ total_by t (payments_of book plan)
 line-paid t book plan i d within same =
-    omega (arith, payments_exchange t book plan i 0 d within same, nothing_by t book.settle (get_or book.lines i d) 0 refl)
+    omega (arith, payments_exchange t book plan i 0 d within same, nothing_by t book.days (get_or book.lines i d) 0 refl)
 
 -- what a plan pays by a day is within a 64-bit number by far
 pub plan-paid : (t : ℤ) (book : BookContents) (plan : List ℕ) → IsBook book → IsPermitted book plan → total_by t (payments_of book plan) ≤ 10 ^ 16
 plan-paid t book plan limits permitted = omega (arith, total_by-at_most t (payments_of book plan), payments_at_most book plan limits permitted)
 
 -- by each need date a purchase pays what its line pays
-pub purchase-paid : (n : ℕ) (book : BookContents) (line : Line) (units : ℕ) (purchase : Purchase) (paid : List ℕ) → IsPurchase n book.settle line units purchase
-    → ArePaid book.needs purchase.payments.items paid → ArePaid book.needs (line_payments book.settle line units) paid
+pub purchase-paid : (n : ℕ) (book : BookContents) (line : Line) (units : ℕ) (purchase : Purchase) (paid : List ℕ) → IsPurchase n book.days line units purchase
+    → ArePaid book.needs purchase.payments.items paid → ArePaid book.needs (line_payments book.days line units) paid
 purchase-paid n book line units purchase paid own are = subst (λ flows. ArePaid book.needs flows paid) own.payments are
 
 pub received-part : (n : ℕ) (book : BookContents) (ledger : Account) (i : ℕ) (before : Purchase) (paid : List ℕ) → IsAccount n book ledger → i < length book.lines
@@ -62,7 +63,7 @@ received-part n book ledger i before paid is within at are k here =
 
 -- what is received once a line has other units
 pub received-set : (n : ℕ) (book : BookContents) (ledger : Account) (i units : ℕ) (before after : Purchase) (paid now : List ℕ) → IsAccount n book ledger → i < length book.lines
-    → before ≡ get_or ledger.held.items i before → ((d : Line) → IsPurchase n book.settle (get_or book.lines i d) units after)
+    → before ≡ get_or ledger.held.items i before → ((d : Line) → IsPurchase n book.days (get_or book.lines i d) units after)
     → ArePaid book.needs before.payments.items paid → ArePaid book.needs after.payments.items now
     → (k : ℕ) (d : Flow) → k < length book.needs
     → get_or ledger.received k 0 - get_or paid k 0 + get_or now k 0 ≡ total_by (get_or book.needs k d).day (payments_of book (set ledger.plan i units))
@@ -82,7 +83,7 @@ received-set n book ledger i units before after paid now is within at own were a
 
 pub received-room : (n : ℕ) (book : BookContents) (ledger : Account) (i units : ℕ) (before after : Purchase) (paid now : List ℕ) → IsAccount n book ledger → i < length book.lines
     → ((d : Line) → IsPermittedUnits (get_or book.lines i d) units)
-    → before ≡ get_or ledger.held.items i before → ((d : Line) → IsPurchase n book.settle (get_or book.lines i d) units after)
+    → before ≡ get_or ledger.held.items i before → ((d : Line) → IsPurchase n book.days (get_or book.lines i d) units after)
     → ArePaid book.needs before.payments.items paid → ArePaid book.needs after.payments.items now
     → (k : ℕ) → k < length book.needs → get_or ledger.received k 0 - get_or paid k 0 + get_or now k 0 < 2 ^ 64
 received-room n book ledger i units before after paid now is within permitted at own were are k here =
@@ -99,7 +100,7 @@ cost-part n book ledger i before is within at =
     omega (arith, (held-is n book ledger.plan ledger.held.items i before is.held within at some_line).cost, is.cost, sum-part pair_cost book.lines ledger.plan i some_line within is.permitted.same_length)
 
 pub cost-set : (n : ℕ) (book : BookContents) (ledger : Account) (i units : ℕ) (before after : Purchase) → IsAccount n book ledger → i < length book.lines
-    → before ≡ get_or ledger.held.items i before → ((d : Line) → IsPurchase n book.settle (get_or book.lines i d) units after)
+    → before ≡ get_or ledger.held.items i before → ((d : Line) → IsPurchase n book.days (get_or book.lines i d) units after)
     → ledger.cost.0 - before.cost.0 + after.cost.0 ≡ cost_of book (set ledger.plan i units)
 cost-set n book ledger i units before after is within at own =
     omega (
@@ -113,7 +114,7 @@ cost-set n book ledger i units before after is within at own =
 
 pub cost-room : (n : ℕ) (book : BookContents) (ledger : Account) (i units : ℕ) (before after : Purchase) → IsAccount n book ledger → i < length book.lines
     → ((d : Line) → IsPermittedUnits (get_or book.lines i d) units)
-    → before ≡ get_or ledger.held.items i before → ((d : Line) → IsPurchase n book.settle (get_or book.lines i d) units after)
+    → before ≡ get_or ledger.held.items i before → ((d : Line) → IsPurchase n book.days (get_or book.lines i d) units after)
     → ledger.cost.0 - before.cost.0 + after.cost.0 < 2 ^ 64
 cost-room n book ledger i units before after is within permitted at own =
     omega (arith, cost-set n book ledger i units before after is within at own, cost_at_most book (set ledger.plan i units) is.limits (permitted-set book ledger.plan i units is.permitted permitted))
@@ -125,11 +126,11 @@ worth-part n book ledger i before is within at =
       arith,
       (held-is n book ledger.plan ledger.held.items i before is.held within at some_line).worth,
       is.worth,
-      sum-part (pair_line_worth n book.settle) book.lines ledger.plan i some_line within is.permitted.same_length,
+      sum-part (pair_line_worth n book.days) book.lines ledger.plan i some_line within is.permitted.same_length,
     )
 
 pub worth-set : (n : ℕ) (book : BookContents) (ledger : Account) (i units : ℕ) (before after : Purchase) → IsAccount n book ledger → i < length book.lines
-    → before ≡ get_or ledger.held.items i before → ((d : Line) → IsPurchase n book.settle (get_or book.lines i d) units after)
+    → before ≡ get_or ledger.held.items i before → ((d : Line) → IsPurchase n book.days (get_or book.lines i d) units after)
     → ledger.worth - before.worth + after.worth ≡ plan_worth n book (set ledger.plan i units)
 worth-set n book ledger i units before after is within at own =
     omega (
@@ -137,8 +138,8 @@ worth-set n book ledger i units before after is within at own =
       (held-is n book ledger.plan ledger.held.items i before is.held within at some_line).worth,
       (own some_line).worth,
       is.worth,
-      sum-part (pair_line_worth n book.settle) book.lines ledger.plan i some_line within is.permitted.same_length,
-      sum-exchange (pair_line_worth n book.settle) book.lines ledger.plan i units some_line within is.permitted.same_length,
+      sum-part (pair_line_worth n book.days) book.lines ledger.plan i some_line within is.permitted.same_length,
+      sum-exchange (pair_line_worth n book.days) book.lines ledger.plan i units some_line within is.permitted.same_length,
     )
 
 -- what flows are worth is at most what they come to
@@ -158,29 +159,29 @@ flows_worth-most n settle kind (flow ∷ flows) =
       mul-le-mul_left flow.cents.0 (power-most n settle kind flow.day),
     )
 
-lines_worth-most : (n : ℕ) (settle : ℤ) (pairs : List (Line × ℕ)) → sum_by (pair_line_worth n settle) pairs ≤ one * sum_by (pair_total settle) pairs
-lines_worth-most n settle [] = omega arith
-lines_worth-most n settle (pair ∷ pairs) =
+lines_worth-most : (n : ℕ) (days : PaymentDays) (pairs : List (Line × ℕ)) → sum_by (pair_line_worth n days) pairs ≤ one * sum_by (pair_total days) pairs
+lines_worth-most n days [] = omega arith
+lines_worth-most n days (pair ∷ pairs) =
     omega (
       arith,
-      sum_by-cons (pair_line_worth n settle) pair pairs,
-      sum_by-cons (pair_total settle) pair pairs,
-      lines_worth-most n settle pairs,
-      flows_worth-most n settle pair.0.kind (pair_payments settle pair),
+      sum_by-cons (pair_line_worth n days) pair pairs,
+      sum_by-cons (pair_total days) pair pairs,
+      lines_worth-most n days pairs,
+      flows_worth-most n days.settle pair.0.kind (pair_payments days pair),
     )
 
 pub worth-most : (n : ℕ) (book : BookContents) (plan : List ℕ) → IsBook book → IsPermitted book plan → plan_worth n book plan ≤ one * 10 ^ 16
 worth-most n book plan limits permitted =
     omega (
       arith,
-      lines_worth-most n book.settle (zip book.lines plan),
-      total-payments book.settle (zip book.lines plan),
+      lines_worth-most n book.days (zip book.lines plan),
+      total-payments book.days (zip book.lines plan),
       payments_at_most book plan limits permitted,
     )
 
 pub worth-room : (n : ℕ) (book : BookContents) (ledger : Account) (i units : ℕ) (before after : Purchase) → IsAccount n book ledger → i < length book.lines
     → ((d : Line) → IsPermittedUnits (get_or book.lines i d) units)
-    → before ≡ get_or ledger.held.items i before → ((d : Line) → IsPurchase n book.settle (get_or book.lines i d) units after)
+    → before ≡ get_or ledger.held.items i before → ((d : Line) → IsPurchase n book.days (get_or book.lines i d) units after)
     → ledger.worth - before.worth + after.worth < 2 ^ 128
 worth-room n book ledger i units before after is within permitted at own =
     omega (arith, worth-set n book ledger i units before after is within at own, worth-most n book (set ledger.plan i units) is.limits (permitted-set book ledger.plan i units is.permitted permitted))
@@ -188,7 +189,7 @@ worth-room n book ledger i units before after is within permitted at own =
 -- the ledger once a line has other units
 pub put-ledger : (n : ℕ) (book : BookContents) (old new : Account) (i units : ℕ) (before after : Purchase) (paid now : List ℕ) → IsAccount n book old → i < length book.lines
     → ((d : Line) → IsPermittedUnits (get_or book.lines i d) units)
-    → before ≡ get_or old.held.items i before → ((d : Line) → IsPurchase n book.settle (get_or book.lines i d) units after)
+    → before ≡ get_or old.held.items i before → ((d : Line) → IsPurchase n book.days (get_or book.lines i d) units after)
     → ArePaid book.needs before.payments.items paid → ArePaid book.needs after.payments.items now
     → new.plan ≡ set old.plan i units → new.terms.items ≡ old.terms.items → new.held.items ≡ set old.held.items i after → new.needed ≡ old.needed
     → ((k : ℕ) → k < length book.needs → get_or new.received k 0 ≡ get_or old.received k 0 - get_or paid k 0 + get_or now k 0)

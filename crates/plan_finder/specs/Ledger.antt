@@ -15,45 +15,46 @@ use Rattle.backward_build.specs.Spare.{ArePaid}
 use Rattle.plan_finder.specs.declared.account.Account.{Account}
 use Rattle.plan_finder.specs.declared.terms.LineTerms.{LineTerms}
 use Rattle.plan_finder.specs.declared.terms.Purchase.{Purchase}
+use Rattle.offer_book.specs.declared.payment_days.PaymentDays.{PaymentDays}
 
 -- what flows of a kind of line are worth against the limit, at the yield n and rounded down: opening cash isn't bound by it
 abbrev pub flows_worth : ℕ → ℤ → LineKind → List Flow → ℕ
 flows_worth n settle kind flows = sum_by (λ flow. flow.cents.0 * kind_power n settle kind flow.day) flows
 
 -- what units of a line are worth against the limit
-abbrev pub line_worth : ℕ → ℤ → Line → ℕ → ℕ
-line_worth n settle line units = flows_worth n settle line.kind (line_payments settle line units)
+abbrev pub line_worth : ℕ → PaymentDays → Line → ℕ → ℕ
+line_worth n days line units = flows_worth n days.settle line.kind (line_payments days line units)
 
 -- the terms of a line, with the powers of the yield n
-pub record IsTerms (n : ℕ) (settle : ℤ) (line : Line) (terms : LineTerms) : Type 0 where
+pub record IsTerms (n : ℕ) (days : PaymentDays) (line : Line) (terms : LineTerms) : Type 0 where
   pub accrued : terms.accrued ≡ kind_accrued line.kind
-  pub days : terms.accrued.parts ≤ 184
-  pub schedule : terms.schedule.items ≡ schedule_of settle line
+  pub few : terms.accrued.parts ≤ 184
+  pub schedule : terms.schedule.items ≡ schedule_of days line
   pub short : All (λ payment. IsShort payment.accrual) terms.schedule.items
-  pub powers : terms.powers.items ≡ map (λ payment. kind_power n settle line.kind payment.day) terms.schedule.items
+  pub powers : terms.powers.items ≡ map (λ payment. kind_power n days.settle line.kind payment.day) terms.schedule.items
   pub small : All (λ power. power ≤ one) terms.powers.items
 
 -- what units of a line cost and pay, and what that is worth
-pub record IsPurchase (n : ℕ) (settle : ℤ) (line : Line) (units : ℕ) (purchase : Purchase) : Type 0 where
+pub record IsPurchase (n : ℕ) (days : PaymentDays) (line : Line) (units : ℕ) (purchase : Purchase) : Type 0 where
   pub cost : purchase.cost.0 ≡ line_cost line units
-  pub payments : purchase.payments.items ≡ line_payments settle line units
-  pub worth : purchase.worth ≡ line_worth n settle line units
+  pub payments : purchase.payments.items ≡ line_payments days line units
+  pub worth : purchase.worth ≡ line_worth n days line units
 
 -- the terms of the lines of a book
 pub record AreTerms (n : ℕ) (book : BookContents) (terms : List LineTerms) : Type 0 where
   pub count : length terms ≡ length book.lines
   pub each : (k : ℕ) (own : LineTerms) → k < length book.lines → (line : Line)
-      → IsTerms n book.settle (slice_index_or book.lines k line) (slice_index_or terms k own)
+      → IsTerms n book.days (slice_index_or book.lines k line) (slice_index_or terms k own)
 
 -- what a plan's units of each line cost and pay
 pub record AreHeld (n : ℕ) (book : BookContents) (plan : List ℕ) (held : List Purchase) : Type 0 where
   pub count : length held ≡ length book.lines
   pub each : (k : ℕ) (own : Purchase) → k < length book.lines → (line : Line)
-      → IsPurchase n book.settle (slice_index_or book.lines k line) (slice_index plan k) (slice_index_or held k own)
+      → IsPurchase n book.days (slice_index_or book.lines k line) (slice_index plan k) (slice_index_or held k own)
 
 -- what the plan's securities are worth against the limit
 abbrev pub plan_worth : ℕ → BookContents → List ℕ → ℕ
-plan_worth n book plan = sum_by (λ p. line_worth n book.settle p.0 p.1) (zip book.lines plan)
+plan_worth n book plan = sum_by (λ p. line_worth n book.days p.0 p.1) (zip book.lines plan)
 
 -- what contracts see of a ledger: the book, the yield by which its securities are worth something against the limit, and the plan
 pub record LedgerContents : Type 0 where

@@ -79,10 +79,9 @@ fn terms_of(alloc: Global, book: &Book, powers: &Powers) -> Result<Vec<LineTerms
     requires powers { IsLowTable powers.now }
     ensures { IfOk result (λ terms. AreTerms powers.now.yield_units book.now terms.items) }
 {
-    let settle = book.settle();
     let mut terms = Vec::new(alloc);
     for line in 0..book.line_count() {
-        terms.push(LineTerms::make(alloc, settle, powers, book.line(line))?)?;
+        terms.push(LineTerms::make(alloc, book.payment_days(), powers, book.line(line))?)?;
     }
     Ok(terms)
 }
@@ -144,7 +143,7 @@ impl Account {
         requires account { (n : ℕ) × IsAccount n book.now self.now }
         requires line { line < length book.now.lines }
         requires units { (d : Line) → units ≤ (slice_index_or book.now.lines line d).most }
-        ensures value { (n : ℕ) (d : Line) → IsAccount n book.now self.now → IsPurchase n book.now.settle (slice_index_or book.now.lines line d) units result }
+        ensures value { (n : ℕ) (d : Line) → IsAccount n book.now self.now → IsPurchase n book.now.days (slice_index_or book.now.lines line d) units result }
         ensures little { total result.payments.items ≤ 2 * 10 ^ 13 }
     {
         self.terms[usize::from(line)].purchase(book.line(line), units)
@@ -200,7 +199,7 @@ impl Account {
     pub(crate) fn due(&self, book: &Book, line: u16) -> [u64; MOST_NEED_DATES]
         requires account { (n : ℕ) × IsAccount n book.now self.now }
         requires line { line < length book.now.lines }
-        ensures { (d : Line) → AreDue book.now.needs (payments book.now self.now.plan) (line_payments book.now.settle (slice_index_or book.now.lines line d) (slice_index self.now.plan line)) result }
+        ensures { (d : Line) → AreDue book.now.needs (payments book.now self.now.plan) (line_payments book.now.days (slice_index_or book.now.lines line d) (slice_index self.now.plan line)) result }
     {
         let mut due = paid(book, &self.held[usize::from(line)]);
         for place in 0..usize::from(book.need_count()) {

@@ -110,7 +110,7 @@ impl<'a> Ledger<'a> {
     pub(crate) fn purchase(&self, line: u16, units: u64) -> Purchase
         requires line { line < length self.now.book.lines }
         requires units { (d : Line) → units ≤ (slice_index_or self.now.book.lines line d).most }
-        ensures value { (d : Line) → IsPurchase self.now.yield_units self.now.book.settle (slice_index_or self.now.book.lines line d) units result }
+        ensures value { (d : Line) → IsPurchase self.now.yield_units self.now.book.days (slice_index_or self.now.book.lines line d) units result }
         ensures little { total result.payments.items ≤ 2 * 10 ^ 13 }
     {
         self.account.purchase(self.book, line, units)
@@ -140,7 +140,7 @@ impl<'a> Ledger<'a> {
         requires { line < length self.now.book.lines }
         ensures permitted { IsPermitted self.now.book self.now.plan }
         ensures value { (d : Line) → AreDue self.now.book.needs (payments self.now.book self.now.plan)
-            (line_payments self.now.book.settle (slice_index_or self.now.book.lines line d) (slice_index self.now.plan line)) result }
+            (line_payments self.now.book.days (slice_index_or self.now.book.lines line d) (slice_index self.now.plan line)) result }
     {
         self.account.due(self.book, line)
     }

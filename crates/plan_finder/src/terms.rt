@@ -1,10 +1,11 @@
 //! What units of a line cost and pay, by terms that are read once: no calendar is read again.
-ghost use Rattle.std.specs.Prelude.{All, ◌≡◌, ◌*◌, ◌^◌, ◌<◌, ◌≤◌, ◌≤ℤ◌, ℕ, ℤ, IfOk, length, map, sum_by};
+ghost use Rattle.std.specs.Prelude.{All, ◌≡◌, ◌*◌, ◌^◌, ◌<◌, ◌≤◌, ◌≤ℤ◌, ℕ, IfOk, length, map, sum_by};
 ghost use Rattle.std.specs.List.{zip};
 ghost use Rattle.escrow_units.specs.Calendar.{years_after_of};
 ghost use Rattle.escrow_units.specs.SlgsTerms.{IsSettlement};
 ghost use Rattle.fixed_powers.specs.DiscountPowers.{IsLowTable, PowerTable, one};
 ghost use Rattle.offer_book.specs.Book.{IsLine};
+ghost use Rattle.offer_book.specs.declared.payment_days.PaymentDays.{PaymentDays as Days};
 ghost use Rattle.offer_book.specs.Portfolio.{line_payments};
 ghost use Rattle.dual_bound.specs.Columns.{kind_power};
 ghost use Rattle.plan_finder.specs.Ledger.{IsPurchase, IsTerms};
@@ -13,7 +14,7 @@ use arrayvec::ArrayVec;
 use escrow_desk::NoMemory;
 use escrow_units::{Accrual, Cents, Day, Flow, index360};
 use fixed_powers::Powers;
-use offer_book::{Line, LineKind};
+use offer_book::{Line, LineKind, PaymentDays};
 use payment_schedule::{ScheduledPayment, scheduled_flows};
 use std::alloc::Global;
 
@@ -98,24 +99,24 @@ fn worth_of(powers: &[u64], flows: &[Flow]) -> u128
 }
 
 impl LineTerms {
-    /// The terms of a line of a book with a settlement day, against the limit of the powers.
+    /// The terms of a line of a book with these days, against the limit of the powers.
     ///
     /// # Errors
     ///
     /// Where memory ran out.
     pub(crate) fn make(
         alloc: Global,
-        settle: Day,
+        days: &PaymentDays,
         powers: &Powers,
         line: &Line,
     ) -> Result<LineTerms, NoMemory>
-        requires settlement { IsSettlement settle }
-        requires line { IsLine settle line.now }
+        requires settlement { IsSettlement days.now.settle }
+        requires line { IsLine days.now line.now }
         requires powers { IsLowTable powers.now }
-        ensures { IfOk result (IsTerms powers.now.yield_units settle line.now) }
+        ensures { IfOk result (IsTerms powers.now.yield_units days.now line.now) }
     {
-        let schedule = line.schedule(settle);
-        let powers = powers_of(alloc, settle, powers, line, schedule.as_slice())?;
+        let schedule = line.schedule(days);
+        let powers = powers_of(alloc, days.settle, powers, line, schedule.as_slice())?;
         Ok(LineTerms {
             accrued: line.accrued(),
             schedule,
@@ -125,10 +126,10 @@ impl LineTerms {
 
     /// What units of the line, at most its most, cost and pay.
     pub(crate) fn purchase(&self, line: &Line, units: u64) -> Purchase
-        requires line { (settle : ℤ) × IsLine settle line.now }
-        requires terms { (settle : ℤ) × (n : ℕ) × IsTerms n settle line.now self.now }
+        requires line { (days : Days) × IsLine days line.now }
+        requires terms { (days : Days) × (n : ℕ) × IsTerms n days line.now self.now }
         requires units { units ≤ line.now.most }
-        ensures { (settle : ℤ) (n : ℕ) → IsLine settle line.now → IsTerms n settle line.now self.now → IsPurchase n settle line.now units result }
+        ensures { (days : Days) (n : ℕ) → IsLine days line.now → IsTerms n days line.now self.now → IsPurchase n days line.now units result }
     {
         let payments = scheduled_flows(self.schedule.as_slice(), line.rate(), line.par(units));
         let worth = worth_of(self.powers.as_slice(), payments.as_slice());

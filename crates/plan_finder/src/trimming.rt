@@ -29,7 +29,7 @@ struct Bracket {
 fn suffices(ledger: &Ledger, duty: &Duty, units: u64) -> bool
     requires line { duty.now.line < length ledger.now.book.lines }
     requires units { (d : Line) → units ≤ (slice_index_or ledger.now.book.lines duty.now.line d).most }
-    ensures { (d : Line) → IsTrue result ↔ Cover ledger.now.book.needs duty.now.due (line_payments ledger.now.book.settle (slice_index_or ledger.now.book.lines duty.now.line d) units) }
+    ensures { (d : Line) → IsTrue result ↔ Cover ledger.now.book.needs duty.now.due (line_payments ledger.now.book.days (slice_index_or ledger.now.book.lines duty.now.line d) units) }
 {
     let book = ledger.book();
     let bought = ledger.purchase(duty.line, units);
@@ -45,11 +45,11 @@ fn bracket_of(ledger: &Ledger, duty: &Duty, units: u64) -> Bracket
     requires line { duty.now.line < length ledger.now.book.lines }
     requires least { (d : Line) → (slice_index_or ledger.now.book.lines duty.now.line d).least ≤ units }
     requires most { (d : Line) → units ≤ (slice_index_or ledger.now.book.lines duty.now.line d).most }
-    requires enough { (d : Line) → Cover ledger.now.book.needs duty.now.due (line_payments ledger.now.book.settle (slice_index_or ledger.now.book.lines duty.now.line d) units) }
+    requires enough { (d : Line) → Cover ledger.now.book.needs duty.now.due (line_payments ledger.now.book.days (slice_index_or ledger.now.book.lines duty.now.line d) units) }
     ensures least { (d : Line) → (slice_index_or ledger.now.book.lines duty.now.line d).least ≤ result.low }
     ensures ordered { result.low ≤ result.high }
     ensures most { result.high ≤ units }
-    ensures enough { (d : Line) → Cover ledger.now.book.needs duty.now.due (line_payments ledger.now.book.settle (slice_index_or ledger.now.book.lines duty.now.line d) result.high) }
+    ensures enough { (d : Line) → Cover ledger.now.book.needs duty.now.due (line_payments ledger.now.book.days (slice_index_or ledger.now.book.lines duty.now.line d) result.high) }
 {
     let least = ledger.book().line(duty.line).least;
     let mut high = units;
@@ -75,10 +75,10 @@ fn fewest_within(ledger: &Ledger, duty: &Duty, bracket: Bracket) -> u64
     requires line { duty.now.line < length ledger.now.book.lines }
     requires ordered { bracket.low ≤ bracket.high }
     requires most { (d : Line) → bracket.high ≤ (slice_index_or ledger.now.book.lines duty.now.line d).most }
-    requires enough { (d : Line) → Cover ledger.now.book.needs duty.now.due (line_payments ledger.now.book.settle (slice_index_or ledger.now.book.lines duty.now.line d) bracket.high) }
+    requires enough { (d : Line) → Cover ledger.now.book.needs duty.now.due (line_payments ledger.now.book.days (slice_index_or ledger.now.book.lines duty.now.line d) bracket.high) }
     ensures least { bracket.low ≤ result }
     ensures most { result ≤ bracket.high }
-    ensures enough { (d : Line) → Cover ledger.now.book.needs duty.now.due (line_payments ledger.now.book.settle (slice_index_or ledger.now.book.lines duty.now.line d) result) }
+    ensures enough { (d : Line) → Cover ledger.now.book.needs duty.now.due (line_payments ledger.now.book.days (slice_index_or ledger.now.book.lines duty.now.line d) result) }
 {
     let mut low = bracket.low;
     let mut high = bracket.high;
@@ -97,10 +97,10 @@ fn fewest_within(ledger: &Ledger, duty: &Duty, bracket: Bracket) -> u64
 fn fewest(ledger: &Ledger, duty: &Duty, units: u64) -> u64
     requires line { duty.now.line < length ledger.now.book.lines }
     requires permitted { (d : Line) → IsPermittedUnits (slice_index_or ledger.now.book.lines duty.now.line d) units }
-    requires enough { (d : Line) → Cover ledger.now.book.needs duty.now.due (line_payments ledger.now.book.settle (slice_index_or ledger.now.book.lines duty.now.line d) units) }
+    requires enough { (d : Line) → Cover ledger.now.book.needs duty.now.due (line_payments ledger.now.book.days (slice_index_or ledger.now.book.lines duty.now.line d) units) }
     ensures permitted { (d : Line) → IsPermittedUnits (slice_index_or ledger.now.book.lines duty.now.line d) result }
     ensures most { result ≤ units }
-    ensures enough { (d : Line) → Cover ledger.now.book.needs duty.now.due (line_payments ledger.now.book.settle (slice_index_or ledger.now.book.lines duty.now.line d) result) }
+    ensures enough { (d : Line) → Cover ledger.now.book.needs duty.now.due (line_payments ledger.now.book.days (slice_index_or ledger.now.book.lines duty.now.line d) result) }
 {
     if suffices(ledger, duty, 0) {
         0

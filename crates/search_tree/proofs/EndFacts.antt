@@ -42,6 +42,7 @@ use Rattle.search_tree.specs.Tree.{TreeContents, end_by, end_node, link_node}
 use Rattle.search_tree.specs.declared.node.Closing.{Closing}
 use Rattle.search_tree.specs.declared.node.Closing.TheVariants as closing
 use Rattle.search_tree.specs.declared.node.SearchNode.{SearchNode}
+use Rattle.offer_book.specs.declared.payment_days.PaymentDays.{PaymentDays}
 
 -- ---- a tree of which each node is closed or split
 -- what holds at a node, by its state
@@ -176,9 +177,9 @@ node-by case ranges own limits priced = by own.closing
     by (closing.Unreached day) = reach_is_leaf case.book.needs day limits.needs.rising
     by closing.Point = tt
 
-most-small : (settle : ℤ) (line : Line) → IsLine settle line → line.most ≤ 10 ^ 13
-most-small settle line (inl cash) = omega (arith, cash.most)
-most-small settle line (inr security) = omega (arith, mul-le-mul_left line.most security.step_at_least, security.cap)
+most-small : (days : PaymentDays) (line : Line) → IsLine days line → line.most ≤ 10 ^ 13
+most-small days line (inl cash) = omega (arith, cash.most)
+most-small days line (inr security) = omega (arith, mul-le-mul_left line.most security.step_at_least, security.cap)
 
 high-few : (line : Line) (units : ℕ) → IsPermittedUnits line units → units ≤ line.most
 high-few line units (inl none) = omega arith
@@ -193,13 +194,13 @@ split-node-by case ranges line at limits tight proper =
     let within : line < length case.book.lines = omega (arith, there, same) in
     let own : Line = get_or case.book.lines line (cash_line 0) in
     let high = high-few own (get_or ranges line none).high (tight-at case.book.lines ranges line (cash_line 0) none tight there).high in
-    let small = most-small case.book.settle own (all-lines case.book.settle case.book.lines limits.lines line (cash_line 0) within) in
+    let small = most-small case.book.days own (all-lines case.book.days case.book.lines limits.lines line (cash_line 0) within) in
     (omega (arith, within, few-lines case.book limits), omega (arith, split.right none, high, small))
   where
     few-lines : (book : BookContents) → IsBook book → length book.lines ≤ 257
     few-lines book limits = by book.lines limits.lines
       where
-        by : (lines : List Line) → AreLines book.settle lines → length lines ≤ 257
+        by : (lines : List Line) → AreLines book.days lines → length lines ≤ 257
         by [] are = absurd are
         by (cash ∷ securities) are = omega (arith, are.2)
 

@@ -38,7 +38,7 @@ some-least : (line : Line) (units : ℕ) → IsPermittedUnits line units → 0 <
 some-least line units (inl none) some = absurd (omega arith)
 some-least line units (inr within) some = within.0
 
-least-rises : (n : ℕ) (book : BookContents) (leaf : Leaf) (line : Line) (inner outer : Interval) → ((units : ℕ) → EnclosesUnits book.settle line units) → IsTight line inner → IsTight line outer → LiesIn inner outer
+least-rises : (n : ℕ) (book : BookContents) (leaf : Leaf) (line : Line) (inner outer : Interval) → ((units : ℕ) → EnclosesUnits book.days line units) → IsTight line inner → IsTight line outer → LiesIn inner outer
     → least_within n book leaf line outer ≤ℤ least_within n book leaf line inner
 least-rises n book leaf line inner outer enclose tight own lies = by (inner.low == inner.high) refl (inner.low == 0) refl (outer.low == outer.high) refl (outer.low == 0) refl
   where
@@ -95,8 +95,8 @@ side-lies line interval at false from to = record { low = low-rises interval.low
 side-lies line interval at true from to = record { low = omega (arith, low-rises (at + 1) line.least, from); high = high-falls interval.high line.least }
 
 -- ---- all lines
-sum-rises : (n : ℕ) (book : BookContents) (leaf : Leaf) (lines : List Line) (ranges : List Interval) (line at : ℕ) (right : Bool) → ((own : Line) → IsLine book.settle own → (units : ℕ) → EnclosesUnits book.settle own units)
-    → All (IsLine book.settle) lines → AreTight lines ranges → IsTrue (is_proper ranges line at)
+sum-rises : (n : ℕ) (book : BookContents) (leaf : Leaf) (lines : List Line) (ranges : List Interval) (line at : ℕ) (right : Bool) → ((own : Line) → IsLine book.days own → (units : ℕ) → EnclosesUnits book.days own units)
+    → All (IsLine book.days) lines → AreTight lines ranges → IsTrue (is_proper ranges line at)
     → signed_sum (λ (p : Line × Interval). least_within n book leaf p.0 p.1) (zip lines ranges) ≤ℤ signed_sum (λ (p : Line × Interval). least_within n book leaf p.0 p.1) (zip lines (narrowed lines ranges line at right))
 sum-rises n book leaf [] ranges line at right enclose are tight proper = omega (arith, ints)
 sum-rises n book leaf (own ∷ lines) [] line at right enclose are tight proper = absurd tight
@@ -104,15 +104,15 @@ sum-rises n book leaf (own ∷ lines) (interval ∷ ranges) zero at right enclos
     let split = splits-at (interval ∷ ranges) 0 at proper in
     let lies = side-lies own interval at right (split.left interval) (split.right interval) in
     let sides = sides-tight (own ∷ lines) (interval ∷ ranges) 0 at right tight proper in
-    let first = least-rises n book leaf own (side_of own interval at right) interval (enclose own (All-head (IsLine book.settle) own lines are)) sides.0 tight.0 lies in
+    let first = least-rises n book leaf own (side_of own interval at right) interval (enclose own (All-head (IsLine book.days) own lines are)) sides.0 tight.0 lies in
     omega (arith, ints, first)
 sum-rises n book leaf (own ∷ lines) (interval ∷ ranges) (suc line) at right enclose are tight proper =
-    let rest = sum-rises n book leaf lines ranges line at right enclose (All-tail (IsLine book.settle) own lines are) tight.1 proper in
+    let rest = sum-rises n book leaf lines ranges line at right enclose (All-tail (IsLine book.days) own lines are) tight.1 proper in
     omega (arith, ints, rest)
 
 pub bound-rises : (n : ℕ) (book : BookContents) (leaf : Leaf) (ranges : List Interval) (line at : ℕ) (right : Bool) → IsBook book → AreTight book.lines ranges → IsTrue (is_proper ranges line at)
     → bound_of n book ranges leaf ≤ℤ bound_of n book (narrowed book.lines ranges line at right) leaf
 unfolding bound_of
 bound-rises n book leaf ranges line at right limits tight proper =
-    let rises = sum-rises n book leaf book.lines ranges line at right (λ own is units. coefficients-enclose book.settle own limits.settlement is units) (all-lines book.settle book.lines limits.lines) tight proper in
+    let rises = sum-rises n book leaf book.lines ranges line at right (λ own is units. coefficients-enclose book.days own limits.settlement is units) (all-lines book.days book.lines limits.lines) tight proper in
     omega (arith, ints, rises)

@@ -23,6 +23,7 @@ use Rattle.offer_book.specs.declared.coefficients.TheConstants.{COEFFICIENT_SCAL
 use Rattle.offer_book.specs.declared.line.Line.{Line}
 use Rattle.offer_book.specs.declared.line.LineKind.{LineKind}
 use Rattle.offer_book.specs.declared.line.LineKind.TheVariants.{Cash, Market, Security}
+use Rattle.offer_book.specs.declared.payment_days.PaymentDays.{PaymentDays}
 
 abbrev pub zeros : ℕ → Leaf
 zeros count = record { whole = true; mu = 0; prices = replicate count 0 }
@@ -48,7 +49,7 @@ weight-zero count (Market note) = refl
 
 worth-zero : (n : ℕ) (book : BookContents) (count : ℕ) (kind : LineKind) (day : ℤ) → paid_worth n book (zeros count) kind day ≡ pos 0
 worth-zero n book count kind day =
-    (λ i. pos (price-zero book.needs count day i) -ℤ pos (limit-zero n book.settle (limit_weight (zeros count) kind) day (weight-zero count kind) i))
+    (λ i. pos (price-zero book.needs count day i) -ℤ pos (limit-zero n book.days.settle (limit_weight (zeros count) kind) day (weight-zero count kind) i))
 
 cost-worth : (count : ℕ) (kind : LineKind) → cost_worth (zeros count) kind ≡ pos PRICE_SCALE
 cost-worth count kind = ap (λ (w : ℕ). pos PRICE_SCALE -ℤ pos w) (weight-zero count kind)
@@ -65,9 +66,9 @@ amounts-zero f (x ∷ xs) none = omega (arith, sum_by-cons f x xs, none x, amoun
 reduced-some : (n : ℕ) (book : BookContents) (count : ℕ) (line : Line) (units : ℕ) → pos 0 ≤ℤ reduced_cost n book (zeros count) line units
 unfolding reduced_cost
 reduced-some n book count line units =
-    by (cost_worth (zeros count) line.kind) (signed_sum (λ flow. paid_worth n book (zeros count) line.kind flow.day *ℤ pos flow.cents.0) (line_payments book.settle line units)) (line_cost line units)
+    by (cost_worth (zeros count) line.kind) (signed_sum (λ flow. paid_worth n book (zeros count) line.kind flow.day *ℤ pos flow.cents.0) (line_payments book.days line units)) (line_cost line units)
     (cost-worth count line.kind)
-    (sum-zero (λ flow. paid_worth n book (zeros count) line.kind flow.day *ℤ pos flow.cents.0) (line_payments book.settle line units)
+    (sum-zero (λ flow. paid_worth n book (zeros count) line.kind flow.day *ℤ pos flow.cents.0) (line_payments book.days line units)
     (λ flow. ap (λ (w : ℤ). w *ℤ pos flow.cents.0) (worth-zero n book count line.kind flow.day) ∙ nothing flow.cents.0))
   where
     nothing : (cents : ℕ) → pos 0 *ℤ pos cents ≡ pos 0
@@ -77,10 +78,10 @@ reduced-some n book count line units =
     by own paid cost is none = rw (is, none) (omega (arith, ints))
 
 -- the slack of what a line costs is no more than what one unit costs
-slack-low : (settle : ℤ) (line : Line) → IsLine settle line → (cost_coefficients line).slack ≤ (cost_coefficients line).low
-slack-low settle line is = by line.kind refl is
+slack-low : (days : PaymentDays) (line : Line) → IsLine days line → (cost_coefficients line).slack ≤ (cost_coefficients line).low
+slack-low days line is = by line.kind refl is
   where
-    by : (kind : LineKind) → line.kind ≡ kind → IsLine settle line → (kind_costs kind line.step).slack ≤ (kind_costs kind line.step).low
+    by : (kind : LineKind) → line.kind ≡ kind → IsLine days line → (kind_costs kind line.step).slack ≤ (kind_costs kind line.step).low
     by Cash same own = omega arith
     by (Security slgs) same own = omega arith
     by (Market note) same (inl cash) = absurd (let clash : Market note ≡ Cash = sym same ∙ cash.kind in cc)
@@ -91,21 +92,21 @@ slack-low settle line is = by line.kind refl is
         let scaled : COEFFICIENT_SCALE * 10 ^ 10 ≤ COEFFICIENT_SCALE * (line.step * note.price.0) = omega (arith, product, price) in
         omega (arith, le-div COEFFICIENT_SCALE (COEFFICIENT_SCALE * (line.step * note.price.0)) (10 ^ 10) (omega arith) scaled)
       where
-        subst-security : (kind : LineKind) → line.kind ≡ kind → IsSecurity settle line.kind → IsSecurity settle kind
-        subst-security kind same is = subst (IsSecurity settle) same is
+        subst-security : (kind : LineKind) → line.kind ≡ kind → IsSecurity days line.kind → IsSecurity days kind
+        subst-security kind same is = subst (IsSecurity days) same is
 
-form-some : (n : ℕ) (book : BookContents) (count : ℕ) (line : Line) (units : ℕ) → IsLine book.settle line → 1 ≤ units → pos 0 ≤ℤ form_at (form_of n book (zeros count) line) units
+form-some : (n : ℕ) (book : BookContents) (count : ℕ) (line : Line) (units : ℕ) → IsLine book.days line → 1 ≤ units → pos 0 ≤ℤ form_at (form_of n book (zeros count) line) units
 unfolding form_of
 form-some n book count line units is some =
     by (cost_worth (zeros count) line.kind) (cost_coefficients line).low (cost_coefficients line).high (cost_coefficients line).slack
-    (signed_sum (λ pay. least_side (neg_ℤ (paid_worth n book (zeros count) line.kind pay.day)) pay.low pay.high) (pay_coefficients book.settle line))
-    (sum_by (λ pay. unsigned_abs (paid_worth n book (zeros count) line.kind pay.day) * pay.slack) (pay_coefficients book.settle line))
+    (signed_sum (λ pay. least_side (neg_ℤ (paid_worth n book (zeros count) line.kind pay.day)) pay.low pay.high) (pay_coefficients book.days line))
+    (sum_by (λ pay. unsigned_abs (paid_worth n book (zeros count) line.kind pay.day) * pay.slack) (pay_coefficients book.days line))
     (cost-worth count line.kind)
-    (sum-zero (λ pay. least_side (neg_ℤ (paid_worth n book (zeros count) line.kind pay.day)) pay.low pay.high) (pay_coefficients book.settle line)
+    (sum-zero (λ pay. least_side (neg_ℤ (paid_worth n book (zeros count) line.kind pay.day)) pay.low pay.high) (pay_coefficients book.days line)
     (λ pay. ap (λ (w : ℤ). least_side (neg_ℤ w) pay.low pay.high) (worth-zero n book count line.kind pay.day) ∙ side pay.low pay.high))
-    (amounts-zero (λ pay. unsigned_abs (paid_worth n book (zeros count) line.kind pay.day) * pay.slack) (pay_coefficients book.settle line)
+    (amounts-zero (λ pay. unsigned_abs (paid_worth n book (zeros count) line.kind pay.day) * pay.slack) (pay_coefficients book.days line)
     (λ pay. ap (λ (w : ℤ). unsigned_abs w * pay.slack) (worth-zero n book count line.kind pay.day) ∙ none pay.slack))
-    (slack-low book.settle line is)
+    (slack-low book.days line is)
   where
     side : (low high : ℕ) → least_side (neg_ℤ (pos 0)) low high ≡ pos 0
     side low high = omega (arith, ints)
@@ -120,11 +121,11 @@ form-some n book count line units is some =
         grow : (low slack units : ℕ) → 1 ≤ units → slack ≤ low → pos 0 ≤ℤ ((pos PRICE_SCALE *ℤ pos low +ℤ pos 0) *ℤ pos units -ℤ pos (PRICE_SCALE * slack + 0))
         grow low slack units some less = omega (arith, ints, less, le-mul_of_pos_right low some)
 
-least-some : (settle : ℤ) (line : Line) → IsLine settle line → 1 ≤ line.least
-least-some settle line (inl cash) = omega (arith, cash.least)
-least-some settle line (inr security) = security.least
+least-some : (days : PaymentDays) (line : Line) → IsLine days line → 1 ≤ line.least
+least-some days line (inl cash) = omega (arith, cash.least)
+least-some days line (inr security) = security.least
 
-line-some : (n : ℕ) (book : BookContents) (count : ℕ) (line : Line) (interval : Interval) → IsLine book.settle line → IsTight line interval → pos 0 ≤ℤ least_within n book (zeros count) line interval
+line-some : (n : ℕ) (book : BookContents) (count : ℕ) (line : Line) (interval : Interval) → IsLine book.days line → IsTight line interval → pos 0 ≤ℤ least_within n book (zeros count) line interval
 line-some n book count line interval is tight = by (interval.low == interval.high) refl (interval.low == 0) refl
   where
     form : Form
@@ -141,20 +142,20 @@ line-some n book count line interval is tight = by (interval.low == interval.hig
     by false e true f =
         let apart : interval.low ≡ interval.high → ⊥ = (λ same. grind (arith, nat_tests, e, same)) in
         let low : interval.low ≡ 0 = grind (arith, nat_tests, f) in
-        omega (arith, ints, clamps, at line.least (least-some book.settle line is), at interval.high (omega (arith, apart, low)))
+        omega (arith, ints, clamps, at line.least (least-some book.days line is), at interval.high (omega (arith, apart, low)))
     by false e false f =
         let some : interval.low ≡ 0 → ⊥ = (λ same. grind (arith, nat_tests, f, same)) in
         omega (arith, ints, clamps, at interval.low (omega (arith, some)), at interval.high (omega (arith, some, tight.ordered)))
 
 -- ---- all lines
-lines-some : (n : ℕ) (book : BookContents) (count : ℕ) (lines : List Line) (ranges : List Interval) → All (IsLine book.settle) lines → AreTight lines ranges
+lines-some : (n : ℕ) (book : BookContents) (count : ℕ) (lines : List Line) (ranges : List Interval) → All (IsLine book.days) lines → AreTight lines ranges
     → pos 0 ≤ℤ signed_sum (λ (p : Line × Interval). least_within n book (zeros count) p.0 p.1) (zip lines ranges)
 lines-some n book count [] ranges are tight = omega (arith, ints)
 lines-some n book count (line ∷ lines) [] are tight = absurd tight
 lines-some n book count (line ∷ lines) (interval ∷ ranges) are tight =
-    omega (arith, ints, line-some n book count line interval (All-head (IsLine book.settle) line lines are) tight.0, lines-some n book count lines ranges (All-tail (IsLine book.settle) line lines are) tight.1)
+    omega (arith, ints, line-some n book count line interval (All-head (IsLine book.days) line lines are) tight.0, lines-some n book count lines ranges (All-tail (IsLine book.days) line lines are) tight.1)
 
 pub zeros-some : (n : ℕ) (book : BookContents) (count : ℕ) (ranges : List Interval) → IsBook book → AreTight book.lines ranges → pos 0 ≤ℤ bound_of n book ranges (zeros count)
 unfolding bound_of
 zeros-some n book count ranges limits tight =
-    omega (arith, ints, lines-some n book count book.lines ranges (all-lines book.settle book.lines limits.lines) tight)
+    omega (arith, ints, lines-some n book count book.lines ranges (all-lines book.days book.lines limits.lines) tight)

@@ -6,6 +6,6 @@ use Rattle.cash_table.proofs.cash.add_bought.Given as goal
 
 abbrev pub invariant-loop-line : goal.invariant-loop-line
 invariant-loop-line l = record {
-  receipts : AreReceipts l.needs (flat_map (pair_payments l.settle) (take (length l.yielded) (zip l.lines l.plan))) l.receipts;
-  within : sum l.receipts ≤ sum_by (pair_total l.settle) (take (length l.yielded) (zip l.lines l.plan));
+  receipts : AreReceipts l.needs (flat_map (pair_payments l.days) (take (length l.yielded) (zip l.lines l.plan))) l.receipts;
+  within : sum l.receipts ≤ sum_by (pair_total l.days) (take (length l.yielded) (zip l.lines l.plan));
 }

@@ -5,7 +5,7 @@ use Rattle.cash_table.proofs.costs.cost.Goals as goal
 
 pub lines_cost-requires-clause-lines : goal.lines_cost-requires-clause-lines
 lines_cost-requires-clause-lines c =
-    (c.args.book.now.settle, rw c.lines.ensures.value (all_lines c.args.book.now.settle c.args.book.now.lines c.lines.ensures.limits.lines))
+    (c.args.book.now.days, rw c.lines.ensures.value (all_lines c.args.book.now.days c.args.book.now.lines c.lines.ensures.limits.lines))
 
 pub lines_cost-requires-clause-room : goal.lines_cost-requires-clause-room
 lines_cost-requires-clause-room c =

@@ -6,8 +6,8 @@ use Rattle.cash_table.proofs.costs.security_cost.Goals as goal
 
 pub lines_cost-requires-clause-lines : goal.lines_cost-requires-clause-lines
 lines_cost-requires-clause-lines c = (
-  c.args.book.now.settle,
-  simp (take_rest, c.lines.ensures.value) (lines_after_cash c.args.book.now.settle c.args.book.now.lines c.lines.ensures.limits.lines),
+  c.args.book.now.days,
+  simp (take_rest, c.lines.ensures.value) (lines_after_cash c.args.book.now.days c.args.book.now.lines c.lines.ensures.limits.lines),
 )
 
 pub lines_cost-requires-clause-permitted : goal.lines_cost-requires-clause-permitted

@@ -13,7 +13,7 @@ use Rattle.cash_table.proofs.FlowFacts.{total-sums, sums_more, sums_same}
 use Rattle.cash_table.proofs.security_flows.add_bought.Goals as goal
 
 pub loop-line-init : goal.loop-line-init
-loop-line-init c = c.requires.none ∙ ap (span c.args.settle (years_after_of c.args.settle 40)) (sym nothing)
+loop-line-init c = c.requires.none ∙ ap (span c.args.days.now.settle (years_after_of c.args.days.now.settle 40)) (sym nothing)
 
 pub payments-requires-clause-units : goal.payments-requires-clause-units
 payments-requires-clause-units c =
@@ -29,29 +29,29 @@ add-requires-clause-span c =
 pub add-requires-clause-room : goal.add-requires-clause-room
 add-requires-clause-room c =
     let at = this_pair c.args.lines.now c.args.plan.now c.loop-line.yielded c.into_iter-line-iterator.result c.loop-line.line-iterator c.next.new.self c.next.result (c.in-Some.line, c.in-Some.units) (cc) (cc) c.loop-line.yielded_by c.in-Some.is c.next.ensures.steps in
-    let room = sum_by-zip_room (pair_total c.args.settle) _ _ _ _ _ at in
-    let whole = total-payments c.args.settle (zip c.args.lines.now c.args.plan.now) in
+    let room = sum_by-zip_room (pair_total c.args.days.now) _ _ _ _ _ at in
+    let whole = total-payments c.args.days.now (zip c.args.lines.now c.args.plan.now) in
     let pays = ap total (c.as_slice.ensures.value ∙ c.payments.ensures.value) in
-    let sums = total-sums c.loop-line.sums.sums c.args.settle c.args.lines.now c.args.plan.now (length c.loop-line.yielded) (ap (λ (s : SpanSums). s.sums) c.loop-line.invariant) in
+    let sums = total-sums c.loop-line.sums.sums c.args.days.now c.args.lines.now c.args.plan.now (length c.loop-line.yielded) (ap (λ (s : SpanSums). s.sums) c.loop-line.invariant) in
     omega (arith, room, whole, pays, sums, c.requires.room)
 
 pub loop-line-preserved-then-units-gt0 : goal.loop-line-preserved-then-units-gt0
 loop-line-preserved-then-units-gt0 c =
     let at = this_pair c.args.lines.now c.args.plan.now c.loop-line.yielded c.into_iter-line-iterator.result c.loop-line.line-iterator c.next.new.self c.next.result (c.in-Some.line, c.in-Some.units) (cc) (cc) c.loop-line.yielded_by c.in-Some.is c.next.ensures.steps in
-    let pays : c.as_slice.result.now ≡ pair_payments c.args.settle (c.in-Some.line.now, c.in-Some.units.now) = c.as_slice.ensures.value ∙ c.payments.ensures.value in
+    let pays : c.as_slice.result.now ≡ pair_payments c.args.days.now (c.in-Some.line.now, c.in-Some.units.now) = c.as_slice.ensures.value ∙ c.payments.ensures.value in
     let from = ap (λ (s : SpanSums). s.from) c.loop-line.invariant in
     let to = ap (λ (s : SpanSums). s.to) c.loop-line.invariant in
     let before = ap (λ (s : SpanSums). s.sums) c.loop-line.invariant in
     rw length_push
     (c.add.ensures ∙ span_sums from to
-    (sums_more c.loop-line.sums.sums (summed (c.loop-line.sums.sums ++ c.as_slice.result.now)) c.as_slice.result.now c.args.settle c.args.lines.now c.args.plan.now (length c.loop-line.yielded) c.in-Some.line.now c.in-Some.units.now at before pays refl))
+    (sums_more c.loop-line.sums.sums (summed (c.loop-line.sums.sums ++ c.as_slice.result.now)) c.as_slice.result.now c.args.days.now c.args.lines.now c.args.plan.now (length c.loop-line.yielded) c.in-Some.line.now c.in-Some.units.now at before pays refl))
 
 pub loop-line-preserved : goal.loop-line-preserved
 loop-line-preserved c =
     let at = this_pair c.args.lines.now c.args.plan.now c.loop-line.yielded c.into_iter-line-iterator.result c.loop-line.line-iterator c.next.new.self c.next.result (c.in-Some.line, c.in-Some.units) (cc) (cc) c.loop-line.yielded_by c.in-Some.is c.next.ensures.steps in
     rw length_push
-    (c.loop-line.invariant ∙ ap (span c.args.settle (years_after_of c.args.settle 40))
-    (sums_same _ c.args.settle c.args.lines.now c.args.plan.now (length c.loop-line.yielded) c.in-Some.line.now c.in-Some.units.now at (omega arith) refl))
+    (c.loop-line.invariant ∙ ap (span c.args.days.now.settle (years_after_of c.args.days.now.settle 40))
+    (sums_same _ c.args.days.now c.args.lines.now c.args.plan.now (length c.loop-line.yielded) c.in-Some.line.now c.in-Some.units.now at (omega arith) refl))
 
 pub returns : goal.returns
 returns c =

@@ -7,4 +7,4 @@ use Rattle.cash_table.proofs.PaymentFacts.{pair_payments}
 use Rattle.cash_table.proofs.security_flows.add_bought.Given as goal
 
 abbrev pub invariant-loop-line : goal.invariant-loop-line
-invariant-loop-line l = l.sums ≡ span l.settle (years_after_of l.settle 40) (summed (flat_map (pair_payments l.settle) (take (length l.yielded) (zip l.lines l.plan))))
+invariant-loop-line l = l.sums ≡ span l.days.settle (years_after_of l.days.settle 40) (summed (flat_map (pair_payments l.days) (take (length l.yielded) (zip l.lines l.plan))))

@@ -21,35 +21,35 @@ add_bought-requires-clause-permitted c =
 
 pub add_bought-requires-clause-room : goal.add_bought-requires-clause-room
 add_bought-requires-clause-room c =
-    simp (take_rest, drop-zip, c.settle-settle.ensures, c.lines-lines.ensures.value, c.units.ensures) (omega (arith, securities_at_most c.args.book.now c.args.plan.now c.lines-lines.ensures.limits c.requires))
+    simp (take_rest, drop-zip, c.settle-settle.ensures, c.payment_days.ensures, c.lines-lines.ensures.value, c.units.ensures) (omega (arith, securities_at_most c.args.book.now c.args.plan.now c.lines-lines.ensures.limits c.requires))
 
 pub returns-clause-within : goal.returns-clause-within
 returns-clause-within c =
-    IfOk-weaker c.into_flows.result (λ flows. flows.items ≡ c.add_bought.new.sums.sums) (λ flows. FallWithinFortyYears c.args.book.now.settle flows.items)
-    (λ flows same. let sums : c.add_bought.new.sums.sums ≡ security_flows c.args.book.now c.args.plan.now = simp (take_rest, drop-zip, c.settle-settle.ensures, c.lines-lines.ensures.value, c.units.ensures) at (ap (λ (s : SpanSums). s.sums) c.add_bought.ensures) in
-    subst (FallWithinFortyYears c.args.book.now.settle) (sym (same ∙ sums)) (flows_within c.args.book.now c.args.plan.now c.lines-lines.ensures.limits)) c.into_flows.ensures.value
+    IfOk-weaker c.into_flows.result (λ flows. flows.items ≡ c.add_bought.new.sums.sums) (λ flows. FallWithinFortyYears c.args.book.now.days.settle flows.items)
+    (λ flows same. let sums : c.add_bought.new.sums.sums ≡ security_flows c.args.book.now c.args.plan.now = simp (take_rest, drop-zip, c.settle-settle.ensures, c.payment_days.ensures, c.lines-lines.ensures.value, c.units.ensures) at (ap (λ (s : SpanSums). s.sums) c.add_bought.ensures) in
+    subst (FallWithinFortyYears c.args.book.now.days.settle) (sym (same ∙ sums)) (flows_within c.args.book.now c.args.plan.now c.lines-lines.ensures.limits)) c.into_flows.ensures.value
 
 pub returns-clause-later : goal.returns-clause-later
 returns-clause-later c =
-    IfOk-weaker c.into_flows.result (λ flows. flows.items ≡ c.add_bought.new.sums.sums) (λ flows. HaveLaterAmount c.args.book.now.settle flows.items)
-    (λ flows same. let sums : c.add_bought.new.sums.sums ≡ security_flows c.args.book.now c.args.plan.now = simp (take_rest, drop-zip, c.settle-settle.ensures, c.lines-lines.ensures.value, c.units.ensures) at (ap (λ (s : SpanSums). s.sums) c.add_bought.ensures) in
-    subst (HaveLaterAmount c.args.book.now.settle) (sym (same ∙ sums)) (flows_later c.args.book.now c.args.plan.now c.lines-lines.ensures.limits)) c.into_flows.ensures.value
+    IfOk-weaker c.into_flows.result (λ flows. flows.items ≡ c.add_bought.new.sums.sums) (λ flows. HaveLaterAmount c.args.book.now.days.settle flows.items)
+    (λ flows same. let sums : c.add_bought.new.sums.sums ≡ security_flows c.args.book.now c.args.plan.now = simp (take_rest, drop-zip, c.settle-settle.ensures, c.payment_days.ensures, c.lines-lines.ensures.value, c.units.ensures) at (ap (λ (s : SpanSums). s.sums) c.add_bought.ensures) in
+    subst (HaveLaterAmount c.args.book.now.days.settle) (sym (same ∙ sums)) (flows_later c.args.book.now c.args.plan.now c.lines-lines.ensures.limits)) c.into_flows.ensures.value
 
 pub returns-clause-bound : goal.returns-clause-bound
 returns-clause-bound c =
     IfOk-weaker c.into_flows.result (λ flows. flows.items ≡ c.add_bought.new.sums.sums) (λ flows. IsBounded flows.items)
-    (λ flows same. let sums : c.add_bought.new.sums.sums ≡ security_flows c.args.book.now c.args.plan.now = simp (take_rest, drop-zip, c.settle-settle.ensures, c.lines-lines.ensures.value, c.units.ensures) at (ap (λ (s : SpanSums). s.sums) c.add_bought.ensures) in
+    (λ flows same. let sums : c.add_bought.new.sums.sums ≡ security_flows c.args.book.now c.args.plan.now = simp (take_rest, drop-zip, c.settle-settle.ensures, c.payment_days.ensures, c.lines-lines.ensures.value, c.units.ensures) at (ap (λ (s : SpanSums). s.sums) c.add_bought.ensures) in
     subst (IsBounded) (sym (same ∙ sums)) (flows_at_most c.args.book.now c.args.plan.now c.lines-lines.ensures.limits c.requires)) c.into_flows.ensures.value
 
 pub between-requires : goal.between-requires
-between-requires c = rw (c.years_after.ensures, c.settle-settle.ensures) (years-follow c.args.book.now.settle c.lines-lines.ensures.limits.settlement)
+between-requires c = rw (c.years_after.ensures, c.settle-settle.ensures) (years-follow c.args.book.now.days.settle c.lines-lines.ensures.limits.settlement)
 
 pub add_bought-requires-clause-lines : goal.add_bought-requires-clause-lines
 add_bought-requires-clause-lines c =
-    simp (take_rest, c.settle-settle.ensures, c.lines-lines.ensures.value) (lines_after_cash c.args.book.now.settle c.args.book.now.lines c.lines-lines.ensures.limits.lines)
+    simp (take_rest, c.settle-settle.ensures, c.payment_days.ensures, c.lines-lines.ensures.value) (lines_after_cash c.args.book.now.days c.args.book.now.lines c.lines-lines.ensures.limits.lines)
 
 pub returns-clause-value : goal.returns-clause-value
 returns-clause-value c =
     IfOk-weaker c.into_flows.result (λ flows. flows.items ≡ c.add_bought.new.sums.sums) (λ flows. flows.items ≡ security_flows c.args.book.now c.args.plan.now)
-    (λ flows same. let sums : c.add_bought.new.sums.sums ≡ security_flows c.args.book.now c.args.plan.now = simp (take_rest, drop-zip, c.settle-settle.ensures, c.lines-lines.ensures.value, c.units.ensures) at (ap (λ (s : SpanSums). s.sums) c.add_bought.ensures) in
+    (λ flows same. let sums : c.add_bought.new.sums.sums ≡ security_flows c.args.book.now c.args.plan.now = simp (take_rest, drop-zip, c.settle-settle.ensures, c.payment_days.ensures, c.lines-lines.ensures.value, c.units.ensures) at (ap (λ (s : SpanSums). s.sums) c.add_bought.ensures) in
     same ∙ sums) c.into_flows.ensures.value

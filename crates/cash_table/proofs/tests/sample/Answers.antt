@@ -5,12 +5,14 @@ use Rattle.std.proofs.lemmas.List.Elements.{All-cons, All-nil}
 use Rattle.std.proofs.lemmas.List.Kept.{AllPairs-cons}
 use Rattle.escrow_units.specs.Calendar.{years_after_of}
 use Rattle.escrow_units.specs.Flows.{Rise}
+use Rattle.escrow_units.specs.OpenDays.{Closings, no_closings}
 use Rattle.escrow_units.specs.SlgsTerms.{IsSettlement}
 use Rattle.escrow_units.specs.declared.security.Flow.{Flow}
 use Rattle.offer_book.specs.declared.line.Line.{Line}
 use Rattle.offer_book.specs.Book.{IsNeeds, IsCashLine, IsSecurityLine, AreLines, IsBook}
 use Rattle.offer_book.proofs.LineFacts.{forty-years}
 use Rattle.cash_table.proofs.tests.sample.Goals as goal
+use Rattle.offer_book.specs.declared.payment_days.PaymentDays.{PaymentDays}
 
 abbrev need : ℕ → ℕ → Flow
 need day cents = record { day = pos day; cents = record { 0 = cents } }
@@ -54,29 +56,33 @@ needs_keep far = record {
     inside : (day cents : ℕ) → 20103 ≤ day → day ≤ 34703 → IsWithin (need day cents)
     inside day cents low high = (omega (arith, ints), omega (arith, ints, far))
 
-lines_keep : (settle : ℤ) (cash early late again note bond : Line) → IsCashLine cash → IsSecurityLine settle early → IsSecurityLine settle late → IsSecurityLine settle again → IsSecurityLine settle note → IsSecurityLine settle bond
-    → AreLines settle (cash ∷ early ∷ late ∷ again ∷ note ∷ bond ∷ [])
-lines_keep settle cash early late again note bond is_cash a b b2 c d = (
+lines_keep : (days : PaymentDays) (cash early late again note bond : Line) → IsCashLine cash → IsSecurityLine days early → IsSecurityLine days late → IsSecurityLine days again → IsSecurityLine days note → IsSecurityLine days bond
+    → AreLines days (cash ∷ early ∷ late ∷ again ∷ note ∷ bond ∷ [])
+lines_keep days cash early late again note bond is_cash a b b2 c d = (
   is_cash,
-  All-cons (IsSecurityLine settle) early (late ∷ again ∷ note ∷ bond ∷ []) a
-      (All-cons (IsSecurityLine settle) late (again ∷ note ∷ bond ∷ []) b
-      (All-cons (IsSecurityLine settle) again (note ∷ bond ∷ []) b2
-      (All-cons (IsSecurityLine settle) note (bond ∷ []) c
-      (All-cons (IsSecurityLine settle) bond [] d (All-nil (IsSecurityLine settle)))))),
+  All-cons (IsSecurityLine days) early (late ∷ again ∷ note ∷ bond ∷ []) a
+      (All-cons (IsSecurityLine days) late (again ∷ note ∷ bond ∷ []) b
+      (All-cons (IsSecurityLine days) again (note ∷ bond ∷ []) b2
+      (All-cons (IsSecurityLine days) note (bond ∷ []) c
+      (All-cons (IsSecurityLine days) bond [] d (All-nil (IsSecurityLine days)))))),
   omega arith,
 )
 
-keeps : (settle : ℤ) (flows : List Flow) (cash early late again note bond : Line) (lines : List Line) → settle ≡ pos 20103 → flows ≡ needs → IsCashLine cash
-    → IsSecurityLine settle early → IsSecurityLine settle late → IsSecurityLine settle again → IsSecurityLine settle note → IsSecurityLine settle bond
-    → lines ≡ cash ∷ early ∷ late ∷ again ∷ note ∷ bond ∷ [] → IsBook (record { settle = settle; needs = flows; lines = lines })
-keeps settle flows cash early late again note bond lines at are is_cash a b b2 c d e =
+abbrev open_days : ℤ → PaymentDays
+open_days settle = record { settle = settle; closed = no_closings }
+
+keeps : (settle : ℤ) (closed : Closings) (flows : List Flow) (cash early late again note bond : Line) (lines : List Line) → settle ≡ pos 20103 → closed ≡ no_closings → flows ≡ needs
+    → IsCashLine cash → IsSecurityLine (open_days settle) early → IsSecurityLine (open_days settle) late → IsSecurityLine (open_days settle) again → IsSecurityLine (open_days settle) note
+    → IsSecurityLine (open_days settle) bond → lines ≡ cash ∷ early ∷ late ∷ again ∷ note ∷ bond ∷ []
+    → IsBook (record { days = record { settle = settle; closed = closed }; needs = flows; lines = lines })
+keeps settle closed flows cash early late again note bond lines at none are is_cash a b b2 c d e =
     let settlement : IsSettlement (pos 20103) = (omega (arith, ints), omega (arith, ints)) in
     let far : pos 34703 ≤ℤ years_after_of (pos 20103) 40 = omega (arith, ints, forty-years (pos 20103) settlement) in
-    rw (are, e) (rw at (record { settlement = settlement; needs = needs_keep far; lines = lines_keep (pos 20103) cash early late again note bond is_cash (rw at at a) (rw at at b) (rw at at b2) (rw at at c) (rw at at d) }))
+    rw (none, are, e) (rw at (record { settlement = settlement; needs = needs_keep far; lines = lines_keep (open_days (pos 20103)) cash early late again note bond is_cash (rw at at a) (rw at at b) (rw at at b2) (rw at at c) (rw at at d) }))
 
 pub make-requires : goal.make-requires
 make-requires g c = record {
-  limits = keeps c.new-settle.result c.in_ok-needs.needs.items c.opening_cash.result c.in_ok-early.early c.in_ok-late.late c.in_ok-again.again c.in_ok-note.note c.in_ok-bond.bond c.in_ok-lines.lines.items c.new-settle.ensures
+  limits = keeps c.new-settle.result c.none.result c.in_ok-needs.needs.items c.opening_cash.result c.in_ok-early.early c.in_ok-late.late c.in_ok-again.again c.in_ok-note.note c.in_ok-bond.bond c.in_ok-lines.lines.items c.new-settle.ensures c.none.ensures
       (c.in_ok-needs.ensures.items ∙ rw (c.new.ensures, c.new-2.ensures, c.new-3.ensures, c.new-4.ensures) refl)
       c.opening_cash.ensures c.in_ok-early.ensures c.in_ok-late.ensures c.in_ok-again.ensures c.in_ok-note.ensures c.in_ok-bond.ensures
       (c.in_ok-lines.ensures.items ∙ refl);

@@ -27,9 +27,9 @@ bounds-intervals-place c =
 
 pub least-bound-requires-clause-line : goal.least-bound-requires-clause-line
 least-bound-requires-clause-line c =
-    subst (IsLine c.args.book.now.settle) (sym c.index-lines-place.is)
-    (All-same (IsLine c.args.book.now.settle) c.lines-lines.result.now c.args.book.now.lines c.lines-lines.ensures.value
-    (all-lines c.args.book.now.settle c.args.book.now.lines c.lines-lines.ensures.limits.lines) c.loop-place.place c.index-lines-place.result c.loop-place-test.true)
+    subst (IsLine c.args.book.now.days) (sym c.index-lines-place.is)
+    (All-same (IsLine c.args.book.now.days) c.lines-lines.result.now c.args.book.now.lines c.lines-lines.ensures.value
+    (all-lines c.args.book.now.days c.args.book.now.lines c.lines-lines.ensures.limits.lines) c.loop-place.place c.index-lines-place.result c.loop-place-test.true)
 
 pub least-bound-requires-clause-high : goal.least-bound-requires-clause-high
 least-bound-requires-clause-high c =
@@ -50,7 +50,7 @@ loop-place-preserved c =
     omega (arith, room-length c.args.book.now.lines c.args.ranges.now c.requires.ranges, ap length c.lines-lines.ensures.value, ap length c.intervals-intervals.ensures.value) in
     let there : c.loop-place.place < length ranges = omega (arith, same, c.loop-place-test.true) in
     let f = λ (p : Line × Interval). least_within c.args.powers.now.yield_units c.args.book.now c.args.leaf.now p.0 p.1 in
-    let few = lines-few c.args.book.now.settle c.args.book.now.lines c.lines-lines.ensures.limits.lines in
+    let few = lines-few c.args.book.now.days c.args.book.now.lines c.lines-lines.ensures.limits.lines in
     let least = to_z-of_z w128 c.least-bound.result (record { sfits = c.least-bound.type_inv }) in
     let whole = read-again _ (omega (arith, ints, few, ap length c.lines-lines.ensures.value, c.loop-place-test.true, c.loop-place.invariant.1, c.least-bound.ensures.size)) in
     let value = whole ∙ ap (λ z. to_z w128 c.loop-place.bound-bits +ℤ z) least in (

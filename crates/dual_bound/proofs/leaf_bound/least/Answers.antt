@@ -27,7 +27,7 @@ least_within-requires-clause-least c =
       arith,
       ap (λ (f : Form). unsigned_abs f.slope * c.args.line.now.least) c.form.ensures,
       form-times c.args.powers.now.yield_units c.args.book.now c.args.leaf.now c.args.line.now c.args.line.now.least c.requires.limits.settlement c.requires.leaf c.requires.line
-          (least-room c.args.book.now.settle c.args.line.now c.args.interval c.requires.line c.requires.ordered c.requires.high c.if-interval.false),
+          (least-room c.args.book.now.days c.args.line.now c.args.interval c.requires.line c.requires.ordered c.requires.high c.if-interval.false),
     )
 
 pub least_within-requires-clause-slack : goal.least_within-requires-clause-slack

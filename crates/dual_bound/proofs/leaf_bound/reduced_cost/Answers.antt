@@ -22,13 +22,13 @@ loop-flow-preserved c =
 
 pub weighed-cost-requires-clause-cents : goal.weighed-cost-requires-clause-cents
 weighed-cost-requires-clause-cents c =
-    omega (arith, c.cost.ensures, line_cost-small c.args.book.now.settle c.args.line.now c.args.units c.requires.line c.requires.units)
+    omega (arith, c.cost.ensures, line_cost-small c.args.book.now.days c.args.line.now c.args.units c.requires.line c.requires.units)
 
 pub returns : goal.returns
 unfolding reduced_cost
 returns c =
     let weight = paid_worth c.args.powers.now.yield_units c.args.book.now c.args.leaf.now c.args.line.now.kind in
-    let items = c.as_slice-flow-items.ensures.value ∙ c.payments.ensures.value ∙ ap (λ settle. line_payments settle c.args.line.now c.args.units) c.settle.ensures in
+    let items = c.as_slice-flow-items.ensures.value ∙ c.payments.ensures.value ∙ ap (λ days. line_payments days c.args.line.now c.args.units) c.payment_days.ensures in
     let whole = take_all c.loop-flow.flow-index c.as_slice-flow-items.result.now (omega arith) ∙ items in
     let paid = c.loop-flow.invariant.0 ∙ ap (λ (flows : List Flow). signed_sum (λ (flow : Flow). weight flow.day *ℤ pos flow.cents.0) flows) whole in
     let own = read-again c.cost_worth.result (omega (arith, c.cost_worth.ensures.light)) ∙ c.cost_worth.ensures.value in

@@ -49,6 +49,6 @@ returns c =
             (omega (arith, c.loop-payment-test.false))
             (λ d.
             let line = c.line.ensures ∙ get_or_default book.lines c.args.line c.line.result.now d c.requires.line in
-            c.as_slice-payment-items.ensures.value ∙ c.schedule.ensures.value ∙ (λ i. schedule_of (c.settle.ensures i) (line i)));
+            c.as_slice-payment-items.ensures.value ∙ c.schedule.ensures.value ∙ (λ i. schedule_of (c.payment_days.ensures i) (line i)));
       };
     }

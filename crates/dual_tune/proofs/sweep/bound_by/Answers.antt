@@ -64,7 +64,7 @@ loop-line-preserved c =
     let is : IsFormAt n book c.args.columns.now.leaf place own_interval leaf own_form =
     form-at n book ranges c.args.columns.now.leaf leaf c.args.forms.now place own_form own_interval c.requires.leaf c.requires.forms c.requires.priced few same form_is
     (interval_is ∙ get_or_default ranges place none own_interval there) in
-    let most = lines-few book.settle lines c.line_count-line-end.ensures.limits.lines in
+    let most = lines-few book.days lines c.line_count-line-end.ensures.limits.lines in
     let least = to_z-of_z w128 c.line_least-bound.result (record { sfits = c.line_least-bound.type_inv }) in
     let whole = read-again _ (omega (arith, ints, most, few, c.loop-line.invariant.1, c.line_least-bound.ensures.size)) in
     let value = whole ∙ ap (λ z. to_z w128 c.loop-line.bound-bits +ℤ z) least in

@@ -30,14 +30,14 @@ pub least_within-requires-clause-least : goal.least_within-requires-clause-least
 least_within-requires-clause-least c =
     let book = c.args.book.now in
     let line = c.line.result.now in
-    let is = subst (IsLine book.settle) (sym c.line.ensures) (all-lines book.settle book.lines c.requires.limits.lines c.args.line line c.requires.line) in
+    let is = subst (IsLine book.days) (sym c.line.ensures) (all-lines book.days book.lines c.requires.limits.lines c.args.line line c.requires.line) in
     let room : c.args.interval.high ≤ line.most = subst (λ (l : Line). c.args.interval.high ≤ l.most) (sym c.line.ensures) (c.requires.high line) in
     let form = c.requires.form.1.value line ∙ ap (form_of c.args.columns.now.yield_units book c.requires.form.0) (sym c.line.ensures) in
     omega (
       arith,
       ap (λ (f : Form). unsigned_abs f.slope * line.least) form,
       form-times c.args.columns.now.yield_units book c.requires.form.0 line line.least c.requires.limits.settlement c.requires.form.1.well_formed is
-          (least-room book.settle line c.args.interval is c.requires.ordered room c.if-interval.false),
+          (least-room book.days line c.args.interval is c.requires.ordered room c.if-interval.false),
     )
 
 pub least_within-requires-clause-slack : goal.least_within-requires-clause-slack
@@ -58,4 +58,4 @@ returns-clause-size c =
     let value = returns-clause-value c some-line c.requires.form.0 c.requires.form.1 in
     subst (λ z. unsigned_abs z ≤ 71 * 10 ^ 33) (sym value)
     (least-small c.args.columns.now.yield_units book c.requires.form.0 (get_or book.lines c.args.line some-line) c.args.interval c.requires.limits.settlement c.requires.form.1.well_formed
-    (all-lines book.settle book.lines c.requires.limits.lines c.args.line some-line c.requires.line) c.requires.ordered (c.requires.high some-line))
+    (all-lines book.days book.lines c.requires.limits.lines c.args.line some-line c.requires.line) c.requires.ordered (c.requires.high some-line))

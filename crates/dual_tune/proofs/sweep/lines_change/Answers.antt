@@ -76,7 +76,7 @@ loop-payer-preserved c =
     let stepped = with_price c.args.leaf.now c.args.place c.args.price in
     let few : line < length lines = c.requires.payers.there index 0 c.loop-payer-test.true in
     let same : length lines ≡ length ranges = room-length lines ranges c.requires.ranges in
-    let most = lines-few c.args.book.now.settle lines c.requires.limits.lines in
+    let most = lines-few c.args.book.now.days lines c.requires.limits.lines in
     let interval : get_or c.intervals-intervals.result.now c.from-at.result none ≡ get_or ranges line none = (λ i. get_or (c.intervals-intervals.ensures.value i) (c.from-at.ensures i) none) in
     let none_form : Form = record { slope = pos 0; slack = 0 } in
     let is : IsFormAt n c.args.book.now c.args.columns.now.leaf line (get_or c.intervals-intervals.result.now c.from-at.result none) stepped (get_or c.args.forms.now index none_form) = record {
@@ -120,4 +120,4 @@ returns-clause-value c =
 
 pub returns-clause-size : goal.returns-clause-size
 returns-clause-size c =
-    omega (arith, ints, lines-few c.args.book.now.settle c.args.book.now.lines c.requires.limits.lines, c.loop-payer.invariant.1, c.loop-payer.invariant.3)
+    omega (arith, ints, lines-few c.args.book.now.days c.args.book.now.lines c.requires.limits.lines, c.loop-payer.invariant.1, c.loop-payer.invariant.3)

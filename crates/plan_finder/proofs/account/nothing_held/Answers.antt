@@ -9,12 +9,12 @@ use Rattle.plan_finder.proofs.account.nothing_held.Goals as goal
 
 pub purchase-requires-clause-line : goal.purchase-requires-clause-line
 purchase-requires-clause-line c =
-    (c.args.book.now.settle, line-is c.args.book.now c.loop-line.line c.line.result.now c.line_count-line-end.ensures.limits (omega arith) c.line.ensures)
+    (c.args.book.now.days, line-is c.args.book.now c.loop-line.line c.line.result.now c.line_count-line-end.ensures.limits (omega arith) c.line.ensures)
 
 pub purchase-requires-clause-terms : goal.purchase-requires-clause-terms
 purchase-requires-clause-terms c =
     let at : c.index-terms-from.result ≡ get_or c.args.terms.now c.loop-line.line c.index-terms-from.result = search rules in
-    (c.args.book.now.settle, c.requires.0, terms-at c.requires.0 c.args.book.now c.args.terms.now c.loop-line.line c.line.result.now c.index-terms-from.result c.requires.1 (omega arith) c.line.ensures at)
+    (c.args.book.now.days, c.requires.0, terms-at c.requires.0 c.args.book.now c.args.terms.now c.loop-line.line c.line.result.now c.index-terms-from.result c.requires.1 (omega arith) c.line.ensures at)
 
 pub loop-line-preserved : goal.loop-line-preserved
 loop-line-preserved c =
@@ -27,12 +27,12 @@ loop-line-preserved c =
     record {
       count = search rules;
       each = λ n are.
-          let Own : ℕ → Purchase → Type 0 = λ k own. (line : Line) → IsPurchase n book.settle (get_or book.lines k line) 0 own in
+          let Own : ℕ → Purchase → Type 0 = λ k own. (line : Line) → IsPurchase n book.days (get_or book.lines k line) 0 own in
           let terms = terms-at n book c.args.terms.now c.loop-line.line c.line.result.now c.index-terms-from.result are within c.line.ensures at in
-          let made = c.purchase.ensures book.settle n (line-is book c.loop-line.line c.line.result.now limits within c.line.ensures) terms in
-          subst (λ items. (k : ℕ) (own : Purchase) → k < c.loop-line.line + 1 → (line : Line) → IsPurchase n book.settle (get_or book.lines k line) 0 (get_or items k own)) (sym c.in_ok-push.ensures.items)
+          let made = c.purchase.ensures book.days n (line-is book c.loop-line.line c.line.result.now limits within c.line.ensures) terms in
+          subst (λ items. (k : ℕ) (own : Purchase) → k < c.loop-line.line + 1 → (line : Line) → IsPurchase n book.days (get_or book.lines k line) 0 (get_or items k own)) (sym c.in_ok-push.ensures.items)
           (push-each Own c.loop-line.held.items c.loop-line.line bought c.loop-line.invariant.count (c.loop-line.invariant.each n are)
-          (λ line. subst (λ (own : Line). IsPurchase n book.settle own 0 bought) (here line) made));
+          (λ line. subst (λ (own : Line). IsPurchase n book.days own 0 bought) (here line) made));
     }
 
 pub returns : goal.returns

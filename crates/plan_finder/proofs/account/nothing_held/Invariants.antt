@@ -8,5 +8,5 @@ abbrev pub invariant-loop-line : goal.invariant-loop-line
 invariant-loop-line l = record {
   count : length l.held.items ≡ l.line;
   each : (n : ℕ) → AreTerms n l.book l.terms
-      → (k : ℕ) (own : Purchase) → k < l.line → (line : Line) → IsPurchase n l.book.settle (get_or l.book.lines k line) 0 (get_or l.held.items k own);
+      → (k : ℕ) (own : Purchase) → k < l.line → (line : Line) → IsPurchase n l.book.days (get_or l.book.lines k line) 0 (get_or l.held.items k own);
 }

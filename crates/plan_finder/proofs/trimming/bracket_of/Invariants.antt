@@ -8,5 +8,5 @@ abbrev pub invariant-loop-doublings : goal.invariant-loop-doublings
 invariant-loop-doublings l = record {
   least : l.least ≤ l.high;
   most : l.high ≤ l.units;
-  enough : (d : Line) → Cover l.ledger.book.needs l.duty.due (line_payments l.ledger.book.settle (get_or l.ledger.book.lines l.duty.line d) l.high);
+  enough : (d : Line) → Cover l.ledger.book.needs l.duty.due (line_payments l.ledger.book.days (get_or l.ledger.book.lines l.duty.line d) l.high);
 }

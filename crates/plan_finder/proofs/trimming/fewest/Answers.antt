@@ -7,7 +7,7 @@ pub bracket_of-bracket-requires-clause-least : goal.bracket_of-bracket-requires-
 bracket_of-bracket-requires-clause-least c = λ d.
     let line = get_or c.args.ledger.now.book.lines c.args.duty.now.line d in
     elim (c.requires.permitted d) [
-      | inl none ↦ (let yes = (c.suffices.ensures d).1 (subst (λ n. Cover c.args.ledger.now.book.needs c.args.duty.now.due (line_payments c.args.ledger.now.book.settle line n)) none (c.requires.enough d)) in
+      | inl none ↦ (let yes = (c.suffices.ensures d).1 (subst (λ n. Cover c.args.ledger.now.book.needs c.args.duty.now.due (line_payments c.args.ledger.now.book.days line n)) none (c.requires.enough d)) in
           let no = c.if-suffices.false in
           absurd (cc))
       | inr some ↦ some.0

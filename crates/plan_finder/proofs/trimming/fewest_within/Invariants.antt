@@ -9,7 +9,7 @@ invariant-loop-low l = record {
   least : l.fn.bracket.low ≤ l.low;
   ordered : l.low ≤ l.high;
   most : l.high ≤ l.fn.bracket.high;
-  enough : (d : Line) → Cover l.ledger.book.needs l.duty.due (line_payments l.ledger.book.settle (get_or l.ledger.book.lines l.duty.line d) l.high);
+  enough : (d : Line) → Cover l.ledger.book.needs l.duty.due (line_payments l.ledger.book.days (get_or l.ledger.book.lines l.duty.line d) l.high);
 }
 
 abbrev pub decreases-loop-low : goal.decreases-loop-low

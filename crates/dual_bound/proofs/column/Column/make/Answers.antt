@@ -10,19 +10,19 @@ use Rattle.dual_bound.proofs.column.Column.make.Goals as goal
 
 pub place-requires-clause-from : goal.place-requires-clause-from
 place-requires-clause-from c =
-    let is : c.as_slice-payment-items.result.now ≡ schedule_of c.args.book.now.settle c.args.line.now =
-    c.as_slice-payment-items.ensures.value ∙ c.schedule-schedule.ensures.value ∙ ap (λ (day : ℤ). schedule_of day c.args.line.now) c.settle-2.ensures in
-    let within = All-same (λ (p : ScheduledPayment). (c.args.book.now.settle ≤ℤ p.day) × (p.day ≤ℤ years_after_of c.args.book.now.settle 40)) c.as_slice-payment-items.result.now (schedule_of c.args.book.now.settle c.args.line.now)
-    is (schedule-within c.args.book.now.settle c.args.line.now c.requires.limits.settlement c.requires.line)
+    let is : c.as_slice-payment-items.result.now ≡ schedule_of c.args.book.now.days c.args.line.now =
+    c.as_slice-payment-items.ensures.value ∙ c.schedule-schedule.ensures.value ∙ ap (λ days. schedule_of days c.args.line.now) c.payment_days-2.ensures in
+    let within = All-same (λ (p : ScheduledPayment). (c.args.book.now.days.settle ≤ℤ p.day) × (p.day ≤ℤ years_after_of c.args.book.now.days.settle 40)) c.as_slice-payment-items.result.now (schedule_of c.args.book.now.days c.args.line.now)
+    is (schedule-within c.args.book.now.days c.args.line.now c.requires.limits.settlement c.requires.line)
     c.loop-payment.payment-index c.payment-item.result c.loop-payment-test.true in
     omega (arith, ints, ap (λ (p : ScheduledPayment). p.day) c.payment-item.is, within.0)
 
 pub place-requires-clause-to : goal.place-requires-clause-to
 place-requires-clause-to c =
-    let is : c.as_slice-payment-items.result.now ≡ schedule_of c.args.book.now.settle c.args.line.now =
-    c.as_slice-payment-items.ensures.value ∙ c.schedule-schedule.ensures.value ∙ ap (λ (day : ℤ). schedule_of day c.args.line.now) c.settle-2.ensures in
-    let within = All-same (λ (p : ScheduledPayment). (c.args.book.now.settle ≤ℤ p.day) × (p.day ≤ℤ years_after_of c.args.book.now.settle 40)) c.as_slice-payment-items.result.now (schedule_of c.args.book.now.settle c.args.line.now)
-    is (schedule-within c.args.book.now.settle c.args.line.now c.requires.limits.settlement c.requires.line)
+    let is : c.as_slice-payment-items.result.now ≡ schedule_of c.args.book.now.days c.args.line.now =
+    c.as_slice-payment-items.ensures.value ∙ c.schedule-schedule.ensures.value ∙ ap (λ days. schedule_of days c.args.line.now) c.payment_days-2.ensures in
+    let within = All-same (λ (p : ScheduledPayment). (c.args.book.now.days.settle ≤ℤ p.day) × (p.day ≤ℤ years_after_of c.args.book.now.days.settle 40)) c.as_slice-payment-items.result.now (schedule_of c.args.book.now.days c.args.line.now)
+    is (schedule-within c.args.book.now.days c.args.line.now c.requires.limits.settlement c.requires.line)
     c.loop-payment.payment-index c.payment-item.result c.loop-payment-test.true in
     omega (arith, ints, ap (λ (p : ScheduledPayment). p.day) c.payment-item.is, within.1)
 
@@ -39,9 +39,9 @@ loop-payment-preserved c = record {
 
 pub returns : goal.returns
 returns c =
-    let sliced : c.as_slice-payment-items.result.now ≡ schedule_of c.args.book.now.settle c.args.line.now =
-    c.as_slice-payment-items.ensures.value ∙ c.schedule-schedule.ensures.value ∙ ap (λ (day : ℤ). schedule_of day c.args.line.now) c.settle-2.ensures in
-    let head = subst (λ z. HasHead z c.args.line.now c.without_payments-column.result) c.settle.ensures c.without_payments-column.ensures.head in
+    let sliced : c.as_slice-payment-items.result.now ≡ schedule_of c.args.book.now.days c.args.line.now =
+    c.as_slice-payment-items.ensures.value ∙ c.schedule-schedule.ensures.value ∙ ap (λ days. schedule_of days c.args.line.now) c.payment_days-2.ensures in
+    let head = subst (λ z. HasHead z.settle c.args.line.now c.without_payments-column.result) c.payment_days.ensures c.without_payments-column.ensures.head in
     record {
       table = c.loop-payment.invariant.table;
       extends = c.loop-payment.invariant.extends;

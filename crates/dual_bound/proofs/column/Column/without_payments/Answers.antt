@@ -9,5 +9,5 @@ returns-clause-head c = record {
   costs = c.coefficients-coefficients.ensures.costs;
   accrued = c.accrued.ensures.value;
   regular = c.coefficients_of.ensures.value ∙ ap (pay_by (kind_rate c.args.line.now.kind) c.args.line.now.step) c.regular_payment.ensures.value;
-  small = head-small c.args.settle c.args.line.now _ c.requires.line c.coefficients-coefficients.ensures.costs c.accrued.ensures.days c.coefficients_of.ensures.small;
+  small = head-small c.args.days.now c.args.line.now _ c.requires.line c.coefficients-coefficients.ensures.costs c.accrued.ensures.days c.coefficients_of.ensures.small;
 }

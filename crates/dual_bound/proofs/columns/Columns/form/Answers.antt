@@ -17,7 +17,7 @@ returns-clause-slope c =
       arith,
       ap (λ (f : Form). unsigned_abs f.slope * units) (c.form.ensures d),
       form-times c.self.inside.tableau.yield_units.0 book c.self.inside.tableau.leaf line units c.self.invariant.limits.settlement c.self.invariant.leaf
-          (all-lines book.settle book.lines c.self.invariant.limits.lines c.args.line d there) most,
+          (all-lines book.days book.lines c.self.invariant.limits.lines c.args.line d there) most,
     )
 
 pub returns-clause-slack : goal.returns-clause-slack
@@ -29,5 +29,5 @@ returns-clause-slack c =
       arith,
       ap (λ (f : Form). f.slack) (c.form.ensures some-line),
       form-slack c.self.inside.tableau.yield_units.0 book c.self.inside.tableau.leaf line c.self.invariant.limits.settlement c.self.invariant.leaf
-          (all-lines book.settle book.lines c.self.invariant.limits.lines c.args.line some-line there),
+          (all-lines book.days book.lines c.self.invariant.limits.lines c.args.line some-line there),
     )

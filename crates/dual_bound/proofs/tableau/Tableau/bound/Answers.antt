@@ -45,7 +45,7 @@ loop-line-preserved c =
     let few : place < length lines = omega (arith, c.line_count-line-end.ensures.value, c.loop-line-test.true) in
     let there : place < length ranges = omega (arith, same, few) in
     let f = λ (p : Line × Interval). least_within c.args.self.now.yield_units.0 c.args.book.now c.args.self.now.leaf p.0 p.1 in
-    let most = lines-few c.args.book.now.settle lines c.requires.tableau.limits.lines in
+    let most = lines-few c.args.book.now.days lines c.requires.tableau.limits.lines in
     let least = to_z-of_z w128 c.least-bound.result (record { sfits = c.least-bound.type_inv }) in
     let whole = read-again _ (omega (arith, ints, most, few, c.loop-line.invariant.1, c.least-bound.ensures.size)) in
     let value = whole ∙ ap (λ z. to_z w128 c.loop-line.bound-bits +ℤ z) least in

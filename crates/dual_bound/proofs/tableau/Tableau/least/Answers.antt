@@ -19,7 +19,7 @@ returns-then-interval-clause-size c =
     ∙ least-one n c.args.book.now c.args.self.now.leaf line c.args.interval c.if-interval.true in
     subst (λ z. unsigned_abs z ≤ 71 * 10 ^ 33) (sym value)
     (least-small n c.args.book.now c.args.self.now.leaf line c.args.interval c.requires.tableau.limits.settlement c.requires.tableau.leaf
-    (all-lines c.args.book.now.settle c.args.book.now.lines c.requires.tableau.limits.lines c.args.line some-line c.requires.line) c.requires.ordered (c.requires.high some-line))
+    (all-lines c.args.book.now.days c.args.book.now.lines c.requires.tableau.limits.lines c.args.line some-line c.requires.line) c.requires.ordered (c.requires.high some-line))
 
 pub least_within-requires-clause-low : goal.least_within-requires-clause-low
 least_within-requires-clause-low c =
@@ -28,7 +28,7 @@ least_within-requires-clause-low c =
       arith,
       ap (λ (f : Form). unsigned_abs f.slope * c.args.interval.low) (c.form.ensures some-line),
       form-times c.args.self.now.yield_units.0 c.args.book.now c.args.self.now.leaf line c.args.interval.low c.requires.tableau.limits.settlement c.requires.tableau.leaf
-          (all-lines c.args.book.now.settle c.args.book.now.lines c.requires.tableau.limits.lines c.args.line some-line c.requires.line) (omega (arith, c.requires.ordered, c.requires.high some-line)),
+          (all-lines c.args.book.now.days c.args.book.now.lines c.requires.tableau.limits.lines c.args.line some-line c.requires.line) (omega (arith, c.requires.ordered, c.requires.high some-line)),
     )
 
 pub least_within-requires-clause-high : goal.least_within-requires-clause-high
@@ -38,20 +38,20 @@ least_within-requires-clause-high c =
       arith,
       ap (λ (f : Form). unsigned_abs f.slope * c.args.interval.high) (c.form.ensures some-line),
       form-times c.args.self.now.yield_units.0 c.args.book.now c.args.self.now.leaf line c.args.interval.high c.requires.tableau.limits.settlement c.requires.tableau.leaf
-          (all-lines c.args.book.now.settle c.args.book.now.lines c.requires.tableau.limits.lines c.args.line some-line c.requires.line) (c.requires.high some-line),
+          (all-lines c.args.book.now.days c.args.book.now.lines c.requires.tableau.limits.lines c.args.line some-line c.requires.line) (c.requires.high some-line),
     )
 
 pub least_within-requires-clause-least : goal.least_within-requires-clause-least
 least_within-requires-clause-least c =
     let line = c.line.result.now in
-    let is = subst (IsLine c.args.book.now.settle) (sym c.line.ensures) (all-lines c.args.book.now.settle c.args.book.now.lines c.requires.tableau.limits.lines c.args.line line c.requires.line) in
+    let is = subst (IsLine c.args.book.now.days) (sym c.line.ensures) (all-lines c.args.book.now.days c.args.book.now.lines c.requires.tableau.limits.lines c.args.line line c.requires.line) in
     let room : c.args.interval.high ≤ line.most = subst (λ (l : Line). c.args.interval.high ≤ l.most) (sym c.line.ensures) (c.requires.high line) in
     let form = c.form.ensures line ∙ ap (form_of c.args.self.now.yield_units.0 c.args.book.now c.args.self.now.leaf) (sym c.line.ensures) in
     omega (
       arith,
       ap (λ (f : Form). unsigned_abs f.slope * line.least) form,
       form-times c.args.self.now.yield_units.0 c.args.book.now c.args.self.now.leaf line line.least c.requires.tableau.limits.settlement c.requires.tableau.leaf is
-          (least-room c.args.book.now.settle line c.args.interval is c.requires.ordered room c.if-interval.false),
+          (least-room c.args.book.now.days line c.args.interval is c.requires.ordered room c.if-interval.false),
     )
 
 pub least_within-requires-clause-slack : goal.least_within-requires-clause-slack
@@ -61,7 +61,7 @@ least_within-requires-clause-slack c =
       arith,
       ap (λ (f : Form). f.slack) (c.form.ensures some-line),
       form-slack c.args.self.now.yield_units.0 c.args.book.now c.args.self.now.leaf line c.requires.tableau.limits.settlement c.requires.tableau.leaf
-          (all-lines c.args.book.now.settle c.args.book.now.lines c.requires.tableau.limits.lines c.args.line some-line c.requires.line),
+          (all-lines c.args.book.now.days c.args.book.now.lines c.requires.tableau.limits.lines c.args.line some-line c.requires.line),
     )
 
 pub returns-clause-value : goal.returns-clause-value
@@ -80,4 +80,4 @@ returns-clause-size c =
     ∙ ap (λ l. least_within n c.args.book.now c.args.self.now.leaf l c.args.interval) (c.line.ensures ∙ get_or_default c.args.book.now.lines c.args.line c.line.result.now some-line c.requires.line) in
     subst (λ z. unsigned_abs z ≤ 71 * 10 ^ 33) (sym value)
     (least-small n c.args.book.now c.args.self.now.leaf line c.args.interval c.requires.tableau.limits.settlement c.requires.tableau.leaf
-    (all-lines c.args.book.now.settle c.args.book.now.lines c.requires.tableau.limits.lines c.args.line some-line c.requires.line) c.requires.ordered (c.requires.high some-line))
+    (all-lines c.args.book.now.days c.args.book.now.lines c.requires.tableau.limits.lines c.args.line some-line c.requires.line) c.requires.ordered (c.requires.high some-line))

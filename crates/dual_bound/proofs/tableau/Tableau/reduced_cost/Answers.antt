@@ -43,7 +43,7 @@ pub reduced_cost-requires-clause-line : goal.reduced_cost-requires-clause-line
 reduced_cost-requires-clause-line c =
     let known = ready c.args.book.now c.args.self.now c.args.line c.line-own.result.now c.index-column.result.now c.requires.tableau.limits c.requires.tableau c.requires.line c.line-own.ensures
     (c.index-column.ensures ∙ ap (λ k. get_or c.args.self.now.columns.items k c.index-column.result.now) c.from.ensures) in
-    (c.args.book.now.settle, known.is_line)
+    (c.args.book.now.days, known.is_line)
 
 pub reduced_cost-requires-clause-accrued : goal.reduced_cost-requires-clause-accrued
 reduced_cost-requires-clause-accrued c =

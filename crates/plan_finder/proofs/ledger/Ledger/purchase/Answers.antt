@@ -6,5 +6,5 @@ use Rattle.plan_finder.proofs.ledger.Ledger.purchase.Goals as goal
 
 pub returns-clause-value : goal.returns-clause-value
 returns-clause-value c =
-    subst (λ (p : LedgerContents). (d : Line) → IsPurchase p.yield_units p.book.settle (slice_index_or p.book.lines c.args.line d) c.args.units c.purchase.result) c.self.view_is
+    subst (λ (p : LedgerContents). (d : Line) → IsPurchase p.yield_units p.book.days (slice_index_or p.book.lines c.args.line d) c.args.units c.purchase.result) c.self.view_is
     (λ d. c.purchase.ensures.value c.self.inside.yield_units.0 d c.self.invariant)

@@ -15,23 +15,24 @@ use Rattle.plan_finder.proofs.terms.LineTerms.purchase.Goals as goal
 pub worth_of-worth-requires-clause-flows : goal.worth_of-worth-requires-clause-flows
 worth_of-worth-requires-clause-flows c =
     let line = c.args.line.now in
-    let settle = c.requires.line.0 in
+    let days = c.requires.line.0 in
     let is = c.requires.line.1 in
     let flows : c.as_slice-3.result.now ≡ map (flow_by (kind_rate line.kind) (par line c.args.units)) c.args.self.now.schedule.items = search rules in
     subst (All (λ flow. flow.cents.0 ≤ 2 * 10 ^ 13)) (sym flows)
-    (flows-little (kind_rate line.kind) (par line c.args.units) c.args.self.now.schedule.items (rate-low settle line is) (line_par-at_most settle line c.args.units is c.requires.units) c.requires.terms.2.short)
+    (flows-little (kind_rate line.kind) (par line c.args.units) c.args.self.now.schedule.items (rate-low days line is) (line_par-at_most days line c.args.units is c.requires.units) c.requires.terms.2.short)
 
 pub returns : goal.returns
-returns c = λ settle n is terms.
+returns c = λ days n is terms.
     let line = c.args.line.now in
     let flows : c.scheduled_flows-payments.result.items ≡ map (flow_by (kind_rate line.kind) (par line c.args.units)) c.args.self.now.schedule.items = search rules in
-    let pays : c.scheduled_flows-payments.result.items ≡ line_payments settle line c.args.units = flows ∙ ap (flows_by (kind_rate line.kind) (par line c.args.units)) terms.schedule in
-    let worth : c.worth_of-worth.result ≡ sum_by pair_worth (zip c.args.self.now.powers.items c.scheduled_flows-payments.result.items) = search rules in
+    let pays : c.scheduled_flows-payments.result.items ≡ line_payments days line c.args.units = flows ∙ ap (flows_by (kind_rate line.kind) (par line c.args.units)) terms.schedule in
+    let worth : c.worth_of-worth.result ≡ sum_by pair_worth (zip c.args.self.now.powers.items c.scheduled_flows-payments.result.items) =
+    c.worth_of-worth.ensures ∙ (λ i. sum_by pair_worth (zip (c.as_slice-2.ensures.value i) (c.as_slice-3.ensures.value i))) in
     record {
       cost = c.cost_by.ensures;
       payments = pays;
       worth = worth ∙ ap (λ powers. sum_by pair_worth (zip powers c.scheduled_flows-payments.result.items)) terms.powers
-          ∙ ap (λ (items : List Flow). sum_by pair_worth (zip (map (λ (payment : ScheduledPayment). kind_power n settle line.kind payment.day) c.args.self.now.schedule.items) items)) flows
-          ∙ worth-zip n settle line.kind (kind_rate line.kind) (par line c.args.units) c.args.self.now.schedule.items
-          ∙ ap (λ (schedule : List ScheduledPayment). flows_worth n settle line.kind (flows_by (kind_rate line.kind) (par line c.args.units) schedule)) terms.schedule;
+          ∙ ap (λ (items : List Flow). sum_by pair_worth (zip (map (λ (payment : ScheduledPayment). kind_power n days.settle line.kind payment.day) c.args.self.now.schedule.items) items)) flows
+          ∙ worth-zip n days.settle line.kind (kind_rate line.kind) (par line c.args.units) c.args.self.now.schedule.items
+          ∙ ap (λ (schedule : List ScheduledPayment). flows_worth n days.settle line.kind (flows_by (kind_rate line.kind) (par line c.args.units) schedule)) terms.schedule;
     }
