@@ -1,19 +1,17 @@
 -- The plan that is built is a backward plan.
 use Rattle.std.proofs.Common.{◌≡◌, ◌≢◌, ◌∙◌, ℕ, zero, suc, ◌+◌, ◌-◌, ◌*◌, ◌<◌, ◌≤◌, Bool, false, true, cond, if◌then◌else◌, List, [], ◌∷◌, Option, Some, None, Result, Ok, Err, length, get_or, set, replicate, refl, sym, ap, subst, inl, inr, arith, ℤ, ◌≤ℤ◌, ◌<ℤ◌, pos, ◌&&◌, int_le, nat_le}
 use Rattle.std.specs.List.{All, find, range_with_len}
-use Rattle.std.proofs.Math.Seq.{get_or-append_seam}
 use Rattle.std.proofs.lemmas.Bool.{cases_lt}
 use Rattle.std.proofs.lemmas.Bool.Decides.{Decides-int_eq, nat_tests}
 use Rattle.std.proofs.lemmas.Int.{ints}
-use Rattle.std.proofs.lemmas.List.{get_or-replicate, get_or-set_other, get_or-set_same, length-append, length-replicate, length-set, set-set}
-use Rattle.escrow_units.specs.Flows.{EndsOn, Rise}
+use Rattle.std.proofs.lemmas.List.{get_or-replicate, get_or-set_other, get_or-set_same, length-replicate, length-set, set-set}
+use Rattle.escrow_units.specs.Flows.{Rise}
+use Rattle.escrow_units.specs.OpenDays.{open_day}
 use Rattle.escrow_units.specs.SlgsTerms.{IsSettlement}
 use Rattle.escrow_units.specs.declared.security.Flow.{Flow}
-use Rattle.escrow_units.specs.declared.security.StepRule.TheVariants as rule
 use Rattle.escrow_units.proofs.FlowFacts.{int_lt-not}
-use Rattle.escrow_units.proofs.SeriesAround.{counted}
 use Rattle.slgs_interest.proofs.PaymentFacts.{payments-within}
-use Rattle.market_notes.proofs.FlowFacts.{payments-end, payments-rise}
+use Rattle.market_notes.proofs.FlowFacts.{payments-term}
 use Rattle.market_notes.proofs.SeriesFacts.{term}
 use Rattle.offer_book.specs.Book.{BookContents, IsBook, IsSecurity, IsSecurityLine}
 use Rattle.offer_book.specs.Portfolio.{IsPermitted, IsPermittedUnits, line_payments, payments}
@@ -23,7 +21,7 @@ use Rattle.offer_book.specs.declared.line.LineKind.TheVariants.{Cash, Market, Se
 use Rattle.offer_book.proofs.LineFacts.{is_paid, kind_flows}
 use Rattle.cash_table.proofs.ZipFacts.{sum_by-zero}
 use Rattle.backward_build.specs.BackwardPlan.{and_date, bought, latest_without_offer, or_without_offer, plan_of_last, put_or_over, residual_of, with_date}
-use Rattle.backward_build.specs.OwnOffer.{line_at, matures_on, need_at, own_offer_of}
+use Rattle.backward_build.specs.OwnOffer.{ends_on, line_at, need_at, own_offer_of}
 use Rattle.backward_build.specs.PlanLaws.{BuiltIsBackward, IsBackwardPlan, IsJustPaidFor, IsOwnOfferAt, IsPaidFor}
 use Rattle.backward_build.specs.Residual.{covers, fewest_of}
 use Rattle.backward_build.specs.Span.{paid_in, span_of}
@@ -32,7 +30,8 @@ use Rattle.backward_build.specs.declared.residual.Residual.{Residual}
 use Rattle.backward_build.proofs.CoverFacts.{covers_from, span_cents}
 use Rattle.backward_build.proofs.FairFacts.{some_is}
 use Rattle.backward_build.proofs.OfferFacts.{IsOwn, own_is, own_security}
-use Rattle.backward_build.proofs.PlanFacts.{bought_counts, different_days, matures_once, permitted_set, permitted_zero, span_counts}
+use Rattle.backward_build.proofs.PlanFacts.{bought_counts, different_days, ends_once, permitted_set, permitted_zero, span_counts}
+use Rattle.offer_book.specs.declared.payment_days.PaymentDays.{PaymentDays}
 
 abbrev no_flow : Flow
 no_flow = record { day = pos 0; cents = record { 0 = 0 } }
@@ -67,58 +66,44 @@ range_tells p a (suc n) units found = at (p a) refl (λ same. range_tells p (a +
           ];
         }
 
-record IsFewest (settle : ℤ) (residual : Residual) (line : Line) (units : ℕ) : Type 0 where
+record IsFewest (days : PaymentDays) (residual : Residual) (line : Line) (units : ℕ) : Type 0 where
   permitted : IsPermittedUnits line units
-  enough : covers settle residual line units ≡ true
-  fewer : (few : ℕ) → IsPermittedUnits line few → few < units → covers settle residual line few ≡ false
+  enough : covers days residual line units ≡ true
+  fewer : (few : ℕ) → IsPermittedUnits line few → few < units → covers days residual line few ≡ false
 
-fewest_tells : (settle : ℤ) (residual : Residual) (line : Line) (units : ℕ) → fewest_of settle residual line ≡ Some units → IsFewest settle residual line units
+fewest_tells : (days : PaymentDays) (residual : Residual) (line : Line) (units : ℕ) → fewest_of days residual line ≡ Some units → IsFewest days residual line units
 unfolding fewest_of
-fewest_tells settle residual line units found = at (covers settle residual line 0) refl found
+fewest_tells days residual line units found = at (covers days residual line 0) refl found
   where
-    at : (t : Bool) → covers settle residual line 0 ≡ t → cond t (Some 0) (find (covers settle residual line) (range_with_len line.least (line.most + 1 - line.least))) ≡ Some units → IsFewest settle residual line units
+    at : (t : Bool) → covers days residual line 0 ≡ t → cond t (Some 0) (find (covers days residual line) (range_with_len line.least (line.most + 1 - line.least))) ≡ Some units → IsFewest days residual line units
     at true test same =
         let here : 0 ≡ units = some_is 0 units same in
-        record { permitted = inl (sym here); enough = ap (covers settle residual line) (sym here) ∙ test; fewer = λ few allowed less. absurd (omega arith) }
+        record { permitted = inl (sym here); enough = ap (covers days residual line) (sym here) ∙ test; fewer = λ few allowed less. absurd (omega arith) }
     at false test same =
-        let rest = range_tells (covers settle residual line) line.least (line.most + 1 - line.least) units same in
+        let rest = range_tells (covers days residual line) line.least (line.most + 1 - line.least) units same in
         record {
           permitted = inr (rest.from, omega (arith, rest.from, rest.to));
           enough = rest.passes;
-          fewer = λ few allowed less. elim allowed [ inl none ↦ ap (covers settle residual line) none ∙ test | inr some ↦ rest.before few some.0 less ];
+          fewer = λ few allowed less. elim allowed [ inl none ↦ ap (covers days residual line) none ∙ test | inr some ↦ rest.before few some.0 less ];
         }
 
--- ---- a line pays by its maturity
-ends_by : (flows : List Flow) (day : ℤ) → Rise flows → EndsOn day flows → All (λ flow. flow.day ≤ℤ day) flows
-ends_by flows day rising ends = λ k d within.
-    let count : length flows ≡ length ends.before + 1 = ap (length {A = Flow}) ends.order ∙ length-append ends.before (ends.last ∷ []) in
-    let last = ap (λ (f : Flow). f.day) (ap (λ (fs : List Flow). get_or fs (length ends.before) d) ends.order ∙ get_or-append_seam ends.before ends.last [] d) in
-    let falls = ends.falls in
-    elim (cases_lt k (length ends.before)) [
-      | inl less ↦ (let order = rising k (length ends.before) d less (omega arith) in omega (arith, ints))
-      | inr more ↦ (let here : k ≡ length ends.before = omega arith in
-          let same = ap (λ j. (get_or flows j d).day) here in
-          omega (arith, ints))
-    ]
-
-kind_by : (settle : ℤ) (kind : LineKind) (amount : ℕ) (day : ℤ) → IsSettlement settle → IsSecurity settle kind → matures_on day kind ≡ true → All (λ flow. flow.day ≤ℤ day) (kind_flows settle kind amount)
-kind_by settle Cash amount day h security due = absurd security
-kind_by settle (Security slgs) amount day h security due =
-    let at : slgs.maturity ≡ day = (Decides-int_eq slgs.maturity day).0 due in
-    subst (λ (m : ℤ). All (λ flow. flow.day ≤ℤ m) (kind_flows settle (Security slgs) amount)) at (λ k d within. (payments-within slgs amount (is_paid settle slgs h security) k d within).1)
-kind_by settle (Market note) amount day h security due =
-    let at : note.maturity ≡ day = (Decides-int_eq note.maturity day).0 due in
-    let t = term note security.1 in
-    let p = counted note.maturity rule.MonthEnd note.settle t security.1.after in
-    subst (λ (m : ℤ). All (λ flow. flow.day ≤ℤ m) (kind_flows settle (Market note) amount)) at (ends_by (kind_flows settle (Market note) amount) note.maturity (payments-rise note amount p.count t p.has) (payments-end note amount p.count t p.has))
+-- ---- a line pays by the open day of its maturity
+kind_by : (days : PaymentDays) (kind : LineKind) (amount : ℕ) (day : ℤ) → IsSettlement days.settle → IsSecurity days kind → ends_on days day kind ≡ true → All (λ flow. flow.day ≤ℤ day) (kind_flows days kind amount)
+kind_by days Cash amount day h security due = absurd security
+kind_by days (Security slgs) amount day h security due =
+    let at : open_day days.closed slgs.maturity ≡ day = (Decides-int_eq (open_day days.closed slgs.maturity) day).0 due in
+    subst (λ (m : ℤ). All (λ flow. flow.day ≤ℤ m) (kind_flows days (Security slgs) amount)) at (λ k d within. (payments-within slgs days.closed amount (is_paid days slgs h security) k d within).1)
+kind_by days (Market note) amount day h security due =
+    let at : open_day days.closed note.maturity ≡ day = (Decides-int_eq (open_day days.closed note.maturity) day).0 due in
+    subst (λ (m : ℤ). All (λ flow. flow.day ≤ℤ m) (kind_flows days (Market note) amount)) at (λ k d within. (payments-term note days.closed amount (term note security.1) k d within).1)
 
 -- so it pays nothing in the span of a later need date
-nothing_later : (settle : ℤ) (needs : List Flow) (place later : ℕ) (line : Line) (units : ℕ) → IsSettlement settle → Rise needs → place < later → later < length needs → IsSecurityLine settle line
-    → matures_on (need_at needs place).day line.kind ≡ true → paid_in (span_of needs later) (line_payments settle line units) ≡ 0
-nothing_later settle needs place zero line units h rising order within security due = absurd (omega arith)
-nothing_later settle needs place (suc before) line units h rising order within security due =
-    let by = kind_by settle line.kind (line.step * units) (need_at needs place).day h security.security due in
-    sum_by-zero (span_cents (span_of needs (suc before))) (line_payments settle line units) (λ k d inside. none (get_or (line_payments settle line units) k d) (by k d inside))
+nothing_later : (days : PaymentDays) (needs : List Flow) (place later : ℕ) (line : Line) (units : ℕ) → IsSettlement days.settle → Rise needs → place < later → later < length needs → IsSecurityLine days line
+    → ends_on days (need_at needs place).day line.kind ≡ true → paid_in (span_of needs later) (line_payments days line units) ≡ 0
+nothing_later days needs place zero line units h rising order within security due = absurd (omega arith)
+nothing_later days needs place (suc before) line units h rising order within security due =
+    let by = kind_by days line.kind (line.step * units) (need_at needs place).day h security.security due in
+    sum_by-zero (span_cents (span_of needs (suc before))) (line_payments days line units) (λ k d inside. none (get_or (line_payments days line units) k d) (by k d inside))
   where
     earlier : (need_at needs place).day ≤ℤ (need_at needs before).day
     earlier = elim (cases_lt place before) [
@@ -151,24 +136,24 @@ record IsSoFar (book : BookContents) (place : ℕ) (plan : List ℕ) : Type 0 wh
 -- own offers of different dates are different lines
 own_apart : (book : BookContents) (k place number other : ℕ) → Rise book.needs → k < place → place < length book.needs → IsOwnOfferAt book k number → IsOwnOfferAt book place other → number ≢ other
 own_apart book k place number other rising order within first second same =
-    let at_k = own_is book.lines (need_at book.needs k).day number first in
-    let at_place = own_is book.lines (need_at book.needs place).day other second in
+    let at_k = own_is book (need_at book.needs k).day number first in
+    let at_place = own_is book (need_at book.needs place).day other second in
     different_days book.needs k place rising order within
-    (matures_once (line_at book.lines number).kind (need_at book.needs k).day (need_at book.needs place).day at_k.due (ap (λ n. matures_on (need_at book.needs place).day (line_at book.lines n).kind) same ∙ at_place.due))
+    (ends_once book.days (line_at book.lines number).kind (need_at book.needs k).day (need_at book.needs place).day at_k.due (ap (λ n. ends_on book.days (need_at book.needs place).day (line_at book.lines n).kind) same ∙ at_place.due))
 
 -- what one purchase more pays in a span
 paid_with : (book : BookContents) (plan : List ℕ) (k number units : ℕ) → length plan ≡ length book.lines → number < length book.lines → get_or plan number 0 ≡ 0
-    → paid_in (span_of book.needs k) (payments book (set plan number units)) ≡ paid_in (span_of book.needs k) (payments book plan) + paid_in (span_of book.needs k) (line_payments book.settle (line_at book.lines number) units)
-paid_with book plan k number units same within none = bought_counts (span_cents (span_of book.needs k)) book.settle book.lines plan number units (span_counts (span_of book.needs k)) same within none
+    → paid_in (span_of book.needs k) (payments book (set plan number units)) ≡ paid_in (span_of book.needs k) (payments book plan) + paid_in (span_of book.needs k) (line_payments book.days (line_at book.lines number) units)
+paid_with book plan k number units same within none = bought_counts (span_cents (span_of book.needs k)) book.days book.lines plan number units (span_counts (span_of book.needs k)) same within none
 
-covers_not : (settle : ℤ) (residual : Residual) (line : Line) (units : ℕ) → covers settle residual line units ≡ false → residual.cents.0 ≤ paid_in residual.span (line_payments settle line units) → ⊥
-covers_not settle residual line units fails within = clash residual.cents.0 (paid_in residual.span (line_payments settle line units)) fails within
+covers_not : (days : PaymentDays) (residual : Residual) (line : Line) (units : ℕ) → covers days residual line units ≡ false → residual.cents.0 ≤ paid_in residual.span (line_payments days line units) → ⊥
+covers_not days residual line units fails within = clash residual.cents.0 (paid_in residual.span (line_payments days line units)) fails within
   where
     clash : (a b : ℕ) → nat_le a b ≡ false → a ≤ b → ⊥
     clash a b h k = grind (arith, nat_tests)
 
 so_far_next : (book : BookContents) (place : ℕ) (plan : List ℕ) (number units : ℕ) → IsBook book → place < length book.needs → IsSoFar book (place + 1) plan → IsOwnOfferAt book place number
-    → fewest_of book.settle (residual_of book plan place) (line_at book.lines number) ≡ Some units → IsSoFar book place (set plan number units)
+    → fewest_of book.days (residual_of book plan place) (line_at book.lines number) ≡ Some units → IsSoFar book place (set plan number units)
 so_far_next book place plan number units limits within had own found = record {
   permitted = record {
     same_length = length-set plan number units ∙ had.permitted.same_length;
@@ -186,27 +171,27 @@ so_far_next book place plan number units limits within had own found = record {
     rising : Rise book.needs
     rising = limits.needs.rising
 
-    is : IsOwn book.lines (need_at book.needs place).day number
-    is = own_is book.lines (need_at book.needs place).day number own
+    is : IsOwn book (need_at book.needs place).day number
+    is = own_is book (need_at book.needs place).day number own
 
-    few : IsFewest book.settle (residual_of book plan place) (line_at book.lines number) units
-    few = fewest_tells book.settle (residual_of book plan place) (line_at book.lines number) units found
+    few : IsFewest book.days (residual_of book plan place) (line_at book.lines number) units
+    few = fewest_tells book.days (residual_of book plan place) (line_at book.lines number) units found
 
     none : get_or plan number 0 ≡ 0
     none = had.others number (λ k from there later. own_apart book place k number number rising (omega arith) there own later refl) is.within
 
-    security : IsSecurityLine book.settle (line_at book.lines number)
-    security = own_security book.settle (need_at book.needs place).day book.lines number limits.lines own
+    security : IsSecurityLine book.days (line_at book.lines number)
+    security = own_security book (need_at book.needs place).day number limits.lines own
 
     this : IsJustPaidFor book (set plan number units) place
     this = record {
       number = number;
       own = own;
-      paid = omega (arith, paid_with book plan place number units had.permitted.same_length is.within none, covers_from book.settle (residual_of book plan place) (line_at book.lines number) units few.enough);
+      paid = omega (arith, paid_with book plan place number units had.permitted.same_length is.within none, covers_from book.days (residual_of book plan place) (line_at book.lines number) units few.enough);
       fewest = λ fewer allowed less paid.
           let bought : get_or (set plan number units) number 0 ≡ units = get_or-set_same plan number units 0 (omega (arith, is.within, had.permitted.same_length)) in
           let paid_less : IsPaidFor book (set plan number fewer) place = subst (λ (p : List ℕ). IsPaidFor book p place) (set-set plan number units fewer) paid in
-          covers_not book.settle (residual_of book plan place) (line_at book.lines number) fewer (few.fewer fewer allowed (omega (arith, less, bought)))
+          covers_not book.days (residual_of book plan place) (line_at book.lines number) fewer (few.fewer fewer allowed (omega (arith, less, bought)))
           (omega (arith, paid_less, paid_with book plan place number fewer had.permitted.same_length is.within none));
     }
 
@@ -214,7 +199,7 @@ so_far_next book place plan number units limits within had own found = record {
     kept k later inside =
         let before = had.needs k (omega arith) inside in
         let apart : number ≢ before.number = own_apart book place k number before.number rising later inside own before.own in
-        let nothing = nothing_later book.settle book.needs place k (line_at book.lines number) units limits.settlement rising later inside security is.due in
+        let nothing = nothing_later book.days book.needs place k (line_at book.lines number) units limits.settlement rising later inside security is.due in
         record {
           number = before.number;
           own = before.own;
@@ -233,7 +218,7 @@ record IsBought (book : BookContents) (place : ℕ) (plan after : List ℕ) : Ty
   number : ℕ
   units : ℕ
   own : IsOwnOfferAt book place number
-  few : fewest_of book.settle (residual_of book plan place) (line_at book.lines number) ≡ Some units
+  few : fewest_of book.days (residual_of book plan place) (line_at book.lines number) ≡ Some units
   put : set plan number units ≡ after
 
 ok_is : (xs ys : List ℕ) → ◌≡◌ {A = Result (List ℕ) BuildEnd} (Ok xs) (Ok ys) → xs ≡ ys
@@ -244,18 +229,18 @@ ok_is xs ys same = ap read same
     read (Err fault) = xs
 
 bought_tells : (book : BookContents) (place : ℕ) (plan after : List ℕ) → with_date book place plan ≡ Ok after → IsBought book place plan after
-bought_tells book place plan after done = by_own (own_offer_of book.lines (need_at book.needs place).day) refl done
+bought_tells book place plan after done = by_own (own_offer_of book (need_at book.needs place).day) refl done
   where
     err : (fault : BuildEnd) → ◌≡◌ {A = Result (List ℕ) BuildEnd} (Err fault) (Ok after) → ⊥
     err fault h = cc
 
-    by_few : (number : ℕ) (units : Option ℕ) → IsOwnOfferAt book place number → fewest_of book.settle (residual_of book plan place) (line_at book.lines number) ≡ units → put_or_over plan number units ≡ Ok after → IsBought book place plan after
+    by_few : (number : ℕ) (units : Option ℕ) → IsOwnOfferAt book place number → fewest_of book.days (residual_of book plan place) (line_at book.lines number) ≡ units → put_or_over plan number units ≡ Ok after → IsBought book place plan after
     by_few number None own few put = absurd (err _ put)
     by_few number (Some units) own few put = record { number = number; units = units; own = own; few = few; put = ok_is (set plan number units) after put }
 
-    by_own : (own : Option ℕ) → own_offer_of book.lines (need_at book.needs place).day ≡ own → bought book place plan own ≡ Ok after → IsBought book place plan after
+    by_own : (own : Option ℕ) → own_offer_of book (need_at book.needs place).day ≡ own → bought book place plan own ≡ Ok after → IsBought book place plan after
     by_own None own done = absurd (err _ done)
-    by_own (Some number) own done = by_few number (fewest_of book.settle (residual_of book plan place) (line_at book.lines number)) own refl done
+    by_own (Some number) own done = by_few number (fewest_of book.days (residual_of book plan place) (line_at book.lines number)) own refl done
 
 so_far : (book : BookContents) (dates : ℕ) (plan : List ℕ) → IsBook book → dates ≤ length book.needs → plan_of_last book dates ≡ Ok plan → IsSoFar book (length book.needs - dates) plan
 unfolding plan_of_last

@@ -21,6 +21,7 @@ use Rattle.backward_build.specs.Residual.{covers, fewest_of}
 use Rattle.backward_build.specs.Span.{falls_in, paid_in}
 use Rattle.backward_build.specs.declared.residual.Residual.{Residual}
 use Rattle.backward_build.specs.declared.span.Span.{Span}
+use Rattle.offer_book.specs.declared.payment_days.PaymentDays.{PaymentDays}
 
 -- the cents of a flow that fall in a span
 abbrev pub span_cents : Span → Flow → ℕ
@@ -36,70 +37,70 @@ paid_more span f g (p ∷ ps) same more =
     omega (arith, sum_by-cons (span_cents span) (f p) (map f ps), sum_by-cons (span_cents span) (g p) (map g ps), here, paid_more span f g ps same more)
 
 -- more units of a line pay no less in a span
-pub line_more : (span : Span) (settle : ℤ) (line : Line) (units more : ℕ) → units ≤ more → paid_in span (line_payments settle line units) ≤ paid_in span (line_payments settle line more)
-line_more span settle line units more le =
-    paid_more span (flow_by (kind_rate line.kind) (par line units)) (flow_by (kind_rate line.kind) (par line more)) (schedule_of settle line) (λ payment. refl)
+pub line_more : (span : Span) (days : PaymentDays) (line : Line) (units more : ℕ) → units ≤ more → paid_in span (line_payments days line units) ≤ paid_in span (line_payments days line more)
+line_more span days line units more le =
+    paid_more span (flow_by (kind_rate line.kind) (par line units)) (flow_by (kind_rate line.kind) (par line more)) (schedule_of days line) (λ payment. refl)
     (λ payment. flow-more (kind_rate line.kind) (par line units) (par line more) payment (mul-le-mul_left line.step le))
 
-pub covers_from : (settle : ℤ) (residual : Residual) (line : Line) (units : ℕ) → covers settle residual line units ≡ true → residual.cents.0 ≤ paid_in residual.span (line_payments settle line units)
-covers_from settle residual line units test = test_le residual.cents.0 (paid_in residual.span (line_payments settle line units)) test
+pub covers_from : (days : PaymentDays) (residual : Residual) (line : Line) (units : ℕ) → covers days residual line units ≡ true → residual.cents.0 ≤ paid_in residual.span (line_payments days line units)
+covers_from days residual line units test = test_le residual.cents.0 (paid_in residual.span (line_payments days line units)) test
   where
     test_le : (a b : ℕ) → nat_le a b ≡ true → a ≤ b
     test_le a b h = grind (arith, nat_tests)
 
 -- fewer units than too few are too few
-pub covers_less : (settle : ℤ) (residual : Residual) (line : Line) (units more : ℕ) → units ≤ more → covers settle residual line more ≡ false → covers settle residual line units ≡ false
-covers_less settle residual line units more le test =
-    less residual.cents.0 (paid_in residual.span (line_payments settle line units)) (paid_in residual.span (line_payments settle line more)) (line_more residual.span settle line units more le) test
+pub covers_less : (days : PaymentDays) (residual : Residual) (line : Line) (units more : ℕ) → units ≤ more → covers days residual line more ≡ false → covers days residual line units ≡ false
+covers_less days residual line units more le test =
+    less residual.cents.0 (paid_in residual.span (line_payments days line units)) (paid_in residual.span (line_payments days line more)) (line_more residual.span days line units more le) test
   where
     less : (a b e : ℕ) → b ≤ e → nat_le a e ≡ false → nat_le a b ≡ false
     less a b e h k = grind (arith, nat_tests)
 
 -- no units pay nothing
-none_paid : (span : Span) (settle : ℤ) (line : Line) → paid_in span (line_payments settle line 0) ≡ 0
-none_paid span settle line =
-    let none = line_payments-none settle line 0 refl in
-    sum_by-zero (span_cents span) (line_payments settle line 0) (λ k d lt. counted-zero (falls_in span (get_or (line_payments settle line 0) k d).day) (get_or (line_payments settle line 0) k d).cents.0 (none k d lt))
+none_paid : (span : Span) (days : PaymentDays) (line : Line) → paid_in span (line_payments days line 0) ≡ 0
+none_paid span days line =
+    let none = line_payments-none days line 0 refl in
+    sum_by-zero (span_cents span) (line_payments days line 0) (λ k d lt. counted-zero (falls_in span (get_or (line_payments days line 0) k d).day) (get_or (line_payments days line 0) k d).cents.0 (none k d lt))
 
-none_covers : (settle : ℤ) (residual : Residual) (line : Line) → covers settle residual line 0 ≡ nat_le residual.cents.0 0
-none_covers settle residual line = ap (nat_le residual.cents.0) (none_paid residual.span settle line)
+none_covers : (days : PaymentDays) (residual : Residual) (line : Line) → covers days residual line 0 ≡ nat_le residual.cents.0 0
+none_covers days residual line = ap (nat_le residual.cents.0) (none_paid residual.span days line)
 
-pub fewest-nothing : (settle : ℤ) (residual : Residual) (line : Line) → residual.cents.0 ≡ 0 → covers settle residual line 0 ≡ true
-fewest-nothing settle residual line none = none_covers settle residual line ∙ nothing residual.cents.0 none
+pub fewest-nothing : (days : PaymentDays) (residual : Residual) (line : Line) → residual.cents.0 ≡ 0 → covers days residual line 0 ≡ true
+fewest-nothing days residual line none = none_covers days residual line ∙ nothing residual.cents.0 none
   where
     nothing : (n : ℕ) → n ≡ 0 → nat_le n 0 ≡ true
     nothing n h = grind (arith, nat_tests)
 
-pub fewest-zero : (settle : ℤ) (residual : Residual) (line : Line) → residual.cents.0 ≡ 0 → fewest_of settle residual line ≡ Some 0
+pub fewest-zero : (days : PaymentDays) (residual : Residual) (line : Line) → residual.cents.0 ≡ 0 → fewest_of days residual line ≡ Some 0
 unfolding fewest_of
-fewest-zero settle residual line none =
-    ap (λ b. cond b (Some 0) (find (covers settle residual line) (range_with_len line.least (line.most + 1 - line.least)))) (fewest-nothing settle residual line none)
+fewest-zero days residual line none =
+    ap (λ b. cond b (Some 0) (find (covers days residual line) (range_with_len line.least (line.most + 1 - line.least)))) (fewest-nothing days residual line none)
 
 -- where something is left, the fewest are from the least on
-fewest-some : (settle : ℤ) (residual : Residual) (line : Line) → 0 < residual.cents.0 → fewest_of settle residual line ≡ find (covers settle residual line) (range_with_len line.least (line.most + 1 - line.least))
+fewest-some : (days : PaymentDays) (residual : Residual) (line : Line) → 0 < residual.cents.0 → fewest_of days residual line ≡ find (covers days residual line) (range_with_len line.least (line.most + 1 - line.least))
 unfolding fewest_of
-fewest-some settle residual line some =
-    ap (λ b. cond b (Some 0) (find (covers settle residual line) (range_with_len line.least (line.most + 1 - line.least)))) (none_covers settle residual line ∙ above residual.cents.0 some)
+fewest-some days residual line some =
+    ap (λ b. cond b (Some 0) (find (covers days residual line) (range_with_len line.least (line.most + 1 - line.least)))) (none_covers days residual line ∙ above residual.cents.0 some)
   where
     above : (n : ℕ) → 0 < n → nat_le n 0 ≡ false
     above n h = grind (arith, nat_tests)
 
-pub fewest-found : (settle : ℤ) (residual : Residual) (line : Line) (units : ℕ) → 0 < residual.cents.0 → line.least ≤ units → units ≤ line.most → covers settle residual line units ≡ true
-    → ((fewer : ℕ) → line.least ≤ fewer → fewer < units → covers settle residual line fewer ≡ false) → fewest_of settle residual line ≡ Some units
-fewest-found settle residual line units some least most enough fewer =
+pub fewest-found : (days : PaymentDays) (residual : Residual) (line : Line) (units : ℕ) → 0 < residual.cents.0 → line.least ≤ units → units ≤ line.most → covers days residual line units ≡ true
+    → ((fewer : ℕ) → line.least ≤ fewer → fewer < units → covers days residual line fewer ≡ false) → fewest_of days residual line ≡ Some units
+fewest-found days residual line units some least most enough fewer =
     let n = line.most + 1 - line.least in
     let at : get_or (range_with_len line.least n) (units - line.least) 0 ≡ units = omega (arith, get_or-range_with_len line.least n (units - line.least) 0 (omega arith)) in
-    fewest-some settle residual line some
-    ∙ find_at (covers settle residual line) (range_with_len line.least n) (units - line.least) 0 (omega (arith, length-range_with_len line.least n))
-    (λ k h. ap (covers settle residual line) (get_or-range_with_len line.least n k 0 (omega arith)) ∙ fewer (line.least + k) (omega arith) (omega arith))
-    (ap (covers settle residual line) at ∙ enough)
+    fewest-some days residual line some
+    ∙ find_at (covers days residual line) (range_with_len line.least n) (units - line.least) 0 (omega (arith, length-range_with_len line.least n))
+    (λ k h. ap (covers days residual line) (get_or-range_with_len line.least n k 0 (omega arith)) ∙ fewer (line.least + k) (omega arith) (omega arith))
+    (ap (covers days residual line) at ∙ enough)
     ∙ ap Some at
 
-pub fewest-none : (settle : ℤ) (residual : Residual) (line : Line) → 0 < residual.cents.0 → covers settle residual line line.most ≡ false → fewest_of settle residual line ≡ None
-fewest-none settle residual line some fails =
+pub fewest-none : (days : PaymentDays) (residual : Residual) (line : Line) → 0 < residual.cents.0 → covers days residual line line.most ≡ false → fewest_of days residual line ≡ None
+fewest-none days residual line some fails =
     let n = line.most + 1 - line.least in
-    fewest-some settle residual line some
-    ∙ find_none (covers settle residual line) (range_with_len line.least n)
+    fewest-some days residual line some
+    ∙ find_none (covers days residual line) (range_with_len line.least n)
     (λ k d h.
     let within : k < n = omega (arith, length-range_with_len line.least n) in
-    ap (covers settle residual line) (get_or-range_with_len line.least n k d within) ∙ covers_less settle residual line (line.least + k) line.most (omega arith) fails)
+    ap (covers days residual line) (get_or-range_with_len line.least n k d within) ∙ covers_less days residual line (line.least + k) line.most (omega arith) fails)

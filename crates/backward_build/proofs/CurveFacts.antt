@@ -10,16 +10,19 @@ use Rattle.std.proofs.lemmas.List.{get_or_append_left, get_or_default, get_or_re
 use Rattle.std.proofs.lemmas.List.Elements.{All-append, All-cons, All-head, All-nil, All-tail}
 use Rattle.std.proofs.lemmas.List.Sums.{sum_by-append, sum_by-cons}
 use Rattle.std.proofs.lemmas.Simd.{map-map}
-use Rattle.escrow_units.specs.Flows.{EndsOn, Rise}
+use Rattle.escrow_units.specs.Flows.{Rise}
+use Rattle.escrow_units.specs.OpenDays.{open_day}
 use Rattle.escrow_units.specs.SlgsTerms.{IsSettlement}
 use Rattle.escrow_units.specs.declared.security.Flow.{Flow}
+use Rattle.escrow_units.specs.declared.security.Slgs.{Slgs}
 use Rattle.escrow_units.specs.declared.security.StepRule.TheVariants as rule
 use Rattle.escrow_units.proofs.FlowFacts.{int_le-test, int_lt-test}
-use Rattle.escrow_units.proofs.SeriesAround.{counted}
+use Rattle.escrow_units.proofs.LastDates.{dates_before, last_dates-last}
+use Rattle.escrow_units.proofs.SeriesAround.{HasDates, IsNear, counted}
 use Rattle.slgs_interest.specs.Payments.{payment_dates, payment_on, slgs_schedule}
-use Rattle.slgs_interest.proofs.PaymentFacts.{paid_on, payments-by_date, payments-end as slgs_end, slgs_flows}
+use Rattle.slgs_interest.proofs.Series.{IsPaid}
 use Rattle.market_notes.specs.NoteFlows as market
-use Rattle.market_notes.proofs.FlowFacts as notes
+use Rattle.market_notes.specs.declared.note.Note.{Note}
 use Rattle.market_notes.proofs.SeriesFacts.{term}
 use Rattle.offer_book.specs.Book.{BookContents, IsSecurity, IsSecurityLine}
 use Rattle.offer_book.specs.Coefficients.{cost_coefficients, pay_by, pay_coefficients}
@@ -35,10 +38,11 @@ use Rattle.dual_bound.specs.LeafBound.{price_on}
 use Rattle.dual_bound.specs.declared.prices.TheConstants.{PRICE_SCALE}
 use Rattle.dual_bound.proofs.PriceFacts.{price_on-here, price_on-later, price_on-past}
 use Rattle.dual_bound.proofs.Sizes.{cost-sized, pays-sized}
-use Rattle.backward_build.specs.OwnOffer.{matures_on, need_at}
+use Rattle.backward_build.specs.OwnOffer.{ends_on, need_at}
 use Rattle.backward_build.specs.PriceCurve.{bootstrapped_prices, first_prices, last_price, next_price, unit_paid_in, with_next_price, worth_at}
 use Rattle.backward_build.specs.Span.{falls_in, span_of}
 use Rattle.backward_build.specs.declared.span.Span.{Span}
+use Rattle.offer_book.specs.declared.payment_days.PaymentDays.{PaymentDays}
 
 -- the price of a day is that at the place of the first need date on or after it
 pub price_on-place : (needs : List Flow) (prices : List ℕ) (day : ℤ) (place : ℕ) → length needs ≡ length prices → place < length needs
@@ -99,13 +103,13 @@ worth_small needs prices pays i pay price within at prices_small pays_small is =
     omega (arith, ap (λ n. n * pay.high) is, product)
 
 -- coefficients are small
-pub pays_small : (settle : ℤ) (line : Line) → IsSettlement settle → IsSecurityLine settle line → All (λ pay. pay.high ≤ 10 ^ 18) (pay_coefficients settle line)
-pays_small settle line h security = λ k d within.
-    let sized = pays-sized settle line h (inr security) k d within in
+pub pays_small : (days : PaymentDays) (line : Line) → IsSettlement days.settle → IsSecurityLine days line → All (λ pay. pay.high ≤ 10 ^ 18) (pay_coefficients days line)
+pays_small days line h security = λ k d within.
+    let sized = pays-sized days line h (inr security) k d within in
     omega (arith, sized.high, security.step_at_most)
 
-pub cost_small : (settle : ℤ) (line : Line) → IsSecurityLine settle line → (cost_coefficients line).low ≤ 10 ^ 18
-cost_small settle line security = omega (arith, (cost-sized settle line (inr security)).low, security.step_at_most)
+pub cost_small : (days : PaymentDays) (line : Line) → IsSecurityLine days line → (cost_coefficients line).low ≤ 10 ^ 18
+cost_small days line security = omega (arith, (cost-sized days line (inr security)).low, security.step_at_most)
 
 -- ---- an own offer pays its principal in the span of its need date
 pub falls-until : (needs : List Flow) (place : ℕ) → Rise needs → place < length needs → falls_in (span_of needs place) (need_at needs place).day ≡ true
@@ -121,64 +125,64 @@ falls-until needs (suc place) rising within =
     same-le : (day : ℤ) → day ≤ℤ day
     same-le day = omega (arith, ints)
 
-days_back : (f : ℤ → Flow) (dates : List ℤ) → ((day : ℤ) → (f day).day ≡ day) → map (λ flow. flow.day) (map f dates) ≡ dates
-days_back f [] same = refl
-days_back f (date ∷ dates) same = ap (λ (d : ℤ). d ∷ map (λ (flow : Flow). flow.day) (map f dates)) (same date) ∙ ap (λ (ds : List ℤ). date ∷ ds) (days_back f dates same)
-
 -- dates that end on a day
 record DatesEnd (day : ℤ) (dates : List ℤ) : Type 0 where
   before : List ℤ
   order : dates ≡ before ++ day ∷ []
 
-dates_end : (f : ℤ → Flow) (dates : List ℤ) (day : ℤ) (flows : List Flow) → ((d : ℤ) → (f d).day ≡ d) → flows ≡ map f dates → EndsOn day flows → DatesEnd day dates
-dates_end f dates day flows same is ends = record {
-  before = map (λ (flow : Flow). flow.day) ends.before;
-  order = sym (days_back f dates same) ∙ ap (map (λ (flow : Flow). flow.day)) (sym is ∙ ends.order)
-      ∙ map-append (λ (flow : Flow). flow.day) ends.before (ends.last ∷ [])
-      ∙ ap (λ (d : ℤ). map (λ (flow : Flow). flow.day) ends.before ++ d ∷ []) ends.falls;
+slgs_dates : (slgs : Slgs) → IsPaid slgs → DatesEnd slgs.maturity (payment_dates slgs)
+slgs_dates slgs p =
+    let less : p.steps + 1 - 1 ≡ p.steps = omega arith in
+    record {
+      before = dates_before slgs.maturity rule.SameDay p.steps;
+      order = p.dates ∙ rw less at (last_dates-last slgs.maturity rule.SameDay (p.steps + 1) p.base (omega arith));
+    }
+
+note_dates : (note : Note) (n : ℕ) → IsNear note.maturity note.settle → HasDates note.maturity rule.MonthEnd note.settle n → DatesEnd note.maturity (market.payment_dates note)
+note_dates note n t p = record {
+  before = dates_before note.maturity rule.MonthEnd (n - 1);
+  order = p.dates ∙ last_dates-last note.maturity rule.MonthEnd n t.base p.some;
 }
 
 abbrev unit_cents : Span → PayCoefficients → ℕ
 unit_cents span pay = if falls_in span pay.day then pay.high else 0
 
-last_pays : (span : Span) (g : ℤ → PayCoefficients) (dates : List ℤ) (day : ℤ) → DatesEnd day dates → (g day).day ≡ day → falls_in span day ≡ true → 0 < (g day).high → 0 < unit_paid_in span (map g dates)
-last_pays span g dates day ends same falls some =
-    let last : unit_cents span (g day) ≡ (g day).high = ap (λ (t : Bool). if t then (g day).high else 0) (ap (falls_in span) same ∙ falls) in
-    let parts = ap (λ (ds : List ℤ). unit_paid_in span (map g ds)) ends.order ∙ ap (unit_paid_in span) (map-append g ends.before (day ∷ [])) ∙ sum_by-append (unit_cents span) (map g ends.before) (g day ∷ []) in
-    omega (arith, parts, sum_by-cons (unit_cents span) (g day) [], last, some)
+last_pays : (span : Span) (g : ℤ → PayCoefficients) (dates : List ℤ) (date : ℤ) → DatesEnd date dates → falls_in span (g date).day ≡ true → 0 < (g date).high → 0 < unit_paid_in span (map g dates)
+last_pays span g dates date ends falls some =
+    let last : unit_cents span (g date) ≡ (g date).high = ap (λ (t : Bool). if t then (g date).high else 0) falls in
+    let parts = ap (λ (ds : List ℤ). unit_paid_in span (map g ds)) ends.order ∙ ap (unit_paid_in span) (map-append g ends.before (date ∷ [])) ∙ sum_by-append (unit_cents span) (map g ends.before) (g date ∷ []) in
+    omega (arith, parts, sum_by-cons (unit_cents span) (g date) [], last, some)
 
 principal-some : (interest step : ℕ) (t : Bool) → t ≡ true → 100 ≤ step → 0 < interest + COEFFICIENT_SCALE * (if t then step else 0)
 principal-some interest step t is some =
     let paid = ap (λ (b : Bool). if b then step else 0) is in
     omega (arith, paid, some)
 
-kind_pays_some : (settle : ℤ) (kind : LineKind) (step : ℕ) (span : Span) (day : ℤ) → IsSettlement settle → IsSecurity settle kind → 100 ≤ step → matures_on day kind ≡ true → falls_in span day ≡ true
-    → 0 < unit_paid_in span (map (pay_by (kind_rate kind) step) (kind_schedule settle kind))
+kind_pays_some : (days : PaymentDays) (kind : LineKind) (step : ℕ) (span : Span) (day : ℤ) → IsSettlement days.settle → IsSecurity days kind → 100 ≤ step → ends_on days day kind ≡ true → falls_in span day ≡ true
+    → 0 < unit_paid_in span (map (pay_by (kind_rate kind) step) (kind_schedule days kind))
 unfolding slgs_schedule market.note_schedule
-kind_pays_some settle Cash step span day h security some due falls = absurd security
-kind_pays_some settle (Security slgs) step span day h security some due falls =
-    let at : slgs.maturity ≡ day = (Decides-int_eq slgs.maturity day).0 due in
+kind_pays_some days Cash step span day h security some due falls = absurd security
+kind_pays_some days (Security slgs) step span day h security some due falls =
+    let at : open_day days.closed slgs.maturity ≡ day = (Decides-int_eq (open_day days.closed slgs.maturity) day).0 due in
     let test : int_eq slgs.maturity slgs.maturity ≡ true = (Decides-int_eq slgs.maturity slgs.maturity).1 refl in
-    subst (λ (pays : List PayCoefficients). 0 < unit_paid_in span pays) (sym (map-map (pay_by slgs.rate.0 step) (payment_on slgs) (payment_dates slgs)))
-    (last_pays span (λ date. pay_by slgs.rate.0 step (payment_on slgs date)) (payment_dates slgs) slgs.maturity
-    (dates_end (paid_on slgs step) (payment_dates slgs) slgs.maturity (slgs_flows slgs step) (λ d. refl) (payments-by_date slgs step) (slgs_end slgs step (is_paid settle slgs h security)))
-    refl (ap (falls_in span) at ∙ falls)
+    subst (λ (pays : List PayCoefficients). 0 < unit_paid_in span pays) (sym (map-map (pay_by slgs.rate.0 step) (payment_on slgs days.closed) (payment_dates slgs)))
+    (last_pays span (λ date. pay_by slgs.rate.0 step (payment_on slgs days.closed date)) (payment_dates slgs) slgs.maturity (slgs_dates slgs (is_paid days slgs h security))
+    (ap (falls_in span) at ∙ falls)
     (principal-some _ step (int_eq slgs.maturity slgs.maturity) test some))
-kind_pays_some settle (Market note) step span day h security some due falls =
-    let at : note.maturity ≡ day = (Decides-int_eq note.maturity day).0 due in
+kind_pays_some days (Market note) step span day h security some due falls =
+    let at : open_day days.closed note.maturity ≡ day = (Decides-int_eq (open_day days.closed note.maturity) day).0 due in
     let test : int_eq note.maturity note.maturity ≡ true = (Decides-int_eq note.maturity note.maturity).1 refl in
     let t = term note security.1 in
     let p = counted note.maturity rule.MonthEnd note.settle t security.1.after in
-    subst (λ (pays : List PayCoefficients). 0 < unit_paid_in span pays) (sym (map-map (pay_by note.coupon.0 step) (market.payment_on note) (market.payment_dates note)))
-    (last_pays span (λ date. pay_by note.coupon.0 step (market.payment_on note date)) (market.payment_dates note) note.maturity
-    (dates_end (notes.paid_on note step) (market.payment_dates note) note.maturity (notes.note_flows note step) (λ d. refl) (notes.payments-by_date note step) (notes.payments-end note step p.count t p.has))
-    refl (ap (falls_in span) at ∙ falls)
+    subst (λ (pays : List PayCoefficients). 0 < unit_paid_in span pays) (sym (map-map (pay_by note.coupon.0 step) (market.payment_on note days.closed) (market.payment_dates note)))
+    (last_pays span (λ date. pay_by note.coupon.0 step (market.payment_on note days.closed date)) (market.payment_dates note) note.maturity (note_dates note p.count t p.has)
+    (ap (falls_in span) at ∙ falls)
     (principal-some _ step (int_eq note.maturity note.maturity) test some))
 
-pub own_pays_some : (settle : ℤ) (needs : List Flow) (place : ℕ) (line : Line) → IsSettlement settle → Rise needs → place < length needs → IsSecurityLine settle line → matures_on (need_at needs place).day line.kind ≡ true
-    → 0 < unit_paid_in (span_of needs place) (pay_coefficients settle line)
-own_pays_some settle needs place line h rising within security due =
-    kind_pays_some settle line.kind line.step (span_of needs place) (need_at needs place).day h security.security security.step_at_least due (falls-until needs place rising within)
+pub own_pays_some : (days : PaymentDays) (needs : List Flow) (place : ℕ) (line : Line) → IsSettlement days.settle → Rise needs → place < length needs → IsSecurityLine days line → ends_on days (need_at needs place).day line.kind ≡ true
+    → 0 < unit_paid_in (span_of needs place) (pay_coefficients days line)
+own_pays_some days needs place line h rising within security due =
+    kind_pays_some days line.kind line.step (span_of needs place) (need_at needs place).day h security.security security.step_at_least due (falls-until needs place rising within)
 
 -- ---- one price more
 pub first-start : (book : BookContents) → first_prices book 0 ≡ Some []

@@ -206,28 +206,28 @@ test_le : (a b : ℕ) → nat_le a b ≡ true → a ≤ b
 test_le a b h = grind (arith, nat_tests)
 
 pub worth_is : (book : BookContents) (prices : List ℕ) (price : ℕ) (line : Line) → Rise book.needs → length prices < length book.needs
-    → worth_at (take (length (prices ++ price ∷ [])) book.needs) (prices ++ price ∷ []) (pay_coefficients book.settle line)
-    ≡ worth_at (take (length prices) book.needs) prices (pay_coefficients book.settle line) + price * unit_paid_in (span_of book.needs (length prices)) (pay_coefficients book.settle line)
+    → worth_at (take (length (prices ++ price ∷ [])) book.needs) (prices ++ price ∷ []) (pay_coefficients book.days line)
+    ≡ worth_at (take (length prices) book.needs) prices (pay_coefficients book.days line) + price * unit_paid_in (span_of book.needs (length prices)) (pay_coefficients book.days line)
 worth_is book prices price line rising within =
     let count : length (prices ++ price ∷ []) ≡ length prices + 1 = length-append prices (price ∷ []) in
     let front = ap (λ n. take n book.needs) count ∙ take_more book.needs (length prices) no_flow within in
-    ap (λ (needs : List Flow). worth_at needs (prices ++ price ∷ []) (pay_coefficients book.settle line)) front
-    ∙ worth_next book.needs prices price (pay_coefficients book.settle line) rising within
+    ap (λ (needs : List Flow). worth_at needs (prices ++ price ∷ []) (pay_coefficients book.days line)) front
+    ∙ worth_next book.needs prices price (pay_coefficients book.days line) rising within
 
 fair_next : (book : BookContents) (prices : List ℕ) (price : ℕ) → IsBook book → length prices < length book.needs → next_price book prices ≡ Some price → IsFairAfter book prices price
 fair_next book prices price limits within found =
     let capped = and_then_some (not_above (last_price prices)) _ price found in
     let is : capped.value ≡ price = (chosen (nat_le capped.value (last_price prices)) capped.value price capped.gives).1 in
-    let offer = and_then_some (λ number. fair_price book.settle book.needs prices (line_at book.lines number)) _ capped.value capped.was in
+    let offer = and_then_some (λ number. fair_price book.days book.needs prices (line_at book.lines number)) _ capped.value capped.was in
     let day = (need_at book.needs (length prices)).day in
     let line = line_at book.lines offer.value in
-    let own = own_is book.lines day offer.value offer.was in
-    let security = own_security book.settle day book.lines offer.value limits.lines offer.was in
+    let own = own_is book day offer.value offer.was in
+    let security = own_security book day offer.value limits.lines offer.was in
     let cost = PRICE_SCALE * (cost_coefficients line).low in
-    let earlier = worth_at (take (length prices) book.needs) prices (pay_coefficients book.settle line) in
-    let left = unit_paid_in (span_of book.needs (length prices)) (pay_coefficients book.settle line) in
+    let earlier = worth_at (take (length prices) book.needs) prices (pay_coefficients book.days line) in
+    let left = unit_paid_in (span_of book.needs (length prices)) (pay_coefficients book.days line) in
     let quotient = chosen (nat_le earlier cost) ((cost - earlier) / left) capped.value offer.gives in
-    let some : 0 < left = own_pays_some book.settle book.needs (length prices) line limits.settlement limits.needs.rising within security own.due in
+    let some : 0 < left = own_pays_some book.days book.needs (length prices) line limits.settlement limits.needs.rising within security own.due in
     record {
       number = offer.value;
       own = offer.was;

@@ -60,12 +60,12 @@ every_line P n items moved all line within =
 -- what a unit of a line costs and pays, scaled, is within a 128-bit number by far
 pub cost_small : (book : BookContents) (i : ℕ) (d : Line) → IsBook book → i < length book.lines → (cost_coefficients (get_or book.lines i d)).low ≤ 10 ^ 18
 cost_small book i d limits within =
-    let is = all_lines book.settle book.lines limits.lines i d within in
-    omega (arith, (cost-sized book.settle (get_or book.lines i d) is).low, step-small book.settle (get_or book.lines i d) is)
+    let is = all_lines book.days book.lines limits.lines i d within in
+    omega (arith, (cost-sized book.days (get_or book.lines i d) is).low, step-small book.days (get_or book.lines i d) is)
 
-pub pays_small : (book : BookContents) (i : ℕ) (d : Line) (pays : List PayCoefficients) → IsBook book → i < length book.lines → pays ≡ pay_coefficients book.settle (get_or book.lines i d) → All (λ pay. pay.high ≤ 10 ^ 18) pays
+pub pays_small : (book : BookContents) (i : ℕ) (d : Line) (pays : List PayCoefficients) → IsBook book → i < length book.lines → pays ≡ pay_coefficients book.days (get_or book.lines i d) → All (λ pay. pay.high ≤ 10 ^ 18) pays
 pays_small book i d pays limits within same =
-    let is = all_lines book.settle book.lines limits.lines i d within in
-    let step = step-small book.settle (get_or book.lines i d) is in
-    let sized = All-same (IsSized (get_or book.lines i d).step) pays (pay_coefficients book.settle (get_or book.lines i d)) same (pays-sized book.settle (get_or book.lines i d) limits.settlement is) in
+    let is = all_lines book.days book.lines limits.lines i d within in
+    let step = step-small book.days (get_or book.lines i d) is in
+    let sized = All-same (IsSized (get_or book.lines i d).step) pays (pay_coefficients book.days (get_or book.lines i d)) same (pays-sized book.days (get_or book.lines i d) limits.settlement is) in
     λ k e here. omega (arith, (sized k e here).high, step)

@@ -8,6 +8,7 @@ use Rattle.std.proofs.lemmas.List.{get_or-map, get_or-replicate, get_or-reverse,
 use Rattle.std.proofs.lemmas.List.Elements.{All-cons, All-head, All-nil, All-tail}
 use Rattle.std.proofs.lemmas.List.Sums.{sum_by-append, sum_by-cons, sum_by_more}
 use Rattle.escrow_units.specs.Flows.{Rise, total}
+use Rattle.escrow_units.specs.OpenDays.{open_day}
 use Rattle.escrow_units.specs.declared.security.Flow.{Flow}
 use Rattle.day_sums.specs.Summed.{total_by}
 use Rattle.day_sums.proofs.SumFacts.{counted-zero}
@@ -23,7 +24,7 @@ use Rattle.cash_table.proofs.DayFacts.{find_at, find_none, met_on_every_day, tot
 use Rattle.cash_table.proofs.PaymentFacts.{pair_payments}
 use Rattle.cash_table.proofs.ZipFacts.{sum_by-zero}
 use Rattle.backward_build.specs.BackwardPlan.{IsUnderWay, and_date, bought, latest_without_offer, plan_of_last, put_or_over, residual_of, with_date}
-use Rattle.backward_build.specs.OwnOffer.{line_at, matures_on, need_at, own_offer_of}
+use Rattle.backward_build.specs.OwnOffer.{ends_on, line_at, need_at, own_offer_of}
 use Rattle.backward_build.specs.Residual.{covers, fewest_of}
 use Rattle.backward_build.specs.Span.{falls_in, paid_in, span_of}
 use Rattle.backward_build.specs.declared.backward.BuildEnd.{BuildEnd}
@@ -31,47 +32,48 @@ use Rattle.backward_build.specs.declared.residual.Residual.{Residual}
 use Rattle.backward_build.specs.declared.span.Span.{Span}
 use Rattle.backward_build.proofs.CoverFacts.{covers_from, span_cents}
 use Rattle.backward_build.proofs.SpanFacts.{received_in}
+use Rattle.offer_book.specs.declared.payment_days.PaymentDays.{PaymentDays}
 
 -- ---- sums over the payments of a plan in which one line is bought
-abbrev pub paid_by : (Flow → ℕ) → ℤ → List Line → List ℕ → ℕ
-paid_by count settle lines plan = sum_by count (flat_map (pair_payments settle) (zip lines plan))
+abbrev pub paid_by : (Flow → ℕ) → PaymentDays → List Line → List ℕ → ℕ
+paid_by count days lines plan = sum_by count (flat_map (pair_payments days) (zip lines plan))
 
 -- what counts of a payment is nothing where nothing is paid
 abbrev pub CountsCents : (Flow → ℕ) → Type 0
 CountsCents count = (flow : Flow) → flow.cents.0 ≡ 0 → count flow ≡ 0
 
-none_counts : (count : Flow → ℕ) (settle : ℤ) (line : Line) (units : ℕ) → CountsCents count → units ≡ 0 → sum_by count (pair_payments settle (line, units)) ≡ 0
-none_counts count settle line units counts none =
-    let nothing = line_payments-none settle line units none in
-    sum_by-zero count (pair_payments settle (line, units)) (λ k d lt. counts (get_or (pair_payments settle (line, units)) k d) (nothing k d lt))
+none_counts : (count : Flow → ℕ) (days : PaymentDays) (line : Line) (units : ℕ) → CountsCents count → units ≡ 0 → sum_by count (pair_payments days (line, units)) ≡ 0
+none_counts count days line units counts none =
+    let nothing = line_payments-none days line units none in
+    sum_by-zero count (pair_payments days (line, units)) (λ k d lt. counts (get_or (pair_payments days (line, units)) k d) (nothing k d lt))
 
-pub bought_counts : (count : Flow → ℕ) (settle : ℤ) (lines : List Line) (plan : List ℕ) (number units : ℕ) → CountsCents count → length plan ≡ length lines → number < length lines → get_or plan number 0 ≡ 0
-    → paid_by count settle lines (set plan number units) ≡ paid_by count settle lines plan + sum_by count (line_payments settle (line_at lines number) units)
-bought_counts count settle [] plan number units counts same within none = absurd (omega arith)
-bought_counts count settle (line ∷ lines) [] number units counts same within none = absurd (omega arith)
-bought_counts count settle (line ∷ lines) (had ∷ plan) zero units counts same within none =
+pub bought_counts : (count : Flow → ℕ) (days : PaymentDays) (lines : List Line) (plan : List ℕ) (number units : ℕ) → CountsCents count → length plan ≡ length lines → number < length lines → get_or plan number 0 ≡ 0
+    → paid_by count days lines (set plan number units) ≡ paid_by count days lines plan + sum_by count (line_payments days (line_at lines number) units)
+bought_counts count days [] plan number units counts same within none = absurd (omega arith)
+bought_counts count days (line ∷ lines) [] number units counts same within none = absurd (omega arith)
+bought_counts count days (line ∷ lines) (had ∷ plan) zero units counts same within none =
     omega (
       arith,
-      sum_by-append count (pair_payments settle (line, units)) (flat_map (pair_payments settle) (zip lines plan)),
-      sum_by-append count (pair_payments settle (line, had)) (flat_map (pair_payments settle) (zip lines plan)),
-      none_counts count settle line had counts none,
+      sum_by-append count (pair_payments days (line, units)) (flat_map (pair_payments days) (zip lines plan)),
+      sum_by-append count (pair_payments days (line, had)) (flat_map (pair_payments days) (zip lines plan)),
+      none_counts count days line had counts none,
     )
-bought_counts count settle (line ∷ lines) (had ∷ plan) (suc number) units counts same within none =
+bought_counts count days (line ∷ lines) (had ∷ plan) (suc number) units counts same within none =
     omega (
       arith,
-      sum_by-append count (pair_payments settle (line, had)) (flat_map (pair_payments settle) (zip lines (set plan number units))),
-      sum_by-append count (pair_payments settle (line, had)) (flat_map (pair_payments settle) (zip lines plan)),
-      bought_counts count settle lines plan number units counts (omega arith) (omega arith) none,
+      sum_by-append count (pair_payments days (line, had)) (flat_map (pair_payments days) (zip lines (set plan number units))),
+      sum_by-append count (pair_payments days (line, had)) (flat_map (pair_payments days) (zip lines plan)),
+      bought_counts count days lines plan number units counts (omega arith) (omega arith) none,
     )
 
-zero_counts : (count : Flow → ℕ) (settle : ℤ) (lines : List Line) → CountsCents count → paid_by count settle lines (replicate (length lines) 0) ≡ 0
-zero_counts count settle [] counts = refl
-zero_counts count settle (line ∷ lines) counts =
+zero_counts : (count : Flow → ℕ) (days : PaymentDays) (lines : List Line) → CountsCents count → paid_by count days lines (replicate (length lines) 0) ≡ 0
+zero_counts count days [] counts = refl
+zero_counts count days (line ∷ lines) counts =
     omega (
       arith,
-      sum_by-append count (pair_payments settle (line, 0)) (flat_map (pair_payments settle) (zip lines (replicate (length lines) 0))),
-      none_counts count settle line 0 counts refl,
-      zero_counts count settle lines counts,
+      sum_by-append count (pair_payments days (line, 0)) (flat_map (pair_payments days) (zip lines (replicate (length lines) 0))),
+      none_counts count days line 0 counts refl,
+      zero_counts count days lines counts,
     )
 
 by_counts : (t : ℤ) → CountsCents (cents_by t)
@@ -100,14 +102,14 @@ pub permitted_zero : (lines : List Line) → All PairIsPermitted (zip lines (rep
 permitted_zero [] = All-nil PairIsPermitted
 permitted_zero (line ∷ lines) = All-cons PairIsPermitted (line, 0) (zip lines (replicate (length lines) 0)) (inl refl) (permitted_zero lines)
 
--- ---- a line matures once
-pub matures_once : (kind : LineKind) (a b : ℤ) → matures_on a kind ≡ true → matures_on b kind ≡ true → a ≡ b
-matures_once Cash a b first second = absurd (different first)
+-- ---- a line ends once
+pub ends_once : (days : PaymentDays) (kind : LineKind) (a b : ℤ) → ends_on days a kind ≡ true → ends_on days b kind ≡ true → a ≡ b
+ends_once days Cash a b first second = absurd (different first)
   where
     different : false ≡ true → ⊥
     different h = cc
-matures_once (Security slgs) a b first second = sym ((Decides-int_eq slgs.maturity a).0 first) ∙ (Decides-int_eq slgs.maturity b).0 second
-matures_once (Market note) a b first second = sym ((Decides-int_eq note.maturity a).0 first) ∙ (Decides-int_eq note.maturity b).0 second
+ends_once days (Security slgs) a b first second = sym ((Decides-int_eq (open_day days.closed slgs.maturity) a).0 first) ∙ (Decides-int_eq (open_day days.closed slgs.maturity) b).0 second
+ends_once days (Market note) a b first second = sym ((Decides-int_eq (open_day days.closed note.maturity) a).0 first) ∙ (Decides-int_eq (open_day days.closed note.maturity) b).0 second
 
 pub different_days : (needs : List Flow) (k place : ℕ) → Rise needs → k < place → place < length needs → (need_at needs k).day ≡ (need_at needs place).day → ⊥
 different_days needs k place rising order within same =
@@ -119,17 +121,17 @@ pub record IsPurchase (book : BookContents) (place : ℕ) (plan : List ℕ) (num
   pub within : place < length book.needs
   pub rising : Rise book.needs
   pub own : number < length book.lines
-  pub due : matures_on (need_at book.needs place).day (line_at book.lines number).kind ≡ true
+  pub due : ends_on book.days (need_at book.needs place).day (line_at book.lines number).kind ≡ true
   pub permitted : IsPermittedUnits (line_at book.lines number) units
-  pub enough : covers book.settle (residual_of book plan place) (line_at book.lines number) units ≡ true
+  pub enough : covers book.days (residual_of book plan place) (line_at book.lines number) units ≡ true
 
 not_yet : (book : BookContents) (place : ℕ) (plan received : List ℕ) (number units : ℕ) → IsUnderWay book (place + 1) plan received → IsPurchase book place plan number units → get_or plan number 0 ≡ 0
 not_yet book place plan received number units state p = state.unbought place number (omega arith) p.within p.own p.due
 
 pub plan_pays : (count : Flow → ℕ) (book : BookContents) (place : ℕ) (plan received : List ℕ) (number units : ℕ) → CountsCents count → IsUnderWay book (place + 1) plan received → IsPurchase book place plan number units
-    → sum_by count (payments book (set plan number units)) ≡ sum_by count (payments book plan) + sum_by count (line_payments book.settle (line_at book.lines number) units)
+    → sum_by count (payments book (set plan number units)) ≡ sum_by count (payments book plan) + sum_by count (line_payments book.days (line_at book.lines number) units)
 plan_pays count book place plan received number units counts state p =
-    bought_counts count book.settle book.lines plan number units counts state.permitted.same_length p.own (not_yet book place plan received number units state p)
+    bought_counts count book.days book.lines plan number units counts state.permitted.same_length p.own (not_yet book place plan received number units state p)
 
 -- what `add_receipts` tells
 pub record AreAdded (book : BookContents) (pays : List Flow) (old new : List ℕ) : Type 0 where
@@ -138,7 +140,7 @@ pub record AreAdded (book : BookContents) (pays : List Flow) (old new : List ℕ
   pub whole : sum new ≤ sum old + total pays
 
 receipts_next : (book : BookContents) (place : ℕ) (plan received new : List ℕ) (number units : ℕ) → IsUnderWay book (place + 1) plan received → IsPurchase book place plan number units
-    → AreAdded book (line_payments book.settle (line_at book.lines number) units) received new → AreReceipts book.needs (payments book (set plan number units)) new
+    → AreAdded book (line_payments book.days (line_at book.lines number) units) received new → AreReceipts book.needs (payments book (set plan number units)) new
 receipts_next book place plan received new number units state p added = λ k d within.
     let t = (get_or book.needs k d).day in
     omega (
@@ -149,7 +151,7 @@ receipts_next book place plan received new number units state p added = λ k d w
     )
 
 covered_next : (book : BookContents) (place : ℕ) (plan received new : List ℕ) (number units : ℕ) → length book.needs ≤ length received → IsUnderWay book (place + 1) plan received → IsPurchase book place plan number units
-    → AreAdded book (line_payments book.settle (line_at book.lines number) units) received new → (k : ℕ) → place ≤ k → k < length book.needs → (need_at book.needs k).cents.0 ≤ get_or new k 0
+    → AreAdded book (line_payments book.days (line_at book.lines number) units) received new → (k : ℕ) → place ≤ k → k < length book.needs → (need_at book.needs k).cents.0 ≤ get_or new k 0
 covered_next book place plan received new number units room state p added k from within =
     let span = span_of book.needs k in
     let now = received_in book.needs (payments book (set plan number units)) new k p.rising (receipts_next book place plan received new number units state p added) within (omega (arith, added.room)) in
@@ -158,23 +160,23 @@ covered_next book place plan received new number units room state p added k from
     elim (cases_lt place k) [
       | inl less ↦ omega (arith, now, before, more, state.covered k (omega arith) within)
       | inr same ↦ (let here : k ≡ place = omega arith in
-          let enough = covers_from book.settle (residual_of book plan place) (line_at book.lines number) units p.enough in
+          let enough = covers_from book.days (residual_of book plan place) (line_at book.lines number) units p.enough in
           let paid = ap (λ j. paid_in (span_of book.needs j) (payments book plan)) here in
-          let own = ap (λ j. paid_in (span_of book.needs j) (line_payments book.settle (line_at book.lines number) units)) here in
+          let own = ap (λ j. paid_in (span_of book.needs j) (line_payments book.days (line_at book.lines number) units)) here in
           omega (arith, now, more, enough, paid, own, ap (λ j. (need_at book.needs j).cents.0) here))
     ]
 
 unbought_next : (book : BookContents) (place : ℕ) (plan received : List ℕ) (number units : ℕ) → IsUnderWay book (place + 1) plan received → IsPurchase book place plan number units
-    → (k other : ℕ) → k < place → k < length book.needs → other < length book.lines → matures_on (need_at book.needs k).day (line_at book.lines other).kind ≡ true → get_or (set plan number units) other 0 ≡ 0
+    → (k other : ℕ) → k < place → k < length book.needs → other < length book.lines → ends_on book.days (need_at book.needs k).day (line_at book.lines other).kind ≡ true → get_or (set plan number units) other 0 ≡ 0
 unbought_next book place plan received number units state p k other before within here due =
     let apart : other ≢ number = λ same.
     different_days book.needs k place p.rising before p.within
-    (matures_once (line_at book.lines other).kind (need_at book.needs k).day (need_at book.needs place).day due
-    (ap (λ n. matures_on (need_at book.needs place).day (line_at book.lines n).kind) same ∙ p.due)) in
+    (ends_once book.days (line_at book.lines other).kind (need_at book.needs k).day (need_at book.needs place).day due
+    (ap (λ n. ends_on book.days (need_at book.needs place).day (line_at book.lines n).kind) same ∙ p.due)) in
     get_or-set_other plan number other units 0 apart ∙ state.unbought k other (omega arith) within here due
 
 pub under_way_next : (book : BookContents) (place : ℕ) (plan received new : List ℕ) (number units : ℕ) → length book.needs ≤ length received → IsUnderWay book (place + 1) plan received → IsPurchase book place plan number units
-    → AreAdded book (line_payments book.settle (line_at book.lines number) units) received new → IsUnderWay book place (set plan number units) new
+    → AreAdded book (line_payments book.days (line_at book.lines number) units) received new → IsUnderWay book place (set plan number units) new
 under_way_next book place plan received new number units room state p added = record {
   permitted = record {
     same_length = length-set plan number units ∙ state.permitted.same_length;
@@ -210,7 +212,7 @@ sum-all_zeros (suc n) = omega (arith, sum_by-cons (λ (x : ℕ). x) 0 (replicate
 pub under_way_start : (book : BookContents) (n : ℕ) → IsUnderWay book (length book.needs) (replicate (length book.lines) 0) (replicate n 0)
 under_way_start book n = record {
   permitted = record { same_length = length-replicate (length book.lines) 0; units = permitted_zero book.lines };
-  receipts = λ k d within. sum-zeros n (k + 1) ∙ sym (zero_counts (cents_by (get_or book.needs k d).day) book.settle book.lines (by_counts (get_or book.needs k d).day));
+  receipts = λ k d within. sum-zeros n (k + 1) ∙ sym (zero_counts (cents_by (get_or book.needs k d).day) book.days book.lines (by_counts (get_or book.needs k d).day));
   little = omega (arith, sum-all_zeros n);
   covered = λ k from within. absurd (omega arith);
   unbought = λ k number before within here due. get_or-replicate (length book.lines) number 0 0 here;
@@ -238,8 +240,8 @@ meets_at_end book plan received rising room state = λ t.
     omega (arith, up, total_by_need book.needs k d rising within, state.receipts k d within))
 
 -- ---- the plan by definition
-pub with_own : (book : BookContents) (place : ℕ) (plan : List ℕ) (number units : ℕ) → own_offer_of book.lines (need_at book.needs place).day ≡ Some number
-    → fewest_of book.settle (residual_of book plan place) (line_at book.lines number) ≡ Some units → with_date book place plan ≡ Ok (set plan number units)
+pub with_own : (book : BookContents) (place : ℕ) (plan : List ℕ) (number units : ℕ) → own_offer_of book (need_at book.needs place).day ≡ Some number
+    → fewest_of book.days (residual_of book plan place) (line_at book.lines number) ≡ Some units → with_date book place plan ≡ Ok (set plan number units)
 with_own book place plan number units own few = ap (bought book place plan) own ∙ ap (put_or_over plan number) few
 
 start_of_last : (book : BookContents) → plan_of_last book 0 ≡ Ok (replicate (length book.lines) 0)
@@ -270,15 +272,15 @@ last_stop book dates plan fault within had stopped =
     ap (plan_of_last book) (sym whole) ∙ err_on book (dates + 1) (length book.needs - (dates + 1)) fault (last_next book dates plan had ∙ stopped)
 
 -- ---- the latest need date without an own offer
-abbrev pub lacks_offer : List Line → ℤ → Bool
-lacks_offer lines day = is_none (own_offer_of lines day)
+abbrev pub lacks_offer : BookContents → ℤ → Bool
+lacks_offer book day = is_none (own_offer_of book day)
 
 abbrev pub days_back : List Flow → List ℤ
 days_back needs = reverse (map (λ need. need.day) needs)
 
 -- each of the last so many need dates has an own offer
 abbrev pub HaveOffers : BookContents → ℕ → Type 0
-HaveOffers book later = (k : ℕ) → k < later → lacks_offer book.lines (need_at book.needs (length book.needs - 1 - k)).day ≡ false
+HaveOffers book later = (k : ℕ) → k < later → lacks_offer book (need_at book.needs (length book.needs - 1 - k)).day ≡ false
 
 day_back : (needs : List Flow) (k : ℕ) (d : ℤ) → k < length needs → get_or (days_back needs) k d ≡ (need_at needs (length needs - 1 - k)).day
 day_back needs k d within =
@@ -288,29 +290,29 @@ day_back needs k d within =
     let place : length days - 1 - k ≡ length needs - 1 - k = omega arith in
     back ∙ ap (λ n. get_or days n d) place ∙ get_or-map (λ (need : Flow). need.day) needs (length needs - 1 - k) _ d (omega arith)
 
-pub latest_found : (book : BookContents) (later : ℕ) → later < length book.needs → HaveOffers book later → lacks_offer book.lines (need_at book.needs (length book.needs - 1 - later)).day ≡ true
+pub latest_found : (book : BookContents) (later : ℕ) → later < length book.needs → HaveOffers book later → lacks_offer book (need_at book.needs (length book.needs - 1 - later)).day ≡ true
     → latest_without_offer book ≡ Some (need_at book.needs (length book.needs - 1 - later)).day
 latest_found book later within before here =
     let long = length-map book.needs (λ (need : Flow). need.day) in
     let back = length-reverse (map (λ (need : Flow). need.day) book.needs) in
     let d = (need_at book.needs 0).day in
-    find_at (lacks_offer book.lines) (days_back book.needs) later d (omega arith)
-    (λ k h. ap (lacks_offer book.lines) (day_back book.needs k d (omega arith)) ∙ before k h)
-    (ap (lacks_offer book.lines) (day_back book.needs later d within) ∙ here)
+    find_at (lacks_offer book) (days_back book.needs) later d (omega arith)
+    (λ k h. ap (lacks_offer book) (day_back book.needs k d (omega arith)) ∙ before k h)
+    (ap (lacks_offer book) (day_back book.needs later d within) ∙ here)
     ∙ ap Some (day_back book.needs later d within)
 
 pub latest_none : (book : BookContents) (later : ℕ) → length book.needs ≤ later → HaveOffers book later → latest_without_offer book ≡ None
 latest_none book later all before =
-    find_none (lacks_offer book.lines) (days_back book.needs)
+    find_none (lacks_offer book) (days_back book.needs)
     (λ k d h.
     let long = length-map book.needs (λ (need : Flow). need.day) in
     let back = length-reverse (map (λ (need : Flow). need.day) book.needs) in
     let within : k < length book.needs = omega arith in
-    ap (lacks_offer book.lines) (day_back book.needs k d within) ∙ before k (omega arith))
+    ap (lacks_offer book) (day_back book.needs k d within) ∙ before k (omega arith))
 
-pub have_more : (book : BookContents) (later : ℕ) → HaveOffers book later → lacks_offer book.lines (need_at book.needs (length book.needs - 1 - later)).day ≡ false → HaveOffers book (later + 1)
+pub have_more : (book : BookContents) (later : ℕ) → HaveOffers book later → lacks_offer book (need_at book.needs (length book.needs - 1 - later)).day ≡ false → HaveOffers book (later + 1)
 have_more book later before here = λ k h.
     elim (cases_lt k later) [
       | inl less ↦ before k less
-      | inr more ↦ (let at : k ≡ later = omega arith in ap (λ n. lacks_offer book.lines (need_at book.needs (length book.needs - 1 - n)).day) at ∙ here)
+      | inr more ↦ (let at : k ≡ later = omega arith in ap (λ n. lacks_offer book (need_at book.needs (length book.needs - 1 - n)).day) at ∙ here)
     ]

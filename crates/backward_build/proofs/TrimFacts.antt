@@ -1,5 +1,5 @@
 -- When a line can go down: what is left after each need date, what is due, and what a line that went down gives back.
-use Rattle.std.proofs.Common.{◌≡◌, ℕ, ◌+◌, ◌-◌, ◌<◌, ◌≤◌, List, length, get_or, set, subst, ◌∙◌, arith, ℤ, pos}
+use Rattle.std.proofs.Common.{◌≡◌, ℕ, ◌+◌, ◌-◌, ◌<◌, ◌≤◌, List, length, get_or, set, subst, ◌∙◌, arith, pos}
 use Rattle.std.proofs.lemmas.List.{get_or-set_same, length-set, set-set}
 use Rattle.escrow_units.specs.declared.security.Flow.{Flow}
 use Rattle.day_sums.specs.Summed.{total_by}
@@ -12,6 +12,7 @@ use Rattle.cash_table.proofs.ReachFacts.{line_pays_more}
 use Rattle.backward_build.specs.Spare.{ArePaid, AreSpare, Cover}
 use Rattle.backward_build.specs.Trim.{HasNoMore, IsFewest}
 use Rattle.backward_build.proofs.UnitFacts.{no_more-both, payments_exchange, pays_more}
+use Rattle.offer_book.specs.declared.payment_days.PaymentDays.{PaymentDays}
 
 -- what is paid of nothing short leaves the needs met
 pub met_from_spare : (book : BookContents) (plan spare : List ℕ) → AreSpare book.needs (payments book plan) spare → Meets book plan
@@ -19,9 +20,9 @@ met_from_spare book plan spare left = λ t.
     met_on_every_day book.needs (payments book plan) t (λ k d within _. omega (arith, left k d within))
 
 -- more units cover no less
-pub cover_more : (settle : ℤ) (needs : List Flow) (line : Line) (due : List ℕ) (units more : ℕ) → units ≤ more → Cover needs due (line_payments settle line units) → Cover needs due (line_payments settle line more)
-cover_more settle needs line due units more le cover = λ k d within.
-    omega (arith, cover k d within, line_pays_more (get_or needs k d).day settle line units more le)
+pub cover_more : (days : PaymentDays) (needs : List Flow) (line : Line) (due : List ℕ) (units more : ℕ) → units ≤ more → Cover needs due (line_payments days line units) → Cover needs due (line_payments days line more)
+cover_more days needs line due units more le cover = λ k d within.
+    omega (arith, cover k d within, line_pays_more (get_or needs k d).day days line units more le)
 
 -- what is due of a line is what it pays by each need date, but for what is spare
 abbrev pub AreDue : List Flow → List Flow → List ℕ → List ℕ → Type 0
@@ -29,23 +30,23 @@ AreDue needs flows spare due = (k : ℕ) (d : Flow) → k < length needs → get
 
 -- so a plan with other units of the line meets the needs exactly where they cover what is due
 pub covers_from_meets : (book : BookContents) (plan spare due : List ℕ) (i units : ℕ) (line : Line) → i < length book.lines → length plan ≡ length book.lines
-    → AreSpare book.needs (payments book plan) spare → AreDue book.needs (line_payments book.settle (get_or book.lines i line) (get_or plan i 0)) spare due
-    → Meets book (set plan i units) → Cover book.needs due (line_payments book.settle (get_or book.lines i line) units)
+    → AreSpare book.needs (payments book plan) spare → AreDue book.needs (line_payments book.days (get_or book.lines i line) (get_or plan i 0)) spare due
+    → Meets book (set plan i units) → Cover book.needs due (line_payments book.days (get_or book.lines i line) units)
 covers_from_meets book plan spare due i units line within same left owed meets = λ k d here.
     let t = (get_or book.needs k d).day in
     omega (arith, payments_exchange t book plan i units line within same, left k d here, owed k d here, meets t)
 
 pub meets_from_covers : (book : BookContents) (plan spare due : List ℕ) (i units : ℕ) (line : Line) → i < length book.lines → length plan ≡ length book.lines
-    → AreSpare book.needs (payments book plan) spare → AreDue book.needs (line_payments book.settle (get_or book.lines i line) (get_or plan i 0)) spare due
-    → Cover book.needs due (line_payments book.settle (get_or book.lines i line) units) → Meets book (set plan i units)
+    → AreSpare book.needs (payments book plan) spare → AreDue book.needs (line_payments book.days (get_or book.lines i line) (get_or plan i 0)) spare due
+    → Cover book.needs due (line_payments book.days (get_or book.lines i line) units) → Meets book (set plan i units)
 meets_from_covers book plan spare due i units line within same left owed cover = λ t.
     met_on_every_day book.needs (payments book (set plan i units)) t
     (λ k d here _. omega (arith, payments_exchange (get_or book.needs k d).day book plan i units line within same, left k d here, owed k d here, cover k d here))
 
 -- what is left once a line has other units
 pub spare-set : (book : BookContents) (plan spare before after less : List ℕ) (i units : ℕ) (line : Line) → i < length book.lines → length plan ≡ length book.lines
-    → AreSpare book.needs (payments book plan) spare → ArePaid book.needs (line_payments book.settle (get_or book.lines i line) (get_or plan i 0)) before
-    → ArePaid book.needs (line_payments book.settle (get_or book.lines i line) units) after
+    → AreSpare book.needs (payments book plan) spare → ArePaid book.needs (line_payments book.days (get_or book.lines i line) (get_or plan i 0)) before
+    → ArePaid book.needs (line_payments book.days (get_or book.lines i line) units) after
     → ((k : ℕ) → k < length book.needs → get_or less k 0 + get_or before k 0 ≡ get_or spare k 0 + get_or after k 0)
     → AreSpare book.needs (payments book (set plan i units)) less
 spare-set book plan spare before after less i units line within same left paid now taken = λ k d here.
@@ -53,8 +54,8 @@ spare-set book plan spare before after less i units line within same left paid n
 
 -- a line that has as few units as it can have, by what is due
 pub fewest-set : (book : BookContents) (plan spare due : List ℕ) (i units : ℕ) → i < length book.lines → length plan ≡ length book.lines
-    → AreSpare book.needs (payments book plan) spare → ((line : Line) → AreDue book.needs (line_payments book.settle (get_or book.lines i line) (get_or plan i 0)) spare due)
-    → ((fewer : ℕ) (line : Line) → fewer < units → IsPermittedUnits (get_or book.lines i line) fewer → ¬ Cover book.needs due (line_payments book.settle (get_or book.lines i line) fewer))
+    → AreSpare book.needs (payments book plan) spare → ((line : Line) → AreDue book.needs (line_payments book.days (get_or book.lines i line) (get_or plan i 0)) spare due)
+    → ((fewer : ℕ) (line : Line) → fewer < units → IsPermittedUnits (get_or book.lines i line) fewer → ¬ Cover book.needs due (line_payments book.days (get_or book.lines i line) fewer))
     → IsFewest book (set plan i units) i
 fewest-set book plan spare due i units within same left owed fewest = λ fewer line below permitted meets.
     let at = get_or-set_same plan i units 0 (omega (arith, within, same)) in
@@ -83,10 +84,10 @@ abbrev pub some_line : Line
 some_line = record { kind = Cash; step = 1; least = 1; most = 1 }
 
 -- what a line pays with fewer units that cover what is due: no more than before, and less by no more than is spare
-pub paid_less : (settle : ℤ) (needs : List Flow) (line : Line) (units fewer : ℕ) (before after : List ℕ) → fewer ≤ units → ArePaid needs (line_payments settle line units) before → ArePaid needs (line_payments settle line fewer) after
+pub paid_less : (days : PaymentDays) (needs : List Flow) (line : Line) (units fewer : ℕ) (before after : List ℕ) → fewer ≤ units → ArePaid needs (line_payments days line units) before → ArePaid needs (line_payments days line fewer) after
     → (k : ℕ) → k < length needs → get_or after k 0 ≤ get_or before k 0
-paid_less settle needs line units fewer before after le was now = λ k here.
-    omega (arith, line_pays_more (get_or needs k some_need).day settle line fewer units le, was k some_need here, now k some_need here)
+paid_less days needs line units fewer before after le was now = λ k here.
+    omega (arith, line_pays_more (get_or needs k some_need).day days line fewer units le, was k some_need here, now k some_need here)
 
 pub paid_enough : (needs flows : List Flow) (before spare due after : List ℕ) → length needs ≤ length before → Cover needs due flows → ArePaid needs flows after
     → ((k : ℕ) → k < length before → get_or due k 0 ≡ get_or before k 0 - get_or spare k 0)

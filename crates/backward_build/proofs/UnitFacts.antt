@@ -21,50 +21,51 @@ use Rattle.cash_table.proofs.PaymentFacts.{pair_payments}
 use Rattle.payment_schedule.proofs.ScheduleFacts.{near-more}
 use Rattle.cash_table.proofs.ReachFacts.{line_pays_more}
 use Rattle.backward_build.specs.Trim.{HasNoMore}
+use Rattle.offer_book.specs.declared.payment_days.PaymentDays.{PaymentDays}
 
 -- where a line has other units, what the others pay stays as it is
-lines_exchange : (t settle : ℤ) (lines : List Line) (plan : List ℕ) (i units : ℕ) (d : Line) → i < length lines → length plan ≡ length lines
-    → total_by t (flat_map (pair_payments settle) (zip lines (set plan i units))) + total_by t (line_payments settle (get_or lines i d) (get_or plan i 0))
-    ≡ total_by t (flat_map (pair_payments settle) (zip lines plan)) + total_by t (line_payments settle (get_or lines i d) units)
-lines_exchange t settle [] plan i units d within same = absurd (omega (arith, within))
-lines_exchange t settle (line ∷ lines) [] i units d within same = absurd (omega (arith, same))
-lines_exchange t settle (line ∷ lines) (own ∷ plan) zero units d within same =
+lines_exchange : (t : ℤ) (days : PaymentDays) (lines : List Line) (plan : List ℕ) (i units : ℕ) (d : Line) → i < length lines → length plan ≡ length lines
+    → total_by t (flat_map (pair_payments days) (zip lines (set plan i units))) + total_by t (line_payments days (get_or lines i d) (get_or plan i 0))
+    ≡ total_by t (flat_map (pair_payments days) (zip lines plan)) + total_by t (line_payments days (get_or lines i d) units)
+lines_exchange t days [] plan i units d within same = absurd (omega (arith, within))
+lines_exchange t days (line ∷ lines) [] i units d within same = absurd (omega (arith, same))
+lines_exchange t days (line ∷ lines) (own ∷ plan) zero units d within same =
     omega (
       arith,
-      sum_by-append (cents_by t) (pair_payments settle (line, units)) (flat_map (pair_payments settle) (zip lines plan)),
-      sum_by-append (cents_by t) (pair_payments settle (line, own)) (flat_map (pair_payments settle) (zip lines plan)),
+      sum_by-append (cents_by t) (pair_payments days (line, units)) (flat_map (pair_payments days) (zip lines plan)),
+      sum_by-append (cents_by t) (pair_payments days (line, own)) (flat_map (pair_payments days) (zip lines plan)),
     )
-lines_exchange t settle (line ∷ lines) (own ∷ plan) (suc i) units d within same =
+lines_exchange t days (line ∷ lines) (own ∷ plan) (suc i) units d within same =
     omega (
       arith,
-      sum_by-append (cents_by t) (pair_payments settle (line, own)) (flat_map (pair_payments settle) (zip lines (set plan i units))),
-      sum_by-append (cents_by t) (pair_payments settle (line, own)) (flat_map (pair_payments settle) (zip lines plan)),
-      lines_exchange t settle lines plan i units d (omega (arith, within)) (omega (arith, same)),
+      sum_by-append (cents_by t) (pair_payments days (line, own)) (flat_map (pair_payments days) (zip lines (set plan i units))),
+      sum_by-append (cents_by t) (pair_payments days (line, own)) (flat_map (pair_payments days) (zip lines plan)),
+      lines_exchange t days lines plan i units d (omega (arith, within)) (omega (arith, same)),
     )
 
 pub payments_exchange : (t : ℤ) (book : BookContents) (plan : List ℕ) (i units : ℕ) (d : Line) → i < length book.lines → length plan ≡ length book.lines
-    → total_by t (payments book (set plan i units)) + total_by t (line_payments book.settle (get_or book.lines i d) (get_or plan i 0))
-    ≡ total_by t (payments book plan) + total_by t (line_payments book.settle (get_or book.lines i d) units)
-payments_exchange t book plan i units d within same = lines_exchange t book.settle book.lines plan i units d within same
+    → total_by t (payments book (set plan i units)) + total_by t (line_payments book.days (get_or book.lines i d) (get_or plan i 0))
+    ≡ total_by t (payments book plan) + total_by t (line_payments book.days (get_or book.lines i d) units)
+payments_exchange t book plan i units d within same = lines_exchange t book.days book.lines plan i units d within same
 
 -- with no more units of any line no more is paid by any day
-lines_pay_more : (t settle : ℤ) (lines : List Line) (plan other : List ℕ) → length plan ≡ length lines → length other ≡ length lines → HasNoMore plan other
-    → total_by t (flat_map (pair_payments settle) (zip lines plan)) ≤ total_by t (flat_map (pair_payments settle) (zip lines other))
-lines_pay_more t settle [] plan other same too less = omega arith
-lines_pay_more t settle (line ∷ lines) [] other same too less = absurd (omega (arith, same))
-lines_pay_more t settle (line ∷ lines) (units ∷ plan) [] same too less = absurd (omega (arith, too))
-lines_pay_more t settle (line ∷ lines) (units ∷ plan) (more ∷ other) same too less =
+lines_pay_more : (t : ℤ) (days : PaymentDays) (lines : List Line) (plan other : List ℕ) → length plan ≡ length lines → length other ≡ length lines → HasNoMore plan other
+    → total_by t (flat_map (pair_payments days) (zip lines plan)) ≤ total_by t (flat_map (pair_payments days) (zip lines other))
+lines_pay_more t days [] plan other same too less = omega arith
+lines_pay_more t days (line ∷ lines) [] other same too less = absurd (omega (arith, same))
+lines_pay_more t days (line ∷ lines) (units ∷ plan) [] same too less = absurd (omega (arith, too))
+lines_pay_more t days (line ∷ lines) (units ∷ plan) (more ∷ other) same too less =
     omega (
       arith,
-      sum_by-append (cents_by t) (pair_payments settle (line, units)) (flat_map (pair_payments settle) (zip lines plan)),
-      sum_by-append (cents_by t) (pair_payments settle (line, more)) (flat_map (pair_payments settle) (zip lines other)),
-      line_pays_more t settle line units more (less 0),
-      lines_pay_more t settle lines plan other (omega (arith, same)) (omega (arith, too)) (λ k. less (suc k)),
+      sum_by-append (cents_by t) (pair_payments days (line, units)) (flat_map (pair_payments days) (zip lines plan)),
+      sum_by-append (cents_by t) (pair_payments days (line, more)) (flat_map (pair_payments days) (zip lines other)),
+      line_pays_more t days line units more (less 0),
+      lines_pay_more t days lines plan other (omega (arith, same)) (omega (arith, too)) (λ k. less (suc k)),
     )
 
 pub pays_more : (t : ℤ) (book : BookContents) (plan other : List ℕ) → length plan ≡ length book.lines → length other ≡ length book.lines → HasNoMore plan other
     → total_by t (payments book plan) ≤ total_by t (payments book other)
-pays_more t book plan other same too less = lines_pay_more t book.settle book.lines plan other same too less
+pays_more t book plan other same too less = lines_pay_more t book.days book.lines plan other same too less
 
 -- nor does it cost more
 accrued_more : (note : Note) (face more : ℕ) → face ≤ more → accrued_interest note face ≤ accrued_interest note more

@@ -6,7 +6,7 @@ use Rattle.escrow_units.specs.Flows.{total}
 use Rattle.cash_table.specs.Receipts.{AreReceipts}
 use Rattle.offer_book.specs.Book.{BookContents}
 use Rattle.offer_book.specs.Portfolio.{IsPermitted, payments}
-use Rattle.backward_build.specs.OwnOffer.{line_at, matures_on, need_at, own_offer_of}
+use Rattle.backward_build.specs.OwnOffer.{ends_on, line_at, need_at, own_offer_of}
 use Rattle.backward_build.specs.Residual.{fewest_of}
 use Rattle.backward_build.specs.Span.{paid_in, span_of}
 use Rattle.backward_build.specs.declared.backward.BuildEnd.{BuildEnd}
@@ -28,10 +28,10 @@ put_or_over plan number (Some units) = Ok (slice_set plan number units)
 -- of the own offer of the need date at a place, the fewest units are bought that cover what the plan leaves of the need
 abbrev pub bought : BookContents → ℕ → List ℕ → Option ℕ → Result (List ℕ) BuildEnd
 bought book place plan None = Err (NoOwnOffer (need_at book.needs place).day)
-bought book place plan (Some number) = put_or_over plan number (fewest_of book.settle (residual_of book plan place) (line_at book.lines number))
+bought book place plan (Some number) = put_or_over plan number (fewest_of book.days (residual_of book plan place) (line_at book.lines number))
 
 abbrev pub with_date : BookContents → ℕ → List ℕ → Result (List ℕ) BuildEnd
-with_date book place plan = bought book place plan (own_offer_of book.lines (need_at book.needs place).day)
+with_date book place plan = bought book place plan (own_offer_of book (need_at book.needs place).day)
 
 abbrev pub and_date : BookContents → ℕ → Result (List ℕ) BuildEnd → Result (List ℕ) BuildEnd
 and_date book place (Err fault) = Err fault
@@ -45,7 +45,7 @@ plan_of_last book (suc dates) = and_date book (length book.needs - suc dates) (p
 
 -- the latest need date without an own offer
 abbrev pub latest_without_offer : BookContents → Option ℤ
-latest_without_offer book = find (λ day. is_none (own_offer_of book.lines day)) (reverse (map (λ need. need.day) book.needs))
+latest_without_offer book = find (λ day. is_none (own_offer_of book day)) (reverse (map (λ need. need.day) book.needs))
 
 -- each date has to have an own offer before anything is bought
 abbrev pub or_without_offer : BookContents → Option ℤ → Result (List ℕ) BuildEnd
@@ -57,11 +57,11 @@ abbrev pub backward_plan : BookContents → Result (List ℕ) BuildEnd
 backward_plan book = or_without_offer book (latest_without_offer book)
 
 -- what the purchases keep, for the need dates from a place on: the plan is permitted, its receipts are kept by need date and cover
--- each of these needs in its span, and no line that matures before them is bought yet
+-- each of these needs in its span, and no line that ends before them is bought yet
 pub record IsUnderWay (book : BookContents) (place : ℕ) (plan received : List ℕ) : Type 0 where
   pub permitted : IsPermitted book plan
   pub receipts : AreReceipts book.needs (payments book plan) received
   pub little : sum received ≤ total (payments book plan)
   pub covered : (k : ℕ) → place ≤ k → k < length book.needs → (need_at book.needs k).cents.0 ≤ slice_index_or received k 0
   pub unbought : (k number : ℕ) → k < place → k < length book.needs → number < length book.lines
-      → matures_on (need_at book.needs k).day (line_at book.lines number).kind ≡ true → slice_index_or plan number 0 ≡ 0
+      → ends_on book.days (need_at book.needs k).day (line_at book.lines number).kind ≡ true → slice_index_or plan number 0 ≡ 0

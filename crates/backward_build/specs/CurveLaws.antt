@@ -10,13 +10,13 @@ use Rattle.backward_build.specs.PriceCurve.{bootstrapped_prices, worth_at}
 -- at prices of the first need dates, one unit of a line is worth no more than it costs
 abbrev pub IsWorthItsCost : BookContents → List ℕ → Line → Type 0
 IsWorthItsCost book prices line =
-    worth_at (take (length prices) book.needs) prices (pay_coefficients book.settle line) ≤ PRICE_SCALE * (cost_coefficients line).low
+    worth_at (take (length prices) book.needs) prices (pay_coefficients book.days line) ≤ PRICE_SCALE * (cost_coefficients line).low
 
 -- the price of a need date is fair, given the earlier prices: at it one unit of the own offer is worth no more than it costs, and
 -- at a greater one it is worth more
 pub record IsFairAfter (book : BookContents) (earlier : List ℕ) (price : ℕ) : Type 0 where
   pub number : ℕ
-  pub own : own_offer_of book.lines (need_at book.needs (length earlier)).day ≡ Some number
+  pub own : own_offer_of book (need_at book.needs (length earlier)).day ≡ Some number
   pub fair : IsWorthItsCost book (earlier ++ price ∷ []) (line_at book.lines number)
   pub greatest : IsWorthItsCost book (earlier ++ (price + 1) ∷ []) (line_at book.lines number) → ⊥
 

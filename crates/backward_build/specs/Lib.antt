@@ -1,6 +1,7 @@
 pub mod BackwardPlan
 pub mod CurveLaws
 pub mod OwnOffer
+pub mod OwnOfferLaws
 pub mod PlainCase
 pub mod PlanLaws
 pub mod PriceCurve

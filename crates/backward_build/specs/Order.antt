@@ -25,7 +25,7 @@ worth_of needs (Some prices) pays = sum_by (λ pay. price_on needs prices pay.da
 -- what a unit less of a line saves: what it costs beyond what its payments are worth
 abbrev pub saving_of : BookContents → Option (List ℕ) → Line → ℤ
 saving_of book prices line =
-    pos (PRICE_SCALE * (cost_coefficients line).low) -ℤ pos (worth_of book.needs prices (pay_coefficients book.settle line))
+    pos (PRICE_SCALE * (cost_coefficients line).low) -ℤ pos (worth_of book.needs prices (pay_coefficients book.days line))
 
 -- each stands with what its line saves
 abbrev pub AreCandidates : BookContents → Option (List ℕ) → List Candidate → Type 0

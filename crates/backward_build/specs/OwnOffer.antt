@@ -1,23 +1,26 @@
--- The own offer of a need date: the first line on offer that matures on that date. It is this project's own, after the
+-- The own offer of a need date: the first line on offer whose last payment falls on that date. It is this project's own, after the
 -- cash-flow matching of the textbooks on bonds.
 use Rattle.std.specs.Prelude.{ℕ, Bool, false, List, Option, slice_index_or, ℤ, pos}
 use Rattle.std.specs.List.{position}
 use Rattle.std.specs.Ordering.{int_eq}
+use Rattle.escrow_units.specs.OpenDays.{open_day}
 use Rattle.escrow_units.specs.declared.security.Flow.{Flow}
+use Rattle.offer_book.specs.Book.{BookContents}
 use Rattle.offer_book.specs.CaseBook.{cash_line}
 use Rattle.offer_book.specs.declared.line.Line.{Line}
 use Rattle.offer_book.specs.declared.line.LineKind.{LineKind}
 use Rattle.offer_book.specs.declared.line.LineKind.TheVariants.{Cash, Market, Security}
+use Rattle.offer_book.specs.declared.payment_days.PaymentDays.{PaymentDays}
 
--- what is bought matures on a day; opening cash never does
-abbrev pub matures_on : ℤ → LineKind → Bool
-matures_on day Cash = false
-matures_on day (Security slgs) = int_eq slgs.maturity day
-matures_on day (Market note) = int_eq note.maturity day
+-- the last payment of what is bought falls on a day: its maturity opens on it. Opening cash never ends
+abbrev pub ends_on : PaymentDays → ℤ → LineKind → Bool
+ends_on days day Cash = false
+ends_on days day (Security slgs) = int_eq (open_day days.closed slgs.maturity) day
+ends_on days day (Market note) = int_eq (open_day days.closed note.maturity) day
 
 -- the own offer of a day, by its number among the lines, where there is one
-abbrev pub own_offer_of : List Line → ℤ → Option ℕ
-own_offer_of lines day = position (λ line. matures_on day line.kind) lines
+abbrev pub own_offer_of : BookContents → ℤ → Option ℕ
+own_offer_of book day = position (λ line. ends_on book.days day line.kind) book.lines
 
 -- the need at a place, and the line of a number, both counted from 0. What is read past the end means nothing
 abbrev pub need_at : List Flow → ℕ → Flow

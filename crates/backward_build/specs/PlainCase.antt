@@ -14,7 +14,7 @@ use Rattle.backward_build.specs.Span.{paid_in, span_of}
 
 -- one unit of a line costs at least what its payments are worth at the prices of the need dates
 abbrev pub IsNoBargain : BookContents → List ℕ → Line → Type 0
-IsNoBargain book prices line = worth_at book.needs prices (pay_coefficients book.settle line) ≤ PRICE_SCALE * (cost_coefficients line).low
+IsNoBargain book prices line = worth_at book.needs prices (pay_coefficients book.days line) ≤ PRICE_SCALE * (cost_coefficients line).low
 
 -- so it is for each line on offer; opening cash, the first line, isn't one
 abbrev pub AreNoBargains : BookContents → List ℕ → List Line → Type 0
@@ -22,7 +22,7 @@ AreNoBargains book prices [] = ⊥
 AreNoBargains book prices (cash ∷ offers) = All (IsNoBargain book prices) offers
 
 -- a case is plain: its prices can be bootstrapped, at which nothing on offer is a bargain; its backward plan can be built, in which no
--- need is paid for beyond its amount by what matures later; and that plan is a rival under the limit
+-- need is paid for beyond its amount by what ends later; and that plan is a rival under the limit
 pub record IsPlain (limit : ℕ) (book : BookContents) : Type 0 where
   pub prices : List ℕ
   pub curve : bootstrapped_prices book ≡ Some prices
@@ -42,5 +42,5 @@ least_and_step lines (Some number) = line_cost (line_at lines number) (line_at l
 -- is needed, and for each line the rounding of its cost and of its payments
 unfoldable pub plain_gap : BookContents → ℕ
 plain_gap book =
-    sum_by (λ need. least_and_step book.lines (own_offer_of book.lines need.day)) book.needs
-    + sum_by (λ line. 8 + 3 * length (pay_coefficients book.settle line)) book.lines
+    sum_by (λ need. least_and_step book.lines (own_offer_of book need.day)) book.needs
+    + sum_by (λ line. 8 + 3 * length (pay_coefficients book.days line)) book.lines

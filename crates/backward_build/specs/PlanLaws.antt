@@ -12,7 +12,7 @@ IsPaidFor book plan place = (need_at book.needs place).cents.0 ≤ paid_in (span
 
 -- a line is the own offer of the need date at a place
 abbrev pub IsOwnOfferAt : BookContents → ℕ → ℕ → Type 0
-IsOwnOfferAt book place number = own_offer_of book.lines (need_at book.needs place).day ≡ Some number
+IsOwnOfferAt book place number = own_offer_of book (need_at book.needs place).day ≡ Some number
 
 -- the need at a place is paid for, and no more than it takes is bought of its own offer: with fewer permitted units of it, all
 -- else as it is, the need isn't paid for

@@ -1,7 +1,7 @@
 -- Bootstrapped prices: the price curve of the need dates, found date by date from the own offers, as a yield curve is bootstrapped
 -- from bonds that mature one after another. The price of a date is the greatest at which one unit of its own offer is worth
 -- no more than it costs, given the prices of the earlier dates. Scales and rounding are this project's own.
-use Rattle.std.specs.Prelude.{ℕ, zero, suc, ◌-◌, ◌*◌, ◌/◌, true, nat_le, if◌then◌else◌, List, [], ◌∷◌, ◌++◌, length, take, slice_index_or, sum_by, Option, Some, None, option_and_then, option_map, ℤ}
+use Rattle.std.specs.Prelude.{ℕ, zero, suc, ◌-◌, ◌*◌, ◌/◌, true, nat_le, if◌then◌else◌, List, [], ◌∷◌, ◌++◌, length, take, slice_index_or, sum_by, Option, Some, None, option_and_then, option_map}
 use Rattle.escrow_units.specs.declared.security.Flow.{Flow}
 use Rattle.offer_book.specs.Book.{BookContents}
 use Rattle.offer_book.specs.Coefficients.{cost_coefficients, pay_coefficients}
@@ -13,6 +13,7 @@ use Rattle.dual_bound.specs.declared.tree.Leaf.{Leaf}
 use Rattle.backward_build.specs.OwnOffer.{line_at, need_at, own_offer_of}
 use Rattle.backward_build.specs.Span.{falls_in, span_of}
 use Rattle.backward_build.specs.declared.span.Span.{Span}
+use Rattle.offer_book.specs.declared.payment_days.PaymentDays.{PaymentDays}
 
 -- what the payments of one unit are worth at the prices of some need dates. A payment has the price of the first of them on or
 -- after its day, and one after all of them has none
@@ -29,12 +30,12 @@ abbrev pub shared : ℕ → ℕ → ℕ → Option ℕ
 shared cost earlier left = if nat_le earlier cost then Some ((cost - earlier) / left) else None
 
 -- the price at which a line is worth what it costs, for the need date after those that are priced
-abbrev pub fair_price : ℤ → List Flow → List ℕ → Line → Option ℕ
-fair_price settle needs prices line =
+abbrev pub fair_price : PaymentDays → List Flow → List ℕ → Line → Option ℕ
+fair_price days needs prices line =
     shared
     (PRICE_SCALE * (cost_coefficients line).low)
-    (worth_at (take (length prices) needs) prices (pay_coefficients settle line))
-    (unit_paid_in (span_of needs (length prices)) (pay_coefficients settle line))
+    (worth_at (take (length prices) needs) prices (pay_coefficients days line))
+    (unit_paid_in (span_of needs (length prices)) (pay_coefficients days line))
 
 -- the price before the next: 1 before the first
 abbrev pub last_price : List ℕ → ℕ
@@ -48,7 +49,7 @@ not_above most price = if nat_le price most then Some price else None
 abbrev pub next_price : BookContents → List ℕ → Option ℕ
 next_price book prices =
     option_and_then (not_above (last_price prices))
-    (option_and_then (λ number. fair_price book.settle book.needs prices (line_at book.lines number)) (own_offer_of book.lines (need_at book.needs (length prices)).day))
+    (option_and_then (λ number. fair_price book.days book.needs prices (line_at book.lines number)) (own_offer_of book (need_at book.needs (length prices)).day))
 
 -- one price more
 abbrev pub with_next_price : BookContents → List ℕ → Option (List ℕ)

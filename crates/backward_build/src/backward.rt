@@ -19,9 +19,9 @@ use std::alloc::Global;
 /// Why there is no backward plan.
 #[derive(Clone, Copy, Debug, PartialEq, Eq)]
 pub enum BuildEnd {
-    /// On this need date nothing on offer matures.
+    /// On this need date nothing on offer has its last payment.
     NoOwnOffer(Day),
-    /// The most units of this line don't cover what is left of the need on the day on which it matures.
+    /// The most units of this line don't cover what is left of the need on the day of its last payment.
     OverCap(u16),
     /// Memory ran out.
     NoMemory,
@@ -73,7 +73,7 @@ fn buy_own(book: &Book, place: u16, plan: &mut Plan, received: &mut [u64]) -> Re
         return Err(BuildEnd::NoOwnOffer(book.need(place).day));
     };
     let left = left_of(book, place, Cents(received[usize::from(place)]));
-    let Some(units) = fewest(book.line(number), book.settle(), &left) else {
+    let Some(units) = fewest(book.line(number), book.payment_days(), &left) else {
         return Err(BuildEnd::OverCap(number));
     };
     plan.put(number, units);

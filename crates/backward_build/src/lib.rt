@@ -17,7 +17,7 @@ mod trimming;
 mod trimming_tests;
 
 pub use backward::{BuildEnd, build};
-pub use laws::{plan_laws, price_laws};
+pub use laws::{offer_laws, plan_laws, price_laws};
 pub use offers::own_offer;
 pub use price_curve::bootstrap;
 pub use spare::{covers, run_up};

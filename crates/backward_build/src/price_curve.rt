@@ -4,7 +4,7 @@ ghost use Rattle.escrow_units.specs.Flows.{Rise};
 ghost use Rattle.offer_book.specs.Book.{IsBook, IsSecurityLine};
 ghost use Rattle.dual_bound.specs.LeafBound.{price_on as price_on_date};
 ghost use Rattle.dual_bound.specs.Tree.{IsLeaf};
-ghost use Rattle.backward_build.specs.OwnOffer.{matures_on, need_at};
+ghost use Rattle.backward_build.specs.OwnOffer.{ends_on, need_at};
 ghost use Rattle.backward_build.specs.PriceCurve.{bootstrapped_prices, fair_price as fair_price_of, last_price as last_price_of, leaf_of_prices, next_price as next_price_of, shared as shared_of, unit_paid_in, worth_at};
 
 use crate::offers::own_offer;
@@ -76,12 +76,12 @@ fn shared(cost: u128, paid: UnitPaid) -> Option<u128>
 fn fair_price(book: &Book, prices: &[u64], line: &Line) -> Option<u128>
     requires place { length prices.now < length book.now.needs }
     requires prices { All (λ price. price ≤ PRICE_SCALE) prices.now }
-    requires line { IsSecurityLine book.now.settle line.now }
-    requires own { matures_on (need_at book.now.needs (length prices.now)).day line.now.kind ≡ true }
-    ensures { result ≡ fair_price_of book.now.settle book.now.needs prices.now line.now }
+    requires line { IsSecurityLine book.now.days line.now }
+    requires own { ends_on book.now.days (need_at book.now.needs (length prices.now)).day line.now.kind ≡ true }
+    ensures { result ≡ fair_price_of book.now.days book.now.needs prices.now line.now }
 {
     let needs = book.needs();
-    let coefficients = line.coefficients(book.settle());
+    let coefficients = line.coefficients(book.payment_days());
     let span = Span::of(needs, prices.len());
     let priced = &needs[..prices.len()];
     let paid = unit_paid(priced, prices, &span, coefficients.pays.as_slice());

@@ -8,8 +8,8 @@ ghost use Rattle.backward_build.specs.Residual.{covers as covers_residual, fewes
 ghost use Rattle.backward_build.specs.Span.{paid_in as paid_in_span};
 
 use crate::span::Span;
-use escrow_units::{Cents, Day, Flow};
-use offer_book::Line;
+use escrow_units::{Cents, Flow};
+use offer_book::{Line, PaymentDays};
 
 /// What is left of a need: so many cents have yet to be paid in its span.
 #[derive(Clone, Copy, Debug, PartialEq, Eq)]
@@ -35,31 +35,31 @@ fn paid_in(span: &Span, flows: &[Flow]) -> u64
 }
 
 // Whether the payments of so many units of a line cover a residual.
-fn covers(line: &Line, settle: Day, residual: &Residual, units: u64) -> bool
-    requires settlement { IsSettlement settle }
-    requires line { IsSecurityLine settle line.now }
+fn covers(line: &Line, days: &PaymentDays, residual: &Residual, units: u64) -> bool
+    requires settlement { IsSettlement days.now.settle }
+    requires line { IsSecurityLine days.now line.now }
     requires units { units ≤ line.now.most }
-    ensures { result ≡ covers_residual settle residual.now line.now units }
+    ensures { result ≡ covers_residual days.now residual.now line.now units }
 {
-    residual.cents.0 <= paid_in(&residual.span, line.payments(settle, units).as_slice())
+    residual.cents.0 <= paid_in(&residual.span, line.payments(days, units).as_slice())
 }
 
 // The fewest units from the least purchase on that cover a residual, where the most do, by bisection: what is paid never falls
 // as units rise.
-fn fewest_by_halves(line: &Line, settle: Day, residual: &Residual) -> u64
-    requires settlement { IsSettlement settle }
-    requires line { IsSecurityLine settle line.now }
-    requires most { covers_residual settle residual.now line.now line.now.most ≡ true }
+fn fewest_by_halves(line: &Line, days: &PaymentDays, residual: &Residual) -> u64
+    requires settlement { IsSettlement days.now.settle }
+    requires line { IsSecurityLine days.now line.now }
+    requires most { covers_residual days.now residual.now line.now line.now.most ≡ true }
     ensures least { line.now.least ≤ result }
     ensures most { result ≤ line.now.most }
-    ensures enough { covers_residual settle residual.now line.now result ≡ true }
-    ensures fewest { (units : ℕ) → line.now.least ≤ units → units < result → covers_residual settle residual.now line.now units ≡ false }
+    ensures enough { covers_residual days.now residual.now line.now result ≡ true }
+    ensures fewest { (units : ℕ) → line.now.least ≤ units → units < result → covers_residual days.now residual.now line.now units ≡ false }
 {
     let mut low = line.least;
     let mut high = line.most;
     while low < high {
         let middle = low + (high - low) / 2;
-        if covers(line, settle, residual, middle) {
+        if covers(line, days, residual, middle) {
             high = middle;
         } else {
             low = middle + 1;
@@ -70,17 +70,17 @@ fn fewest_by_halves(line: &Line, settle: Day, residual: &Residual) -> u64
 
 /// The fewest permitted units of a line that cover a residual: 0 where nothing is left; None exactly where even the most
 /// units of the line don't cover it. It takes no memory.
-pub(crate) fn fewest(line: &Line, settle: Day, residual: &Residual) -> Option<u64>
-    requires settlement { IsSettlement settle }
-    requires line { IsSecurityLine settle line.now }
-    ensures value { result ≡ fewest_of settle residual.now line.now }
+pub(crate) fn fewest(line: &Line, days: &PaymentDays, residual: &Residual) -> Option<u64>
+    requires settlement { IsSettlement days.now.settle }
+    requires line { IsSecurityLine days.now line.now }
+    ensures value { result ≡ fewest_of days.now residual.now line.now }
     ensures permitted { IfSome result (λ units. IsPermittedUnits line.now units) }
-    ensures enough { IfSome result (λ units. covers_residual settle residual.now line.now units ≡ true) }
+    ensures enough { IfSome result (λ units. covers_residual days.now residual.now line.now units ≡ true) }
 {
     if residual.cents.0 == 0 {
         Some(0)
-    } else if covers(line, settle, residual, line.most) {
-        Some(fewest_by_halves(line, settle, residual))
+    } else if covers(line, days, residual, line.most) {
+        Some(fewest_by_halves(line, days, residual))
     } else {
         None
     }

@@ -58,7 +58,7 @@ pub(crate) fn spare_of(book: &Book, plan: &Plan) -> [u64; MOST_NEED_DATES]
 pub(crate) fn paid_by(book: &Book, line: u16, units: u64) -> [u64; MOST_NEED_DATES]
     requires line { line < length book.now.lines }
     requires units { (d : Line) → units ≤ (slice_index_or book.now.lines line d).most }
-    ensures { (d : Line) → ArePaid book.now.needs (line_payments book.now.settle (slice_index_or book.now.lines line d) units) result }
+    ensures { (d : Line) → ArePaid book.now.needs (line_payments book.now.days (slice_index_or book.now.lines line d) units) result }
 {
     let mut paid = line_receipts(book, line, units);
     run_up(&mut paid, usize::from(book.need_count()));
@@ -96,7 +96,7 @@ pub(crate) fn suffices(book: &Book, line: u16, units: u64, due: &[u64]) -> bool
     requires line { line < length book.now.lines }
     requires units { (d : Line) → units ≤ (slice_index_or book.now.lines line d).most }
     requires places { length book.now.needs ≤ length due.now }
-    ensures { (d : Line) → IsTrue result ↔ Cover book.now.needs due.now (line_payments book.now.settle (slice_index_or book.now.lines line d) units) }
+    ensures { (d : Line) → IsTrue result ↔ Cover book.now.needs due.now (line_payments book.now.days (slice_index_or book.now.lines line d) units) }
 {
     let paid = paid_by(book, line, units);
     covers(&paid, due, usize::from(book.need_count()))

@@ -1,7 +1,7 @@
 //! Worked figures.
 ghost use Rattle.std.specs.Prelude.{◌≡◌, length};
 
-use crate::{BuildEnd, bootstrap, build, own_offer, plan_laws, price_laws};
+use crate::{BuildEnd, bootstrap, build, offer_laws, own_offer, plan_laws, price_laws};
 use case_file::{Case, read_case};
 use escrow_desk::FILE_LIMIT;
 use escrow_units::Day;
@@ -46,6 +46,24 @@ fn of_coupons(issue: &'static [u8], units: [u64; 3]) -> Row {
         own: Some(2),
         curve: Some([1_000_000_000_000, 942_307_692_307]),
         built: Built::Units(units),
+    }
+}
+
+// Weekends are closed, and the later offer is a certificate that matures on 2025-08-16, a Saturday: it bears interest for 213 days
+// and is paid on the Monday, 2025-08-18.
+fn of_weekends(
+    issue: &'static [u8],
+    own: Option<u16>,
+    curve: Option<[u64; 2]>,
+    built: Built,
+) -> Row {
+    Row {
+        issue,
+        rates: b"terms,1000,1\nrate,2025-02-14,2026-07-15,4.00\noffer,2025-07-15,max,,10000000\noffer,2025-08-16,max,,10000000\n",
+        prices: NO_PRICES,
+        own,
+        curve,
+        built,
     }
 }
 
@@ -110,6 +128,7 @@ fn try_row(rt: &impl Abort, alloc: Global, row: &Row) -> Result<(), Fail> {
 
 #[test]
 fn needs_are_covered_from_the_last(rt: HostRuntime) -> Result<(), Fail> {
+    offer_laws();
     plan_laws();
     price_laws();
     let curve = Some([980_550_182_676, 961_538_461_538]);
@@ -127,6 +146,12 @@ fn needs_are_covered_from_the_last(rt: HostRuntime) -> Result<(), Fail> {
         of_coupons(
             b"settle,2025-01-15\nneed,2025-07-15,384.63\nneed,2026-07-15,20000.00\nrestricted,5.00\n",
             [0, 1_000, 19_231],
+        ),
+        of_weekends(
+            b"settle,2025-01-15\nweekends\nneed,2025-07-15,1000000.00\nneed,2025-08-18,2000000.00\nrestricted,5.00\n",
+            Some(2),
+            Some([980_550_182_676, 977_189_976_434]),
+            Built::Units([0, 980_551, 1_954_380]),
         ),
     ];
     for row in &rows {
@@ -158,6 +183,13 @@ fn ends_have_their_causes(rt: HostRuntime) -> Result<(), Fail> {
             None,
             None,
             Built::Ended(BuildEnd::NoOwnOffer(Day::new(20_468))),
+        ),
+        // no own offer of 2025-08-16, day 20316, on which a certificate matures that is paid two days later
+        of_weekends(
+            b"settle,2025-01-15\nweekends\nneed,2025-07-15,1000000.00\nneed,2025-08-16,2000000.00\nrestricted,5.00\n",
+            None,
+            None,
+            Built::Ended(BuildEnd::NoOwnOffer(Day::new(20_316))),
         ),
         // a price that rises
         of_offers(

@@ -25,12 +25,12 @@ fn fewest_bought(book: &Book, line: u16, units: u64, due: &[u64]) -> u64
     requires least { (d : Line) → (slice_index_or book.now.lines line d).least ≤ units }
     requires most { (d : Line) → units ≤ (slice_index_or book.now.lines line d).most }
     requires places { length book.now.needs ≤ length due.now }
-    requires enough { (d : Line) → Cover book.now.needs due.now (line_payments book.now.settle (slice_index_or book.now.lines line d) units) }
+    requires enough { (d : Line) → Cover book.now.needs due.now (line_payments book.now.days (slice_index_or book.now.lines line d) units) }
     ensures least { (d : Line) → (slice_index_or book.now.lines line d).least ≤ result }
     ensures most { result ≤ units }
-    ensures enough { (d : Line) → Cover book.now.needs due.now (line_payments book.now.settle (slice_index_or book.now.lines line d) result) }
+    ensures enough { (d : Line) → Cover book.now.needs due.now (line_payments book.now.days (slice_index_or book.now.lines line d) result) }
     ensures fewest { (fewer : ℕ) (d : Line) → fewer < result → (slice_index_or book.now.lines line d).least ≤ fewer
-        → ¬ Cover book.now.needs due.now (line_payments book.now.settle (slice_index_or book.now.lines line d) fewer) }
+        → ¬ Cover book.now.needs due.now (line_payments book.now.days (slice_index_or book.now.lines line d) fewer) }
 {
     let mut low = book.line(line).least;
     let mut high = units;
@@ -50,12 +50,12 @@ fn fewest(book: &Book, line: u16, units: u64, due: &[u64]) -> u64
     requires line { line < length book.now.lines }
     requires permitted { (d : Line) → IsPermittedUnits (slice_index_or book.now.lines line d) units }
     requires places { length book.now.needs ≤ length due.now }
-    requires enough { (d : Line) → Cover book.now.needs due.now (line_payments book.now.settle (slice_index_or book.now.lines line d) units) }
+    requires enough { (d : Line) → Cover book.now.needs due.now (line_payments book.now.days (slice_index_or book.now.lines line d) units) }
     ensures permitted { (d : Line) → IsPermittedUnits (slice_index_or book.now.lines line d) result }
     ensures most { result ≤ units }
-    ensures enough { (d : Line) → Cover book.now.needs due.now (line_payments book.now.settle (slice_index_or book.now.lines line d) result) }
+    ensures enough { (d : Line) → Cover book.now.needs due.now (line_payments book.now.days (slice_index_or book.now.lines line d) result) }
     ensures fewest { (fewer : ℕ) (d : Line) → fewer < result → IsPermittedUnits (slice_index_or book.now.lines line d) fewer
-        → ¬ Cover book.now.needs due.now (line_payments book.now.settle (slice_index_or book.now.lines line d) fewer) }
+        → ¬ Cover book.now.needs due.now (line_payments book.now.days (slice_index_or book.now.lines line d) fewer) }
 {
     if suffices(book, line, 0, due) {
         0

@@ -19,6 +19,7 @@ use Rattle.payment_schedule.specs.declared.schedule.ScheduledPayment.{ScheduledP
 use Rattle.offer_book.specs.Schedule.{kind_rate, schedule_of}
 use Rattle.offer_book.specs.declared.line.LineKind.TheVariants.{Cash, Market, Security}
 use Rattle.dual_bound.specs.declared.prices.TheConstants.{PRICE_SCALE}
+use Rattle.offer_book.specs.declared.payment_days.PaymentDays.{PaymentDays}
 
 -- ---- a quotient rounded up is at most one more than rounded down
 ceil-next : (a b : ℕ) → div_ceil a b ≤ a / b + 1
@@ -34,19 +35,19 @@ IsClose pay = pay.high ≤ pay.low + 1
 pay-close : (rate step : ℕ) (payment : ScheduledPayment) → IsClose (pay_by rate step payment)
 pay-close rate step payment = omega (arith, interest-next step rate payment.accrual)
 
-pub pays-close : (settle : ℤ) (line : Line) → IsSecurityLine settle line → All IsClose (pay_coefficients settle line)
-pays-close settle line security =
-    All-map IsClose (pay_by (kind_rate line.kind) line.step) (schedule_of settle line) (λ k d few. pay-close (kind_rate line.kind) line.step (get_or (schedule_of settle line) k d))
+pub pays-close : (days : PaymentDays) (line : Line) → IsSecurityLine days line → All IsClose (pay_coefficients days line)
+pays-close days line security =
+    All-map IsClose (pay_by (kind_rate line.kind) line.step) (schedule_of days line) (λ k d few. pay-close (kind_rate line.kind) line.step (get_or (schedule_of days line) k d))
 
 -- ---- what a unit costs
-cost_kind-close : (settle : ℤ) (kind : LineKind) (step : ℕ) → IsSecurity settle kind → (kind_costs kind step).high ≤ (kind_costs kind step).low + 2
-cost_kind-close settle Cash step security = absurd security
-cost_kind-close settle (Security security) step keeps = omega arith
-cost_kind-close settle (Market note) step keeps =
+cost_kind-close : (days : PaymentDays) (kind : LineKind) (step : ℕ) → IsSecurity days kind → (kind_costs kind step).high ≤ (kind_costs kind step).low + 2
+cost_kind-close days Cash step security = absurd security
+cost_kind-close days (Security security) step keeps = omega arith
+cost_kind-close days (Market note) step keeps =
     omega (arith, ceil-next (COEFFICIENT_SCALE * (step * note.price.0)) (10 ^ 10), interest-next step note.coupon.0 (notes.accrual_of note))
 
-pub cost-close : (settle : ℤ) (line : Line) → IsSecurityLine settle line → (cost_coefficients line).high ≤ (cost_coefficients line).low + 2
-cost-close settle line security = cost_kind-close settle line.kind line.step security.security
+pub cost-close : (days : PaymentDays) (line : Line) → IsSecurityLine days line → (cost_coefficients line).high ≤ (cost_coefficients line).low + 2
+cost-close days line security = cost_kind-close days line.kind line.step security.security
 
 -- ---- sums of payments at a rate for each day
 -- a cent and a half for each payment, at its rate

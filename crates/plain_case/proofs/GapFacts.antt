@@ -38,7 +38,7 @@ leasts-sum n book prices (line ∷ lines) each =
 
 -- the rounding of all lines
 abbrev line_gap : BookContents → Line → ℕ
-line_gap book line = 8 + 3 * length (pay_coefficients book.settle line)
+line_gap book line = 8 + 3 * length (pay_coefficients book.days line)
 
 roundings-sum : (book : BookContents) (lines : List Line) → COEFFICIENT_SCALE * PRICE_SCALE * sum_by (own_rounding book) lines + sum_by (root_rounding book) lines ≤ COEFFICIENT_SCALE * PRICE_SCALE * sum_by (line_gap book) lines
 roundings-sum book [] = omega arith

@@ -42,9 +42,9 @@ less-nothing : (a b : ℕ) → b ≡ 0 → pos a -ℤ pos b ≡ pos a
 less-nothing a b none = omega (arith, ints)
 
 paid_worth-price : (n : ℕ) (book : BookContents) (prices : List ℕ) (kind : LineKind) (day : ℤ) → paid_worth n book (leaf_of_prices prices) kind day ≡ pos (price_on book.needs prices day)
-paid_worth-price n book prices Cash day = less-nothing (price_on book.needs prices day) _ (limit-free n book.settle day)
-paid_worth-price n book prices (Security slgs) day = less-nothing (price_on book.needs prices day) _ (limit-free n book.settle day)
-paid_worth-price n book prices (Market note) day = less-nothing (price_on book.needs prices day) _ (limit-free n book.settle day)
+paid_worth-price n book prices Cash day = less-nothing (price_on book.needs prices day) _ (limit-free n book.days.settle day)
+paid_worth-price n book prices (Security slgs) day = less-nothing (price_on book.needs prices day) _ (limit-free n book.days.settle day)
+paid_worth-price n book prices (Market note) day = less-nothing (price_on book.needs prices day) _ (limit-free n book.days.settle day)
 
 -- ---- sides of coefficients
 side-above : (m low high : ℕ) → least_side (pos m) low high ≡ pos (m * low)
@@ -90,19 +90,19 @@ form-from slope a b slack units is less =
     let product : slope *ℤ pos units ≡ pos ((a - b) * units) = ap (λ z. z *ℤ pos units) same ∙ pos-mul (a - b) units in
     omega (arith, ints, product)
 
-form-least : (n : ℕ) (book : BookContents) (prices : List ℕ) (line : Line) (units : ℕ) → IsSettlement book.settle → IsLine book.settle line → All (λ price. price ≤ PRICE_SCALE) prices → IsNoBargain book prices line
+form-least : (n : ℕ) (book : BookContents) (prices : List ℕ) (line : Line) (units : ℕ) → IsSettlement book.days.settle → IsLine book.days line → All (λ price. price ≤ PRICE_SCALE) prices → IsNoBargain book prices line
     → neg_ℤ (pos (root_rounding book line)) ≤ℤ form_at (form_of n book (leaf_of_prices prices) line) units
 form-least n book prices line units settled is small fair =
     let weight : ℤ → ℤ = paid_worth n book (leaf_of_prices prices) line.kind in
     let price : ℤ → ℕ = price_on book.needs prices in
     let own = cost_worth (leaf_of_prices prices) line.kind in
     let costs = cost_coefficients line in
-    let pays = pay_coefficients book.settle line in
+    let pays = pay_coefficients book.days line in
     let cost_side : least_side own costs.low costs.high ≡ pos (PRICE_SCALE * costs.low) = ap (λ z. least_side z costs.low costs.high) (cost_worth-whole prices line.kind) ∙ side-above PRICE_SCALE costs.low costs.high in
     let paid_side = slope-worth weight price pays (λ day. paid_worth-price n book prices line.kind day) in
     let cost_slack : unsigned_abs own * costs.slack ≤ COEFFICIENT_SCALE * PRICE_SCALE =
-    omega (arith, ap (λ z. unsigned_abs z * costs.slack) (cost_worth-whole prices line.kind), mul-le-mul_left PRICE_SCALE (cost-sized book.settle line is).slack) in
-    let paid_slack = slack-small weight price line.step pays (λ day. paid_worth-price n book prices line.kind day) (λ day. price_on-within book.needs prices day small) (pays-sized book.settle line settled is) in
+    omega (arith, ap (λ z. unsigned_abs z * costs.slack) (cost_worth-whole prices line.kind), mul-le-mul_left PRICE_SCALE (cost-sized book.days line is).slack) in
+    let paid_slack = slack-small weight price line.step pays (λ day. paid_worth-price n book prices line.kind day) (λ day. price_on-within book.needs prices day small) (pays-sized book.days line settled is) in
     let form = form_with weight own costs pays in
     let least = form-from form.slope (PRICE_SCALE * costs.low) (worth_at book.needs prices pays) form.slack units (joined _ _ _ _ cost_side paid_side) fair in
     let all : form.slack ≤ PRICE_SCALE * (COEFFICIENT_SCALE + length pays * (COEFFICIENT_SCALE / 2)) = omega (arith, cost_slack, paid_slack) in
@@ -123,7 +123,7 @@ reduced-none n book prices line =
     let weight : ℤ → ℤ = paid_worth n book (leaf_of_prices prices) line.kind in
     let cost : line_cost line 0 ≡ 0 = line_cost-none line 0 refl in
     let own = ap (λ m. cost_worth (leaf_of_prices prices) line.kind *ℤ pos m) cost in
-    let paid = flows-none weight (line_payments book.settle line 0) (line_payments-none book.settle line 0 refl) in
+    let paid = flows-none weight (line_payments book.days line 0) (line_payments-none book.days line 0 refl) in
     joined _ _ (cost_worth (leaf_of_prices prices) line.kind) own paid
   where
     joined : (a b w : ℤ) → a ≡ w *ℤ pos 0 → b ≡ pos 0 → pos COEFFICIENT_SCALE *ℤ (a -ℤ b) ≡ pos 0
@@ -141,7 +141,7 @@ reduced-none n book prices line =
         (λ i. (first ∙ nothing) i +ℤ rest i)
 
 -- the least of a line that is no bargain
-line-least : (n : ℕ) (book : BookContents) (prices : List ℕ) (line : Line) → IsSettlement book.settle → IsLine book.settle line → All (λ price. price ≤ PRICE_SCALE) prices → IsNoBargain book prices line
+line-least : (n : ℕ) (book : BookContents) (prices : List ℕ) (line : Line) → IsSettlement book.days.settle → IsLine book.days line → All (λ price. price ≤ PRICE_SCALE) prices → IsNoBargain book prices line
     → IsLeastByRounding n book prices line
 line-least n book prices line settled is small fair = at (0 == line.most) (reduced-none n book prices line)
   where
@@ -163,20 +163,20 @@ line-least n book prices line settled is small fair = at (0 == line.most) (reduc
 
 cash-fair : (book : BookContents) (prices : List ℕ) (line : Line) → All (λ price. price ≤ PRICE_SCALE) prices → line.kind ≡ Cash → IsNoBargain book prices line
 cash-fair book prices line small cash =
-    let exactly : List PayCoefficients = record { day = book.settle; low = COEFFICIENT_SCALE * line.step; high = COEFFICIENT_SCALE * line.step; slack = 0 } ∷ [] in
-    subst (λ (pays : List PayCoefficients). sum_by (λ (pay : PayCoefficients). price_on book.needs prices pay.day * pay.high) pays ≤ PRICE_SCALE * (cost_coefficients line).low) (sym (cash-coefficients book.settle line cash))
+    let exactly : List PayCoefficients = record { day = book.days.settle; low = COEFFICIENT_SCALE * line.step; high = COEFFICIENT_SCALE * line.step; slack = 0 } ∷ [] in
+    subst (λ (pays : List PayCoefficients). sum_by (λ (pay : PayCoefficients). price_on book.needs prices pay.day * pay.high) pays ≤ PRICE_SCALE * (cost_coefficients line).low) (sym (cash-coefficients book.days line cash))
     (subst (λ (kind : LineKind). sum_by (λ (pay : PayCoefficients). price_on book.needs prices pay.day * pay.high) exactly ≤ PRICE_SCALE * (kind_costs kind line.step).low) (sym cash)
-    (omega (arith, mul-le-mul_right (COEFFICIENT_SCALE * line.step) (price_on-within book.needs prices book.settle small))))
+    (omega (arith, mul-le-mul_right (COEFFICIENT_SCALE * line.step) (price_on-within book.needs prices book.days.settle small))))
 
-offers-least : (n : ℕ) (book : BookContents) (prices : List ℕ) (lines : List Line) → IsSettlement book.settle → All (λ price. price ≤ PRICE_SCALE) prices → All (IsSecurityLine book.settle) lines → All (IsNoBargain book prices) lines
+offers-least : (n : ℕ) (book : BookContents) (prices : List ℕ) (lines : List Line) → IsSettlement book.days.settle → All (λ price. price ≤ PRICE_SCALE) prices → All (IsSecurityLine book.days) lines → All (IsNoBargain book prices) lines
     → All (IsLeastByRounding n book prices) lines
 offers-least n book prices [] settled small are fair = All-nil (IsLeastByRounding n book prices)
 offers-least n book prices (line ∷ lines) settled small are fair =
     All-cons (IsLeastByRounding n book prices) line lines
-    (line-least n book prices line settled (inr (All-head (IsSecurityLine book.settle) line lines are)) small (All-head (IsNoBargain book prices) line lines fair))
-    (offers-least n book prices lines settled small (All-tail (IsSecurityLine book.settle) line lines are) (All-tail (IsNoBargain book prices) line lines fair))
+    (line-least n book prices line settled (inr (All-head (IsSecurityLine book.days) line lines are)) small (All-head (IsNoBargain book prices) line lines fair))
+    (offers-least n book prices lines settled small (All-tail (IsSecurityLine book.days) line lines are) (All-tail (IsNoBargain book prices) line lines fair))
 
-lines-least : (n : ℕ) (book : BookContents) (prices : List ℕ) (lines : List Line) → IsSettlement book.settle → All (λ price. price ≤ PRICE_SCALE) prices → AreLines book.settle lines → AreNoBargains book prices lines
+lines-least : (n : ℕ) (book : BookContents) (prices : List ℕ) (lines : List Line) → IsSettlement book.days.settle → All (λ price. price ≤ PRICE_SCALE) prices → AreLines book.days lines → AreNoBargains book prices lines
     → All (IsLeastByRounding n book prices) lines
 lines-least n book prices [] settled small are fair = absurd are
 lines-least n book prices (cash ∷ offers) settled small are fair =

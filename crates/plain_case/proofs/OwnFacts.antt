@@ -22,7 +22,7 @@ use Rattle.plain_case.proofs.WorthFacts.{IsPricedBy, cost-worth, excess-worth, p
 
 -- ---- what is known of an own offer
 record IsBought (book : BookContents) (prices plan : List ℕ) (place number : ℕ) : Type 0 where
-  security : IsSecurityLine book.settle (line_at book.lines number)
+  security : IsSecurityLine book.days (line_at book.lines number)
   priced : IsPricedBy book prices place (line_at book.lines number)
   few : get_or plan number 0 ≤ (line_at book.lines number).most
   fewer : IsFewer book plan place number
@@ -36,11 +36,11 @@ bought-just book prices plan place just limits curve permitted within residual =
   fewer = fewer-bought book plan place just permitted is.within security.least residual;
 }
   where
-    is : IsOwn book.lines (need_at book.needs place).day just.number
-    is = own_is book.lines (need_at book.needs place).day just.number just.own
+    is : IsOwn book (need_at book.needs place).day just.number
+    is = own_is book (need_at book.needs place).day just.number just.own
 
-    security : IsSecurityLine book.settle (line_at book.lines just.number)
-    security = own_security book.settle (need_at book.needs place).day book.lines just.number limits.lines just.own
+    security : IsSecurityLine book.days (line_at book.lines just.number)
+    security = own_security book (need_at book.needs place).day just.number limits.lines just.own
 
 bought-at : (limit : ℕ) (book : BookContents) → IsBook book → (plain : IsPlain limit book) → (place number : ℕ) → place < length book.needs → IsOwnOfferAt book place number → IsBought book plain.prices plain.plan place number
 bought-at limit book limits plain place number within own =
@@ -71,7 +71,7 @@ own_worth limit book limits plain place number within own =
     let line = line_at book.lines number in
     let units = get_or plain.plan number 0 in
     joined (line_cost line units) (line_cost line bought.fewer.more) (line_cost line line.least + line_cost line 1) (get_or plain.prices place 0) (received book plain.plan place) (need_at book.needs place).cents.0
-    (own_paid book place number units) (own_paid book place number bought.fewer.fewer) (worth_paid book plain.prices (line_payments book.settle line units)) (length (pay_coefficients book.settle line))
+    (own_paid book place number units) (own_paid book place number bought.fewer.fewer) (worth_paid book plain.prices (line_payments book.days line units)) (length (pay_coefficients book.days line))
     bought.fewer.short bought.fewer.little
     (cost-worth book plain.prices place line units bought.fewer.fewer bought.fewer.more limits (prices-same limit book limits plain) (prices-small limit book plain) within bought.security bought.priced bought.few bought.fewer.parts)
 
@@ -86,6 +86,6 @@ excess_little limit book limits plain place number within own =
     let line = line_at book.lines number in
     let units = get_or plain.plan number 0 in
     beyond (line_cost line bought.fewer.more) (line_cost line line.least + line_cost line 1) (get_or plain.prices place 0) (received book plain.plan place) (need_at book.needs place).cents.0
-    (own_paid book place number units) (own_paid book place number bought.fewer.fewer) (length (pay_coefficients book.settle line))
+    (own_paid book place number units) (own_paid book place number bought.fewer.fewer) (length (pay_coefficients book.days line))
     bought.fewer.short bought.fewer.little
     (excess-worth book plain.prices place line units bought.fewer.fewer bought.fewer.more limits (prices-same limit book limits plain) (prices-small limit book plain) within bought.security bought.priced bought.few bought.fewer.parts)

@@ -22,7 +22,7 @@ use Rattle.backward_build.specs.PlanLaws.{IsBackwardPlan, IsOwnOfferAt}
 use Rattle.backward_build.proofs.BackwardFacts.{built_backward}
 use Rattle.backward_build.proofs.FairFacts.{bootstrapped_fair}
 use Rattle.backward_build.proofs.OfferFacts.{own_is}
-use Rattle.backward_build.proofs.PlanFacts.{matures_once}
+use Rattle.backward_build.proofs.PlanFacts.{ends_once}
 use Rattle.plain_case.specs.OwnOfferWorth.{IsWorthIt, own_rounding, worth_paid}
 use Rattle.plain_case.specs.PlanWorth.{PlansAreWorthIt, leasts_and_steps}
 use Rattle.plain_case.proofs.OwnFacts.{own_worth}
@@ -34,14 +34,14 @@ abbrev no_flow : Flow
 no_flow = record { day = pos 0; cents = record { 0 = 0 } }
 
 abbrev own_of : BookContents → Flow → Option ℕ
-own_of book need = own_offer_of book.lines need.day
+own_of book need = own_offer_of book need.day
 
 -- ---- amounts of lines, by number
 abbrev pair_cost : Line × ℕ → ℕ
 pair_cost p = line_cost p.0 p.1
 
 abbrev pair_worth : BookContents → List ℕ → Line × ℕ → ℕ
-pair_worth book prices p = worth_paid book prices (line_payments book.settle p.0 p.1)
+pair_worth book prices p = worth_paid book prices (line_payments book.days p.0 p.1)
 
 abbrev costs_of : BookContents → List ℕ → List ℕ
 costs_of book plan = map pair_cost (zip book.lines plan)
@@ -105,10 +105,10 @@ leasts_to-more book place number within own =
 date-more : (book : BookContents) (prices plan : List ℕ) (place number : ℕ) → IsBook book → length prices ≡ length book.needs → length plan ≡ length book.lines → place < length book.needs → IsOwnOfferAt book place number
     → IsWorthIt book prices place (line_at book.lines number) (get_or plan number 0) (received book plan place) → SoFar book prices plan place → SoFar book prices plan (place + 1)
 date-more book prices plan place number limits same long within own worth had =
-    let inside = (own_is book.lines (need_at book.needs place).day number own).within in
+    let inside = (own_is book (need_at book.needs place).day number own).within in
     let line = line_at book.lines number in
     let units = get_or plan number 0 in
-    let all = added _ (line_cost line units) _ (get_or prices place 0 * received book plan place) _ (worth_paid book prices (line_payments book.settle line units)) _ (get_or prices place 0 * (need_at book.needs place).cents.0)
+    let all = added _ (line_cost line units) _ (get_or prices place 0 * received book plan place) _ (worth_paid book prices (line_payments book.days line units)) _ (get_or prices place 0 * (need_at book.needs place).cents.0)
     _ (line_cost line line.least + line_cost line 1) _ (own_rounding book line) had worth in
     let costs = own_sum-more book (costs_of book plan) place number within own ∙ ap (λ m. own_sum (own_of book) (costs_of book plan) (take place book.needs) + m) (mapped-at pair_cost book.lines plan number long inside) in
     let worths = own_sum-more book (worths_of book prices plan) place number within own ∙ ap (λ m. own_sum (own_of book) (worths_of book prices plan) (take place book.needs) + m) (mapped-at (pair_worth book prices) book.lines plan number long inside) in
@@ -159,15 +159,15 @@ by_line amount flows (p ∷ pairs) =
 receipts-all : (book : BookContents) (prices plan : List ℕ) → length prices ≡ length book.needs → receipts_worth book prices plan (length book.needs) ≡ sum (worths_of book prices plan)
 receipts-all book prices plan same =
     (λ i. sum_by (at_rate (λ day. price_on (take_all (length book.needs) book.needs (omega arith) i) (take_all (length book.needs) prices (omega arith) i) day)) (payments book plan))
-    ∙ by_line (at_rate (price_on book.needs prices)) (λ p. line_payments book.settle p.0 p.1) (zip book.lines plan)
+    ∙ by_line (at_rate (price_on book.needs prices)) (λ p. line_payments book.days p.0 p.1) (zip book.lines plan)
     ∙ sym (sum-map (pair_worth book prices) (zip book.lines plan))
 
 -- own offers of different dates are different lines, and each is there
 own-apart : (book : BookContents) → Rise book.needs → AreApart (own_of book) book.needs
 own-apart book rising = λ i j d order within number first second.
-    let a = own_is book.lines (get_or book.needs i d).day number first in
-    let b = own_is book.lines (get_or book.needs j d).day number second in
-    let same = matures_once (line_at book.lines number).kind (get_or book.needs i d).day (get_or book.needs j d).day a.due b.due in
+    let a = own_is book (get_or book.needs i d).day number first in
+    let b = own_is book (get_or book.needs j d).day number second in
+    let same = ends_once book.days (line_at book.lines number).kind (get_or book.needs i d).day (get_or book.needs j d).day a.due b.due in
     let later : (get_or book.needs i d).day <ℤ (get_or book.needs j d).day = rising i j d order within in
     absurd (clash _ _ same later)
   where
@@ -175,7 +175,7 @@ own-apart book rising = λ i j d order within number first second.
     clash x y h k = omega (arith, ints)
 
 own-there : (book : BookContents) (count : ℕ) → count ≡ length book.lines → AreThere (own_of book) count book.needs
-own-there book count is = λ k d within number own. omega (arith, is, (own_is book.lines (get_or book.needs k d).day number own).within)
+own-there book count is = λ k d within number own. omega (arith, is, (own_is book (get_or book.needs k d).day number own).within)
 
 costs-count : (book : BookContents) (plan : List ℕ) (f : Line × ℕ → ℕ) → length plan ≡ length book.lines → length (map f (zip book.lines plan)) ≡ length book.lines
 costs-count book plan f same = omega (arith, length-map (zip book.lines plan) f, length-zip book.lines plan, same)

@@ -21,7 +21,7 @@ abbrev pub received : BookContents → List ℕ → ℕ → ℕ
 received book plan place = paid_in (span_of book.needs place) (payments book plan)
 
 abbrev pub own_paid : BookContents → ℕ → ℕ → ℕ → ℕ
-own_paid book place number units = paid_in (span_of book.needs place) (line_payments book.settle (line_at book.lines number) units)
+own_paid book place number units = paid_in (span_of book.needs place) (line_payments book.days (line_at book.lines number) units)
 
 -- with so many units of one line
 paid-with : (book : BookContents) (plan : List ℕ) (place number units : ℕ) → length plan ≡ length book.lines → number < length book.lines
@@ -30,7 +30,7 @@ paid-with book plan place number units same within =
     let count : length (set plan number 0) ≡ length book.lines = length-set plan number 0 ∙ same in
     let none : get_or (set plan number 0) number 0 ≡ 0 = get_or-set_same plan number 0 0 (omega (arith, within, same)) in
     ap (λ (p : List ℕ). received book p place) (sym (set-set plan number 0 units))
-    ∙ bought_counts (span_cents (span_of book.needs place)) book.settle book.lines (set plan number 0) number units (span_counts (span_of book.needs place)) count within none
+    ∙ bought_counts (span_cents (span_of book.needs place)) book.days book.lines (set plan number 0) number units (span_counts (span_of book.needs place)) count within none
 
 -- with fewer units of the own offer no more than the need is paid for, and what it has more costs no more than the least purchase
 -- and one step
@@ -43,8 +43,8 @@ pub record IsFewer (book : BookContents) (plan : List ℕ) (place number : ℕ) 
 
 nothing-paid : (book : BookContents) (place number : ℕ) → own_paid book place number 0 ≡ 0
 nothing-paid book place number =
-    let nothing = line_payments-none book.settle (line_at book.lines number) 0 refl in
-    sum_by-zero (span_cents (span_of book.needs place)) (line_payments book.settle (line_at book.lines number) 0) (λ k d lt. span_counts (span_of book.needs place) (get_or (line_payments book.settle (line_at book.lines number) 0) k d) (nothing k d lt))
+    let nothing = line_payments-none book.days (line_at book.lines number) 0 refl in
+    sum_by-zero (span_cents (span_of book.needs place)) (line_payments book.days (line_at book.lines number) 0) (λ k d lt. span_counts (span_of book.needs place) (get_or (line_payments book.days (line_at book.lines number) 0) k d) (nothing k d lt))
 
 pub fewer-bought : (book : BookContents) (plan : List ℕ) (place : ℕ) (just : IsJustPaidFor book plan place) → IsPermitted book plan → just.number < length book.lines → 1 ≤ (line_at book.lines just.number).least
     → received book (set plan just.number 0) place ≤ (need_at book.needs place).cents.0 → IsFewer book plan place just.number

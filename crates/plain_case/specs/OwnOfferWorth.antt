@@ -20,7 +20,7 @@ worth_paid book prices flows = sum_by (λ flow. price_on book.needs prices flow.
 
 -- four cents for the cost of a line and its share of the price, and two for each payment
 abbrev pub own_rounding : BookContents → Line → ℕ
-own_rounding book line = 4 + 2 * length (pay_coefficients book.settle line)
+own_rounding book line = 4 + 2 * length (pay_coefficients book.days line)
 
 -- what a line costs at the least purchase and at one step, and its rounding, in cents
 abbrev pub least_step_and_rounding : BookContents → Line → ℕ
@@ -31,7 +31,7 @@ least_step_and_rounding book line = line_cost line line.least + line_cost line 1
 abbrev pub IsWorthIt : BookContents → List ℕ → ℕ → Line → ℕ → ℕ → Type 0
 IsWorthIt book prices place line units received =
     COEFFICIENT_SCALE * PRICE_SCALE * line_cost line units + COEFFICIENT_SCALE * (slice_index prices place * received)
-    ≤ COEFFICIENT_SCALE * worth_paid book prices (line_payments book.settle line units)
+    ≤ COEFFICIENT_SCALE * worth_paid book prices (line_payments book.days line units)
     + COEFFICIENT_SCALE * (slice_index prices place * (need_at book.needs place).cents.0)
     + COEFFICIENT_SCALE * PRICE_SCALE * least_step_and_rounding book line
 
@@ -46,7 +46,7 @@ OwnOffersAreWorthIt =
 abbrev pub IsExcessLittle : BookContents → List ℕ → ℕ → Line → ℕ → Type 0
 IsExcessLittle book prices place line received =
     slice_index prices place * received
-    ≤ slice_index prices place * (need_at book.needs place).cents.0 + PRICE_SCALE * (line_cost line line.least + line_cost line 1 + (1 + 2 * length (pay_coefficients book.settle line)))
+    ≤ slice_index prices place * (need_at book.needs place).cents.0 + PRICE_SCALE * (line_cost line line.least + line_cost line 1 + (1 + 2 * length (pay_coefficients book.days line)))
 
 abbrev pub ExcessesAreLittle : Type 0
 ExcessesAreLittle =

@@ -12,7 +12,7 @@ use Rattle.plain_case.specs.OwnOfferWorth.{own_rounding}
 
 -- the least purchase and one step of the own offer of each need date, together, in cents
 abbrev pub leasts_and_steps : BookContents → ℕ
-leasts_and_steps book = sum_by (λ need. least_and_step book.lines (own_offer_of book.lines need.day)) book.needs
+leasts_and_steps book = sum_by (λ need. least_and_step book.lines (own_offer_of book need.day)) book.needs
 
 -- the plan of a plain case costs no more than what the needs are worth at the bootstrapped prices, but for the least purchases, one
 -- step for each need date and the rounding of each line

@@ -12,7 +12,7 @@ use Rattle.backward_build.specs.PriceCurve.{leaf_of_prices}
 
 -- a cent for the cost of a line and half a cent for each of its payments, scaled: by so much rounding may bring a line below nothing
 abbrev pub root_rounding : BookContents → Line → ℕ
-root_rounding book line = PRICE_SCALE * (COEFFICIENT_SCALE + length (pay_coefficients book.settle line) * (COEFFICIENT_SCALE / 2))
+root_rounding book line = PRICE_SCALE * (COEFFICIENT_SCALE + length (pay_coefficients book.days line) * (COEFFICIENT_SCALE / 2))
 
 -- the least that a line can add at the root is no further below nothing
 abbrev pub IsLeastByRounding : ℕ → BookContents → List ℕ → Line → Type 0

@@ -8,8 +8,8 @@ invariant-loop-low l = record {
   least : l.line.least ≤ l.low;
   order : l.low ≤ l.high;
   most : l.high ≤ l.line.most;
-  enough : covers l.settle l.residual l.line l.high ≡ true;
-  fewer : (units : ℕ) → l.line.least ≤ units → units < l.low → covers l.settle l.residual l.line units ≡ false;
+  enough : covers l.days l.residual l.line l.high ≡ true;
+  fewer : (units : ℕ) → l.line.least ≤ units → units < l.low → covers l.days l.residual l.line units ≡ false;
 }
 
 abbrev pub decreases-loop-low : goal.decreases-loop-low

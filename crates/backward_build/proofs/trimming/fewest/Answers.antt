@@ -7,7 +7,7 @@ pub fewest_bought-requires-clause-least : goal.fewest_bought-requires-clause-lea
 fewest_bought-requires-clause-least c = λ d.
     let line = get_or c.args.book.now.lines c.args.line d in
     elim (c.requires.permitted d) [
-      | inl none ↦ (let yes = (c.suffices.ensures d).1 (subst (λ n. Cover c.args.book.now.needs c.args.due.now (line_payments c.args.book.now.settle line n)) none (c.requires.enough d)) in
+      | inl none ↦ (let yes = (c.suffices.ensures d).1 (subst (λ n. Cover c.args.book.now.needs c.args.due.now (line_payments c.args.book.now.days line n)) none (c.requires.enough d)) in
           let no = c.if-suffices.false in
           absurd (cc))
       | inr some ↦ some.0
@@ -20,7 +20,7 @@ pub returns-else-suffices-clause-fewest : goal.returns-else-suffices-clause-fewe
 returns-else-suffices-clause-fewest c = λ fewer d below permitted cover.
     let line = get_or c.args.book.now.lines c.args.line d in
     elim permitted [
-      | inl none ↦ (let yes = (c.suffices.ensures d).1 (subst (λ n. Cover c.args.book.now.needs c.args.due.now (line_payments c.args.book.now.settle line n)) none cover) in
+      | inl none ↦ (let yes = (c.suffices.ensures d).1 (subst (λ n. Cover c.args.book.now.needs c.args.due.now (line_payments c.args.book.now.days line n)) none cover) in
           let no = c.if-suffices.false in
           cc)
       | inr some ↦ c.fewest_bought.ensures.fewest fewer d below some.0 cover

@@ -19,7 +19,7 @@ loop-low-preserved c = record {
   enough = c.loop-low.invariant.enough;
   fewest = λ fewer d below above cover.
       let middle = c.loop-low.low + (c.loop-low.high - c.loop-low.low) / 2 in
-      let more = cover_more c.args.book.now.settle c.args.book.now.needs (get_or c.args.book.now.lines c.args.line d) c.args.due.now fewer middle (omega (arith, below)) cover in
+      let more = cover_more c.args.book.now.days c.args.book.now.needs (get_or c.args.book.now.lines c.args.line d) c.args.due.now fewer middle (omega (arith, below)) cover in
       let yes = (c.suffices.ensures d).1 more in
       let no = c.if-suffices.false in
       cc;

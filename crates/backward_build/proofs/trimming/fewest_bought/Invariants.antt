@@ -9,9 +9,9 @@ invariant-loop-low l = record {
   least : (d : Line) → (get_or l.book.lines l.line d).least ≤ l.low;
   ordered : l.low ≤ l.high;
   most : l.high ≤ l.units;
-  enough : (d : Line) → Cover l.book.needs l.due (line_payments l.book.settle (get_or l.book.lines l.line d) l.high);
+  enough : (d : Line) → Cover l.book.needs l.due (line_payments l.book.days (get_or l.book.lines l.line d) l.high);
   fewest : (fewer : ℕ) (d : Line) → fewer < l.low → (get_or l.book.lines l.line d).least ≤ fewer
-      → ¬ Cover l.book.needs l.due (line_payments l.book.settle (get_or l.book.lines l.line d) fewer);
+      → ¬ Cover l.book.needs l.due (line_payments l.book.days (get_or l.book.lines l.line d) fewer);
 }
 
 abbrev pub decreases-loop-low : goal.decreases-loop-low

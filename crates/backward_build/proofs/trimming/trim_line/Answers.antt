@@ -16,12 +16,12 @@ fewest-fewest-requires-clause-permitted c = λ d. rw c.get-units.ensures (permit
 
 pub pay_less-requires-clause-less : goal.pay_less-requires-clause-less
 pay_less-requires-clause-less c = λ k within.
-    paid_less c.args.book.now.settle c.args.book.now.needs (get_or c.args.book.now.lines c.args.line some_line) c.get-units.result c.fewest-fewest.result c.paid_by-before.result c.paid_by-after.result
+    paid_less c.args.book.now.days c.args.book.now.needs (get_or c.args.book.now.lines c.args.line some_line) c.get-units.result c.fewest-fewest.result c.paid_by-before.result c.paid_by-after.result
     c.fewest-fewest.ensures.most (c.paid_by-before.ensures some_line) (c.paid_by-after.ensures some_line) k (omega (arith, within, c.from-dates.ensures, c.need_count.ensures.value))
 
 pub pay_less-requires-clause-enough : goal.pay_less-requires-clause-enough
 pay_less-requires-clause-enough c = λ k within.
-    paid_enough c.args.book.now.needs (line_payments c.args.book.now.settle (get_or c.args.book.now.lines c.args.line some_line) c.fewest-fewest.result) c.paid_by-before.result c.args.spare.now c.take_spare.new.paid c.paid_by-after.result
+    paid_enough c.args.book.now.needs (line_payments c.args.book.now.days (get_or c.args.book.now.lines c.args.line some_line) c.fewest-fewest.result) c.paid_by-before.result c.args.spare.now c.take_spare.new.paid c.paid_by-after.result
     (search rules) (c.fewest-fewest.ensures.enough some_line) (c.paid_by-after.ensures some_line) c.take_spare.ensures k
     (omega (arith, within, c.from-dates.ensures, c.need_count.ensures.value))
 
@@ -32,7 +32,7 @@ returns-clause-permitted c =
 pub returns-clause-spare : goal.returns-clause-spare
 returns-clause-spare c =
     let book = c.args.book.now in
-    let before = subst (λ n. ArePaid book.needs (line_payments book.settle (get_or book.lines c.args.line some_line) n) c.paid_by-before.result) c.get-units.ensures (c.paid_by-before.ensures some_line) in
+    let before = subst (λ n. ArePaid book.needs (line_payments book.days (get_or book.lines c.args.line some_line) n) c.paid_by-before.result) c.get-units.ensures (c.paid_by-before.ensures some_line) in
     rw c.put.ensures (spare-set book c.args.plan.now c.args.spare.now c.paid_by-before.result c.paid_by-after.result c.pay_less.new.spare c.args.line c.fewest-fewest.result some_line
     c.requires.line c.requires.permitted.same_length c.requires.spare before (c.paid_by-after.ensures some_line)
     (λ k within. c.pay_less.ensures k (omega (arith, within, c.from-dates.ensures, c.need_count.ensures.value))))
@@ -44,8 +44,8 @@ returns-clause-no_more c =
 pub returns-clause-fewest : goal.returns-clause-fewest
 returns-clause-fewest c =
     let book = c.args.book.now in
-    let due : (line : Line) → AreDue book.needs (line_payments book.settle (get_or book.lines c.args.line line) (get_or c.args.plan.now c.args.line 0)) c.args.spare.now c.take_spare.new.paid = λ line.
-    let before = subst (λ n. ArePaid book.needs (line_payments book.settle (get_or book.lines c.args.line line) n) c.paid_by-before.result) c.get-units.ensures (c.paid_by-before.ensures line) in
-    owed book.needs (line_payments book.settle (get_or book.lines c.args.line line) (get_or c.args.plan.now c.args.line 0)) c.paid_by-before.result c.args.spare.now c.take_spare.new.paid
+    let due : (line : Line) → AreDue book.needs (line_payments book.days (get_or book.lines c.args.line line) (get_or c.args.plan.now c.args.line 0)) c.args.spare.now c.take_spare.new.paid = λ line.
+    let before = subst (λ n. ArePaid book.needs (line_payments book.days (get_or book.lines c.args.line line) n) c.paid_by-before.result) c.get-units.ensures (c.paid_by-before.ensures line) in
+    owed book.needs (line_payments book.days (get_or book.lines c.args.line line) (get_or c.args.plan.now c.args.line 0)) c.paid_by-before.result c.args.spare.now c.take_spare.new.paid
     (search rules) before c.take_spare.ensures in
     rw c.put.ensures (fewest-set book c.args.plan.now c.args.spare.now c.take_spare.new.paid c.args.line c.fewest-fewest.result c.requires.line c.requires.permitted.same_length c.requires.spare due c.fewest-fewest.ensures.fewest)
