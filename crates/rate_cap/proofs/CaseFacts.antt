@@ -7,15 +7,17 @@ use Rattle.std.proofs.lemmas.Int.{ints}
 use Rattle.std.proofs.lemmas.List.{append-nil, length-map, take_all}
 use Rattle.std.proofs.lemmas.List.Elements.{All-contains, All-head, All-map, All-nil, All-push, All-tail, All-weaker, Contains-append_left, filter_map-append}
 use Rattle.std.proofs.lemmas.Slice.Zip.{AllZip-map}
+use Rattle.escrow_units.specs.OpenDays.{Closings}
 use Rattle.escrow_units.specs.SlgsTerms.{IsSlgs, shortest_term}
 use Rattle.escrow_units.specs.declared.amount.Rate.{Rate}
 use Rattle.escrow_units.specs.declared.security.Flow.{Flow}
 use Rattle.escrow_units.specs.declared.security.Slgs.{Slgs}
 use Rattle.rate_table.specs.Table.{IsTableRate}
-use Rattle.offer_book.specs.Book.{AreLines, BookContents, IsBook, IsCashLine, IsSecurity, IsSecurityLine}
+use Rattle.offer_book.specs.Book.{AreLines, BookContents, EndsInTime, IsBook, IsCashLine, IsSecurity, IsSecurityLine}
 use Rattle.offer_book.specs.declared.line.Line.{Line}
 use Rattle.offer_book.specs.declared.line.LineKind.{LineKind}
 use Rattle.offer_book.specs.declared.line.LineKind.TheVariants.{Cash, Market, Security}
+use Rattle.offer_book.specs.declared.payment_days.PaymentDays.{PaymentDays}
 use Rattle.case_file.specs.Case.{CaseContents}
 use Rattle.rate_cap.proofs.CapFacts.{greatest-one, greatest-push, same-rate, zero-rate}
 use Rattle.rate_cap.specs.CaseAt.{CasesAtCapsAreOne, IsAtCap, IsItselfFromTop, IsTopOf, case_at, kind_at, line_at, slgs_rate, slgs_rates}
@@ -44,17 +46,24 @@ slgs-at cap slgs h =
       first = h.first;
     }
 
-security-at : (settle : ℤ) (cap : Rate) (kind : LineKind) → IsSecurity settle kind → IsSecurity settle (kind_at cap kind)
-security-at settle cap Cash h = absurd h
-security-at settle cap (Security slgs) h = (h.0, slgs-at cap slgs h.1, lesser slgs.rate.0 cap.0 h.2)
+security-at : (days : PaymentDays) (cap : Rate) (kind : LineKind) → IsSecurity days kind → IsSecurity days (kind_at cap kind)
+security-at days cap Cash h = absurd h
+security-at days cap (Security slgs) h = (h.0, slgs-at cap slgs h.1, lesser slgs.rate.0 cap.0 h.2)
   where
     lesser : (a b : ℕ) → a ≤ 30_000 → min a b ≤ 30_000
     lesser a b few = omega (arith, few)
-security-at settle cap (Market note) h = h
+security-at days cap (Market note) h = h
 
-security-line : (settle : ℤ) (cap : Rate) (line : Line) → IsSecurityLine settle line → IsSecurityLine settle (line_at cap line)
-security-line settle cap line h = record {
-  security = security-at settle cap line.kind h.security;
+-- a cap moves no maturity
+ends-at : (days : PaymentDays) (cap : Rate) (kind : LineKind) → EndsInTime days kind → EndsInTime days (kind_at cap kind)
+ends-at days cap Cash h = h
+ends-at days cap (Security slgs) h = h
+ends-at days cap (Market note) h = h
+
+security-line : (days : PaymentDays) (cap : Rate) (line : Line) → IsSecurityLine days line → IsSecurityLine days (line_at cap line)
+security-line days cap line h = record {
+  security = security-at days cap line.kind h.security;
+  ends = ends-at days cap line.kind h.ends;
   whole_dollars = h.whole_dollars;
   step_at_least = h.step_at_least;
   step_at_most = h.step_at_most;
@@ -67,26 +76,27 @@ security-line settle cap line h = record {
 cash-line : (cap : Rate) (line : Line) → IsCashLine line → IsCashLine (line_at cap line)
 cash-line cap line h = record { kind = ap (kind_at cap) h.kind; step = h.step; least = h.least; most = h.most }
 
-lines-at : (settle : ℤ) (cap : Rate) (lines : List Line) → AreLines settle lines → AreLines settle (map (line_at cap) lines)
-lines-at settle cap [] h = absurd h
-lines-at settle cap (cash ∷ securities) h = (
+lines-at : (days : PaymentDays) (cap : Rate) (lines : List Line) → AreLines days lines → AreLines days (map (line_at cap) lines)
+lines-at days cap [] h = absurd h
+lines-at days cap (cash ∷ securities) h = (
   cash-line cap cash h.0,
-  All-map (IsSecurityLine settle) (line_at cap) securities
-      (All-weaker (IsSecurityLine settle) (λ line. IsSecurityLine settle (line_at cap line)) (security-line settle cap) securities h.1),
+  All-map (IsSecurityLine days) (line_at cap) securities
+      (All-weaker (IsSecurityLine days) (λ line. IsSecurityLine days (line_at cap line)) (security-line days cap) securities h.1),
   omega (arith, length-map securities (line_at cap), h.2),
 )
 
 book-at : (cap : Rate) (book : BookContents) → IsBook book → IsBook (record book { lines = map (line_at cap) book.lines })
-book-at cap book h = record { settlement = h.settlement; needs = h.needs; lines = lines-at book.settle cap book.lines h.lines }
+book-at cap book h = record { settlement = h.settlement; needs = h.needs; lines = lines-at book.days cap book.lines h.lines }
 
-abbrev book_of : ℤ → List Flow → List Line → BookContents
-book_of settle needs lines = record { settle = settle; needs = needs; lines = lines }
+abbrev book_of : ℤ → Closings → List Flow → List Line → BookContents
+book_of settle closed needs lines = record { days = record { settle = settle; closed = closed }; needs = needs; lines = lines }
 
-pub book-is : (cap : Rate) (book : BookContents) (settle : ℤ) (needs : List Flow) (lines : List Line) → IsBook book → settle ≡ book.settle → needs ≡ book.needs
-    → lines ≡ map (line_at cap) book.lines → IsBook (record { settle = settle; needs = needs; lines = lines })
-book-is cap book settle needs lines h settle_is needs_is lines_is =
-    let same : book_of settle needs lines ≡ book_of book.settle book.needs (map (line_at cap) book.lines) =
-    λ i. book_of (settle_is i) (needs_is i) (lines_is i) in
+pub book-is : (cap : Rate) (book : BookContents) (settle : ℤ) (closed : Closings) (needs : List Flow) (lines : List Line) → IsBook book → settle ≡ book.days.settle
+    → closed ≡ book.days.closed → needs ≡ book.needs → lines ≡ map (line_at cap) book.lines
+    → IsBook (record { days = record { settle = settle; closed = closed }; needs = needs; lines = lines })
+book-is cap book settle closed needs lines h settle_is closed_is needs_is lines_is =
+    let same : book_of settle closed needs lines ≡ book_of book.days.settle book.days.closed book.needs (map (line_at cap) book.lines) =
+    λ i. book_of (settle_is i) (closed_is i) (needs_is i) (lines_is i) in
     subst IsBook (sym same) (book-at cap book h)
 
 -- ---- at a cap from the top on a case is itself
@@ -137,7 +147,7 @@ zip-map f (line ∷ lines) = (refl, zip-map f lines)
 at-case : (cap : Rate) (case : CaseContents) → IsAtCap cap case (case_at cap case)
 at-case cap case = record {
   lines = zip-map (line_at cap) case.book.lines;
-  settle = refl;
+  days = refl;
   needs = refl;
   limit = refl;
   allowance = refl;
@@ -148,9 +158,9 @@ pub is-at : (cap : Rate) (case : CaseContents) (book : BookContents) → book �
     → IsAtCap cap case (record case { book = book })
 is-at cap case book is = subst (λ (own : BookContents). IsAtCap cap case (record case { book = own })) (sym is) (at-case cap case)
 
-abbrev case_of : ℤ → List Flow → List Line → ℕ → ℕ → ℕ → CaseContents
-case_of settle needs lines limit allowance budget = record {
-  book = record { settle = settle; needs = needs; lines = lines };
+abbrev case_of : PaymentDays → List Flow → List Line → ℕ → ℕ → ℕ → CaseContents
+case_of days needs lines limit allowance budget = record {
+  book = record { days = days; needs = needs; lines = lines };
   limit = limit;
   allowance = allowance;
   budget = budget;
@@ -159,7 +169,7 @@ case_of settle needs lines limit allowance budget = record {
 one-at : (cap : Rate) (case other : CaseContents) → IsAtCap cap case other → other ≡ case_at cap case
 one-at cap case other h =
     let lines : other.book.lines ≡ map (line_at cap) case.book.lines = AllZip-map (line_at cap) case.book.lines other.book.lines h.lines in
-    λ i. case_of (h.settle i) (h.needs i) (lines i) (h.limit i) (h.allowance i) (h.budget i)
+    λ i. case_of (h.days i) (h.needs i) (lines i) (h.limit i) (h.allowance i) (h.budget i)
 
 pub cases-are_one : CasesAtCapsAreOne
 cases-are_one cap case other = (one-at cap case other, λ same. subst (IsAtCap cap case) (sym same) (at-case cap case))

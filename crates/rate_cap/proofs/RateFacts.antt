@@ -28,11 +28,12 @@ use Rattle.rate_table.proofs.LookupFacts.{maximum_of-rate}
 use Rattle.slgs_rules.specs.TermRules.{rate_of}
 use Rattle.market_notes.specs.declared.note.Note.{Note}
 use Rattle.market_notes.specs.declared.note.NoteFile.{NoteFile}
-use Rattle.offer_book.specs.CaseBook.{cash_line}
+use Rattle.offer_book.specs.CaseBook.{cash_line, issue_days}
 use Rattle.offer_book.specs.MarketLines.{IsLineOfNote}
 use Rattle.offer_book.specs.Offers.{IsLineOf}
 use Rattle.offer_book.specs.declared.line.Line.{Line}
 use Rattle.offer_book.specs.declared.line.LineKind.TheVariants.{Security}
+use Rattle.offer_book.specs.declared.payment_days.PaymentDays.{PaymentDays}
 use Rattle.offer_book.proofs.OfferFacts.{IsBound, bound-ok}
 use Rattle.rate_cap.proofs.CapFacts.{zero-rate}
 use Rattle.rate_cap.specs.CaseAt.{FilesGiveTableRates, slgs_rate, slgs_rates}
@@ -191,23 +192,23 @@ slgs-rates : (line : Line) (slgs : Slgs) (lines : List Line) → line.kind ≡ S
 slgs-rates line slgs lines is own rest =
     subst (λ (o : Option Rate). All IsTableRate (cons_option o (slgs_rates lines))) (sym (ap slgs_rate is)) (All-cons IsTableRate slgs.rate (slgs_rates lines) own rest)
 
-offered-rates : (settle : ℤ) (rates : RateFile) (offers : List Offer) (lines : List Line) → HasRates rates → All (λ offer. IsAsked offer.rate) offers
-    → AllZip (IsLineOf settle rates) offers lines → All IsTableRate (slgs_rates lines)
-offered-rates settle rates [] [] has all are = All-nil IsTableRate
-offered-rates settle rates [] (line ∷ lines) has all are = absurd are
-offered-rates settle rates (offer ∷ offers) [] has all are = absurd are
-offered-rates settle rates (offer ∷ offers) (line ∷ lines) has all are =
+offered-rates : (days : PaymentDays) (rates : RateFile) (offers : List Offer) (lines : List Line) → HasRates rates → All (λ offer. IsAsked offer.rate) offers
+    → AllZip (IsLineOf days rates) offers lines → All IsTableRate (slgs_rates lines)
+offered-rates days rates [] [] has all are = All-nil IsTableRate
+offered-rates days rates [] (line ∷ lines) has all are = absurd are
+offered-rates days rates (offer ∷ offers) [] has all are = absurd are
+offered-rates days rates (offer ∷ offers) (line ∷ lines) has all are =
     let P : Offer → Type 0 = λ own. IsAsked own.rate in
     let given = given-rate offer.rate (maximum_of rates.ranges offer.maturity) (All-head P offer offers all) (maximum-rate rates.ranges offer.maturity has.ranges) in
-    slgs-rates line are.0.slgs lines are.0.security (subst IsTableRate (sym are.0.rules.rate) given)
-    (offered-rates settle rates offers lines has (All-tail P offer offers all) are.1)
+    slgs-rates line are.0.slgs lines are.0.security (subst IsTableRate (sym are.0.sold.rules.rate) given)
+    (offered-rates days rates offers lines has (All-tail P offer offers all) are.1)
 
-note-rates : (notes_file : NoteFile) (notes : List Note) (lines : List Line) → AllZip (IsLineOfNote notes_file) notes lines → All IsTableRate (slgs_rates lines)
-note-rates notes_file [] [] are = All-nil IsTableRate
-note-rates notes_file [] (line ∷ lines) are = absurd are
-note-rates notes_file (note ∷ notes) [] are = absurd are
-note-rates notes_file (note ∷ notes) (line ∷ lines) are =
-    subst (λ (o : Option Rate). All IsTableRate (cons_option o (slgs_rates lines))) (sym (ap slgs_rate are.0.bought)) (note-rates notes_file notes lines are.1)
+note-rates : (days : PaymentDays) (notes_file : NoteFile) (notes : List Note) (lines : List Line) → AllZip (IsLineOfNote days notes_file) notes lines → All IsTableRate (slgs_rates lines)
+note-rates days notes_file [] [] are = All-nil IsTableRate
+note-rates days notes_file [] (line ∷ lines) are = absurd are
+note-rates days notes_file (note ∷ notes) [] are = absurd are
+note-rates days notes_file (note ∷ notes) (line ∷ lines) are =
+    subst (λ (o : Option Rate). All IsTableRate (cons_option o (slgs_rates lines))) (sym (ap slgs_rate are.0.bought)) (note-rates days notes_file notes lines are.1)
 
 lines-rates : (cash : ℕ) (offers market : List Line) → All IsTableRate (slgs_rates offers) → All IsTableRate (slgs_rates market)
     → All IsTableRate (slgs_rates (cash_line cash ∷ (offers ++ market)))
@@ -218,7 +219,7 @@ lines-rates cash offers market own other =
 pub files-give_table_rates : FilesGiveTableRates
 files-give_table_rates issue_rows rate_rows price_rows case kept =
     let has = file-rates rate_rows kept.rates kept.is_rates in
-    let offers = offered-rates kept.issue.settle kept.rates kept.rates.offers kept.rows.offers has has.offers kept.rows.of_offers in
-    let market = note-rates kept.notes kept.notes.notes kept.rows.market kept.rows.of_notes in
+    let offers = offered-rates (issue_days kept.issue) kept.rates kept.rates.offers kept.rows.offers has has.offers kept.rows.of_offers in
+    let market = note-rates (issue_days kept.issue) kept.notes kept.notes.notes kept.rows.market kept.rows.of_notes in
     subst (λ (lines : List Line). All IsTableRate (slgs_rates lines)) (sym kept.rows.lines)
     (lines-rates kept.issue.cash.0 kept.rows.offers kept.rows.market offers market)

@@ -17,6 +17,7 @@ use Rattle.offer_book.specs.Denominations.{IsDenominated}
 use Rattle.offer_book.specs.Offers.{IsLineOf, request_of}
 use Rattle.offer_book.specs.declared.line.Line.{Line}
 use Rattle.offer_book.specs.declared.line.LineKind.TheVariants.{Security}
+use Rattle.offer_book.specs.declared.payment_days.PaymentDays.{PaymentDays}
 use Rattle.rate_cap.proofs.CaseFacts.{shorter, sooner}
 use Rattle.rate_cap.specs.CaseAt.{CapsKeepRules, asking, kind_at, lesser, line_at}
 
@@ -62,19 +63,19 @@ subscribed settle ranges offer own cap is = record {
 denominated : (terms : Terms) (most : ℕ) (line : Line) (cap : Rate) → IsDenominated terms most line → IsDenominated terms most (line_at cap line)
 denominated terms most line cap is = record { step = is.step; least = is.least; most = is.most; greatest = is.greatest }
 
-own-line : (settle : ℤ) (file : RateFile) (offer : Offer) (line : Line) (cap : Rate) (is : IsLineOf settle file offer line)
-    → IsLineOf settle file (asking (lesser is.slgs.rate cap) offer) (line_at cap line)
-own-line settle file offer line cap is = record {
+own-line : (days : PaymentDays) (file : RateFile) (offer : Offer) (line : Line) (cap : Rate) (is : IsLineOf days file offer line)
+    → IsLineOf days file (asking (lesser is.slgs.rate cap) offer) (line_at cap line)
+own-line days file offer line cap is = record {
   slgs = record is.slgs { rate = lesser is.slgs.rate cap };
   security = ap (kind_at cap) is.security;
-  rules = subscribed settle file.ranges offer is.slgs cap is.rules;
+  sold = record { rules = subscribed days.settle file.ranges offer is.slgs cap is.sold.rules; in_time = is.sold.in_time };
   terms = is.terms;
   stated = is.stated;
   denominated = denominated is.terms offer.cap line cap is.denominated;
 }
 
 pub caps-keep_rules : CapsKeepRules
-caps-keep_rules settle file offer line slgs cap is kind =
+caps-keep_rules days file offer line slgs cap is kind =
     let one : Security is.slgs ≡ Security slgs = sym is.security ∙ kind in
     let same : is.slgs ≡ slgs = cc in
-    subst (λ (own : Slgs). IsLineOf settle file (asking (lesser own.rate cap) offer) (line_at cap line)) same (own-line settle file offer line cap is)
+    subst (λ (own : Slgs). IsLineOf days file (asking (lesser own.rate cap) offer) (line_at cap line)) same (own-line days file offer line cap is)

@@ -1,6 +1,6 @@
 -- A case at a common cap on the rates of SLGS securities. A subscriber may choose any rate up to the greatest of the daily table
 -- (31 CFR part 344); the common cap is this project's own. Rates and caps are in thousandths of a percentage point.
-use Rattle.std.specs.Prelude.{◌≡◌, ◌↔◌, ◌≤◌, min, List, [], ◌∷◌, All, map, Option, Some, None, ℤ}
+use Rattle.std.specs.Prelude.{◌≡◌, ◌↔◌, ◌≤◌, min, List, [], ◌∷◌, All, map, Option, Some, None}
 use Rattle.std.specs.List.{AllZip, filter_map}
 use Rattle.escrow_units.specs.declared.amount.Rate.{Rate}
 use Rattle.escrow_units.specs.declared.security.AskedRate.TheVariants.{At}
@@ -13,6 +13,7 @@ use Rattle.offer_book.specs.Offers.{IsLineOf}
 use Rattle.offer_book.specs.declared.line.Line.{Line}
 use Rattle.offer_book.specs.declared.line.LineKind.{LineKind}
 use Rattle.offer_book.specs.declared.line.LineKind.TheVariants.{Cash, Market, Security}
+use Rattle.offer_book.specs.declared.payment_days.PaymentDays.{PaymentDays}
 use Rattle.case_file.specs.Case.{CaseContents, IsKept}
 use Rattle.rate_cap.specs.Search.{IsGreatest, zero_cap}
 
@@ -50,7 +51,7 @@ line_at cap line = record line { kind = kind_at cap line.kind }
 -- a case at a cap: its lines are those of the case, one by one, each at the cap, and all else stays
 pub record IsAtCap (cap : Rate) (case at : CaseContents) : Type 0 where
   pub lines : AllZip (λ line other. other ≡ line_at cap line) case.book.lines at.book.lines
-  pub settle : at.book.settle ≡ case.book.settle
+  pub days : at.book.days ≡ case.book.days
   pub needs : at.book.needs ≡ case.book.needs
   pub limit : at.limit ≡ case.limit
   pub allowance : at.allowance ≡ case.allowance
@@ -77,8 +78,8 @@ asking rate offer = record offer { rate = At rate }
 -- rate, with every rule of term, rate and denomination
 abbrev pub CapsKeepRules : Type 0
 CapsKeepRules =
-    (settle : ℤ) (file : RateFile) (offer : Offer) (line : Line) (slgs : Slgs) (cap : Rate) → IsLineOf settle file offer line
-    → line.kind ≡ Security slgs → IsLineOf settle file (asking (lesser slgs.rate cap) offer) (line_at cap line)
+    (days : PaymentDays) (file : RateFile) (offer : Offer) (line : Line) (slgs : Slgs) (cap : Rate) → IsLineOf days file offer line
+    → line.kind ≡ Security slgs → IsLineOf days file (asking (lesser slgs.rate cap) offer) (line_at cap line)
 
 -- the SLGS rates of a case of files are whole hundredths of a percentage point, up to 30 percent
 abbrev pub FilesGiveTableRates : Type 0

@@ -9,7 +9,7 @@ ghost use Rattle.rate_cap.specs.CaseAt.{CapsKeepRules, CasesAtCapsAreOne, FilesG
 
 use case_file::Case;
 use escrow_desk::NoMemory;
-use escrow_units::{Flow, Rate, Slgs};
+use escrow_units::{ClosedDays, Flow, Rate, Slgs};
 use offer_book::{Book, Line, LineKind};
 use std::alloc::{AllocError, Global};
 
@@ -90,6 +90,14 @@ fn copied(alloc: Global, needs: &[Flow]) -> Result<Vec<Flow>, AllocError>
     Ok(copy)
 }
 
+// A copy of closed days.
+fn copied_days(alloc: Global, closed: &ClosedDays) -> Result<ClosedDays, AllocError>
+    ensures { IfOk result (λ copy. copy ≡ closed.now) }
+{
+    let days = Vec::from_slice(alloc, closed.days())?;
+    ClosedDays::new(alloc, closed.weekends(), days)
+}
+
 // A book at a cap.
 fn book_at(alloc: Global, book: &Book, cap: Rate) -> Result<Book, NoMemory>
     ensures book { IfOk result (λ at. at ≡ record book.now { lines = map (line_at_cap cap) book.now.lines }) }
@@ -97,7 +105,8 @@ fn book_at(alloc: Global, book: &Book, cap: Rate) -> Result<Book, NoMemory>
 {
     let lines = lines_at(alloc, book.lines(), cap)?;
     let needs = copied(alloc, book.needs())?;
-    Ok(Book::make(book.settle(), needs, lines))
+    let closed = copied_days(alloc, book.closed())?;
+    Ok(Book::make(book.settle(), needs, lines, closed))
 }
 
 /// The case at a cap, in thousandths of a percentage point: each SLGS security's rate is the lesser of its own and the cap, and

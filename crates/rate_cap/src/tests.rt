@@ -2,7 +2,7 @@
 
 use crate::{CapSearch, at_cap, cap_laws, search_laws, top_rate};
 use case_file::{Case, read_case};
-use escrow_units::{Cents, Rate};
+use escrow_units::{Cents, Day, Rate};
 use std::alloc::Global;
 use std::process::Abort;
 use std::test::Fail;
@@ -17,15 +17,19 @@ const RATES: &[u8] =
 const PRICES: &[u8] = b"terms,1000,1000\nnote,2025-07-15,4.500,100,200000\n";
 
 // The case of three short files.
-fn read(alloc: Global, rates: &[u8], prices: &[u8]) -> Result<Case, Fail> {
-    if rates.len() > 200 || prices.len() > 200 {
+fn read(alloc: Global, issue: &[u8], rates: &[u8], prices: &[u8]) -> Result<Case, Fail> {
+    if issue.len() > 200 || rates.len() > 200 || prices.len() > 200 {
         return Err(Fail::new("a long file"));
     }
-    let Ok(case) = read_case(alloc, ISSUE, rates, prices) else {
+    let Ok(case) = read_case(alloc, issue, rates, prices) else {
         return Err(Fail::new("no case"));
     };
     Ok(case)
 }
+
+// An issue in which 2025-07-15 is closed, as are weekends.
+const CLOSED: &[u8] =
+    b"settle,2025-01-15\nneed,2025-07-16,1000.00\nrestricted,3.00\nweekends\nclosed,2025-07-15\n";
 
 // A case at a cap: the rates of its lines, and what 1,000.00 of the first security pays.
 #[derive(Clone, Copy)]
@@ -89,19 +93,39 @@ fn cases_at_caps(rt: HostRuntime) -> Result<(), Fail> {
             cents: 101_984,
         },
     ];
-    let case = read(rt.alloc(), RATES, PRICES)?;
+    let case = read(rt.alloc(), ISSUE, RATES, PRICES)?;
     for row in &rows {
         try_cap(&rt, rt.alloc(), &case, row)?;
     }
     Ok(())
 }
 
+// At a cap a security is still paid on the next open day.
+#[test]
+fn closed_days_stay(rt: HostRuntime) -> Result<(), Fail> {
+    let case = read(rt.alloc(), CLOSED, RATES, PRICES)?;
+    let Ok(at) = at_cap(rt.alloc(), &case, Rate(2_000)) else {
+        return Err(Fail::new("no memory"));
+    };
+    assert!(&rt; at.book.closed().weekends());
+    assert_eq!(&rt; at.book.closed().days(), case.book.closed().days());
+    assert!(&rt; at.book.line_count() == 4 && at.book.line(1).most == 2);
+    let payments = at.book.line_payments(1, 1);
+    assert!(&rt; payments.len() == 1);
+    assert_eq!(&rt; payments[0].day, Day::new(20_285));
+    assert_eq!(&rt; payments[0].cents, Cents(100_992));
+    Ok(())
+}
+
 #[test]
 fn tops(rt: HostRuntime) -> Result<(), Fail> {
     let zero = b"terms,1000,1000\noffer,2025-07-15,0.00,,2000\n";
-    assert_eq!(&rt; top_rate(&read(rt.alloc(), RATES, PRICES)?), Rate(4_000));
-    assert_eq!(&rt; top_rate(&read(rt.alloc(), zero, PRICES)?), Rate(0));
-    assert_eq!(&rt; top_rate(&read(rt.alloc(), b"", PRICES)?), Rate(0));
+    assert_eq!(&rt;
+        top_rate(&read(rt.alloc(), ISSUE, RATES, PRICES)?),
+        Rate(4_000)
+    );
+    assert_eq!(&rt; top_rate(&read(rt.alloc(), ISSUE, zero, PRICES)?), Rate(0));
+    assert_eq!(&rt; top_rate(&read(rt.alloc(), ISSUE, b"", PRICES)?), Rate(0));
     Ok(())
 }
 

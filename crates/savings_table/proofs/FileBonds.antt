@@ -1,6 +1,8 @@
 -- How many bonds an issue file has: at most one a row, and its first row has none.
 use Rattle.std.proofs.Common.{◌≡◌, refl, subst, arith, ℕ, ◌+◌, ◌≤◌, List, [], ◌∷◌, ◌++◌, length, length-append, Bool, true, false, cond}
-use Rattle.std.specs.Prelude.{Some, Result, Ok, Err, if◌then◌else◌, codes, int_le, is_some, ℤ, pos}
+use Rattle.std.specs.Prelude.{Some, Result, Ok, Err, if◌then◌else◌, codes, int_le, is_some, ℤ, pos, ◌==◌}
+use Rattle.std.specs.List.{list_any}
+use Rattle.std.specs.Ordering.{int_eq}
 use Rattle.csv.specs.Reading.{default_config, is_bom, strip_bom}
 use Rattle.csv.specs.declared.parser.State.TheVariants.{StartRecord}
 use Rattle.escrow_desk.specs.Rows.{rows_of}
@@ -12,7 +14,7 @@ use Rattle.escrow_desk.specs.declared.refusal.RefusalKind.{RefusalKind}
 use Rattle.escrow_desk.specs.declared.refusal.RefusalKind.TheVariants as kind
 use Rattle.escrow_desk.proofs.RecordFacts.{length-records_from}
 use Rattle.row_fields.specs.RowForm.{Row, field_of, is_word, answer_of_row, with_rows, ◌>>=◌}
-use Rattle.issue_schedule.specs.IssueForm.{bare_read, bond_row_of, budget_row_of, call_row_of, cents_row_of, flow_row_of, price_row_of, settle_row_of, yield_row_of, draft_of, finished_of, first_settle_of, issue_of, issue_with_of, restricted_of, with_read_row, with_row, within_limits_of}
+use Rattle.issue_schedule.specs.IssueForm.{bare_read, bond_row_of, budget_row_of, call_row_of, cents_row_of, closed_row_of, flow_row_of, price_row_of, settle_row_of, yield_row_of, draft_of, finished_of, first_settle_of, issue_of, issue_with_of, restricted_of, with_read_row, with_row, within_limits_of}
 use Rattle.issue_schedule.specs.declared.issue.Issue.{Issue}
 use Rattle.issue_schedule.specs.declared.issue.Restricted.{Restricted}
 use Rattle.issue_schedule.specs.declared.issue.Restricted.TheVariants.{Given}
@@ -82,7 +84,9 @@ row-adds read number row =
     (few-either n (is_word (codes "pay") (field_of row 0)) _ _ join (few-said n (flow_row_of (years_after_of read.settle 40) row) _ join (λ x. few-kept_late (bonds_of read) (is_some read.restricted) (int_le x.day read.settle) kind.Repeated kind.DateOrder (record read { pays = read.pays ++ x ∷ [] }) refl))
     (few-either n (is_word (codes "allowance") (field_of row 0)) _ _ join (few-said n (cents_row_of row) _ join (λ x. few-kept (bonds_of read) _ _ _ refl))
     (few-either n (is_word (codes "budget") (field_of row 0)) _ _ join (few-said n (budget_row_of row) _ join (λ x. few-kept (bonds_of read) _ _ _ refl))
-    tt)))))))))
+    (few-either n (is_word (codes "weekends") (field_of row 0)) _ _ join (few-either n (length row == 1) _ _ join (few-kept (bonds_of read) read.weekends kind.Repeated (record read { weekends = true }) refl) tt)
+    (few-either n (is_word (codes "closed") (field_of row 0)) _ _ join (few-said n (closed_row_of (years_after_of read.settle 40) row) _ join (λ x. few-kept_late (bonds_of read) (int_le x read.settle) (list_any (int_eq x) read.closed) kind.DateOrder kind.Repeated (record read { closed = read.closed ++ x ∷ [] }) refl))
+    tt)))))))))))
 
 few-more : (kind : FileKind) (number m n : ℕ) (answer : Result Draft RefusalKind) (next : Draft → Result Draft Refusal) → ReadHasFew m answer
     → ((read : Draft) → bonds_of read ≤ m → ReadHasFew n (next read)) → ReadHasFew n (answer_of_row kind number answer >>= next)

@@ -24,7 +24,7 @@ use Rattle.savings_table.specs.declared.savings.SignedRange.{SignedRange}
 pub record AreOfOneSet (issue : Issue) (case : CaseContents) : Type 0 where
   pub read : IsIssue issue
   pub bonds : length issue.bonds ≤ FILE_LIMIT
-  pub settle : case.book.settle ≡ issue.settle
+  pub settle : case.book.days.settle ≡ issue.settle
   pub limit : RestsOn issue case.limit
 
 -- the issue of a file has no more bonds than the file has bytes
@@ -63,7 +63,7 @@ abbrev pub new_value : Issue → ℕ → Option PvRange
 new_value issue n = option_map (present_range issue.settle n) (new_service issue.restricted issue.pays)
 
 abbrev pub securities_value : CaseContents → ℕ → List ℕ → PvRange
-securities_value case n plan = present_range case.book.settle n (security_flows case.book plan)
+securities_value case n plan = present_range case.book.days.settle n (security_flows case.book plan)
 
 -- the savings, which are the old service less the new one, and what idle yield costs, which is the cost of the securities, opening
 -- cash aside, less what they are worth
@@ -84,5 +84,5 @@ pub record AreSavings (issue : Issue) (case : CaseContents) (n : ℕ) (plan : Li
   pub new_value : IfSome savings.new_value (LiesInRange n (indexed issue.settle issue.pays))
   pub saved : savings.saved ≡ option_map (difference savings.old_value) savings.new_value
   pub securities : PvRange
-  pub securities_value : LiesInRange n (indexed case.book.settle (security_flows case.book plan)) securities
+  pub securities_value : LiesInRange n (indexed case.book.days.settle (security_flows case.book plan)) securities
   pub idle : savings.idle ≡ difference (known (security_cost case.book plan)) securities

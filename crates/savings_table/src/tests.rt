@@ -260,6 +260,23 @@ fn refundings_save(rt: HostRuntime) -> Result<(), Fail> {
                 idle: SignedRange { lo: -1, hi: 0 },
             },
         },
+        // The old bond pays on a day that is closed to receipts: the note pays a day later, and is worth less.
+        Row {
+            issue: b"settle,2025-01-15\nbond,2025-07-15,100000.00,4.000\nrestricted,4.00\nclosed,2025-07-15\n",
+            rates: b"",
+            prices: note,
+            units: &[0, 100],
+            savings: given(
+                PvRange {
+                    lo: 9_999_999,
+                    hi: 10_000_001,
+                },
+                SignedRange {
+                    lo: 1_100,
+                    hi: 1_101,
+                },
+            ),
+        },
         // No bonds, and opening cash, which is no part of what the securities cost.
         Row {
             issue: b"settle,2025-01-15\nneed,2025-07-15,1050.00\ncash,50.00\nrestricted,4.00\n",

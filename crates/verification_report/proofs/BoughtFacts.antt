@@ -4,6 +4,7 @@ use Rattle.std.proofs.lemmas.List.{drop_more, get_or_default}
 use Rattle.offer_book.specs.declared.line.Line.{Line}
 use Rattle.offer_book.specs.Book.{AreLines, BookContents, IsBook, IsCashLine, IsLine}
 use Rattle.offer_book.specs.Portfolio.{IsPermitted, kind_cost, line_cost, par}
+use Rattle.offer_book.specs.declared.payment_days.PaymentDays.{PaymentDays}
 use Rattle.cash_table.proofs.PaymentFacts.{all_lines, line_at, units_at}
 use Rattle.cash_table.proofs.ZipFacts.{StandAt}
 use Rattle.verification_report.specs.Report.{of_bought}
@@ -19,9 +20,9 @@ stands book plan i line permitted within at = record {
 }
 
 pub is_line : (book : BookContents) (plan : List ℕ) (i : ℕ) (line : Line) → IsBook book → IsPermitted book plan → i < length book.lines → line ≡ get_or book.lines i line
-    → IsLine book.settle line
+    → IsLine book.days line
 is_line book plan i line limits permitted within at =
-    line_at book.settle book.lines plan i line (get_or plan i 0) (all_lines book.settle book.lines limits.lines) (stands book plan i line permitted within at)
+    line_at book.days book.lines plan i line (get_or plan i 0) (all_lines book.days book.lines limits.lines) (stands book plan i line permitted within at)
 
 pub has_room : (book : BookContents) (plan : List ℕ) (i : ℕ) (line : Line) → IsPermitted book plan → i < length book.lines → line ≡ get_or book.lines i line
     → get_or plan i 0 ≤ line.most
@@ -36,19 +37,19 @@ one_bought text lines plan i line within more at =
     rw (drop_more lines i line within, drop_more plan i 0 more, ← at) refl
 
 -- opening cash stands first, and its units are cents
-some_lines : (settle : ℤ) (lines : List Line) → AreLines settle lines → 0 < length lines
-some_lines settle [] all = absurd all
-some_lines settle (cash ∷ securities) all = omega arith
+some_lines : (days : PaymentDays) (lines : List Line) → AreLines days lines → 0 < length lines
+some_lines days [] all = absurd all
+some_lines days (cash ∷ securities) all = omega arith
 
 pub has_lines : (book : BookContents) → IsBook book → 0 < length book.lines
-has_lines book limits = some_lines book.settle book.lines limits.lines
+has_lines book limits = some_lines book.days book.lines limits.lines
 
-first_is_cash : (settle : ℤ) (lines : List Line) (line : Line) → AreLines settle lines → line ≡ get_or lines 0 line → IsCashLine line
-first_is_cash settle [] line all at = absurd all
-first_is_cash settle (cash ∷ securities) line all at = subst IsCashLine (sym at) all.0
+first_is_cash : (days : PaymentDays) (lines : List Line) (line : Line) → AreLines days lines → line ≡ get_or lines 0 line → IsCashLine line
+first_is_cash days [] line all at = absurd all
+first_is_cash days (cash ∷ securities) line all at = subst IsCashLine (sym at) all.0
 
 pub cash_first : (book : BookContents) (line : Line) → IsBook book → line ≡ get_or book.lines 0 line → IsCashLine line
-cash_first book line limits at = first_is_cash book.settle book.lines line limits.lines at
+cash_first book line limits at = first_is_cash book.days book.lines line limits.lines at
 
 pub cash_costs : (line : Line) (units : ℕ) → IsCashLine line → line_cost line units ≡ units
 cash_costs line units cash = ap (λ kind. kind_cost kind (par line units)) cash.kind ∙ ap (λ step. step * units) cash.step ∙ omega arith

@@ -18,6 +18,7 @@ use Rattle.offer_book.specs.Portfolio.{cost, line_cost, line_payments, par, secu
 use Rattle.offer_book.specs.declared.line.Line.{Line}
 use Rattle.offer_book.specs.declared.line.LineKind.{LineKind}
 use Rattle.offer_book.specs.declared.line.LineKind.TheVariants.{Cash, Market, Security}
+use Rattle.offer_book.specs.declared.payment_days.PaymentDays.{PaymentDays}
 use Rattle.cash_table.specs.Balances.{balances_of}
 use Rattle.cash_table.specs.Points.{plan_yield}
 use Rattle.cash_table.specs.declared.day_balances.Balance.{Balance}
@@ -66,8 +67,8 @@ pay_line number flow =
     if nat_lt 0 flow.cents.0 then text_line (codes "pay ") (decimal number ++ 32 ∷ day_text flow.day ++ 32 ∷ fixed 2 flow.cents.0) else []
 
 -- what units of a line pay
-abbrev pub pay_lines : ℤ → ℕ → Line → ℕ → List ℕ
-pay_lines settle number line units = flat_map (pay_line number) (line_payments settle line units)
+abbrev pub pay_lines : PaymentDays → ℕ → Line → ℕ → List ℕ
+pay_lines days number line units = flat_map (pay_line number) (line_payments days line units)
 
 -- the cash of a day: what is received, what is needed, and what is left
 abbrev pub date_line : Balance → List ℕ
@@ -118,11 +119,11 @@ proof_lines settle yields.Above flows = []
 unfoldable pub report_text : CaseContents → List ℕ → ℕ → List ℕ
 report_text case plan gap =
     text_line (codes "escrow report") []
-    ++ text_line (codes "settlement ") (day_text case.book.settle)
+    ++ text_line (codes "settlement ") (day_text case.book.days.settle)
     ++ of_bought buy_line 1 (drop 1 case.book.lines) (drop 1 plan)
     ++ text_line (codes "cash ") (fixed 2 (slice_index plan 0))
     ++ summary_text (figures_of case plan gap)
-    ++ of_bought (pay_lines case.book.settle) 1 (drop 1 case.book.lines) (drop 1 plan)
+    ++ of_bought (pay_lines case.book.days) 1 (drop 1 case.book.lines) (drop 1 plan)
     ++ cash_lines (balances_of case.book plan)
-    ++ proof_lines case.book.settle (plan_yield case.book plan) (security_flows case.book plan)
+    ++ proof_lines case.book.days.settle (plan_yield case.book plan) (security_flows case.book plan)
     ++ text_line (codes "end") []

@@ -1,17 +1,18 @@
 //! The lines of a report on what is bought, and what it pays.
 
-ghost use Rattle.std.specs.Prelude.{◌≡◌, ◌≤◌, ◌++◌, drop, ℤ, OnOk};
+ghost use Rattle.std.specs.Prelude.{◌≡◌, ◌≤◌, ◌++◌, drop, OnOk};
 ghost use Rattle.std.specs.List.{flat_map};
 ghost use Rattle.escrow_units.specs.SlgsTerms.{IsSettlement};
 ghost use Rattle.offer_book.specs.Book.{IsLine};
 ghost use Rattle.offer_book.specs.Portfolio.{IsPermitted};
+ghost use Rattle.offer_book.specs.declared.payment_days.PaymentDays.{PaymentDays};
 ghost use Rattle.verification_report.specs.Report.{bought_text, buy_line, kind_text, of_bought, pay_line, pay_lines, slgs_word as slgs_word_of};
 
 use crate::text::{push_line, push_number, push_word};
 use cash_table::Plan;
 use escrow_desk::NoMemory;
-use escrow_units::{Cents, Day, Flow, SlgsKind, print_cents, print_day, print_rate};
-use offer_book::{Book, Line, LineKind};
+use escrow_units::{Cents, Flow, SlgsKind, print_cents, print_day, print_rate};
+use offer_book::{Book, Line, LineKind, PaymentDays};
 
 // The word of a kind of SLGS securities.
 fn slgs_word(kind: SlgsKind) -> &'static [u8]
@@ -46,7 +47,7 @@ fn push_kind(text: &mut Vec<u8>, kind: LineKind) -> Result<(), NoMemory>
 
 // Adds the line of a purchase, unless it is of 0 units.
 fn push_buy(text: &mut Vec<u8>, number: u16, line: &Line, units: u64) -> Result<(), NoMemory>
-    requires line { (settle : ℤ) × IsLine settle line.now }
+    requires line { (days : PaymentDays) × IsLine days line.now }
     requires units { units ≤ line.now.most }
     ensures { OnOk result (text.new.items ≡ text.old.items ++ bought_text buy_line number line.now units) }
 {
@@ -101,32 +102,32 @@ fn push_flows(text: &mut Vec<u8>, number: u16, flows: &[Flow]) -> Result<(), NoM
 // Adds the lines of what units of a line pay, unless they are 0.
 fn push_line_payments(
     text: &mut Vec<u8>,
-    settle: Day,
+    days: &PaymentDays,
     number: u16,
     line: &Line,
     units: u64,
 ) -> Result<(), NoMemory>
-    requires settlement { IsSettlement settle }
-    requires line { IsLine settle line.now }
+    requires settlement { IsSettlement days.now.settle }
+    requires line { IsLine days.now line.now }
     requires units { units ≤ line.now.most }
-    ensures { OnOk result (text.new.items ≡ text.old.items ++ bought_text (pay_lines settle) number line.now units) }
+    ensures { OnOk result (text.new.items ≡ text.old.items ++ bought_text (pay_lines days.now) number line.now units) }
 {
     if units > 0 {
-        push_flows(text, number, line.payments(settle, units).as_slice())?;
+        push_flows(text, number, line.payments(days, units).as_slice())?;
     }
     Ok(())
 }
 
 #[tactic(auto, using(crate::proofs::BoughtFacts::one_bought))]
-/// Adds the lines of what the purchases of a permitted portfolio pay, line by line, each in order of date.
+/// Adds the lines of what the purchases of a permitted portfolio pay, line by line, each in order of date, on open days.
 pub(crate) fn push_payments(text: &mut Vec<u8>, book: &Book, plan: &Plan) -> Result<(), NoMemory>
     requires { IsPermitted book.now plan.now }
-    ensures { OnOk result (text.new.items ≡ text.old.items ++ of_bought (pay_lines book.now.settle) 1 (drop 1 book.now.lines) (drop 1 plan.now)) }
+    ensures { OnOk result (text.new.items ≡ text.old.items ++ of_bought (pay_lines book.now.days) 1 (drop 1 book.now.lines) (drop 1 plan.now)) }
 {
     for number in 1..book.line_count() {
         push_line_payments(
             text,
-            book.settle(),
+            book.payment_days(),
             number,
             book.line(number),
             plan.get(number),

@@ -1,4 +1,4 @@
-//! Reports of three escrows: one of a certificate, one of a marketable note, and one with cash that lies idle.
+//! Reports of four escrows: one of a certificate, one of a marketable note, one with cash that lies idle, and one with closed days.
 ghost use Rattle.std.specs.Prelude.{◌≡◌, length, IfOk};
 
 use crate::{report, summary};
@@ -127,6 +127,31 @@ fn escrows_are_reported(rt: HostRuntime) -> Result<(), Fail> {
                 date 2026-07-15 2040.00 0.00 2060.00\n\
                 proof 2025-04-15 1000.00 990.91 990.92\nproof 2025-07-15 40.00 39.27 39.28\n\
                 proof 2026-01-15 40.00 38.56 38.57\nproof 2026-07-15 2040.00 1931.24 1931.25\nend\n",
+        },
+        // The certificate's day is closed, and three of the note's four are of weekends: purchases show their maturities, and
+        // all else the open days.
+        Row {
+            issue: b"settle,2025-01-15\nneed,2025-04-16,1000.00\nneed,2026-08-17,1020.00\nrestricted,4.00\n\
+                weekends\nclosed,2025-04-15\n",
+            rates: b"terms,1000,100\noffer,2025-04-15,0.00,,10000\n",
+            prices: b"terms,1000,100\nnote,2026-08-15,4.000,100,200000\n",
+            units: &[0, 10, 10],
+            gap: Cents(0),
+            summary: b"cost 2016.63\nyield 3.42869892 3.42869893\nlimit 4.00100000\ngap 0.00\n",
+            report: b"escrow report\nsettlement 2025-01-15\n\
+                buy 1 certificate 2025-04-15 0.000 1000.00 1000.00\n\
+                buy 2 market 2026-08-15 4.000 1000.00 1016.63\ncash 0.00\n\
+                cost 2016.63\nyield 3.42869892 3.42869893\nlimit 4.00100000\ngap 0.00\n\
+                pay 1 2025-04-16 1000.00\npay 2 2025-02-17 20.00\npay 2 2025-08-15 20.00\npay 2 2026-02-16 20.00\n\
+                pay 2 2026-08-17 1020.00\n\
+                date 2025-01-15 0.00 0.00 0.00\ndate 2025-02-17 20.00 0.00 20.00\nidle 2025-02-17 2025-04-16 20.00\n\
+                date 2025-04-16 1000.00 1000.00 20.00\nidle 2025-04-16 2025-08-15 20.00\n\
+                date 2025-08-15 20.00 0.00 40.00\nidle 2025-08-15 2026-02-16 40.00\n\
+                date 2026-02-16 20.00 0.00 60.00\nidle 2026-02-16 2026-08-17 60.00\n\
+                date 2026-08-17 1020.00 1020.00 60.00\n\
+                proof 2025-02-17 20.00 19.93 19.94\nproof 2025-04-16 1000.00 991.44 991.45\n\
+                proof 2025-08-15 20.00 19.60 19.61\nproof 2026-02-16 20.00 19.27 19.28\n\
+                proof 2026-08-17 1020.00 966.36 966.37\nend\n",
         },
     ];
     for row in &rows {

@@ -1,5 +1,6 @@
 use Rattle.std.proofs.Common.{◌≡◌, ◌∙◌, ap, subst, arith}
 use Rattle.issue_schedule.specs.declared.issue.Issue.{Issue}
+use Rattle.offer_book.specs.declared.payment_days.PaymentDays.{PaymentDays}
 use Rattle.case_file.specs.Limit.{RestsOn}
 use Rattle.savings_table.proofs.FileBonds.{bonds-few}
 use Rattle.savings_table.proofs.laws.one_set.Goals as goal
@@ -13,6 +14,6 @@ returns-clause-set c text rate_rows price_rows issue case short is read kept =
     record {
       read = read;
       bonds = omega (arith, bonds-few text issue is);
-      settle = kept.rows.settle ∙ ap (λ (i : Issue). i.settle) same;
+      settle = ap (λ (days : PaymentDays). days.settle) kept.rows.days ∙ ap (λ (i : Issue). i.settle) same;
       limit = subst (λ (i : Issue). RestsOn i case.limit) same kept.limit;
     }

@@ -4,7 +4,7 @@ use Rattle.verification_report.proofs.purchases.push_buys.Goals as goal
 
 pub push_buy-requires-clause-line : goal.push_buy-requires-clause-line
 push_buy-requires-clause-line c = (
-  c.args.book.now.settle,
+  c.args.book.now.days,
   is_line c.args.book.now c.args.plan.now c.loop-number.number c.line.result.now c.line_count-number-end.ensures.limits c.requires
       (omega (arith, c.loop-number-test.true, c.line_count-number-end.ensures.value)) c.line.ensures,
 )

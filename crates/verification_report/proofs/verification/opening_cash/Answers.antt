@@ -4,7 +4,7 @@ use Rattle.verification_report.proofs.verification.opening_cash.Goals as goal
 
 pub cost-requires-clause-line : goal.cost-requires-clause-line
 cost-requires-clause-line c = (
-  c.args.book.now.settle,
+  c.args.book.now.days,
   is_line c.args.book.now c.args.plan.now 0 c.index-lines-0.result c.lines-lines.ensures.limits c.requires (has_lines c.args.book.now c.lines-lines.ensures.limits) (cc),
 )
 
