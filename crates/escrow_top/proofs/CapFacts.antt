@@ -14,7 +14,7 @@ use Rattle.escrow_top.specs.declared.inquiry.Inquiry.{Inquiry}
 use Rattle.escrow_top.specs.declared.inquiry.Inquiry.TheVariants as inquiry
 
 -- its terms stay
-terms-at : (cap : Rate) (case : CaseContents) → HasTerms case → HasTerms (case_at cap case)
+pub terms-at : (cap : Rate) (case : CaseContents) → HasTerms case → HasTerms (case_at cap case)
 terms-at cap case terms = record {
   least_limit = terms.least_limit;
   most_limit = terms.most_limit;
@@ -24,8 +24,8 @@ terms-at cap case terms = record {
 }
 
 -- its book keeps every limit
-book-at : (cap : Rate) (case : CaseContents) → IsBook case.book → IsBook (case_at cap case).book
-book-at cap case book = book-is cap case.book case.book.settle case.book.needs (map (line_at cap) case.book.lines) book refl refl refl
+pub book-at : (cap : Rate) (case : CaseContents) → IsBook case.book → IsBook (case_at cap case).book
+book-at cap case book = book-is cap case.book case.book.days.settle case.book.days.closed case.book.needs (map (line_at cap) case.book.lines) book refl refl refl refl
 
 -- the case by which a certificate is judged keeps its limits
 pub keeps_judged : (asked : Inquiry) (case : CaseContents) → KeepsLimits case → KeepsLimits (judged_case asked case)

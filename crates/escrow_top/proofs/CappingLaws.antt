@@ -24,10 +24,10 @@ use Rattle.escrow_check.proofs.VerdictFacts.{yes_is_right, yes_none_is_right}
 use Rattle.halving_tree.specs.Halving.{PartsAreFew, PartsAreWithin}
 use Rattle.offer_book.specs.Book.{IsBook}
 use Rattle.offer_book.specs.Rival.{IsRival}
-use Rattle.rate_cap.proofs.CaseFacts.{book-is}
 use Rattle.rate_cap.specs.CaseAt.{CasesAtCapsAreOne, IsAtCap, IsTopOf, case_at, line_at, slgs_rates}
 use Rattle.rate_cap.specs.Search.{zero_cap}
 use Rattle.verification_report.specs.Report.{figures_of}
+use Rattle.escrow_top.proofs.CapFacts.{book-at, terms-at}
 use Rattle.escrow_top.specs.Answer.{Answer, case_of, certificate_answer, yes_text}
 use Rattle.escrow_top.specs.Capping.{AreCapTexts, Caps, CapsPart, HasObstacle, IsCapDraft, IsCapDraftFor, IsCapDraftOf, IsCapEnded, IsCapPartPut, IsCapPut, IsNextKnown, IsObstacle, IsUncapped, Obstructs, PutsOutCap, PutsOutCapPart, cap_certificate, cap_text, cap_words, obstacle_answer, uncapped}
 use Rattle.escrow_top.specs.Accepted.{HasPortfolio}
@@ -75,20 +75,8 @@ obstacle_of laws case own book terms is = record {
   not_plain = λ plain. no_obstacle own (laws.plain case book (omega (arith, terms.least_limit)) terms.most_limit plain (end_of own) is);
 }
 
-book_at : (cap : Rate) (case : CaseContents) → IsBook case.book → IsBook (case_at cap case).book
-book_at cap case book = book-is cap case.book case.book.settle case.book.needs (map (line_at cap) case.book.lines) book refl refl refl
-
-terms_at : (cap : Rate) (case : CaseContents) → HasTerms case → HasTerms (case_at cap case)
-terms_at cap case terms = record {
-  least_limit = terms.least_limit;
-  most_limit = terms.most_limit;
-  allowance = terms.allowance;
-  least_budget = terms.least_budget;
-  most_budget = terms.most_budget;
-}
-
 obstacle_at : AreSearchLaws → (case : CaseContents) (cap : Rate) (own : Obstacle) → IsBook case.book → HasTerms case → IsInTheWay (case_at cap case) own → IsObstacle (case_at cap case) own
-obstacle_at laws case cap own book terms is = obstacle_of laws (case_at cap case) own (book_at cap case book) (terms_at cap case terms) is
+obstacle_at laws case cap own book terms is = obstacle_of laws (case_at cap case) own (book-at cap case book) (terms-at cap case terms) is
 
 -- where the case at its top fails, the case itself does
 itself_fails : AreSearchLaws → (case : CaseContents) (top : Rate) → IsBook case.book → HasTerms case → IsTopOf (slgs_rates case.book.lines) top → FailsAt case top → HasObstacle case
@@ -98,7 +86,7 @@ itself_fails laws case top book terms is_top fails =
 
 -- a case at a cap keeps its terms
 pub capped_terms : CasesAtCapsAreOne → (case at : CaseContents) (cap : Rate) → IsAtCap cap case at → HasTerms case → HasTerms at
-capped_terms one case at cap is terms = subst HasTerms (sym ((one cap case at).0 is)) (terms_at cap case terms)
+capped_terms one case at cap is terms = subst HasTerms (sym ((one cap case at).0 is)) (terms-at cap case terms)
 
 next_known : AreSearchLaws → (case : CaseContents) (top cap : Rate) (next : Option Unfound) → IsBook case.book → HasTerms case → IsNextAbove case top cap next → IsNextKnown case top cap next
 next_known laws case top cap None book terms is = is
@@ -168,7 +156,7 @@ capped_texts law one files case cert said gives book terms is = record {
     cap = own.cap;
     up_to = is.cap;
     yes = yes_text (case_at own.cap case) (portfolio_with (case_at own.cap case) found.plan found.gap);
-    accepted = has_portfolio law (case_at own.cap case) found.plan found.tree found.gap (book_at own.cap case book) (terms_at own.cap case terms) at;
+    accepted = has_portfolio law (case_at own.cap case) found.plan found.tree found.gap (book-at own.cap case book) (terms-at own.cap case terms) at;
     least = at.least;
     next = is.greatest.next;
     is_next = is.next;

@@ -16,7 +16,8 @@ use Rattle.fixed_powers.specs.DiscountPowers.{one}
 use Rattle.fixed_powers.specs.PresentValues.{present_value, total_cents}
 use Rattle.fixed_powers.specs.declared.side.Side.TheVariants.{Low}
 use Rattle.fixed_powers.proofs.PresentValueFacts.{value-within}
-use Rattle.row_fields.specs.RowForm.{Row, ◌>>=◌}
+use Rattle.escrow_desk.specs.declared.refusal.FileKind.TheVariants.{Prices, Rates}
+use Rattle.row_fields.specs.RowForm.{Row, ◌>>=◌, answer_of_row}
 use Rattle.yield_enclosure.specs.YieldAnswers.{AreYieldEnds, lower_end, upper_end, yield_answer_of}
 use Rattle.yield_enclosure.specs.declared.answer.YieldAnswer.TheVariants.{Between}
 use Rattle.yield_enclosure.proofs.EndFacts.{lower_end-only}
@@ -33,14 +34,14 @@ use Rattle.market_notes.specs.PriceForm.{note_file_of}
 use Rattle.market_notes.specs.declared.note.Note.{Note}
 use Rattle.market_notes.specs.declared.note.NoteFile.{NoteFile}
 use Rattle.offer_book.specs.Book.{AreLines, BookContents, IsBook, IsSecurityLine}
-use Rattle.offer_book.specs.CaseBook.{IsBookOf, book_of, book_of_files, cash_line, lines_on_offer}
+use Rattle.offer_book.specs.CaseBook.{IsBookOf, book_of, book_of_files, cash_line, issue_days, lines_on_offer}
 use Rattle.offer_book.specs.Denominations.{IsDenominated, line_of}
-use Rattle.offer_book.specs.MarketLines.{AreLinesOfNotes, IsLineOfNote, note_line, note_lines_of}
-use Rattle.offer_book.specs.Offers.{AreLinesOf, IsLineOf, offered_line, offered_lines, request_of, slgs_lines_of}
+use Rattle.offer_book.specs.MarketLines.{AreLinesOfNotes, IsLineOfNote, note_line, note_lines_from, note_lines_of}
+use Rattle.offer_book.specs.Offers.{AreLinesOf, IsLineOf, line_or_refused, offered_line, offered_lines, request_of, slgs_lines_of}
 use Rattle.offer_book.specs.declared.line.Line.{Line}
 use Rattle.offer_book.specs.declared.line.LineKind.{LineKind}
 use Rattle.offer_book.specs.declared.line.LineKind.TheVariants.{Market, Security}
-use Rattle.offer_book.proofs.OfferFacts.{bound-ok, file-lines, lines-count, no-lines, zipped-length}
+use Rattle.offer_book.proofs.OfferFacts.{bound-ok, ending-kept, file-lines, lines-count, no-lines, zipped-length}
 use Rattle.case_file.specs.Case.{CaseContents, case_with, rows_case}
 use Rattle.case_file.specs.Limit.{IsRestrictedYield, RestsOn, limit_of, restricted_yield_of}
 use Rattle.case_file.specs.Case.{IsKept}
@@ -49,6 +50,7 @@ use Rattle.escrow_top.specs.Answer.{case_of}
 use Rattle.escrow_top.specs.CaseOf.{AreWithin, CasesAreWorkedOut, GiveCase, InputsRead, IsCaseOf}
 use Rattle.escrow_top.specs.InputFiles.{InputFiles}
 use Rattle.escrow_top.proofs.InputFacts.{rows_alone}
+use Rattle.offer_book.specs.declared.payment_days.PaymentDays.{PaymentDays}
 
 -- ---- the lines of offers and notes
 -- a quotient, by the multiples between which a number lies
@@ -69,65 +71,74 @@ line-same line terms bought cap kind is some =
     λ i. record { kind = kind i; step = is.step i; least = least i; most = most i }
 
 -- a step is above 0
-step-some : (settle : ℤ) (line : Line) (terms : Terms) (cap : ℕ) → IsSecurityLine settle line → IsDenominated terms cap line → 1 ≤ terms.step
-step-some settle line terms cap good is = omega (arith, good.step_at_least, is.step)
+step-some : (days : PaymentDays) (line : Line) (terms : Terms) (cap : ℕ) → IsSecurityLine days line → IsDenominated terms cap line → 1 ≤ terms.step
+step-some days line terms cap good is = omega (arith, good.step_at_least, is.step)
 
-line-offered : (settle : ℤ) (file : RateFile) (terms : Terms) (offer : Offer) (line : Line) → IsSettlement settle → file.terms ≡ Some terms → IsLineOf settle file offer line
-    → IsSecurityLine settle line → offered_line settle file.ranges terms offer ≡ Ok line
-line-offered settle file terms offer line h stated is good =
+line-offered : (days : PaymentDays) (file : RateFile) (terms : Terms) (offer : Offer) (line : Line) → IsSettlement days.settle → file.terms ≡ Some terms → IsLineOf days file offer line
+    → IsSecurityLine days line → offered_line days file.ranges terms offer ≡ Ok line
+line-offered days file terms offer line h stated is good =
     let one : is.terms ≡ terms = some-same is.terms terms (sym is.stated ∙ stated) in
     let by : IsDenominated terms offer.cap line = subst (λ (t : Terms). IsDenominated t offer.cap line) one is.denominated in
-    let sold : Ok is.slgs ≡ classified (request_of settle file.ranges offer) = classified-only (request_of settle file.ranges offer) (Ok is.slgs) h is.rules in
-    rw (← sold) (ap (λ l. Ok l) (sym (line-same line terms (Security is.slgs) offer.cap is.security by (step-some settle line terms offer.cap good by))))
+    let sold : Ok is.slgs ≡ classified (request_of days.settle file.ranges offer) = classified-only (request_of days.settle file.ranges offer) (Ok is.slgs) h is.sold.rules in
+    ap (λ found. answer_of_row Rates offer.row (line_or_refused days terms offer.cap found)) (sym sold)
+    ∙ ap (answer_of_row Rates offer.row) (ending-kept days is.slgs.maturity (line_of terms (Security is.slgs) offer.cap) is.sold.in_time)
+    ∙ ap (λ l. Ok l) (sym (line-same line terms (Security is.slgs) offer.cap is.security by (step-some days line terms offer.cap good by)))
 
-lines-offered : (settle : ℤ) (file : RateFile) (terms : Terms) (offers : List Offer) (lines : List Line) → IsSettlement settle → file.terms ≡ Some terms
-    → AllZip (IsLineOf settle file) offers lines → All (IsSecurityLine settle) lines → offered_lines settle file.ranges terms offers ≡ Ok lines
-lines-offered settle file terms [] [] h stated are good = refl
-lines-offered settle file terms [] (line ∷ lines) h stated are good = absurd are
-lines-offered settle file terms (offer ∷ offers) [] h stated are good = absurd are
-lines-offered settle file terms (offer ∷ offers) (line ∷ lines) h stated are good =
+lines-offered : (days : PaymentDays) (file : RateFile) (terms : Terms) (offers : List Offer) (lines : List Line) → IsSettlement days.settle → file.terms ≡ Some terms
+    → AllZip (IsLineOf days file) offers lines → All (IsSecurityLine days) lines → offered_lines days file.ranges terms offers ≡ Ok lines
+lines-offered days file terms [] [] h stated are good = refl
+lines-offered days file terms [] (line ∷ lines) h stated are good = absurd are
+lines-offered days file terms (offer ∷ offers) [] h stated are good = absurd are
+lines-offered days file terms (offer ∷ offers) (line ∷ lines) h stated are good =
     rw (
-      line-offered settle file terms offer line h stated are.0 (All-head (IsSecurityLine settle) line lines good),
-      lines-offered settle file terms offers lines h stated are.1 (All-tail (IsSecurityLine settle) line lines good),
+      line-offered days file terms offer line h stated are.0 (All-head (IsSecurityLine days) line lines good),
+      lines-offered days file terms offers lines h stated are.1 (All-tail (IsSecurityLine days) line lines good),
     ) refl
 
 -- a file without terms offers nothing
-no-lines_of : (settle : ℤ) (file : RateFile) (offers : List Offer) (lines : List Line) → file.terms ≡ None → AllZip (IsLineOf settle file) offers lines → lines ≡ []
-no-lines_of settle file [] [] none are = refl
-no-lines_of settle file [] (line ∷ lines) none are = absurd are
-no-lines_of settle file (offer ∷ offers) [] none are = absurd are
-no-lines_of settle file (offer ∷ offers) (line ∷ lines) none are = absurd (let clash : None ≡ Some are.0.terms = sym none ∙ are.0.stated in cc)
+no-lines_of : (days : PaymentDays) (file : RateFile) (offers : List Offer) (lines : List Line) → file.terms ≡ None → AllZip (IsLineOf days file) offers lines → lines ≡ []
+no-lines_of days file [] [] none are = refl
+no-lines_of days file [] (line ∷ lines) none are = absurd are
+no-lines_of days file (offer ∷ offers) [] none are = absurd are
+no-lines_of days file (offer ∷ offers) (line ∷ lines) none are = absurd (let clash : None ≡ Some are.0.terms = sym none ∙ are.0.stated in cc)
 
-slgs-lines : (settle : ℤ) (file : RateFile) (lines : List Line) (terms : Option Terms) → file.terms ≡ terms → IsSettlement settle → AreLinesOf settle file lines
-    → All (IsSecurityLine settle) lines → slgs_lines_of settle file ≡ Ok lines
-slgs-lines settle file lines None stated h are good = no-lines settle file stated ∙ ap (λ ls. Ok ls) (sym (no-lines_of settle file file.offers lines stated are))
-slgs-lines settle file lines (Some terms) stated h are good =
-    file-lines settle file terms (Ok lines) stated (lines-offered settle file terms file.offers lines h stated are good)
+slgs-lines : (days : PaymentDays) (file : RateFile) (lines : List Line) (terms : Option Terms) → file.terms ≡ terms → IsSettlement days.settle → AreLinesOf days file lines
+    → All (IsSecurityLine days) lines → slgs_lines_of days file ≡ Ok lines
+slgs-lines days file lines None stated h are good = no-lines days file stated ∙ ap (λ ls. Ok ls) (sym (no-lines_of days file file.offers lines stated are))
+slgs-lines days file lines (Some terms) stated h are good =
+    file-lines days file terms (Ok lines) stated (lines-offered days file terms file.offers lines h stated are good)
 
 -- the lines of notes
-notes-map : (settle : ℤ) (file : NoteFile) (terms : Terms) (notes : List Note) (lines : List Line) → file.terms ≡ Some terms → AllZip (IsLineOfNote file) notes lines
-    → All (IsSecurityLine settle) lines → map (note_line terms) notes ≡ lines
-notes-map settle file terms [] [] stated are good = refl
-notes-map settle file terms [] (line ∷ lines) stated are good = absurd are
-notes-map settle file terms (note ∷ notes) [] stated are good = absurd are
-notes-map settle file terms (note ∷ notes) (line ∷ lines) stated are good =
-    let own = are.0 in
-    let one : own.terms ≡ terms = some-same own.terms terms (sym own.stated ∙ stated) in
-    let by : IsDenominated terms note.cap line = subst (λ (t : Terms). IsDenominated t note.cap line) one own.denominated in
-    let first : note_line terms note ≡ line = sym (line-same line terms (Market note) note.cap own.bought by (step-some settle line terms note.cap (All-head (IsSecurityLine settle) line lines good) by)) in
-    ap (λ l. l ∷ map (note_line terms) notes) first ∙ ap (λ ls. line ∷ ls) (notes-map settle file terms notes lines stated are.1 (All-tail (IsSecurityLine settle) line lines good))
+note-offered : (days : PaymentDays) (file : NoteFile) (terms : Terms) (row : ℕ) (note : Note) (line : Line) → file.terms ≡ Some terms → IsLineOfNote days file note line
+    → IsSecurityLine days line → answer_of_row Prices row (note_line days terms note) ≡ Ok line
+note-offered days file terms row note line stated is good =
+    let one : is.terms ≡ terms = some-same is.terms terms (sym is.stated ∙ stated) in
+    let by : IsDenominated terms note.cap line = subst (λ (t : Terms). IsDenominated t note.cap line) one is.denominated in
+    ap (answer_of_row Prices row) (ending-kept days note.maturity (line_of terms (Market note) note.cap) is.in_time)
+    ∙ ap (λ l. Ok l) (sym (line-same line terms (Market note) note.cap is.bought by (step-some days line terms note.cap good by)))
 
-no-notes_of : (file : NoteFile) (notes : List Note) (lines : List Line) → file.terms ≡ None → AllZip (IsLineOfNote file) notes lines → lines ≡ []
-no-notes_of file [] [] none are = refl
-no-notes_of file [] (line ∷ lines) none are = absurd are
-no-notes_of file (note ∷ notes) [] none are = absurd are
-no-notes_of file (note ∷ notes) (line ∷ lines) none are = absurd (let clash : None ≡ Some are.0.terms = sym none ∙ are.0.stated in cc)
+notes-offered : (days : PaymentDays) (file : NoteFile) (terms : Terms) (row : ℕ) (notes : List Note) (lines : List Line) → file.terms ≡ Some terms → AllZip (IsLineOfNote days file) notes lines
+    → All (IsSecurityLine days) lines → note_lines_from days terms row notes ≡ Ok lines
+notes-offered days file terms row [] [] stated are good = refl
+notes-offered days file terms row [] (line ∷ lines) stated are good = absurd are
+notes-offered days file terms row (note ∷ notes) [] stated are good = absurd are
+notes-offered days file terms row (note ∷ notes) (line ∷ lines) stated are good =
+    rw (
+      note-offered days file terms row note line stated are.0 (All-head (IsSecurityLine days) line lines good),
+      notes-offered days file terms (row + 1) notes lines stated are.1 (All-tail (IsSecurityLine days) line lines good),
+    ) refl
 
-note-lines : (settle : ℤ) (file : NoteFile) (lines : List Line) (terms : Option Terms) → file.terms ≡ terms → AreLinesOfNotes file lines
-    → All (IsSecurityLine settle) lines → note_lines_of file ≡ lines
+no-notes_of : (days : PaymentDays) (file : NoteFile) (notes : List Note) (lines : List Line) → file.terms ≡ None → AllZip (IsLineOfNote days file) notes lines → lines ≡ []
+no-notes_of days file [] [] none are = refl
+no-notes_of days file [] (line ∷ lines) none are = absurd are
+no-notes_of days file (note ∷ notes) [] none are = absurd are
+no-notes_of days file (note ∷ notes) (line ∷ lines) none are = absurd (let clash : None ≡ Some are.0.terms = sym none ∙ are.0.stated in cc)
+
+note-lines : (days : PaymentDays) (file : NoteFile) (lines : List Line) (terms : Option Terms) → file.terms ≡ terms → AreLinesOfNotes days file lines
+    → All (IsSecurityLine days) lines → note_lines_of days file ≡ Ok lines
 unfolding note_lines_of
-note-lines settle file lines None stated are good = rw stated (sym (no-notes_of file file.notes lines stated are))
-note-lines settle file lines (Some terms) stated are good = rw stated (notes-map settle file terms file.notes lines stated are good)
+note-lines days file lines None stated are good = rw stated (ap (λ ls. Ok ls) (sym (no-notes_of days file file.notes lines stated are)))
+note-lines days file lines (Some terms) stated are good = rw stated (notes-offered days file terms 2 file.notes lines stated are good)
 
 -- ---- the book
 front : {A : Type 0} (P : A → Type 0) (xs ys : List A) → All P (xs ++ ys) → All P xs
@@ -138,22 +149,22 @@ back : {A : Type 0} (P : A → Type 0) (xs ys : List A) → All P (xs ++ ys) →
 back P [] ys all = all
 back P (x ∷ xs) ys all = back P xs ys (All-tail P x (xs ++ ys) all)
 
-book-lines : (book : BookContents) (cash : Line) (lines : List Line) → IsBook book → book.lines ≡ cash ∷ lines → All (IsSecurityLine book.settle) lines × (length lines ≤ MOST_LINES)
-book-lines book cash lines limits is = let all : AreLines book.settle (cash ∷ lines) = subst (AreLines book.settle) is limits.lines in (all.1, all.2)
+book-lines : (book : BookContents) (cash : Line) (lines : List Line) → IsBook book → book.lines ≡ cash ∷ lines → All (IsSecurityLine book.days) lines × (length lines ≤ MOST_LINES)
+book-lines book cash lines limits is = let all : AreLines book.days (cash ∷ lines) = subst (AreLines book.days) is limits.lines in (all.1, all.2)
 
 book-is : (issue : Issue) (rates : RateFile) (notes : NoteFile) (book : BookContents) → IsBook book → IsBookOf issue rates notes book → book_of_files issue rates notes ≡ Ok book
 unfolding book_of_files
 book-is issue rates notes book limits is =
+    let days = issue_days issue in
     let good = book-lines book (cash_line issue.cash.0) (is.offers ++ is.market) limits is.lines in
-    let own : All (IsSecurityLine issue.settle) (is.offers ++ is.market) = subst (λ settle. All (IsSecurityLine settle) (is.offers ++ is.market)) is.settle good.0 in
-    let h : IsSettlement issue.settle = subst IsSettlement is.settle limits.settlement in
-    let offers = slgs-lines issue.settle rates is.offers rates.terms refl h is.of_offers (front (IsSecurityLine issue.settle) is.offers is.market own) in
-    let market : note_lines_of notes ≡ is.market = note-lines issue.settle notes is.market notes.terms refl is.of_notes (back (IsSecurityLine issue.settle) is.offers is.market own) in
+    let own : All (IsSecurityLine days) (is.offers ++ is.market) = subst (λ (d : PaymentDays). All (IsSecurityLine d) (is.offers ++ is.market)) is.days good.0 in
+    let h : IsSettlement issue.settle = subst (λ (d : PaymentDays). IsSettlement d.settle) is.days limits.settlement in
+    let offers = slgs-lines days rates is.offers rates.terms refl h is.of_offers (front (IsSecurityLine days) is.offers is.market own) in
+    let market = note-lines days notes is.market notes.terms refl is.of_notes (back (IsSecurityLine days) is.offers is.market own) in
     let few : lines_on_offer rates notes ≤ MOST_LINES =
-    omega (arith, length-append is.offers is.market, lines-count issue.settle rates is.offers is.of_offers, zipped-length (IsLineOfNote notes) notes.notes is.market is.of_notes, good.1) in
-    let lines : book.lines ≡ (book_of issue (is.offers ++ note_lines_of notes)).lines = is.lines ∙ ap (λ more. cash_line issue.cash.0 ∷ (is.offers ++ more)) (sym market) in
-    let same : book_of issue (is.offers ++ note_lines_of notes) ≡ book = λ i. record { settle = sym is.settle i; needs = sym is.needs i; lines = sym lines i } in
-    rw (offers, le-ltb MOST_LINES (lines_on_offer rates notes) few) (ap (λ b. Ok b) same)
+    omega (arith, length-append is.offers is.market, lines-count days rates is.offers is.of_offers, zipped-length (IsLineOfNote days notes) notes.notes is.market is.of_notes, good.1) in
+    let same : book_of issue (is.offers ++ is.market) ≡ book = λ i. record { days = sym is.days i; needs = sym is.needs i; lines = sym is.lines i } in
+    rw (offers, market, le-ltb MOST_LINES (lines_on_offer rates notes) few) (ap (λ b. Ok b) same)
 
 -- ---- the limit
 -- the yield of payments is the interval that starts at its lower end

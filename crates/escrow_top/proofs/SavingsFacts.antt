@@ -29,6 +29,6 @@ savings_are issue case plan rests =
       new_value = new-lies issue n issue.restricted;
       saved = refl;
       securities = securities_value case n plan;
-      securities_value = range-lies case.book.settle n (security_flows case.book plan);
+      securities_value = range-lies case.book.days.settle n (security_flows case.book plan);
       idle = refl;
     }

@@ -27,10 +27,10 @@ yields-none book plan none free = rw (none, free) refl
 yields-zero : (book : BookContents) (plan : List ℕ) → IsBook book → AreWithoutInterest book.lines → IsPermitted book plan → (security_flows book plan ≡ [] → ⊥) → plan_yield book plan ≡ Between (record { 0 = 0 }) (record { 0 = 0 })
 yields-zero book plan limits interest permitted some =
     let flows = security_flows book plan in
-    zero_yield (indexed book.settle flows) (security_cost book plan)
-    (indexes_near book.settle flows limits.settlement (flows_within book plan limits))
-    (later-amount book.settle flows (flows_later book plan limits) some)
-    (total_cents-indexed book.settle flows ∙ zero_interest_total book plan limits interest permitted)
+    zero_yield (indexed book.days.settle flows) (security_cost book plan)
+    (indexes_near book.days.settle flows limits.settlement (flows_within book plan limits))
+    (later-amount book.days.settle flows (flows_later book plan limits) some)
+    (total_cents-indexed book.days.settle flows ∙ zero_interest_total book plan limits interest permitted)
 
 -- a test on the cost gives the yield
 abbrev by_test : Bool → YieldAnswer

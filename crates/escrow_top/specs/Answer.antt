@@ -107,6 +107,7 @@ kind_word kind.TooShort = codes "TooShort"
 kind_word kind.TooLongTerm = codes "TooLongTerm"
 kind_word kind.FirstDate = codes "FirstDate"
 kind_word kind.TooManyLines = codes "TooManyLines"
+kind_word kind.ClosedPastEnd = codes "ClosedPastEnd"
 
 -- a file is refused: which one, at which row, from 1 or 0 for the whole file, and why
 abbrev pub refused_text : Refusal → List ℕ

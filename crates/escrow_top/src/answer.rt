@@ -135,6 +135,7 @@ fn kind_word(kind: RefusalKind) -> &'static [u8]
         RefusalKind::TooLongTerm => b"TooLongTerm",
         RefusalKind::FirstDate => b"FirstDate",
         RefusalKind::TooManyLines => b"TooManyLines",
+        RefusalKind::ClosedPastEnd => b"ClosedPastEnd",
     }
 }
 

@@ -1,6 +1,7 @@
 //! Whole runs of `check-cap` over a desk in memory.
 
 use crate::Status;
+use crate::failing_tests::try_failing_calls;
 use crate::tests::{FIRST, FIRST_TEXT, Files, NO_RIVAL, USAGE, outcome_of};
 use std::test::Fail;
 
@@ -93,20 +94,6 @@ fn certificates_at_a_cap(rt: HostRuntime) -> Result<(), Fail> {
 #[test]
 fn each_call_at_a_cap_fails_in_turn(rt: HostRuntime) -> Result<(), Fail> {
     let words = ["check-cap", "3.02", "i", "r", "p", "c"];
-    for failing in 0..8 {
-        let ran = outcome_of(rt.alloc(), &words, &CAPPED, failing)?;
-        let status = if failing < 7 {
-            Status::ReadFault
-        } else {
-            Status::WriteFault
-        };
-        assert_eq!(rt; ran.status, status);
-        assert_eq!(rt; ran.desk.said(), b"".as_slice());
-        assert_eq!(rt; ran.desk.calls(), failing + 1);
-    }
     let lacking = ["check-cap", "3.02", "i", "r", "p", "none"];
-    let ran = outcome_of(rt.alloc(), &lacking, &CAPPED, 8)?;
-    assert_eq!(rt; ran.status, Status::NoFile);
-    assert_eq!(rt; ran.desk.said(), b"".as_slice());
-    Ok(())
+    try_failing_calls(&rt, rt.alloc(), &CAPPED, &words, &lacking)
 }

@@ -1,6 +1,7 @@
 //! Whole runs of `cap` over a desk in memory.
 
 use crate::Status;
+use crate::failing_tests::try_failing_writes;
 use crate::tests::{FIRST, Files, outcome_of};
 use std::test::Fail;
 
@@ -116,26 +117,8 @@ fn capped_cases(rt: HostRuntime) -> Result<(), Fail> {
     Ok(())
 }
 
-// A call that fails leaves the certificate's file as it was, empty or whole, and says nothing.
 #[test]
 fn each_call_of_cap_fails_in_turn(rt: HostRuntime) -> Result<(), Fail> {
-    let files = Files {
-        cert: b"x",
-        ..FIRST
-    };
-    for failing in 0..8 {
-        let ran = outcome_of(rt.alloc(), &CAP, &files, failing)?;
-        let (status, cert): (Status, &[u8]) = match failing {
-            5 => (Status::WriteFault, b"x"),
-            6 => (Status::WriteFault, b""),
-            7 => (Status::WriteFault, FIRST.cert),
-            _ => (Status::ReadFault, b"x"),
-        };
-        assert_eq!(rt; ran.status, status);
-        assert_eq!(rt; ran.desk.bytes_of("c"), Some(cert));
-        assert_eq!(rt; ran.desk.said(), b"".as_slice());
-    }
-    let lacking = outcome_of(rt.alloc(), &["cap", "i", "r", "none", "c"], &files, 8)?;
-    assert_eq!(rt; lacking.status, Status::NoFile);
-    Ok(())
+    let lacking = ["cap", "i", "r", "none", "c"];
+    try_failing_writes(&rt, rt.alloc(), &CAP, &lacking)
 }

@@ -28,6 +28,10 @@ mod bound_tests;
 #[cfg(test)]
 mod cap_tests;
 #[cfg(test)]
+mod closed_tests;
+#[cfg(test)]
+mod failing_tests;
+#[cfg(test)]
 mod limit_tests;
 #[cfg(test)]
 mod make_tests;

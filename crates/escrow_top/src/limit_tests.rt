@@ -1,15 +1,12 @@
 //! Each limit at its last good value and one past it, and a certificate that is cut off after each number of bytes.
 
-use crate::tests::{CHECK, FIRST, Files, named, outcome_of};
+use crate::tests::{CHECK, FIRST, FIRST_TEXT, Files, named, outcome_of};
 use crate::{Status, run};
 use escrow_desk::MemoryDesk;
 use escrow_units::{Day, print_day};
 use std::alloc::Global;
 use std::process::Abort;
 use std::test::Fail;
-
-const FIRST_TEXT: &[u8] =
-    b"yes\ncost 5000.00\nyield 0.00000000 0.00000000\nlimit 4.00100000\ngap 0.00\n";
 
 // The need date of the first case.
 const FIRST_DATE: i32 = 20_193;

@@ -1,6 +1,7 @@
 //! Whole runs of `savings` over a desk in memory. Present values were worked out apart, by exact decimals of 80 places.
 
 use crate::Status;
+use crate::failing_tests::try_failing_calls;
 use crate::tests::{FIRST, Files, NO_RIVAL, NOTE, outcome_of};
 use std::test::Fail;
 
@@ -73,19 +74,6 @@ fn what_is_saved(rt: HostRuntime) -> Result<(), Fail> {
 
 #[test]
 fn each_call_of_savings_fails_in_turn(rt: HostRuntime) -> Result<(), Fail> {
-    for failing in 0..8 {
-        let ran = outcome_of(rt.alloc(), &SAVINGS, &NOTE, failing)?;
-        let status = if failing < 7 {
-            Status::ReadFault
-        } else {
-            Status::WriteFault
-        };
-        assert_eq!(rt; ran.status, status);
-        assert_eq!(rt; ran.desk.said(), b"".as_slice());
-        assert_eq!(rt; ran.desk.calls(), failing + 1);
-    }
-    let lacking = outcome_of(rt.alloc(), &["savings", "i", "r", "none", "c"], &NOTE, 8)?;
-    assert_eq!(rt; lacking.status, Status::NoFile);
-    assert_eq!(rt; lacking.desk.said(), b"".as_slice());
-    Ok(())
+    let lacking = ["savings", "i", "r", "none", "c"];
+    try_failing_calls(&rt, rt.alloc(), &NOTE, &SAVINGS, &lacking)
 }

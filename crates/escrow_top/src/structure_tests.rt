@@ -1,5 +1,6 @@
 //! Whole runs of `structure` over a desk in memory.
 
+use crate::failing_tests::try_failing_writes;
 use crate::tests::{CHECK, FIRST, Files, outcome_of};
 use crate::{Status, run};
 use std::alloc::Global;
@@ -171,30 +172,18 @@ fn structured_and_checked(rt: HostRuntime) -> Result<(), Fail> {
     Ok(())
 }
 
-// A call that fails leaves the certificate's file as it was, empty or whole, and says nothing.
 #[test]
 fn each_call_of_structure_fails_in_turn(rt: HostRuntime) -> Result<(), Fail> {
-    let files = Files {
-        cert: b"x",
-        ..FIRST
-    };
-    for failing in 0..8 {
-        let ran = outcome_of(rt.alloc(), &STRUCTURE, &files, failing)?;
-        let (status, cert): (Status, &[u8]) = match failing {
-            5 => (Status::WriteFault, b"x"),
-            6 => (Status::WriteFault, b""),
-            7 => (Status::WriteFault, FIRST.cert),
-            _ => (Status::ReadFault, b"x"),
-        };
-        assert_eq!(rt; ran.status, status);
-        assert_eq!(rt; ran.desk.bytes_of("c"), Some(cert));
-        assert_eq!(rt; ran.desk.said(), b"".as_slice());
-    }
-    // The certificate may take the place of a file that was read.
-    let ran = outcome_of(rt.alloc(), &["structure", "i", "r", "p", "p"], &files, 8)?;
+    let lacking = ["structure", "i", "r", "none", "c"];
+    try_failing_writes(&rt, rt.alloc(), &STRUCTURE, &lacking)
+}
+
+// The certificate may take the place of a file that was read.
+#[test]
+fn certificate_over_an_input(rt: HostRuntime) -> Result<(), Fail> {
+    let words = ["structure", "i", "r", "p", "p"];
+    let ran = outcome_of(rt.alloc(), &words, &FIRST, u64::MAX)?;
     assert_eq!(rt; ran.status, Status::Done);
     assert_eq!(rt; ran.desk.bytes_of("p"), Some(FIRST.cert));
-    let lacking = outcome_of(rt.alloc(), &["structure", "i", "r", "none", "c"], &files, 8)?;
-    assert_eq!(rt; lacking.status, Status::NoFile);
     Ok(())
 }

@@ -755,28 +755,6 @@ fn words_that_read_nothing(rt: HostRuntime) -> Result<(), Fail> {
 }
 
 #[test]
-fn each_call_fails_in_turn(rt: HostRuntime) -> Result<(), Fail> {
-    for failing in 0..8 {
-        let ran = outcome_of(rt.alloc(), &CHECK, &FIRST, failing)?;
-        let status = if failing < 7 {
-            Status::ReadFault
-        } else {
-            Status::WriteFault
-        };
-        assert_eq!(rt; ran.status, status);
-        assert_eq!(rt; ran.desk.said(), b"".as_slice());
-        assert_eq!(rt; ran.desk.calls(), failing + 1);
-    }
-    let whole = outcome_of(rt.alloc(), &CHECK, &FIRST, 8)?;
-    assert_eq!(rt; whole.status, Status::Done);
-    assert_eq!(rt; whole.desk.calls(), 8);
-    let lacking = outcome_of(rt.alloc(), &["check", "i", "none", "p", "c"], &FIRST, 8)?;
-    assert_eq!(rt; lacking.status, Status::NoFile);
-    assert_eq!(rt; lacking.desk.said(), b"".as_slice());
-    Ok(())
-}
-
-#[test]
 fn exit_statuses(rt: HostRuntime) {
     let rows = [
         (Status::Done, 0),
