@@ -9,13 +9,14 @@ from typing import Callable, Optional
 
 from . import amounts
 from .amounts import FieldFault
-from .days import days_after, index_from, series_after, years_after
+from .days import ClosedDays, days_after, index_from, series_after, years_after
 from .records import Record, records_of
 
 ISSUE, RATES, PRICES, CERT = "issue", "rates", "prices", "cert"
 INPUT_LIMIT = 1_048_576
 GREATEST_LINES = 256
 GREATEST_NEED_DATES = 480
+GREATEST_CLOSED_ROWS = 1_000
 FIRST_SETTLEMENT, LAST_SETTLEMENT = date(2000, 1, 1), date(2150, 1, 1)
 TERM_YEARS = 40
 
@@ -81,11 +82,17 @@ class Issue:
     needs: list[Flow] = field(default_factory=list)
     pays: list[Flow] = field(default_factory=list)
     amounts: dict[str, Amount] = field(default_factory=dict)
+    weekends: Optional[Record] = None
+    closed: dict[date, Record] = field(default_factory=dict)
 
     def amount(self, word: str, default: Optional[int] = None) -> Optional[int]:
         """What the row of this word says: cents, units of yield, or a count."""
         found = self.amounts.get(word)
         return default if found is None else found.value
+
+    @property
+    def closed_days(self) -> ClosedDays:
+        return ClosedDays(self.weekends is not None, frozenset(self.closed))
 
     @property
     def last_day(self) -> date:
@@ -200,7 +207,7 @@ AMOUNT_READERS = {
     "allowance": amounts.read_cents,
     "budget": amounts.read_count,
 }
-ISSUE_WORDS = ("settle", "call", "bond", "need", "pay") + tuple(AMOUNT_READERS)
+ISSUE_WORDS = ("settle", "call", "bond", "need", "pay") + tuple(AMOUNT_READERS) + ("weekends", "closed")
 RATES_WORDS = ("terms", "rate", "offer")
 PRICES_WORDS = ("terms", "note")
 
@@ -249,6 +256,23 @@ def _add_pay(row: RowReader, issue: Issue) -> None:
     issue.pays.append(pay)
 
 
+def _add_weekends(row: RowReader, issue: Issue) -> None:
+    row.width(1)
+    if issue.weekends is not None:
+        raise row.refuse("Repeated", earlier=issue.weekends)
+    issue.weekends = row.record
+
+
+def _add_closed(row: RowReader, issue: Issue) -> None:
+    row.width(2)
+    day = row.day(1, issue.last_day)
+    if day <= issue.settlement:
+        raise row.refuse("DateOrder", 1)
+    if day in issue.closed:
+        raise row.refuse("Repeated", earlier=issue.closed[day])
+    issue.closed[day] = row.record
+
+
 def _stands_before(word: str, issue: Issue) -> Optional[Record]:
     """An earlier row beside which a row of this word may not stand."""
     rivals = {"restricted": ("restricted", "price"), "price": ("price", "restricted")}.get(word, (word,))
@@ -270,13 +294,22 @@ def _add_amount(row: RowReader, issue: Issue) -> None:
     issue.amounts[word] = Amount(row.record, value)
 
 
+ADDERS = {
+    "call": _add_call,
+    "bond": _add_bond,
+    "need": _add_need,
+    "pay": _add_pay,
+    "weekends": _add_weekends,
+    "closed": _add_closed,
+}
+
+
 def _add_issue_row(row: RowReader, issue: Issue, settled: Record) -> None:
     word = row.record.word
     if word == "settle":
         _read_settlement(row)
         raise row.refuse("Repeated", earlier=settled)
-    adders = {"call": _add_call, "bond": _add_bond, "need": _add_need, "pay": _add_pay}
-    adder = adders.get(word, _add_amount if word in AMOUNT_READERS else None)
+    adder = ADDERS.get(word, _add_amount if word in AMOUNT_READERS else None)
     if adder is None:
         raise row.refuse("UnknownRow", 0)
     adder(row, issue)
@@ -459,3 +492,9 @@ def try_terms(offer: Offer, index: RateIndex, settlement: date) -> int:
         if not is_long or offer.first not in first_dates(settlement, offer.maturity):
             raise Refusal(RATES, "FirstDate", offer.record, 3)
     return rate
+
+
+def try_end(file: str, record: Record, maturity: date, issue: Issue, closed: ClosedDays) -> None:
+    """Refuses what matures on a day that opens after all days of the case."""
+    if closed.open_day(maturity) > issue.last_day:
+        raise Refusal(file, "ClosedPastEnd", record, 1)

@@ -1,9 +1,11 @@
-"""Days, and the dates of a security's half-years, as docs/FORMATS.md counts them."""
+"""Days, the dates of a security's half-years, and open days, as docs/FORMATS.md counts them."""
 
 from __future__ import annotations
 
+from dataclasses import dataclass
 from datetime import date, timedelta
 from functools import lru_cache
+from typing import Iterable
 
 MONTH_DAYS = (31, 28, 31, 30, 31, 30, 31, 31, 30, 31, 30, 31)
 
@@ -76,3 +78,35 @@ def is_weekend(day: date) -> bool:
 
 def weekday_name(day: date) -> str:
     return ("Monday", "Tuesday", "Wednesday", "Thursday", "Friday", "Saturday", "Sunday")[day.weekday()]
+
+
+@dataclass(frozen=True)
+class ClosedDays:
+    """The days on which no receipt comes: each Saturday and Sunday, or none of them, and a set of days."""
+
+    weekends: bool = False
+    days: frozenset = frozenset()
+
+    def is_closed(self, day: date) -> bool:
+        return day in self.days or (self.weekends and is_weekend(day))
+
+    def open_day(self, day: date) -> date:
+        """The day on which a receipt of a day comes: the first from it on that is open."""
+        while self.is_closed(day):
+            day = days_after(day, 1)
+        return day
+
+    def open_by(self, day: date) -> date:
+        """The last open day up to a day: what matures then comes by that day."""
+        while self.is_closed(day):
+            day = days_after(day, -1)
+        return day
+
+
+NONE_CLOSED = ClosedDays()
+
+
+def closed_together(several: Iterable[ClosedDays]) -> ClosedDays:
+    """The days that are closed in any of several cases."""
+    several = list(several)
+    return ClosedDays(any(one.weekends for one in several), frozenset().union(*(one.days for one in several)))

@@ -1,4 +1,4 @@
-"""Issue files made from others: with another allowance, or with the needs alone."""
+"""Issue files made from others: with another allowance, with the needs alone, or with the closed days."""
 
 from __future__ import annotations
 
@@ -6,6 +6,7 @@ import re
 
 from .amounts import FieldFault, read_cents
 from .case_files import Issue
+from .days import ClosedDays
 from .records import BYTE_ORDER_MARK, records_of
 
 GREATEST_ALLOWANCE = "100000000000.00"
@@ -40,3 +41,8 @@ def paid_by_cash(issue: Issue, data: bytes) -> bytes:
     rows = [record.text for record in records_of(data) if record.word in NEED_WORDS]
     rows += ["cash," + GREATEST_ALLOWANCE, "restricted,29.99", "allowance," + GREATEST_ALLOWANCE]
     return ("\n".join(rows) + "\n").encode("utf-8", "replace")
+
+
+def closing_rows(closed: ClosedDays) -> list[str]:
+    """The rows that say which days are closed."""
+    return ["weekends"] * closed.weekends + ["closed,%s" % day for day in sorted(closed.days)]

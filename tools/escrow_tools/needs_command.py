@@ -9,6 +9,9 @@ from datetime import date
 
 from . import amounts
 from .amounts import counted, money, money_for_people
+from .closed_needs import closed_needs, told_closed_needs
+from .days import ClosedDays, closed_together
+from .issue_text import closing_rows
 from .needs import bond_payments, bond_total, is_called, joined
 from .needs_asked import Series, asked_needs, read_series
 from .records import records_of
@@ -33,7 +36,7 @@ def words() -> Words:
     kinds.add_argument(
         "--issue",
         action="store_true",
-        help="one whole issue file of them all: `settle`, the needs, and the further rows of the files",
+        help="one whole issue file of them all: `settle`, the needs, the days that are closed in any, and the further rows of the files",
     )
     return parser
 
@@ -67,7 +70,7 @@ def _try_settlements(files: list[Series]) -> None:
 
 def _whole_issue(files: list[Series], needs: list[str]) -> list[str]:
     """The rows of one issue file of them all."""
-    rows = ["settle,%s" % files[0].issue.settlement] + needs
+    rows = ["settle,%s" % files[0].issue.settlement] + needs + closing_rows(_closed(files))
     said: dict[str, str] = {}
     for series in files:
         for record in records_of(series.data):
@@ -83,8 +86,13 @@ def _whole_issue(files: list[Series], needs: list[str]) -> list[str]:
     return rows
 
 
+def _closed(files: list[Series]) -> ClosedDays:
+    """The closed days of all files: a receipt comes on a day that is open in each of them."""
+    return closed_together(series.issue.closed_days for series in files)
+
+
 def amounts_rows() -> tuple:
-    """The words of the rows that aren't needs."""
+    """The words of the rows of which one file alone has one, or payments."""
     return ("cash", "restricted", "price", "pay", "allowance", "budget")
 
 
@@ -125,4 +133,6 @@ def _totals(files: list[Series], needs: dict[date, int]) -> list[str]:
             )
         )
     lines.append("%s, %s together" % (counted(len(needs), "need date"), money_for_people(sum(needs.values()))))
-    return lines
+    closed = _closed(files)
+    days = closed_needs(needs, closed, files[0].issue.settlement)
+    return lines + ([told_closed_needs(days, closed)] if days else [])

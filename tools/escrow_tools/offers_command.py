@@ -10,6 +10,7 @@ from typing import Optional
 from . import amounts, program
 from .amounts import FieldFault, counted, rate_text, read_day, read_hundredths, short_rate
 from .case_files import PRICES, Refusal, Terms, read_prices
+from .closed_needs import closed_needs, told_closed_needs
 from .days import days_after, is_weekend, months_after, weekday_name, years_after
 from .explaining import explain_refusal
 from .inputs import beside, read_file, write_file
@@ -20,9 +21,9 @@ from .speaking import Stop, Words, put_out, tell
 
 WHAT = """\
 rates.csv for an issue, from a table of rates as it is published: a line for each length with its rate, the length in
-years and months or in days (`3 months,3.95`, `1-06,4.02`, `90 days,3.90`). Offers stand on each need date: one at the
-table's greatest rate and one at 0.00, since a subscriber may choose any rate up to the table's, and where the yield
-limit binds the low one is what lets it be met and proved."""
+years and months or in days (`3 months,3.95`, `1-06,4.02`, `90 days,3.90`). Offers stand on each need date, or on the last
+open day before one that is closed: one at the table's greatest rate and one at 0.00, since a subscriber may choose any
+rate up to the table's, and where the yield limit binds the low one is what lets it be met and proved."""
 
 BETWEEN = ("lower", "shorter", "longer")
 
@@ -90,9 +91,15 @@ class Maker:
 
     def __init__(self, series: Series, needs: dict, table: DatedTable, terms: Terms):
         self.settlement = series.issue.settlement
+        self.closed = series.issue.closed_days
         self.needs = needs
         self.ranges = table.ranges()
         self.terms = terms
+
+    def paying_days(self) -> list[date]:
+        """The days on which what matures is there for a need: each need date, or the last open day before it."""
+        days = {self.closed.open_by(day) for day in self.needs}
+        return sorted(day for day in days if day > self.settlement)
 
     def greatest(self, maturity: date) -> Optional[int]:
         found = [one.rate for one in self.ranges if one.first <= maturity <= one.last]
@@ -131,7 +138,8 @@ def within_limit(greatest: list[Offer], zeros: list[Offer], further: list[Offer]
     return sorted(kept, key=lambda offer: (offer.maturity, offer.rate is not None, -(offer.rate or 0)))
 
 
-def _further_days(chosen, settlement: date, last: date) -> list[date]:
+def _further_days(chosen, maker: Maker, last: date) -> list[date]:
+    settlement, end = maker.settlement, years_after(maker.settlement, 40)
     days = _listed(chosen.dates, read_day, "maturities are YYYY-MM-DD, parted by commas")
     if chosen.every is not None:
         if chosen.every < 1:
@@ -140,9 +148,12 @@ def _further_days(chosen, settlement: date, last: date) -> list[date]:
         while months_after(settlement, months) <= last:
             days.append(months_after(settlement, months))
             months += chosen.every
-    early = [day for day in days if not settlement < day <= years_after(settlement, 40)]
+    early = [day for day in days if not settlement < day <= end]
     if early:
         raise Stop("a maturity on %s isn't after settlement and within 40 years of it" % early[0])
+    late = [day for day in days if maker.closed.open_day(day) > end]
+    if late:
+        raise Stop("a maturity on %s is paid on the next open day, which isn't within 40 years of settlement" % late[0])
     return sorted(set(days))
 
 
@@ -208,11 +219,9 @@ def run(arguments: list[str]) -> int:
 
 def _offers(chosen, maker: Maker) -> tuple[list[Offer], int]:
     """The offers that are made, and how many the limit of lines left out."""
-    days = [day for day in maker.needs if day > maker.settlement]
+    days = maker.paying_days()
     others = [
-        day
-        for day in _further_days(chosen, maker.settlement, max(days, default=maker.settlement))
-        if day not in maker.needs
+        day for day in _further_days(chosen, maker, max(days, default=maker.settlement)) if day not in days
     ]
     ladder = _listed(chosen.rates, read_hundredths, "rates are in percent with at most two decimals, parted by commas")
     greatest = maker.at_greatest(days)
@@ -243,18 +252,33 @@ def _said(maker: Maker, offers: list[Offer], left_out: int, table: PublishedTabl
     )
     if left_out:
         lines.append("%s left out, evenly over time, to keep to the limit of lines" % counted(left_out, "offer"))
-    lines += _uncovered(maker, offers)
-    weekends = [offer.maturity for offer in offers if is_weekend(offer.maturity)]
-    if weekends:
-        lines.append(
-            "%s on a weekend, the first on %s, a %s: business days aren't looked at"
-            % (
-                "1 maturity is" if len(weekends) == 1 else "%d maturities are" % len(weekends),
-                weekends[0],
-                weekday_name(weekends[0]),
-            )
+    return lines + _uncovered(maker, offers) + _weekends(maker, offers) + _closed(maker)
+
+
+def _weekends(maker: Maker, offers: list[Offer]) -> list[str]:
+    """Maturities on a Saturday or Sunday that isn't closed."""
+    maturities = [offer.maturity for offer in offers]
+    weekends = [day for day in maturities if is_weekend(day) and not maker.closed.is_closed(day)]
+    if not weekends:
+        return []
+    return [
+        "%s on a weekend, the first on %s, a %s: without a `weekends` row in the issue file what they pay counts on that day"
+        % (
+            "1 maturity is" if len(weekends) == 1 else "%d maturities are" % len(weekends),
+            weekends[0],
+            weekday_name(weekends[0]),
         )
-    return lines
+    ]
+
+
+def _closed(maker: Maker) -> list[str]:
+    """Need dates that are closed, and where the offers for them stand."""
+    days = closed_needs(maker.needs, maker.closed, maker.settlement)
+    if not days:
+        return []
+    return [
+        told_closed_needs(days, maker.closed) + "; so what is offered for it matures on %s" % maker.closed.open_by(days[0])
+    ]
 
 
 def _uncovered(maker: Maker, offers: list[Offer]) -> list[str]:

@@ -10,8 +10,8 @@ from typing import Optional
 
 from . import program
 from .amounts import counted, price_text, rate_text
-from .case_files import RATES, Refusal, read_rates
-from .days import is_weekend, years_after
+from .case_files import RATES, Issue, Refusal, read_rates
+from .days import ClosedDays, is_weekend, years_after
 from .explaining import explain_refusal
 from .inputs import beside, read_file, write_file
 from .needs_asked import asked_needs, read_series
@@ -62,24 +62,27 @@ def _limit(chosen) -> int:
     return limit_beside(offers, chosen.lines)
 
 
-def _usable(found: NoteList, settlement: date, last: date) -> list[Listed]:
-    """The notes that mature after settlement and by the last need; the others are passed over, and why."""
+def _usable(found: NoteList, issue: Issue, last: date) -> list[Listed]:
+    """The notes that mature after settlement and are paid by the last need; the others are passed over, and why."""
+    settlement, closed = issue.settlement, issue.closed_days
     usable = []
     for note in found.notes:
         if note.maturity <= settlement or note.maturity > years_after(settlement, 40):
             found.skipped.append((note.line, "it doesn't mature after settlement, within 40 years"))
         elif note.maturity > last:
             found.skipped.append((note.line, "it matures after the last need"))
+        elif closed.open_day(note.maturity) > last:
+            found.skipped.append((note.line, "it matures on a closed day, and is paid after the last need"))
         else:
             usable.append(note)
     return usable
 
 
-def _least_idle(notes: list[Listed], needs: list[date], limit: int) -> list[Listed]:
+def _least_idle(notes: list[Listed], needs: list[date], closed: ClosedDays, limit: int) -> list[Listed]:
     """The notes whose principal waits least for a need, up to a limit, in order of maturity."""
 
     def waits(note: Listed) -> int:
-        return (needs[bisect_left(needs, note.maturity)] - note.maturity).days
+        return (needs[bisect_left(needs, closed.open_day(note.maturity))] - note.maturity).days
 
     kept = sorted(notes, key=lambda note: (waits(note), note.maturity))[:limit]
     return sorted(kept, key=lambda note: (note.maturity, note.coupon, note.line))
@@ -114,10 +117,11 @@ def run(arguments: list[str]) -> int:
         raise Stop("%s needs nothing, so that nothing has to be offered" % chosen.issue)
     terms = asked_terms(chosen.terms)
     found = read_note_list(read_file(chosen.list), chosen.price, chosen.quote)
-    usable = _usable(found, series.issue.settlement, max(needs))
-    notes = _least_idle(usable, sorted(needs), _limit(chosen))
+    usable = _usable(found, series.issue, max(needs))
+    closed = series.issue.closed_days
+    notes = _least_idle(usable, sorted(needs), closed, _limit(chosen))
     rows = ["terms,%d,%d" % (terms.minimum, terms.step)] + [
-        note_row(note, cap_of(note.maturity, needs, terms)) for note in notes
+        note_row(note, cap_of(closed.open_day(note.maturity), needs, terms)) for note in notes
     ]
     text = "".join(row + "\n" for row in rows) if notes else ""
     if chosen.output:
@@ -125,7 +129,7 @@ def run(arguments: list[str]) -> int:
         write_file(beside(chosen.output, COMMENTS), _comments(notes, chosen.list).encode())
     else:
         put_out(text.encode())
-    tell(*_said(chosen, found, notes, len(usable) - len(notes)))
+    tell(*_said(chosen, found, notes, len(usable) - len(notes)), *_weekend(notes, closed))
     return 0
 
 
@@ -144,14 +148,21 @@ def _said(chosen, found: NoteList, notes: list[Listed], left_out: int) -> list[s
             "caution: line %d of the list has the maturity and the coupon of a note before it: is it the same note?"
             % twice.line
         )
-    weekend = next((note for note in notes if is_weekend(note.maturity)), None)
-    if weekend is not None:
-        lines.append(
-            "the note that matures on %s does so on a weekend: business days aren't looked at" % weekend.maturity
-        )
     if any(note.cusip for note in notes) and not chosen.output:
         lines.append("the CUSIPs aren't kept: -o FILE writes them beside FILE")
     return lines
+
+
+def _weekend(notes: list[Listed], closed: ClosedDays) -> list[str]:
+    """A note that matures on a Saturday or Sunday that isn't closed."""
+    maturities = [note.maturity for note in notes]
+    found = next((day for day in maturities if is_weekend(day) and not closed.is_closed(day)), None)
+    if found is None:
+        return []
+    return [
+        "the note that matures on %s does so on a weekend: without a `weekends` row in the issue file what it pays counts on that day"
+        % found
+    ]
 
 
 def _twice(notes: list[Listed]) -> Optional[Listed]:

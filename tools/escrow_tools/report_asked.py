@@ -15,7 +15,7 @@ from .case_files import Note, Offer
 from .certificate import Certificate
 from .explaining.case_reading import CaseRead
 from .explaining.holdings import Holdings, holdings_of
-from .issue_text import GREATEST_ALLOWANCE
+from .issue_text import GREATEST_ALLOWANCE, closing_rows
 from .program import CaseBytes, Folder
 from .report import Balance, Idle, Report, read_report
 from .speaking import Stop
@@ -59,6 +59,7 @@ def forced_case(case: CaseRead, held: Holdings) -> Asked:
         "allowance," + GREATEST_ALLOWANCE,
         "cash," + money(held.cash),
     ]
+    issue += closing_rows(case.issue.closed_days)
     issue += ["need,%s,%s" % (day, money(cents)) for day, cents in sorted(held.receipts.items()) if cents]
     ranges = [",".join(one.record.fields) for one in case.rates.ranges]
     return Asked(

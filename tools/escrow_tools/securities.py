@@ -7,8 +7,17 @@ from datetime import date
 from typing import Optional
 
 from .amounts import near
-from .case_files import Issue, Prices, RateIndex, Rates, first_dates, try_terms
-from .days import half_back, halves_to, index_from, series_after, series_date_up_to, years_after
+from .case_files import PRICES, RATES, Issue, Prices, RateIndex, Rates, first_dates, try_end, try_terms
+from .days import (
+    NONE_CLOSED,
+    ClosedDays,
+    half_back,
+    halves_to,
+    index_from,
+    series_after,
+    series_date_up_to,
+    years_after,
+)
 from .yields import IndexedFlow
 
 YEAR_RATE = 100_000
@@ -18,15 +27,20 @@ PRICE_UNITS = 10**10
 
 @dataclass(frozen=True)
 class Receipt:
-    """What a line pays on a day, in cents."""
+    """What a line pays on a day, in cents; it was due on that day, or on a closed one before it."""
 
     day: date
     principal: int
     interest: int
+    due: date
 
     @property
     def total(self) -> int:
         return self.principal + self.interest
+
+    @property
+    def is_moved(self) -> bool:
+        return self.day != self.due
 
 
 @dataclass(frozen=True)
@@ -50,6 +64,7 @@ class Slgs:
     maturity: date
     rate: int
     first: date
+    closed: ClosedDays = NONE_CLOSED
 
     @property
     def basis(self) -> int:
@@ -60,17 +75,23 @@ class Slgs:
                     return 366
         return 365
 
+    @property
+    def end(self) -> date:
+        """The day of the last receipt."""
+        return self.closed.open_day(self.maturity)
+
     def cost(self, face: int) -> Cost:
         return Cost(face, 0)
 
     def receipts(self, face: int) -> list[Receipt]:
         if self.kind == "certificate":
             days = (self.maturity - self.settlement).days
-            return [Receipt(self.maturity, face, near(face * self.rate * days, YEAR_RATE * self.basis))]
+            interest = near(face * self.rate * days, YEAR_RATE * self.basis)
+            return [_receipt(self, self.maturity, face, interest)]
         days = [day for day in series_after(self.maturity, self.settlement) if day >= self.first]
         half = near(face * self.rate, HALF_RATE)
         interest = [self._first_interest(face)] + [half] * (len(days) - 1)
-        return [Receipt(day, face if day == self.maturity else 0, paid) for day, paid in zip(days, interest)]
+        return [_receipt(self, day, face, paid) for day, paid in zip(days, interest)]
 
     def _first_interest(self, face: int) -> int:
         halves = halves_to(self.maturity, self.first, False)
@@ -90,7 +111,13 @@ class Market:
     maturity: date
     rate: int
     price: int
+    closed: ClosedDays = NONE_CLOSED
     kind: str = "market"
+
+    @property
+    def end(self) -> date:
+        """The day of the last receipt."""
+        return self.closed.open_day(self.maturity)
 
     def cost(self, face: int) -> Cost:
         begins = series_date_up_to(self.maturity, self.settlement, True)
@@ -101,7 +128,12 @@ class Market:
     def receipts(self, face: int) -> list[Receipt]:
         half = near(face * self.rate, HALF_RATE)
         days = series_after(self.maturity, self.settlement, True)
-        return [Receipt(day, face if day == self.maturity else 0, half) for day in days]
+        return [_receipt(self, day, face, half) for day in days]
+
+
+def _receipt(security, due: date, face: int, interest: int) -> Receipt:
+    """What is due on a day, with the face at maturity: it comes on the next open day, and its amount stays."""
+    return Receipt(security.closed.open_day(due), face if due == security.maturity else 0, interest, due)
 
 
 @dataclass(frozen=True)
@@ -120,22 +152,25 @@ class Line:
         return isinstance(self.security, Slgs)
 
 
-def _slgs(settlement: date, maturity: date, rate: int, first: Optional[date]) -> Slgs:
+def _slgs(settlement: date, maturity: date, rate: int, first: Optional[date], closed: ClosedDays) -> Slgs:
     if maturity <= years_after(settlement, 1):
-        return Slgs("certificate", settlement, maturity, rate, maturity)
+        return Slgs("certificate", settlement, maturity, rate, maturity, closed)
     kind = "note" if maturity <= years_after(settlement, 10) else "bond"
-    return Slgs(kind, settlement, maturity, rate, first or first_dates(settlement, maturity)[0])
+    return Slgs(kind, settlement, maturity, rate, first or first_dates(settlement, maturity)[0], closed)
 
 
 def lines_of(issue: Issue, rates: Rates, prices: Prices) -> list[Line]:
-    """All lines, offers first; an offer that breaks a rule is refused."""
+    """All lines, offers first; an offer that breaks a rule is refused, and then what opens too late."""
     lines = []
-    index = RateIndex(rates.ranges)
+    index, closed = RateIndex(rates.ranges), issue.closed_days
     for offer in rates.offers:
-        security = _slgs(issue.settlement, offer.maturity, try_terms(offer, index, issue.settlement), offer.first)
+        rate = try_terms(offer, index, issue.settlement)
+        try_end(RATES, offer.record, offer.maturity, issue, closed)
+        security = _slgs(issue.settlement, offer.maturity, rate, offer.first, closed)
         lines.append(_line(len(lines) + 1, security, rates.terms, offer))
     for note in prices.notes:
-        security = Market(issue.settlement, note.maturity, note.coupon, note.price)
+        try_end(PRICES, note.record, note.maturity, issue, closed)
+        security = Market(issue.settlement, note.maturity, note.coupon, note.price, closed)
         lines.append(_line(len(lines) + 1, security, prices.terms, note))
     return lines
 

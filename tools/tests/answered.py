@@ -1,4 +1,4 @@
-"""Answers other than refusals, and what has to be said of each."""
+"""Answers other than refusals of a row by itself, and what has to be said of each."""
 
 from __future__ import annotations
 
@@ -59,6 +59,8 @@ HIGH_CERT = "escrow-certificate 1\nportfolio 1\nbuy 1 1000\ngap 0\nnodes 1\nl 1 
 HIGH_COARSE = "terms,1000,1000\nrate,2025-02-14,2026-01-15,4.00\noffer,2025-07-15,4.00,,2000\n"
 LOW_ISSUE = "settle,2025-01-15\nneed,2025-07-15,1000.00\nrestricted,3.00\n"
 CAPPED_CERT = "escrow-certificate 1\nportfolio 1\nbuy 1 1\ngap 0\nnodes 3\ns 1 0\nl 0 0 1000000000000\nl 1 0 0\nend\n"
+CLOSED, LAST_CLOSED = "closed,2025-04-15\n", "closed,2065-01-15\n"
+LAST_NOTE = "terms,1000,100\nnote,2065-01-15,4.000,100,10000\n"
 COARSE = "settle,2025-01-15\nneed,2025-04-15,5050.00\nrestricted,4.00\n"
 COARSE_CERT = CERTIFICATE.replace("buy 1 50", "buy 1 51").replace("gap 0", "gap 5000")
 
@@ -84,6 +86,19 @@ ANSWERED = (
     Answered("savings of more than the cap", cert("buy 1 50", "buy 1 101"), SAVINGS, "no NotPermitted 1", ("101 units",)),
     Answered("a certificate of another issue file", case(issue=ISSUE.replace("5000.00", "5000.01")), CHECK, "no ShortOn 2025-04-15",
              ("needed up to then: 5,000.01", "received up to then: 5,000.00", "short by 0.01")),
+    Answered("a receipt of a closed day", case(issue=ISSUE + CLOSED), CHECK, "no ShortOn 2025-04-15",
+             ("5,000.00 is due by then and comes later (1 receipt)", "due on 2025-04-15, which is closed, comes on 2025-04-16",
+              "needs stay where they are")),
+    Answered("receipts of closed days alone", case(issue=ISSUE + CLOSED), STRUCTURE, "infeasible 2025-04-15",
+             ("10,000.00 is due by then and comes later", "comes on 2025-04-16", "needs stay where they are", "a line that matures by 2025-04-14")),
+    Answered("a receipt on the next open day", case(issue=ISSUE.replace("04-15", "04-16") + CLOSED), CHECK, "yes", ("pay every need",)),
+    Answered("a receipt on a Monday", case(issue=ISSUE.replace("04-15", "04-14") + "weekends\n", rates=RATES.replace("04-15", "04-12")),
+             CHECK, "yes", ("pay every need",)),
+    Answered("an offer that is paid too late", case(issue=ISSUE + LAST_CLOSED, rates=RATES.replace("2025-04", "2065-01")), CHECK,
+             "refused rates row 2 ClosedPastEnd", ("next open day, 2065-01-16", "the last day is 2065-01-15",
+                                                   "write instead: offer,2065-01-14,0.00,,10000")),
+    Answered("a note that is paid too late", case(issue=ISSUE + LAST_CLOSED, prices=LAST_NOTE), CHECK,
+             "refused prices row 2 ClosedPastEnd", ("next open day, 2065-01-16", "delete the row")),
     Answered("more than the cap", cert("buy 1 50", "buy 1 101"), CHECK, "no NotPermitted 1",
              ("101 units", "10,100.00", "from 1,000.00 to 10,000.00")),
     Answered("dollars in the place of units", cert("buy 1 50", "buy 1 5000"), CHECK, "no NotPermitted 1",

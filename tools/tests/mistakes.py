@@ -216,6 +216,15 @@ DAYS = [
            "refused rates row 4 FirstDate", OFFER),
     _field("a first payment date between half-years", "rates", LAST, "offer,2027-01-15,max,2025-08-15,1000000", "refused rates row 8 FirstDate",
            LAST, "2025-07-15 or 2026-01-15"),
+    _field("a holiday by another word", "issue", "cash,1000.00", "holiday,2025-12-25", "refused issue row 5 UnknownRow", "closed,2025-12-25"),
+    _field("a holiday with its name", "issue", "cash,1000.00", "closed,2025-12-25,Christmas", "refused issue row 5 WrongFields",
+           "closed,2025-12-25", "what the day is called"),
+    _field("a holiday as month/day/year", "issue", "cash,1000.00", "closed,12/25/2025", "refused issue row 5 BadDate", "closed,2025-12-25"),
+    _field("a comma behind weekends", "issue", "cash,1000.00", "weekends,", "refused issue row 5 WrongFields", "weekends", "1 field", "pads rows"),
+    _told("weekends twice", "issue", "cash,1000.00", "weekends\nweekends", "refused issue row 6 Repeated", "line 5"),
+    _told("a holiday twice", "issue", "cash,1000.00", "closed,2025-12-25\nclosed,2025-12-25", "refused issue row 6 Repeated", "is closed by line 5"),
+    _told("a holiday before settlement", "issue", "cash,1000.00", "closed,2025-01-15", "refused issue row 5 DateOrder", "opening cash"),
+    _told("a holiday past 40 years", "issue", "cash,1000.00", "closed,2065-01-16", "refused issue row 5 OutOfRange", "40 years"),
     _told("a note that has matured", "prices", NOTE, "note,2024-07-15,3.500,99-30,1000000", "refused prices row 2 Matured", "delete the row"),
 ]
 FILES = [
@@ -233,6 +242,9 @@ FILES = [
     _whole("too many need dates", "issue",
            _bytes(ISSUE + "".join("need,20%02d-%02d-%02d,1.00\n" % (26 + n // 336, n // 28 % 12 + 1, n % 28 + 1) for n in range(481))),
            "refused issue row 0 TooManyDates", "480"),
+    _whole("too many holidays", "issue",
+           _bytes(ISSUE + "".join("closed,20%02d-%02d-%02d\n" % (26 + n // 336, n // 28 % 12 + 1, n % 28 + 1) for n in range(1_001))),
+           "refused issue row 0 TooManyDates", "1,001 `closed` rows", "`weekends`"),
     _whole("needs over the limit", "issue", _bytes(ISSUE + "need,2026-01-15,60000000000\nneed,2026-01-16,60000000000\n"),
            "refused issue row 0 NeedsTooLarge", "100,000,000,000.00"),
 ]
@@ -244,7 +256,9 @@ CAUTIONS = [
     _told("a bond that stands twice", "issue", BOND, BOND + "\n" + BOND, "", "caution", "line 3"),
     _told("an offer that stands twice", "rates", OFFER, OFFER + "\n" + OFFER, "", "caution", "line 4"),
     _told("settlement on a Saturday", "issue", SETTLE, "settle,2025-01-11", "", "caution", "Saturday"),
-    _told("a maturity on a Sunday", "rates", "offer,2026-07-15,max,,100000", "offer,2026-07-12,max,,100000", "", "caution", "Sunday"),
+    _told("a maturity on a Sunday", "rates", "offer,2026-07-15,max,,100000", "offer,2026-07-12,max,,100000", "", "caution", "Sunday", "`weekends`"),
+    _told("a need on a closed day", "issue", "cash,1000.00", "cash,1000.00\nclosed,2025-04-15", "", "caution",
+          "1 need date is closed, 2025-04-15, a Tuesday", "needs stay where they are", "comes on 2025-04-16"),
     _told("a settlement of a year before", "issue", SETTLE, "settle,2024-01-15", "", "caution", "settlement day right"),
     _told("a call after all maturities", "issue", CALL, "call,2036-01-15,101", "", "caution", "nothing is called"),
 ]

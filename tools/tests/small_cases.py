@@ -91,6 +91,19 @@ def _prices(draw: random.Random, settlement: date, count: int, most_units: int) 
     return "\n".join(rows) + "\n" if count else ""
 
 
+def _closings(issue: list, files: tuple) -> list:
+    """In one case of three, closed days: weekends, days on which something is due, and days behind these."""
+    # Drawn apart, so that what else is drawn stays.
+    draw = random.Random("".join(issue) + "".join(files))
+    if draw.random() < 0.66:
+        return []
+    lines = SmallCase("\n".join(issue + ["restricted,0"]), *files).read().lines
+    due = sorted({one.due for line in lines for one in line.security.receipts(line.most)})
+    first = draw.sample(due, min(len(due), draw.randrange(1, 4)))
+    days = {day + timedelta(days=further) for day in first for further in range(draw.choice((1, 1, 2, 40)))}
+    return ["weekends"] * (draw.random() < 0.5) + ["closed,%s" % day for day in sorted(days)]
+
+
 def _need_days(draw: random.Random, case: CaseRead) -> list:
     """Days of receipts, or some days before or behind one; where there is cash, perhaps settlement."""
     paid = sorted({one.day for line in case.lines for one in line.security.receipts(line.most)})
@@ -163,6 +176,7 @@ def drawn_case(draw: random.Random) -> SmallCase:
         _prices(draw, settlement, notes, MOST_UNITS[count]),
     )
     rows = ["settle,%s" % settlement] + _cash(draw)
+    rows += _closings(rows, files)
     rows += _needs(draw, SmallCase("\n".join(rows + ["restricted,0"]), *files).read())
     case = SmallCase("\n".join(rows + ["restricted,0"]), *files).read()
     choices = choices_of(case)

@@ -63,6 +63,16 @@ def drawn_issue(draw: random.Random, settlement: date) -> str:
     return "\n".join(rows) + "\nrestricted,29.99\n"
 
 
+def drawn_closings(number: int, settlement: date) -> str:
+    """No closed days, or some: weekends, days one by one, or a run of days; drawn apart, so that what else is drawn stays."""
+    draw = random.Random(1000 + number)
+    rows = ["weekends\n"] if number % 3 == 1 or number % 6 == 5 else []
+    days = {drawn_day(draw, settlement, 1, 30) for _ in range(400)} if number % 3 == 2 else set()
+    begins = drawn_day(draw, settlement, 1, 2)
+    days |= {begins + timedelta(days=further) for further in range(200 if days else 0)}
+    return "".join(rows + ["closed,%s\n" % day for day in days])
+
+
 def drawn_rates(draw: random.Random, settlement: date) -> str:
     rows = ["terms,1000,%d" % draw.choice((1, 100, 1000)), "rate,%s,2199-12-31,6.50" % settlement]
     for _ in range(draw.randrange(1, 9)):
@@ -163,6 +173,7 @@ class FiguresTest(FolderTest):
             issue = "settle,%s\nrestricted,%d.%02d\ncash,50000\n" % (settlement, draw.randrange(7), draw.randrange(100))
             for _ in range(3):
                 issue += "need,%s,%d.25\n" % (drawn_day(draw, settlement, 0, 30), draw.randrange(1, 5_000_000))
+            issue += drawn_closings(number, settlement)
             files = (issue, drawn_rates(draw, settlement), drawn_prices(draw, settlement))
             case = read_whole_case(*(text.encode() for text in files))
             with self.subTest(number=number):
@@ -192,6 +203,7 @@ class FiguresTest(FolderTest):
             )
             for _ in range(4):
                 issue += "need,%s,%d.25\n" % (drawn_day(draw, settlement, 40, 30), draw.randrange(1, 40_000_000))
+            issue += drawn_closings(number, settlement)
             files = (issue, drawn_rates(draw, settlement), drawn_prices(draw, settlement))
             case = read_whole_case(*(text.encode() for text in files))
             short = [day for day in case.needs if sum(most_receipts(case, day)[:2]) < up_to(case.needs, day)]
@@ -208,7 +220,7 @@ class FiguresTest(FolderTest):
         for number in range(DRAWS):
             draw = random.Random(number)
             settlement = SETTLEMENTS[number % len(SETTLEMENTS)]
-            issue = drawn_issue(draw, settlement)
+            issue = drawn_issue(draw, settlement) + drawn_closings(number, settlement)
             with self.subTest(number=number):
                 self.try_needs(issue)
                 self.try_purchases(draw, issue, drawn_rates(draw, settlement), drawn_prices(draw, settlement))

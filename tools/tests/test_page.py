@@ -136,6 +136,31 @@ class PageTest(FolderTest):
         self.assertIn("needs", reader.tables)
         self.assertNotIn("sources", reader.tables)
 
+    def test_closed_days(self) -> None:
+        """A receipt of a closed day stands with the day on which it is due, and counts on that on which it is paid."""
+        words = self.write_case(
+            "settle,2025-01-15\nneed,2025-04-16,1000.00\nneed,2026-08-17,1020.00\nrestricted,4.00\nallowance,100.00\n"
+            "weekends\nclosed,2025-04-15\n",
+            "terms,1000,1000\noffer,2025-04-15,0.00,,1000\n",
+            "terms,1000,1000\nnote,2026-08-15,4.000,100,1000\n",
+        )
+        self.assertEqual(run_program(self.folder, "structure", *words).status, 0)
+        reader = self.make(*words)
+        self.try_totals(reader)
+        table = reader.tables["receipts"]
+        places = [table["thead"][0].index(name) for name in ("line", "maturity", "due on", "paid on", "total")]
+        self.assertEqual(
+            [[row[place] for place in places] for row in table["tbody"]],
+            [
+                ["1", "2025-04-15", "2025-04-15", "2025-04-16", "1,000.00"],
+                ["2", "2026-08-15", "2025-02-15", "2025-02-17", "20.00"],
+                ["2", "2026-08-15", "2025-08-15", "2025-08-15", "20.00"],
+                ["2", "2026-08-15", "2026-02-15", "2026-02-16", "20.00"],
+                ["2", "2026-08-15", "2026-08-15", "2026-08-17", "1,020.00"],
+            ],
+        )
+        self.assertEqual([row[0] for row in reader.tables["needs"]["tbody"]], ["2025-04-16", "2026-08-17"])
+
     def test_damaged_reports(self) -> None:
         words = self.write_example("refunding")
         example = EXAMPLES / "refunding"

@@ -81,6 +81,19 @@ class NeedsTest(FolderTest):
         whole = run_tool(self.folder, "needs", "--issue", "a.csv", "b.csv")
         self.assertEqual(whole.lines, ["settle,2025-01-15"] + ran.lines + ["restricted,4.00"])
 
+    def test_closed_days(self) -> None:
+        """Needs stay where they are; one issue file of several has the closed days of each, once."""
+        self.write("a.csv", "settle,2025-01-15\nbond,2026-07-15,100000.00,4.000\nclosed,2026-07-15\nweekends\n")
+        self.write("b.csv", "settle,2025-01-15\nclosed,2026-07-15\nclosed,2025-12-25\nneed,2025-07-19,10.00\nrestricted,4.00\n")
+        ran = run_tool(self.folder, "needs", "--issue", "a.csv", "b.csv")
+        needs = ["need,2025-07-15,2000.00", "need,2025-07-19,10.00"]
+        needs += ["need,2026-01-15,2000.00", "need,2026-07-15,102000.00"]
+        closings = ["weekends", "closed,2025-12-25", "closed,2026-07-15"]
+        self.assertEqual(ran.lines, ["settle,2025-01-15"] + needs + closings + ["restricted,4.00"])
+        self.assertIn("2 need dates are closed, the first 2025-07-19, a Saturday: needs stay where they are", ran.err)
+        self.assertIn("what matures then comes on 2025-07-21", ran.err)
+        self.assertEqual(run_tool(self.folder, "needs", "a.csv", "b.csv").lines, needs)
+
     def test_by_bond(self) -> None:
         self.write(
             "a.csv", "settle,2025-01-15\ncall,2026-03-31,101\nbond,2027-06-30,100000.00,4.125\nneed,2025-06-30,500.00\n"
@@ -153,6 +166,31 @@ class OffersTest(FolderTest):
                 "offer,2027-07-15,2.00,,250100",
             ],
         )
+
+    def test_closed_days(self) -> None:
+        """What is offered for a need of a Sunday matures on the Friday before it, where weekends are closed."""
+        issue = ISSUE.replace("2026-07-15", "2026-07-19")
+        self.write("issue.csv", issue)
+        self.write("table.csv", TABLE)
+        ran = run_tool(self.folder, "offers", "issue.csv", "table.csv", "-o", "rates.csv")
+        self.assertIn("a Sunday: without a `weekends` row", ran.err)
+        self.assertIn("offer,2026-07-19,max,,350001\n", (self.folder / "rates.csv").read_text())
+        words = self.write_case(issue + "weekends\nallowance,1000.00\n", "", "")
+        ran = run_tool(self.folder, "offers", "issue.csv", "table.csv", "-o", "rates.csv")
+        self.assertNotIn("without a `weekends` row", ran.err)
+        self.assertIn("1 need date is closed, 2026-07-19, a Sunday: needs stay where they are", ran.err)
+        self.assertIn("comes on 2026-07-20; so what is offered for it matures on 2026-07-17", ran.err)
+        offers = [line for line in (self.folder / "rates.csv").read_text().splitlines() if line.startswith("offer,")]
+        self.assertEqual(
+            offers,
+            [
+                "offer,2026-07-17,max,,350001",
+                "offer,2026-07-17,0.00,,350001",
+                "offer,2027-07-15,max,,250001",
+                "offer,2027-07-15,0.00,,250001",
+            ],
+        )
+        self.assertEqual(run_program(self.folder, "structure", *words).lines[0], "escrow report")
 
     def test_comments(self) -> None:
         self.rates("-o", "rates.csv")
@@ -246,6 +284,17 @@ class PricesTest(FolderTest):
         )
         comments = list(csv.DictReader(io.StringIO((self.folder / "prices.comments.csv").read_text())))
         self.assertEqual([row["cusip"] for row in comments], ["91282CAA1", "91282CBB2"])
+
+    def test_closed_days(self) -> None:
+        """A note that is paid after a need isn't wanted for it; one that is paid after the last need is passed over."""
+        self.write("issue.csv", ISSUE + "closed,2026-07-15\n")
+        self.write("notes.csv", NOTES)
+        ran = run_tool(self.folder, "prices", "issue.csv", "notes.csv")
+        self.assertEqual(ran.lines[1:], ["note,2026-07-15,4.125,100-02+,251000", "note,2027-06-30,3.500,99.53125,251000"])
+        self.write("issue.csv", ISSUE.replace("2027-07-15", "2027-07-01") + "closed,2027-07-01\nclosed,2027-06-30\n")
+        ran = run_tool(self.folder, "prices", "issue.csv", "notes.csv")
+        self.assertEqual(ran.lines[1:], ["note,2026-07-15,4.125,100-02+,351000"])
+        self.assertIn("it matures on a closed day, and is paid after the last need", ran.err)
 
     def test_forms(self) -> None:
         self.write("issue.csv", ISSUE)

@@ -18,7 +18,7 @@ from .cautions import Cautions
 from .explanation import shown
 from .files import explain_fault
 from .grammar import explain_grammar
-from .holdings import holdings_of, is_permitted, most_receipts, up_to
+from .holdings import come_later, holdings_of, is_permitted, most_receipts, moved_receipts, up_to
 from .refusals import explain_refusal
 
 HUGE_ALLOWANCE = 10**13
@@ -206,7 +206,14 @@ def _infeasible(run: Run) -> list[str]:
         "up to that day %s is needed, and at most %s comes in (cash %s, securities %s): %s is short"
         % tuple(money_for_people(cents) for cents in (needed, cash + paid, cash, paid, needed - cash - paid))
     )
-    if matured == 0:
+    later = come_later(moved_receipts(case), day)
+    lines += later
+    if matured == 0 and later:
+        lines.append(
+            "nothing on offer matures early enough to be paid by then: offer a line that matures by %s, or bring that much `cash` to "
+            "settlement" % case.issue.closed_days.open_by(day)
+        )
+    elif matured == 0:
         lines.append(
             "nothing on offer matures by then: offer a line that does, or bring that much `cash` to settlement"
         )
@@ -319,11 +326,13 @@ def _short_on(run: Run, words: list[str]) -> list[str]:
     day, case, certificate = date.fromisoformat(words[0]), run.read_case(), run.read_certificate()
     lines = ["up to %s less comes in than is needed" % day]
     if certificate is not None and case.refusal is None:
-        receipts, needed = up_to(holdings_of(case, certificate).receipts, day), up_to(case.needs, day)
+        held = holdings_of(case, certificate)
+        receipts, needed = up_to(held.receipts, day), up_to(case.needs, day)
         lines.append(
             "needed up to then: %s; received up to then: %s; short by %s"
             % tuple(money_for_people(cents) for cents in (needed, receipts, needed - receipts))
         )
+        lines += come_later(held.moved, day)
     return lines + ["buy more that pays by that day; or is this the certificate of an earlier issue file?"]
 
 

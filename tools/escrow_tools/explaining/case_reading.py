@@ -6,6 +6,7 @@ from dataclasses import dataclass, field, replace
 from typing import Optional
 
 from ..case_files import (
+    GREATEST_CLOSED_ROWS,
     GREATEST_LINES,
     GREATEST_NEED_DATES,
     ISSUE,
@@ -74,7 +75,7 @@ def _read_issue(case: CaseRead, data: bytes) -> None:
     case.needs = needs_by_day(case.issue)
     if max(sum(case.needs.values()), sum(pay.cents for pay in case.issue.pays)) > GREATEST_CENTS:
         raise Refusal(ISSUE, "NeedsTooLarge")
-    if len(case.needs) > GREATEST_NEED_DATES:
+    if len(case.needs) > GREATEST_NEED_DATES or len(case.issue.closed) > GREATEST_CLOSED_ROWS:
         raise Refusal(ISSUE, "TooManyDates")
 
 

@@ -1,4 +1,4 @@
-"""What isn't refused, and is hardly meant: rates that look like fractions, rows that stand twice, days on a weekend."""
+"""What isn't refused, and is hardly meant: rates that look like fractions, rows that stand twice, days on a weekend or closed."""
 
 from __future__ import annotations
 
@@ -7,7 +7,8 @@ from typing import Iterator
 
 from ..amounts import counted, money_for_people, rate_text
 from ..case_files import ISSUE, PRICES, RATES
-from ..days import is_weekend, weekday_name
+from ..closed_needs import closed_needs, told_closed_needs
+from ..days import NONE_CLOSED, is_weekend, weekday_name
 from ..records import Record
 from .case_reading import CaseRead
 from .explanation import shown
@@ -35,6 +36,7 @@ class Cautions:
             self.cent_prices,
             self.twice,
             self.weekends,
+            self.closed_needs,
             self.far_settlement,
             self.unused_call,
         ):
@@ -98,7 +100,7 @@ class Cautions:
                 seen.setdefault(fields, row.record.line)
 
     def weekends(self) -> Iterator[str]:
-        """Settlement, and maturities on offer, on a Saturday or Sunday."""
+        """Settlement, and maturities on offer, on a Saturday or Sunday that isn't closed."""
         case = self.case
         if case.issue is not None and is_weekend(case.issue.settlement):
             yield "caution: %s, line 1: settlement on %s is a %s" % (
@@ -108,18 +110,31 @@ class Cautions:
             )
         rows = [(RATES, one) for one in (case.rates.offers if case.rates else [])]
         rows += [(PRICES, one) for one in (case.prices.notes if case.prices else [])]
-        found = [(file, one) for file, one in rows if is_weekend(one.maturity)]
+        closed = case.issue.closed_days if case.issue else NONE_CLOSED
+        found = [(file, one) for file, one in rows if is_weekend(one.maturity) and not closed.is_closed(one.maturity)]
         if found:
             file, one = found[0]
             yield self.at(
                 file,
                 one.record,
-                "it matures on a %s%s; business days aren't looked at: what it pays may come later than the "
-                "need of that day"
+                "it matures on a %s%s, and what it pays counts on that day: a `weekends` row in the issue file lets it come on the "
+                "next open day"
                 % (
                     weekday_name(one.maturity),
                     ", and %s more do on a weekend" % (len(found) - 1) if len(found) > 1 else "",
                 ),
+            )
+
+    def closed_needs(self) -> Iterator[str]:
+        """Needs of closed days: they stay, and what falls on their day comes later."""
+        issue = self.case.issue
+        if issue is None:
+            return
+        days = closed_needs(self.case.needs, issue.closed_days, issue.settlement)
+        if days:
+            yield "caution: %s: %s, which is too late for that need" % (
+                self.names.get(ISSUE, ISSUE),
+                told_closed_needs(days, issue.closed_days),
             )
 
     def far_settlement(self) -> Iterator[str]:

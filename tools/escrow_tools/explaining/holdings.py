@@ -7,7 +7,8 @@ from dataclasses import dataclass
 from datetime import date
 
 from ..certificate import Certificate
-from ..securities import Line
+from ..amounts import counted, money_for_people
+from ..securities import Line, Receipt
 from .case_reading import CaseRead
 
 
@@ -20,12 +21,14 @@ class Holdings:
     receipts: dict[date, int]
     cost: int
     security_cost: int
+    # The receipts of closed days, which come later.
+    moved: list[Receipt]
 
 
 def holdings_of(case: CaseRead, certificate: Certificate) -> Holdings:
     """The holdings of a certificate whose purchases are of lines that are offered."""
     receipts: dict[date, int] = defaultdict(int)
-    cash, cost, faces = 0, 0, {}
+    cash, cost, faces, moved = 0, 0, {}, []
     for purchase in certificate.purchases or []:
         if purchase.line == 0:
             cash += purchase.units
@@ -36,8 +39,9 @@ def holdings_of(case: CaseRead, certificate: Certificate) -> Holdings:
         cost += line.security.cost(face).total
         for paid in line.security.receipts(face):
             receipts[paid.day] += paid.total
+            moved += [paid] if paid.is_moved else []
     receipts[case.issue.settlement] += cash
-    return Holdings(cash, faces, dict(receipts), cost + cash, cost)
+    return Holdings(cash, faces, dict(receipts), cost + cash, cost, moved)
 
 
 def is_permitted(line: Line, face: int) -> bool:
@@ -53,5 +57,26 @@ def most_receipts(case: CaseRead, day: date) -> tuple[int, int, int]:
     paid, matured = 0, 0
     for line in case.lines:
         paid += sum(one.total for one in line.security.receipts(line.most) if one.day <= day)
-        matured += line.security.maturity <= day
+        matured += line.security.end <= day
     return case.issue.amount("cash", 0), paid, matured
+
+
+def moved_receipts(case: CaseRead) -> list[Receipt]:
+    """What all lines would pay at their caps on closed days, and pay later."""
+    return [one for line in case.lines for one in line.security.receipts(line.most) if one.is_moved]
+
+
+def come_later(moved: list[Receipt], day: date) -> list[str]:
+    """What is due by a day and comes after it, since its own day is closed; nothing where there is none."""
+    later = sorted((one for one in moved if one.due <= day < one.day and one.total), key=lambda one: (one.due, one.day))
+    if not later:
+        return []
+    return [
+        "%s is due by then and comes later (%s): what is due on %s, which is closed, comes on %s; needs stay where they are"
+        % (
+            money_for_people(sum(one.total for one in later)),
+            counted(len(later), "receipt"),
+            later[0].due,
+            later[0].day,
+        )
+    ]

@@ -6,7 +6,18 @@ from typing import Optional
 
 from .. import amounts
 from ..amounts import counted, money_for_people, short_rate
-from ..case_files import CERT, INPUT_LIMIT, ISSUE, PRICES, RATES, RateIndex, Refusal, first_dates, least_days
+from ..case_files import (
+    CERT,
+    GREATEST_NEED_DATES,
+    INPUT_LIMIT,
+    ISSUE,
+    PRICES,
+    RATES,
+    RateIndex,
+    Refusal,
+    first_dates,
+    least_days,
+)
 from ..days import days_after, years_after
 from ..records import Record, records_of
 from .case_reading import CaseRead, read_whole_case
@@ -232,6 +243,8 @@ def _wrong_fields(refused: Refused) -> Explanation:
     advice = []
     if found > wanted and not refused.record.fields[-1].strip():
         advice.append("commas stand at its end, as a spreadsheet pads rows: delete them")
+    elif found > wanted and word == "closed":
+        advice.append("what the day is called has no place here: its date alone stands in the row")
     elif found > wanted:
         advice.append("a number has no commas in it, and no other field stands between these or behind them")
     elif word == "offer":
@@ -244,7 +257,9 @@ def _wrong_fields(refused: Refused) -> Explanation:
         )
     elif word == "rate":
         advice.append("the first and the last day of the range, and its greatest rate in percent are wanted")
-    return Explanation("%s has %d fields, `%s`, and this has %d" % (_row_of(word), wanted, form, found), advice=advice)
+    return Explanation(
+        "%s has %s, `%s`, and this has %d" % (_row_of(word), counted(wanted, "field"), form, found), advice=advice
+    )
 
 
 def _faulty_field(refused: Refused) -> Explanation:
@@ -346,6 +361,11 @@ def _repeated(refused: Refused) -> Explanation:
         advice = [
             "bonds with another call are an issue file of their own: `./escrow needs --issue FILE FILE` makes one of both"
         ]
+    elif word == "closed":
+        return Explanation(
+            "%s is closed by %s already (%s): delete one of them"
+            % (refused.record.fields[1], refused.earlier_line, shown(earlier.text))
+        )
     elif word in ("cash", "allowance"):
         advice = ["there is one `%s` row: write the amount that is meant, or the sum of both" % word]
     return Explanation(
@@ -366,7 +386,13 @@ def _date_order(refused: Refused) -> Explanation:
         "call": "the call has to be after settlement",
         "bond": "an old bond has to mature after settlement",
         "pay": "a payment has to be after settlement",
+        "closed": "a closed day has to be after settlement",
     }[word]
+    if word == "closed":
+        return Explanation(
+            "%s: %s, and settlement is on %s" % (kind, refused.field, settlement),
+            advice=["nothing is received by then but opening cash, which doesn't move: delete the row"],
+        )
     return Explanation(
         "%s: %s, and settlement is on %s" % (kind, refused.field, settlement),
         advice=[
@@ -399,6 +425,12 @@ def _needs_too_large(refused: Refused) -> Explanation:
 
 def _too_many_dates(refused: Refused) -> Explanation:
     dates = len(refused.case.needs)
+    if dates <= GREATEST_NEED_DATES:
+        return Explanation(
+            "there are %s, and 1,000 may be: keep those on which something would be paid, and close Saturdays and Sundays by "
+            "one `weekends` row" % counted(len(refused.case.issue.closed), "`closed` row"),
+            place=refused.name,
+        )
     return Explanation(
         "there are %s, and 480 may be: move needs of near days to the earliest of them, which is on the safe side"
         % counted(dates, "need date"),
@@ -465,6 +497,16 @@ def _first_date(refused: Refused) -> Explanation:
     )
 
 
+def _closed_past_end(refused: Refused) -> Explanation:
+    issue, maturity = refused.case.issue, amounts.read_day(refused.record.fields[1])
+    opens = issue.closed_days.open_day(maturity)
+    return Explanation(
+        "it matures on %s, which is closed, and what it pays then would come on the next open day, %s: that is more than 40 years "
+        "after settlement on %s; the last day is %s" % (maturity, opens, issue.settlement, issue.last_day),
+        advice=["a note can't be moved: delete the row"] if refused.file == PRICES else [],
+    )
+
+
 def _too_many_lines(refused: Refused) -> Explanation:
     rates, prices = refused.case.rates, refused.case.prices
     return Explanation(
@@ -501,6 +543,7 @@ EXPLAINERS = {
     "TooShort": _too_short,
     "TooLongTerm": _too_long_term,
     "FirstDate": _first_date,
+    "ClosedPastEnd": _closed_past_end,
     "TooManyLines": _too_many_lines,
     "Matured": _matured,
 }

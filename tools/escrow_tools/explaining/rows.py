@@ -14,6 +14,7 @@ from .case_reading import CaseRead, read_whole_case
 from .forms import FORMS, SYNONYMS, fields_of
 
 MOST_TRIES = 8
+OFFER_FAULTS = ("NoRate", "RateAboveTable", "TooShort", "TooLongTerm", "FirstDate", "ClosedPastEnd")
 
 
 def plain_word(word: str) -> str:
@@ -77,6 +78,8 @@ def _mended_width(file: str, fields: list[str]) -> Optional[list[str]]:
         trimmed.append("100")
     if word == "terms" and len(trimmed) == width - 1:
         trimmed.append("1" if file == RATES else trimmed[1])
+    if word == "closed" and len(trimmed) > width:
+        trimmed = trimmed[:width]
     if word in ("bond", "note") and len(trimmed) == width + 1:
         names = [place for place in range(1, len(trimmed)) if re.search("[A-Za-z]{2}|[0-9A-Z]{9}", trimmed[place])]
         if len(names) == 1:
@@ -147,6 +150,8 @@ def _mended_offer(refusal: Refusal, case: CaseRead, fields: list[str]) -> Option
         return _with_field(fields, 3, "")
     if refusal.name == "TooLongTerm":
         return _with_field(fields, 1, years_after(settlement, 40).isoformat())
+    if refusal.name == "ClosedPastEnd":
+        return _with_field(fields, 1, case.issue.closed_days.open_by(case.issue.last_day).isoformat())
     days = 15 if fields[2] in ("0", "0.0", "0.00", "0.000") else 30
     return _with_field(fields, 1, days_after(settlement, days).isoformat())
 
@@ -180,7 +185,7 @@ def _mended_once(refusal: Refusal, case: CaseRead, fields: list[str], text: str)
         return _mended_order(refusal, case, fields)
     if name == "Overlap":
         return _mended_overlap(refusal, fields)
-    if name in ("NoRate", "RateAboveTable", "TooShort", "TooLongTerm", "FirstDate"):
+    if name in OFFER_FAULTS and refusal.file == RATES:
         return _mended_offer(refusal, case, fields)
     return None
 

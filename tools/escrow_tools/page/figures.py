@@ -4,7 +4,7 @@ from __future__ import annotations
 
 from dataclasses import dataclass, field
 from datetime import date
-from typing import Optional
+from typing import Iterable, Optional
 
 from ..amounts import money
 from ..case_files import Bond, Call
@@ -90,6 +90,14 @@ def agree(what: str, one: int, other: int) -> None:
         raise Stop("%s: %s and %s don't agree; nothing is made" % (what, money(one), money(other)))
 
 
+def _by_day(amounts: Iterable[tuple[date, int]]) -> dict:
+    """Amounts summed by day; two that are due on other days may be paid on one."""
+    sums: dict = {}
+    for day, cents in amounts:
+        sums[day] = sums.get(day, 0) + cents
+    return sums
+
+
 def _held(case: CaseRead, report: Report) -> list[Held]:
     """What is bought, each cost and payment tried against the report."""
     held = []
@@ -97,8 +105,8 @@ def _held(case: CaseRead, report: Report) -> list[Held]:
         line = case.lines[bought.line - 1]
         cost, receipts = line.security.cost(bought.face), line.security.receipts(bought.face)
         agree("the cost of line %d" % bought.line, cost.total, bought.cost)
-        paid = {one.day: one.cents for one in report.paid if one.line == bought.line}
-        own = {one.day: one.total for one in receipts if one.total}
+        paid = _by_day((one.day, one.cents) for one in report.paid if one.line == bought.line)
+        own = _by_day((one.day, one.total) for one in receipts)
         for day in sorted(set(paid) | set(own)):
             agree("what line %d pays on %s" % (bought.line, day), own.get(day, 0), paid.get(day, 0))
         held.append(Held(line, bought, cost, receipts))

@@ -7,7 +7,7 @@ from datetime import date
 from typing import Optional
 
 from ..amounts import counted, money_for_people, price_text, rate_text, yield_text
-from ..case_files import RateIndex
+from ..case_files import Issue, RateIndex
 from ..days import index_from
 from ..report import Idle
 from .figures import Figures, Held, YieldProof, restricted_units
@@ -200,30 +200,25 @@ def needs(figures: Figures) -> Table:
 
 
 def receipts_by_security(figures: Figures) -> Table:
+    """Where a receipt of a closed day is moved, the day on which each is due stands beside the day on which it is paid."""
+    paid = [(held, one) for held in figures.held for one in held.receipts if one.total]
+    is_moved = any(one.is_moved for _, one in paid)
     rows = [
-        (
-            held.line.number,
-            KINDS[held.bought.kind],
-            held.bought.maturity,
-            one.day,
-            one.principal,
-            one.interest,
-            one.total,
-        )
-        for held in figures.held
-        for one in held.receipts
-        if one.total
+        (held.line.number, KINDS[held.bought.kind], held.bought.maturity)
+        + ((one.due,) if is_moved else ())
+        + (one.day, one.principal, one.interest, one.total)
+        for held, one in paid
     ]
-    columns = [
-        count_column("line"),
-        text_column("security"),
-        day_column("maturity"),
+    columns = [count_column("line"), text_column("security"), day_column("maturity")]
+    columns += [day_column("due on")] if is_moved else []
+    columns += [
         day_column("paid on"),
         money_column("principal"),
         money_column("interest"),
         money_column("total"),
     ]
-    return Table("receipts", "Receipts, security by security", columns, rows)
+    remark = "What is due on a closed day is paid on the next open day, and no more for it." if is_moved else ""
+    return Table("receipts", "Receipts, security by security", columns, rows, remark)
 
 
 def securities(figures: Figures) -> Table:
@@ -359,6 +354,7 @@ def summary_rows(figures: Figures) -> list[tuple[str, str]]:
     ]
     if not figures.refunded:
         rows.pop(1)
+    rows += _closed_days(issue)
     if summary is None:
         return rows
     rows += [
@@ -374,6 +370,20 @@ def summary_rows(figures: Figures) -> list[tuple[str, str]]:
         ),
     ]
     return rows
+
+
+def _closed_days(issue: Issue) -> list[tuple[str, str]]:
+    """What is closed, where anything is."""
+    parts = ["Saturdays and Sundays"] if issue.weekends else []
+    parts += [counted(len(issue.closed), "further day" if parts else "day")] if issue.closed else []
+    if not parts:
+        return []
+    return [
+        (
+            "Closed",
+            "%s: what is due then is paid on the next open day; needs stay where they are" % " and ".join(parts),
+        )
+    ]
 
 
 def yield_sentence(said: str) -> str:
