@@ -9,7 +9,7 @@ from .ground import INPUTS, NAMES, WRITE_FAULT, Ground, Tries, example, run
 
 def tries(tries: Tries, _asked) -> None:
     with example("first") as folder:
-        asking = (["check", *NAMES], ["check-cap", "3.00", *NAMES], ["savings", *NAMES])
+        asking = (["check", *NAMES], ["check-cap", "3.00", *NAMES], ["savings", *NAMES], ["roll", *NAMES])
         for words in (*asking, ["structure", *NAMES], ["make", "7", *INPUTS], ["no", "command"]):
             for ground, what in (
                 (Ground(closed=(1,)), "closed"),

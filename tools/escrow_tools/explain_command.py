@@ -39,7 +39,7 @@ def _names(words: list[str]) -> dict:
         return dict(zip(PLACES, words[2:]))
     if len(words) != 5:
         return {}
-    if words[0] in ("cap", "check", "savings", "structure"):
+    if words[0] in ("cap", "check", "roll", "savings", "structure"):
         return dict(zip(PLACES, words[1:]))
     return dict(zip(PLACES, words[2:])) if words[0] == "make" else {}
 

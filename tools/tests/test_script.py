@@ -55,6 +55,7 @@ class ScriptTest(FolderTest):
             ["check", "issue.csv", "rates.csv", "prices.csv", "none.txt"],
             ["structure", "issue.csv", "rates.csv", "prices.csv", "other.txt"],
             ["savings", "issue.csv", "rates.csv", "prices.csv", "certificate.txt"],
+            ["roll", "issue.csv", "rates.csv", "prices.csv", "certificate.txt"],
             ["cap", "issue.csv", "rates.csv", "prices.csv", "other.txt"],
             ["check-cap", "2.00", "issue.csv", "rates.csv", "prices.csv", "certificate.txt"],
             ["structure", "issue.csv"],
@@ -111,7 +112,7 @@ class ScriptTest(FolderTest):
         self.assertIn("docs/GUIDE.md", ran.err)
         self.assertEqual(len(ran.err.splitlines()), 2)
         listed = run_script(self.folder, "--help").out.decode()
-        for command in ("structure", "check", "cap", "check-cap", "savings", "best", "needs", "offers", "prices", "page"):
+        for command in ("structure", "check", "cap", "check-cap", "savings", "roll", "best", "needs", "offers", "prices", "page"):
             self.assertIn("  %s " % command, listed)
         self.assertRegex(run_script(self.folder, "--version").out.decode(), "^escrow .*sources [0-9a-f]{16}")
         for command in ("best", "needs", "offers", "prices", "page"):

@@ -13,7 +13,10 @@ use Rattle.escrow_desk.specs.Rows.{rows_of}
 use Rattle.escrow_desk.specs.declared.refusal.Refusal.{Refusal}
 use Rattle.issue_schedule.specs.IssueForm.{issue_of}
 use Rattle.issue_schedule.specs.declared.issue.Issue.{Issue}
-use Rattle.offer_book.specs.Book.{AreWithoutInterest}
+use Rattle.escrow_units.specs.declared.security.Terms.{Terms}
+use Rattle.rate_table.specs.RateForm.{rate_file_of}
+use Rattle.roll_plan.specs.Steps.{stated_by}
+use Rattle.offer_book.specs.Book.{AreWithoutInterest, IsBook}
 use Rattle.offer_book.specs.Portfolio.{security_cost}
 use Rattle.offer_book.specs.Rival.{IsRival}
 use Rattle.case_file.specs.Case.{CaseContents}
@@ -34,10 +37,12 @@ use Rattle.escrow_top.proofs.YieldFacts.{printed_yield}
 use Rattle.escrow_units.specs.declared.amount.Rate.{Rate}
 use Rattle.rate_cap.specs.CaseAt.{case_at}
 use Rattle.escrow_top.proofs.CapFacts.{given_at, keeps_judged}
+use Rattle.escrow_top.proofs.RollingFacts.{has_rolls}
 use Rattle.escrow_top.proofs.SavingsFacts.{savings_are}
 use Rattle.escrow_top.specs.AtCap.{AcceptedAt}
 use Rattle.escrow_top.specs.Accepted.{Accepted, HasNoReason, HasNoRival, HasPortfolio, IsAcceptedText, YesExactly, yield_without_interest}
 use Rattle.escrow_top.specs.Ending.{MeansYes}
+use Rattle.escrow_top.specs.Rolled.{HasPlan, Rolled}
 use Rattle.escrow_top.specs.Saved.{HasSavings, Saved}
 use Rattle.escrow_top.specs.SavingsText.{saved_text}
 use Rattle.escrow_top.specs.CaseOf.{GiveCase}
@@ -190,6 +195,18 @@ saved-as files issue case certificate (verdict.Yes portfolio) read rests means =
 saved-as files issue case certificate verdict.YesNone read rests means = inr (record { none = means.none; no_rival = means.no_rival; said = refl })
 saved-as files issue case certificate (verdict.No why) read rests means = absurd means
 
+-- what `roll` says of it: the rolls of its portfolio, by the denominations of the files
+rolled-as : (files : InputFiles) (terms : Option Terms) (case : CaseContents) (certificate : Certificate) (told : Verdict) → stated_by (rate_file_of (rows_of files.rates)) ≡ Ok terms → IsBook case.book
+    → IsTakenAs case certificate told
+    → HasPlan terms case certificate (verdict_answer (portfolio_text inquiry.Roll files case) told).text ⊎ HasNoRival case certificate (verdict_answer (portfolio_text inquiry.Roll files case) told).text
+rolled-as files terms case certificate (verdict.Yes portfolio) read limits means = inl (record {
+  yes = yes_text case portfolio;
+  accepted = record { portfolio = portfolio; right = means.right; without_interest = means.without_interest; said = refl };
+  planned = has_rolls files terms case portfolio.plan read limits means.right.right.permitted means.right.right.covered;
+})
+rolled-as files terms case certificate verdict.YesNone read limits means = inr (record { none = means.none; no_rival = means.no_rival; said = refl })
+rolled-as files terms case certificate (verdict.No why) read limits means = absurd means
+
 saved : (files : InputFiles) (cert : List ℕ) (case : CaseContents) → GiveCase files case → KeepsLimits case → (answer_for inquiry.Savings files case cert).status ≡ status.Done
     → Saved files cert (answer_for inquiry.Savings files case cert).text
 saved files cert case gives keeps done =
@@ -204,6 +221,22 @@ saved files cert case gives keeps done =
       right =
           subst (λ (a : Answer). HasSavings issue case certificate a.text ⊎ HasNoRival case certificate a.text) (sym yes.is)
           (saved-as files issue case certificate yes.told gives.says.issue gives.obeys.limit yes.taken.means);
+    }
+
+rolled : (files : InputFiles) (cert : List ℕ) (case : CaseContents) → GiveCase files case → KeepsLimits case → (answer_for inquiry.Roll files case cert).status ≡ status.Done
+    → Rolled files cert (answer_for inquiry.Roll files case cert).text
+rolled files cert case gives keeps done =
+    let yes = done-by (portfolio_text inquiry.Roll files case) case cert keeps done in
+    let certificate = yes.taken.certificate in
+    let terms = gives.read.rates.terms in
+    record {
+      case = case;
+      gives = gives;
+      certificate = certificate;
+      is_certificate = yes.taken.is_certificate;
+      right =
+          subst (λ (a : Answer). HasPlan terms case certificate a.text ⊎ HasNoRival case certificate a.text) (sym yes.is)
+          (rolled-as files terms case certificate yes.told (ap stated_by gives.says.rates) keeps.0 yes.taken.means);
     }
 
 -- and `check-cap`, of the case at the cap
@@ -228,6 +261,7 @@ pub means_yes : (asked : Inquiry) (files : InputFiles) (cert : List ℕ) (case :
     → MeansYes asked files cert (answer_for asked files (judged_case asked case) cert).text
 means_yes inquiry.Check files cert case gives keeps done = accepted files cert case gives keeps done
 means_yes inquiry.Savings files cert case gives keeps done = saved files cert case gives keeps done
+means_yes inquiry.Roll files cert case gives keeps done = rolled files cert case gives keeps done
 means_yes (inquiry.AtCap cap) files cert case gives keeps done = accepted_at cap files cert case gives (keeps_judged (inquiry.AtCap cap) case keeps) done
 
 -- where no reason stands, `yes` is said

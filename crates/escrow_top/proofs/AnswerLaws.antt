@@ -8,11 +8,12 @@ use Rattle.escrow_desk.specs.declared.refusal.RefusalKind.TheVariants as too_lon
 use Rattle.row_fields.specs.RowForm.{refusal_of}
 use Rattle.escrow_top.specs.InputFiles.{InputFiles, FileNames, first_too_long, inputs_of}
 use Rattle.case_file.specs.Case.{CaseContents, IsKept, rows_case}
-use Rattle.escrow_top.specs.Answer.{Answer, Asking, CapWords, answer_for, answer_to, asked_answer, asking_of, cap_names, case_answer, case_of, check_cap_words, check_names, judged_case, refused, savings_names, structure_names, usage, usage_text}
+use Rattle.escrow_top.specs.Answer.{Answer, Asking, CapWords, answer_for, answer_to, asked_answer, asking_of, cap_names, case_answer, case_of, check_cap_words, check_names, judged_case, refused, roll_names, savings_names, structure_names, usage, usage_text}
 use Rattle.escrow_top.specs.Accepted.{Accepted}
 use Rattle.escrow_top.specs.AtCap.{AcceptedAt}
+use Rattle.escrow_top.specs.Rolled.{Rolled}
 use Rattle.escrow_top.specs.Saved.{Saved}
-use Rattle.escrow_top.specs.Ending.{Answers, AnswersPart, AskedAnswers, AskedAnswersPart, HoldsWhereTold, IsAccepted, IsAcceptedAtCap, IsNotAccepted, IsNoCommand, IsSaved, LacksFile, MeansNo, MeansYes, SaidOfFiles}
+use Rattle.escrow_top.specs.Ending.{Answers, AnswersPart, AskedAnswers, AskedAnswersPart, HoldsWhereTold, IsAccepted, IsAcceptedAtCap, IsNotAccepted, IsNoCommand, IsRolled, IsSaved, LacksFile, MeansNo, MeansYes, SaidOfFiles}
 use Rattle.escrow_top.specs.MakeWords.{Making, make_words}
 use Rattle.escrow_top.specs.Capping.{Caps, CapsPart}
 use Rattle.escrow_top.specs.Making.{Makes, MakesPart}
@@ -29,7 +30,7 @@ use Rattle.escrow_top.proofs.CaseLaws.{given}
 use Rattle.escrow_top.proofs.NotAcceptedLaws.{means_no}
 use Rattle.escrow_top.specs.declared.stop.Stop.{Stop}
 use Rattle.escrow_top.proofs.InputFacts.{read-all, rows_alone}
-use Rattle.escrow_top.proofs.WordLaws.{asking-caps_none, asking-makes_none, asks_of, cap-makes_none, check-asks, check_cap-asks, one-asking, savings-asks, structure-caps_none, structure-makes_none}
+use Rattle.escrow_top.proofs.WordLaws.{asking-caps_none, asking-makes_none, asks_of, cap-makes_none, check-asks, check_cap-asks, one-asking, roll-asks, savings-asks, structure-caps_none, structure-makes_none}
 
 answered : (found : Option (List ℕ)) (to_bytes : List ℕ → Answer) (answer : Answer) → IsSomeAnd found (λ file. answer ≡ to_bytes file) → option_and_then (λ cert. Some (to_bytes cert)) found ≡ Some answer
 answered None to_bytes answer said = absurd said
@@ -119,11 +120,12 @@ answer_not_accepted told asking texts case result read within is kept said =
     answer_means (MeansNo asking.inquiry) told asking.names texts (answer_for asking.inquiry texts (judged_case asking.inquiry case)) result status.No read
     (λ cert denied. means_no asking.inquiry texts cert case gives (kept.book, kept.terms) denied) said
 
--- of the case by which a certificate is judged savings can be said, where they are asked for
+-- of the case by which a certificate is judged savings and rolls can be said, where they are asked for
 pub kept_for : (asked : Inquiry) (files : InputFiles) (case judged : CaseContents) → IsKept (rows_of files.issue) (rows_of files.rates) (rows_of files.prices) case → judged ≡ judged_case asked case
     → IsKeptFor asked files judged
 kept_for inquiry.Check files case judged kept is = tt
 kept_for inquiry.Savings files case judged kept is = subst (λ (c : CaseContents). IsKept (rows_of files.issue) (rows_of files.rates) (rows_of files.prices) c) (sym is) kept
+kept_for inquiry.Roll files case judged kept is = subst (λ (c : CaseContents). IsKept (rows_of files.issue) (rows_of files.rates) (rows_of files.prices) c) (sym is) kept
 kept_for (inquiry.AtCap cap) files case judged kept is = tt
 
 -- the answer to what is asked of named files was said
@@ -133,7 +135,7 @@ asked_said (Some content) new asking reply reached is ends said = rw is (ends, s
 
 no_command : (words : List (List ℕ)) (content : Content) → IsNoCommand words → answer_to words content ≡ Some usage
 no_command words content none =
-    rw (none.no_check, none.no_savings, none.no_check_cap) refl
+    rw (none.no_check, none.no_savings, none.no_roll, none.no_check_cap) refl
 
 -- the usage was said to words that are no command
 pub usage_said : (told new : Told) (words : List (List ℕ)) → IsNoCommand words → SaidAll told usage_text new → Answers told words status.Usage new
@@ -201,6 +203,15 @@ ask_saved told new words asking is said = by (savings_names words) refl
     by None e = tt
     by (Some names) e =
         let same : asking ≡ asks_of inquiry.Savings names = one-asking words asking (asks_of inquiry.Savings names) is (savings-asks words names e) in
+        subst (λ (a : Asking). SaidOfFiles (MeansYes a.inquiry) told a.names new) same said
+
+pub ask_rolled : (told new : Told) (words : List (List ℕ)) (asking : Asking) → asking_of words ≡ Some asking → SaidOfFiles (MeansYes asking.inquiry) told asking.names new → IsRolled told words new
+ask_rolled told new words asking is said = by (roll_names words) refl
+  where
+    by : (found : Option FileNames) → roll_names words ≡ found → IfSome found (λ names. SaidOfFiles Rolled told names new)
+    by None e = tt
+    by (Some names) e =
+        let same : asking ≡ asks_of inquiry.Roll names = one-asking words asking (asks_of inquiry.Roll names) is (roll-asks words names e) in
         subst (λ (a : Asking). SaidOfFiles (MeansYes a.inquiry) told a.names new) same said
 
 pub ask_accepted_at_cap : (told new : Told) (words : List (List ℕ)) (asking : Asking) → asking_of words ≡ Some asking → SaidOfFiles (MeansYes asking.inquiry) told asking.names new → IsAcceptedAtCap told words new

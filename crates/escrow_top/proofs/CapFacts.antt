@@ -31,6 +31,7 @@ book-at cap case book = book-is cap case.book case.book.days.settle case.book.da
 pub keeps_judged : (asked : Inquiry) (case : CaseContents) → KeepsLimits case → KeepsLimits (judged_case asked case)
 keeps_judged inquiry.Check case keeps = keeps
 keeps_judged inquiry.Savings case keeps = keeps
+keeps_judged inquiry.Roll case keeps = keeps
 keeps_judged (inquiry.AtCap cap) case keeps = (book-at cap case keeps.0, terms-at cap case keeps.1)
 
 -- the files of a case give it at a cap

@@ -15,7 +15,7 @@ use Rattle.escrow_check.specs.declared.verdict.Verdict.{Verdict}
 use Rattle.escrow_check.specs.declared.verdict.Verdict.TheVariants as verdict
 use Rattle.escrow_check.proofs.OneVerdict.{one_verdict}
 use Rattle.escrow_check.proofs.TextFacts.{KeepsLimits, is_meant}
-use Rattle.escrow_top.specs.Reading.{IsHeard, IsHeardOf, KeepsPermitted}
+use Rattle.escrow_top.specs.Reading.{IsHeard, IsHeardOf, KeepsRight}
 use Rattle.escrow_top.specs.Stopping.{CountsStep, StoppedAs}
 use Rattle.escrow_top.specs.declared.hearing.Heard.TheVariants as heard
 use Rattle.escrow_top.specs.declared.stop.Stop.{Stop}
@@ -91,16 +91,18 @@ heard-whole (Some content) name old new case checker read found few so_far short
         let is : so_far.bytes ≡ file = whole-front file so_far.bytes ahead.0 ahead.1 all in
         subst (λ (x : List ℕ). IsHeardOf case x (heard.Whole found)) is (within, one_verdict case so_far.bytes found few told_of)
 
--- a portfolio that is accepted is permitted
-permitted-by : (case : CaseContents) (bytes : List ℕ) (found : Verdict) → KeepsLimits case → IsVerdict case bytes found → KeepsPermitted case found
-permitted-by case bytes (verdict.Yes portfolio) keeps on = (is_meant case bytes (verdict.Yes portfolio) keeps on).right.right.permitted
-permitted-by case bytes verdict.YesNone keeps on = tt
-permitted-by case bytes (verdict.No why) keeps on = tt
+-- a portfolio that is accepted is permitted and meets the needs
+right-by : (case : CaseContents) (bytes : List ℕ) (found : Verdict) → KeepsLimits case → IsVerdict case bytes found → KeepsRight case found
+right-by case bytes (verdict.Yes portfolio) keeps on =
+    let right = (is_meant case bytes (verdict.Yes portfolio) keeps on).right.right in
+    (right.permitted, right.covered)
+right-by case bytes verdict.YesNone keeps on = tt
+right-by case bytes (verdict.No why) keeps on = tt
 
-pub heard-permitted : (told : Told) (name : List ℕ) (case : CaseContents) (checker : Checking) (read : ℕ) (found : Verdict) → KeepsLimits case → HasRead told name case checker read
-    → ((bytes : List ℕ) → Heard checker bytes → IsVerdict checker.case bytes found) → KeepsPermitted case found
-heard-permitted told name case checker read found keeps so_far on =
-    permitted-by case so_far.bytes found keeps (subst (λ (c : CaseContents). IsVerdict c so_far.bytes found) so_far.case_is (on so_far.bytes so_far.heard))
+pub heard-right : (told : Told) (name : List ℕ) (case : CaseContents) (checker : Checking) (read : ℕ) (found : Verdict) → KeepsLimits case → HasRead told name case checker read
+    → ((bytes : List ℕ) → Heard checker bytes → IsVerdict checker.case bytes found) → KeepsRight case found
+heard-right told name case checker read found keeps so_far on =
+    right-by case so_far.bytes found keeps (subst (λ (c : CaseContents). IsVerdict c so_far.bytes found) so_far.case_is (on so_far.bytes so_far.heard))
 
 -- more bytes than the limit came
 pub heard-long : (told : Told) (name : List ℕ) (case : CaseContents) (checker : Checking) (read : ℕ) → HasRead told name case checker read → CERTIFICATE_LIMIT < read → IsHeard told name case heard.TooLong

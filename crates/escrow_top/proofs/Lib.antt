@@ -2,6 +2,7 @@ pub mod InputFacts
 pub mod CaseLaws
 pub mod NumberFacts
 pub mod WordLaws
+pub mod RollingFacts
 pub mod SavingsFacts
 pub mod CapFacts
 pub mod AcceptedLaws

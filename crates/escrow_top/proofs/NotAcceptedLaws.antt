@@ -61,6 +61,7 @@ pub means_no : (asked : Inquiry) (files : InputFiles) (cert : List ℕ) (case : 
     → MeansNo asked files cert (answer_for asked files (judged_case asked case) cert).text
 means_no inquiry.Check files cert case gives keeps denied = not_accepted (portfolio_text inquiry.Check files case) files cert case gives keeps denied
 means_no inquiry.Savings files cert case gives keeps denied = not_accepted (portfolio_text inquiry.Savings files case) files cert case gives keeps denied
+means_no inquiry.Roll files cert case gives keeps denied = not_accepted (portfolio_text inquiry.Roll files case) files cert case gives keeps denied
 means_no (inquiry.AtCap cap) files cert case gives keeps denied =
     let at = case_at cap case in
     let no = is_denied (portfolio_text (inquiry.AtCap cap) files at) at cert (keeps_judged (inquiry.AtCap cap) case keeps) denied in

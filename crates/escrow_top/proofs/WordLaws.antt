@@ -4,7 +4,7 @@ use Rattle.std.specs.Prelude.{codes, option_map}
 use Rattle.std.specs.Bool.{then_some}
 use lib.ListN.{get_or}
 use lib.Pointwise.{pointwise, bytes_decides}
-use Rattle.escrow_top.specs.Answer.{Asking, CapWords, asking_of, asks_at_cap, cap_names, check_cap_words, check_names, names_behind, savings_names, structure_names}
+use Rattle.escrow_top.specs.Answer.{Asking, CapWords, asking_of, asks_at_cap, cap_names, check_cap_words, check_names, names_behind, roll_names, savings_names, structure_names}
 use Rattle.escrow_top.specs.Ending.{IsNoCommand}
 use Rattle.escrow_top.specs.InputFiles.{FileNames}
 use Rattle.escrow_top.specs.MakeWords.{Making, make_words, making_of, number_of_word}
@@ -65,11 +65,15 @@ check-asks words names is = rw is refl
 pub savings-asks : (words : List (List ℕ)) (names : FileNames) → savings_names words ≡ Some names → asking_of words ≡ Some (asks_of inquiry.Savings names)
 savings-asks words names is = rw (names-apart (codes "savings") (codes "check") words names refl is, is) refl
 
+pub roll-asks : (words : List (List ℕ)) (names : FileNames) → roll_names words ≡ Some names → asking_of words ≡ Some (asks_of inquiry.Roll names)
+roll-asks words names is =
+    rw (names-apart (codes "roll") (codes "check") words names refl is, names-apart (codes "roll") (codes "savings") words names refl is, is) refl
+
 pub one-asking : (words : List (List ℕ)) (one other : Asking) → asking_of words ≡ Some one → asking_of words ≡ Some other → one ≡ other
 one-asking words one other is also = let both : Some one ≡ Some other = sym is ∙ also in cc
 
-no-asking : (words : List (List ℕ)) → check_names words ≡ None → savings_names words ≡ None → check_cap_words words ≡ None → asking_of words ≡ None
-no-asking words no_check no_savings no_check_cap = rw (no_check, no_savings, no_check_cap) refl
+no-asking : (words : List (List ℕ)) → check_names words ≡ None → savings_names words ≡ None → roll_names words ≡ None → check_cap_words words ≡ None → asking_of words ≡ None
+no-asking words no_check no_savings no_roll no_check_cap = rw (no_check, no_savings, no_roll, no_check_cap) refl
 
 -- six words are those of no command of five
 capped-no_names : (command : List ℕ) (words : List (List ℕ)) (found : CapWords) → check_cap_words words ≡ Some found → names_behind command words ≡ None
@@ -85,7 +89,7 @@ make-no_cap (word ∷ number ∷ issue ∷ rates ∷ prices ∷ []) making is = 
 make-no_cap words making is = absurd (cc)
 
 capped-asked : (words : List (List ℕ)) (found : CapWords) → check_cap_words words ≡ Some found → asking_of words ≡ asks_at_cap (check_cap_words words)
-capped-asked words found is = rw (capped-no_names (codes "check") words found is, capped-no_names (codes "savings") words found is) refl
+capped-asked words found is = rw (capped-no_names (codes "check") words found is, capped-no_names (codes "savings") words found is, capped-no_names (codes "roll") words found is) refl
 
 pub check_cap-asks : (words : List (List ℕ)) (found : CapWords) → check_cap_words words ≡ Some found → asking_of words ≡ Some (asks_of (inquiry.AtCap found.cap) found.names)
 check_cap-asks words found is = capped-asked words found is ∙ ap asks_at_cap is
@@ -105,8 +109,11 @@ at_cap-asks words asking is = by (check_cap_words words) refl
 pub make-savings_none : (words : List (List ℕ)) (making : Making) → make_words words ≡ Some making → savings_names words ≡ None
 make-savings_none words making is = make-no_names (codes "savings") words making refl is
 
+pub make-rolls_none : (words : List (List ℕ)) (making : Making) → make_words words ≡ Some making → roll_names words ≡ None
+make-rolls_none words making is = make-no_names (codes "roll") words making refl is
+
 pub make-askings_none : (words : List (List ℕ)) (making : Making) → make_words words ≡ Some making → asking_of words ≡ None
-make-askings_none words making is = no-asking words (make-checks_none words making is) (make-savings_none words making is) (make-no_cap words making is)
+make-askings_none words making is = no-asking words (make-checks_none words making is) (make-savings_none words making is) (make-rolls_none words making is) (make-no_cap words making is)
 
 pub asking-makes_none : (words : List (List ℕ)) (asking : Asking) → asking_of words ≡ Some asking → make_words words ≡ None
 asking-makes_none words asking is = by (make_words words) refl
@@ -121,6 +128,9 @@ structure-checks_none words names is = names-apart (codes "structure") (codes "c
 pub structure-savings_none : (words : List (List ℕ)) (names : FileNames) → structure_names words ≡ Some names → savings_names words ≡ None
 structure-savings_none words names is = names-apart (codes "structure") (codes "savings") words names refl is
 
+pub structure-rolls_none : (words : List (List ℕ)) (names : FileNames) → structure_names words ≡ Some names → roll_names words ≡ None
+structure-rolls_none words names is = names-apart (codes "structure") (codes "roll") words names refl is
+
 pub structure-check_caps_none : (words : List (List ℕ)) (names : FileNames) → structure_names words ≡ Some names → check_cap_words words ≡ None
 structure-check_caps_none words names is = names-no_cap (codes "structure") words names is
 
@@ -128,7 +138,7 @@ pub make-check_caps_none : (words : List (List ℕ)) (making : Making) → make_
 make-check_caps_none words making is = make-no_cap words making is
 
 pub structure-askings_none : (words : List (List ℕ)) (names : FileNames) → structure_names words ≡ Some names → asking_of words ≡ None
-structure-askings_none words names is = no-asking words (structure-checks_none words names is) (structure-savings_none words names is) (structure-check_caps_none words names is)
+structure-askings_none words names is = no-asking words (structure-checks_none words names is) (structure-savings_none words names is) (structure-rolls_none words names is) (structure-check_caps_none words names is)
 
 -- ---- the words of `cap`
 pub make-caps_none : (words : List (List ℕ)) (making : Making) → make_words words ≡ Some making → cap_names words ≡ None
@@ -149,11 +159,14 @@ cap-checks_none words names is = names-apart (codes "cap") (codes "check") words
 pub cap-savings_none : (words : List (List ℕ)) (names : FileNames) → cap_names words ≡ Some names → savings_names words ≡ None
 cap-savings_none words names is = names-apart (codes "cap") (codes "savings") words names refl is
 
+pub cap-rolls_none : (words : List (List ℕ)) (names : FileNames) → cap_names words ≡ Some names → roll_names words ≡ None
+cap-rolls_none words names is = names-apart (codes "cap") (codes "roll") words names refl is
+
 pub cap-check_caps_none : (words : List (List ℕ)) (names : FileNames) → cap_names words ≡ Some names → check_cap_words words ≡ None
 cap-check_caps_none words names is = names-no_cap (codes "cap") words names is
 
 pub cap-askings_none : (words : List (List ℕ)) (names : FileNames) → cap_names words ≡ Some names → asking_of words ≡ None
-cap-askings_none words names is = no-asking words (cap-checks_none words names is) (cap-savings_none words names is) (cap-check_caps_none words names is)
+cap-askings_none words names is = no-asking words (cap-checks_none words names is) (cap-savings_none words names is) (cap-rolls_none words names is) (cap-check_caps_none words names is)
 
 pub asking-caps_none : (words : List (List ℕ)) (asking : Asking) → asking_of words ≡ Some asking → cap_names words ≡ None
 asking-caps_none words asking is = by (cap_names words) refl
@@ -164,7 +177,7 @@ asking-caps_none words asking is = by (cap_names words) refl
 
 -- words that are no command ask nothing
 pub no_command-asks_none : (words : List (List ℕ)) → IsNoCommand words → asking_of words ≡ None
-no_command-asks_none words none = no-asking words none.no_check none.no_savings none.no_check_cap
+no_command-asks_none words none = no-asking words none.no_check none.no_savings none.no_roll none.no_check_cap
 
 -- `make` of a word that is no number is no command
 pub no_number : (word number issue rates prices : List ℕ) → true ≡ pointwise nat_eq word (codes "make") → number_of_word number ≡ None → IsNoCommand (word ∷ number ∷ issue ∷ rates ∷ prices ∷ [])
@@ -175,6 +188,7 @@ no_number word number issue rates prices is none =
       no_check = other-word (codes "make") (codes "check") word names refl (sym is);
       no_make = rw (sym is, none) refl;
       no_savings = other-word (codes "make") (codes "savings") word names refl (sym is);
+      no_roll = other-word (codes "make") (codes "roll") word names refl (sym is);
       no_cap = other-word (codes "make") (codes "cap") word names refl (sym is);
       no_check_cap = refl;
     }

@@ -1,4 +1,4 @@
--- What `check`, `check-cap` and `savings` answer: a status and the text that is said. The texts are this project's own.
+-- What `check`, `check-cap`, `savings` and `roll` answer: a status and the text that is said. The texts are this project's own.
 use Rattle.std.specs.Prelude.{ℕ, ◌%◌, ◌==◌, nat_lt, nat_eq, if◌then◌else◌, List, [], ◌∷◌, ◌++◌, length, Option, Some, None, Result, Ok, Err, is_ok, codes, decimal, option_map}
 use Rattle.std.specs.Bool.{then_some}
 use Rattle.std.specs.Option.{option_or}
@@ -28,7 +28,10 @@ use Rattle.escrow_check.specs.declared.verdict.Verdict.TheVariants as verdict
 use Rattle.rate_cap.specs.CaseAt.{case_at}
 use Rattle.verification_report.specs.Summary.{summary_text, text_line}
 use Rattle.issue_schedule.specs.IssueForm.{issue_of}
+use Rattle.rate_table.specs.RateForm.{rate_file_of}
+use Rattle.roll_plan.specs.Steps.{stated_by}
 use Rattle.escrow_top.specs.InputFiles.{InputFiles, FileNames, ◌>>=◌, first_too_long, inputs_of}
+use Rattle.escrow_top.specs.RollsText.{rolled_text}
 use Rattle.escrow_top.specs.SavingsText.{saved_text}
 use Rattle.escrow_top.specs.declared.inquiry.Inquiry.{Inquiry}
 use Rattle.escrow_top.specs.declared.inquiry.Inquiry.TheVariants as inquiry
@@ -68,10 +71,11 @@ yes_text case portfolio =
 abbrev pub none_text : List ℕ
 none_text = text_line (codes "yes none") []
 
--- what is said of a portfolio that is accepted, by what is asked of the files: its summary, or its savings
+-- what is said of a portfolio that is accepted, by what is asked of the files: its summary, its savings, or its rolls
 abbrev pub portfolio_text : Inquiry → InputFiles → CaseContents → Portfolio → List ℕ
 portfolio_text inquiry.Check files case portfolio = yes_text case portfolio
 portfolio_text inquiry.Savings files case portfolio = saved_text (issue_of (rows_of files.issue)) case portfolio.plan
+portfolio_text inquiry.Roll files case portfolio = rolled_text (stated_by (rate_file_of (rows_of files.rates))) case portfolio.plan
 portfolio_text (inquiry.AtCap cap) files case portfolio = yes_text case portfolio
 
 -- the answer to a verdict, with these words for a portfolio
@@ -139,6 +143,7 @@ case_of texts = case_of_texts (first_too_long texts) texts
 abbrev pub judged_case : Inquiry → CaseContents → CaseContents
 judged_case inquiry.Check case = case
 judged_case inquiry.Savings case = case
+judged_case inquiry.Roll case = case
 judged_case (inquiry.AtCap cap) case = case_at cap case
 
 -- the answer to the bytes of a certificate for the case by which it is judged
@@ -170,6 +175,7 @@ abbrev pub usage_words : List ℕ
 usage_words =
     codes "structure ISSUE RATES PRICES CERT | check ISSUE RATES PRICES CERT | make NUMBER ISSUE RATES PRICES"
     ++ codes " | cap ISSUE RATES PRICES CERT | check-cap RATE ISSUE RATES PRICES CERT | savings ISSUE RATES PRICES CERT"
+    ++ codes " | roll ISSUE RATES PRICES CERT"
 
 abbrev pub usage_text : List ℕ
 usage_text = text_line (codes "usage: ") usage_words
@@ -194,6 +200,10 @@ structure_names words = names_behind (codes "structure") words
 -- the names that the words `savings ISSUE RATES PRICES CERT` give
 abbrev pub savings_names : List (List ℕ) → Option FileNames
 savings_names words = names_behind (codes "savings") words
+
+-- the names that the words `roll ISSUE RATES PRICES CERT` give
+abbrev pub roll_names : List (List ℕ) → Option FileNames
+roll_names words = names_behind (codes "roll") words
 
 -- the names that the words `cap ISSUE RATES PRICES CERT` give
 abbrev pub cap_names : List (List ℕ) → Option FileNames
@@ -227,7 +237,8 @@ asks_at_cap found = option_map (λ capped. record { inquiry = inquiry.AtCap capp
 abbrev pub asking_of : List (List ℕ) → Option Asking
 asking_of words =
     option_or (asks inquiry.Check (check_names words))
-    (option_or (asks inquiry.Savings (savings_names words)) (asks_at_cap (check_cap_words words)))
+    (option_or (asks inquiry.Savings (savings_names words))
+    (option_or (asks inquiry.Roll (roll_names words)) (asks_at_cap (check_cap_words words))))
 
 abbrev pub answer_to_asking : Content → Option Asking → Option Answer
 answer_to_asking content None = Some usage

@@ -3,10 +3,11 @@ use Rattle.std.specs.Prelude.{◌≡◌, ℕ, Bool, true, false, List, Option, S
 use Rattle.escrow_desk.specs.Content.{Content, Told, file_of, with_said, SaidAll, SaidPart}
 use Rattle.escrow_top.specs.Accepted.{Accepted}
 use Rattle.escrow_top.specs.NotAccepted.{NotAccepted}
+use Rattle.escrow_top.specs.Rolled.{Rolled}
 use Rattle.escrow_top.specs.Saved.{Saved}
 use Rattle.escrow_top.specs.AtCap.{AcceptedAt, NotAcceptedAt}
 use Rattle.escrow_top.specs.InputFiles.{InputFiles, FileNames}
-use Rattle.escrow_top.specs.Answer.{Answer, Asking, answer_to, asked_answer, asking_of, cap_names, check_cap_words, check_names, files_answer, savings_names, structure_names}
+use Rattle.escrow_top.specs.Answer.{Answer, Asking, answer_to, asked_answer, asking_of, cap_names, check_cap_words, check_names, files_answer, roll_names, savings_names, structure_names}
 use Rattle.escrow_top.specs.Capped.{WroteCapped}
 use Rattle.escrow_top.specs.Capping.{Caps, CapsPart}
 use Rattle.escrow_top.specs.MakeWords.{Making, make_words}
@@ -32,7 +33,7 @@ code_of status.WriteFault = 9
 code_of status.NoFile = 10
 code_of status.NoMemory = 11
 
--- the statuses that `check`, `check-cap` and `savings` come to
+-- the statuses that `check`, `check-cap`, `savings` and `roll` come to
 abbrev pub is_checked : Status → Bool
 is_checked status.Done = true
 is_checked status.No = true
@@ -118,6 +119,7 @@ pub record IsNoCommand (words : List (List ℕ)) : Type 0 where
   pub no_check : check_names words ≡ None
   pub no_make : make_words words ≡ None
   pub no_savings : savings_names words ≡ None
+  pub no_roll : roll_names words ≡ None
   pub no_cap : cap_names words ≡ None
   pub no_check_cap : check_cap_words words ≡ None
 
@@ -166,6 +168,10 @@ WroteCertificate told new words = IfSome (structure_names words) (WroteAccepted 
 abbrev pub IsSaved : Told → List (List ℕ) → Told → Type 0
 IsSaved told words new = IfSome (savings_names words) (λ names. SaidOfFiles Saved told names new)
 
+-- where they are those of `roll`: the four files that they name are accepted, and this was said of what is rolled
+abbrev pub IsRolled : Told → List (List ℕ) → Told → Type 0
+IsRolled told words new = IfSome (roll_names words) (λ names. SaidOfFiles Rolled told names new)
+
 -- where they are those of `check-cap`: the four files that they name are accepted at the cap, and this was said
 abbrev pub IsAcceptedAtCap : Told → List (List ℕ) → Told → Type 0
 IsAcceptedAtCap told words new = IfSome (check_cap_words words) (λ capped. SaidOfFiles (AcceptedAt capped.cap) told capped.names new)
@@ -175,12 +181,14 @@ IsAcceptedAtCap told words new = IfSome (check_cap_words words) (λ capped. Said
 abbrev pub MeansYes : Inquiry → InputFiles → List ℕ → List ℕ → Type 0
 MeansYes inquiry.Check = Accepted
 MeansYes inquiry.Savings = Saved
+MeansYes inquiry.Roll = Rolled
 MeansYes (inquiry.AtCap cap) = AcceptedAt cap
 
 -- what an answer of `No` means
 abbrev pub MeansNo : Inquiry → InputFiles → List ℕ → List ℕ → Type 0
 MeansNo inquiry.Check = NotAccepted
 MeansNo inquiry.Savings = NotAccepted
+MeansNo inquiry.Roll = NotAccepted
 MeansNo (inquiry.AtCap cap) = NotAcceptedAt cap
 
 -- the words ask something of a certificate: the four files that they name aren't accepted, and this was said

@@ -14,6 +14,8 @@ pub mod NotAccepted
 pub mod Reading
 pub mod Saved
 pub mod SavingsText
+pub mod RollsText
+pub mod Rolled
 pub mod Settling
 pub mod Stopping
 pub mod Structure

@@ -12,7 +12,7 @@ use Rattle.escrow_top.specs.declared.files.Inputs.TheVariants as inputs
 use Rattle.escrow_top.specs.InputFiles.{InputFiles, FileNames, first_too_long, inputs_of}
 use Rattle.escrow_desk.specs.Rows.{rows_of}
 use Rattle.case_file.specs.Case.{CaseContents, IsKept}
-use Rattle.offer_book.specs.Portfolio.{IsPermitted}
+use Rattle.offer_book.specs.Portfolio.{IsPermitted, Meets}
 use Rattle.escrow_check.specs.Verdicts.{verdict_of}
 use Rattle.escrow_check.specs.declared.verdict.Verdict.{Verdict}
 use Rattle.escrow_check.specs.declared.verdict.Verdict.TheVariants as verdict
@@ -88,22 +88,23 @@ IsHeardOf case file heard.TooLong = CERTIFICATE_LIMIT < length file
 abbrev pub IsHeard : Told → List ℕ → CaseContents → Heard → Type 0
 IsHeard told name case found = MatchOption told (Unit {0}) (λ content. IsSomeAnd (file_of content name) (λ file. IsHeardOf case file found))
 
--- where savings are asked for, a case was read of these files
+-- where savings or rolls are asked for, a case was read of these files
 abbrev pub IsKeptFor : Inquiry → InputFiles → CaseContents → Type 0
 IsKeptFor inquiry.Check files case = Unit {0}
 IsKeptFor inquiry.Savings files case = IsKept (rows_of files.issue) (rows_of files.rates) (rows_of files.prices) case
+IsKeptFor inquiry.Roll files case = IsKept (rows_of files.issue) (rows_of files.rates) (rows_of files.prices) case
 IsKeptFor (inquiry.AtCap cap) files case = Unit {0}
 
--- a portfolio that is accepted is permitted, whether the desk tells or not
-abbrev pub KeepsPermitted : CaseContents → Verdict → Type 0
-KeepsPermitted case (verdict.Yes portfolio) = IsPermitted case.book portfolio.plan
-KeepsPermitted case verdict.YesNone = Unit {0}
-KeepsPermitted case (verdict.No why) = Unit {0}
+-- a portfolio that is accepted is permitted and meets the needs, whether the desk tells or not
+abbrev pub KeepsRight : CaseContents → Verdict → Type 0
+KeepsRight case (verdict.Yes portfolio) = IsPermitted case.book portfolio.plan × Meets case.book portfolio.plan
+KeepsRight case verdict.YesNone = Unit {0}
+KeepsRight case (verdict.No why) = Unit {0}
 
 -- the same of what was read of a certificate
-abbrev pub IsHeardPermitted : CaseContents → Heard → Type 0
-IsHeardPermitted case (heard.Whole told) = KeepsPermitted case told
-IsHeardPermitted case heard.TooLong = Unit {0}
+abbrev pub IsHeardRight : CaseContents → Heard → Type 0
+IsHeardRight case (heard.Whole told) = KeepsRight case told
+IsHeardRight case heard.TooLong = Unit {0}
 
 -- the certificate of the name is there, and this is the answer to it, by the answer to its bytes
 abbrev pub CertificateAnswers : Told → List ℕ → (List ℕ → Answer) → Answer → Type 0

@@ -1,18 +1,20 @@
 //! Answers: their status and their text.
 
-ghost use Rattle.std.specs.Prelude.{◌≡◌, ◌++◌, ◌≤◌, IfOk, IfSome, IsTrue, OnOk, decimal, length, option_map};
+ghost use Rattle.std.specs.Prelude.{◌≡◌, ◌++◌, IfOk, IfSome, IsTrue, OnOk, decimal, option_map};
 ghost use Rattle.escrow_check.specs.declared.verdict.Reason.TheVariants.{Grammar};
 ghost use Rattle.escrow_top.specs.Answer.{fault_word as fault_word_of, file_word as file_word_of, kind_word as kind_word_of, none_text, portfolio_text as portfolio_text_of, reason_text, refused as refused_answer, refused_text, verdict_answer as verdict_answer_of, yes_text as yes_text_of};
-ghost use Rattle.offer_book.specs.Portfolio.{IsPermitted};
+ghost use Rattle.offer_book.specs.Portfolio.{IsPermitted, Meets};
 ghost use Rattle.escrow_top.specs.Structure.{best_line, budget_spent as budget_spent_answer, infeasible as infeasible_on, nodes_line, none_within_text};
 ghost use Rattle.verification_report.specs.Summary.{text_line};
 ghost use Rattle.row_fields.specs.RowForm.{refusal_of};
 ghost use Rattle.case_file.specs.Case.{case_view};
+ghost use Rattle.escrow_top.specs.CaseOf.{AreWithin};
 ghost use Rattle.escrow_top.specs.Ending.{is_checked};
-ghost use Rattle.escrow_top.specs.Reading.{IsKeptFor, KeepsPermitted, files_view};
+ghost use Rattle.escrow_top.specs.Reading.{IsKeptFor, KeepsRight, files_view};
 
 use crate::files::InputFiles;
 use crate::inquiry::Inquiry;
+use crate::rolling::rolled_text;
 use crate::savings::saved_text;
 use crate::status::Status;
 use bound_certificate::{CertFault, FaultKind, Nodes};
@@ -20,7 +22,7 @@ use branch_search::Spent;
 use case_file::Case;
 use cash_table::{Plan, cost};
 use escrow_check::{Portfolio, Reason, Verdict};
-use escrow_desk::{FILE_LIMIT, FileKind, NoMemory, Refusal, RefusalKind};
+use escrow_desk::{FileKind, NoMemory, Refusal, RefusalKind};
 use escrow_units::{Day, print_cents, print_day};
 use offer_book::Book;
 use std::alloc::Global;
@@ -259,14 +261,16 @@ fn portfolio_text(
     case: &Case,
     portfolio: &Portfolio,
 ) -> Result<Vec<u8>, NoMemory>
-    requires within { length (files_view files.now).issue ≤ FILE_LIMIT }
+    requires within { AreWithin (files_view files.now) }
     requires kept { IsKeptFor inquiry (files_view files.now) (case_view case.now) }
     requires permitted { IsPermitted case.now.book portfolio.now.plan }
+    requires meets { Meets case.now.book portfolio.now.plan }
     ensures { IfOk result (λ text. text.items ≡ portfolio_text_of inquiry (files_view files.now) (case_view case.now) portfolio.now) }
 {
     match inquiry {
         Inquiry::Check | Inquiry::AtCap(_) => yes_text(alloc, case, portfolio),
         Inquiry::Savings => saved_text(alloc, files, case, &portfolio.plan),
+        Inquiry::Roll => rolled_text(alloc, files, case, &portfolio.plan),
     }
 }
 
@@ -278,9 +282,9 @@ pub(crate) fn verdict_answer(
     case: &Case,
     verdict: &Verdict,
 ) -> Result<Answer, NoMemory>
-    requires within { length (files_view files.now).issue ≤ FILE_LIMIT }
+    requires within { AreWithin (files_view files.now) }
     requires kept { IsKeptFor inquiry (files_view files.now) (case_view case.now) }
-    requires permitted { KeepsPermitted (case_view case.now) verdict.now }
+    requires right { KeepsRight (case_view case.now) verdict.now }
     ensures answer { IfOk result (λ answer. answer ≡ verdict_answer_of (portfolio_text_of inquiry (files_view files.now) (case_view case.now)) verdict.now) }
     ensures status { IfOk result (λ answer. IsTrue (is_checked answer.status)) }
 {

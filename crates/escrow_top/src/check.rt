@@ -1,6 +1,6 @@
-//! `check`, `check-cap` and `savings`, from the names of their files to their answer.
+//! `check`, `check-cap`, `savings` and `roll`, from the names of their files to their answer.
 
-ghost use Rattle.std.specs.Prelude.{◌≡◌, ◌≤◌, IfOk, IsErrOf, IsTrue, length};
+ghost use Rattle.std.specs.Prelude.{◌≡◌, IfOk, IsErrOf, IsTrue};
 ghost use Rattle.offer_book.specs.Book.{IsBook};
 ghost use Rattle.escrow_desk.specs.Rows.{rows_of};
 ghost use Rattle.case_file.specs.Case.{HasTerms, IsKept, case_view};
@@ -18,7 +18,7 @@ use crate::inquiry::{Asking, Inquiry};
 use crate::status::Status;
 use crate::stop::Stop;
 use case_file::{Case, read_case};
-use escrow_desk::{CaseError, Desk, FILE_LIMIT, FileKind, NoMemory};
+use escrow_desk::{CaseError, Desk, FileKind, NoMemory};
 use rate_cap::{at_cap, cap_laws};
 use std::alloc::Global;
 
@@ -33,7 +33,7 @@ fn judged_case(alloc: Global, inquiry: Inquiry, case: Case) -> Result<Case, NoMe
     // There is one case at each cap.
     cap_laws();
     match inquiry {
-        Inquiry::Check | Inquiry::Savings => Ok(case),
+        Inquiry::Check | Inquiry::Savings | Inquiry::Roll => Ok(case),
         Inquiry::AtCap(cap) => at_cap(alloc, &case, cap),
     }
 }
@@ -50,7 +50,7 @@ fn answer_to_certificate<D: Desk>(
 ) -> Result<Answer, Stop>
     requires book { IsBook case.now.book }
     requires terms { HasTerms (case_view case.now) }
-    requires within { length (files_view files.now).issue ≤ FILE_LIMIT }
+    requires within { AreWithin (files_view files.now) }
     requires kept { IsKeptFor asking.now.inquiry (files_view files.now) (case_view case.now) }
     ensures answer { IfOk result (λ answer. CertificateAnswers (D.told desk.old) (names_view asking.now.names).cert (answer_for asking.now.inquiry (files_view files.now) (case_view case.now)) answer) }
     ensures status { IfOk result (λ answer. IsTrue (is_checked answer.status)) }

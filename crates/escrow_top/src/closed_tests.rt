@@ -1,7 +1,7 @@
 //! Whole runs of cases in which days are closed.
 
 use crate::Status;
-use crate::tests::{CHECK, FIRST, FIRST_TEXT, Files, NO_RIVAL, outcome_of};
+use crate::tests::{CHECK, FIRST, FIRST_TEXT, Files, NO_RIVAL, Row, outcome_of, try_words};
 use std::test::Fail;
 
 // The first case, in which the day is closed on which its one security matures, and the need is a day later.
@@ -24,14 +24,6 @@ const NEXT_DAY: Files = Files {
     prices: b"terms,1000,1000\nnote,2025-01-16,4.000,100,2000\n",
     cert: b"escrow-certificate 1\nportfolio 1\nbuy 1 1\ngap 5000\nnodes 1\nl 1 0 980392156862\nend\n",
 };
-
-// What `check` answers to four files.
-#[derive(Clone, Copy)]
-struct Row {
-    files: Files,
-    status: Status,
-    said: &'static [u8],
-}
 
 #[test]
 fn receipts_on_closed_days(rt: HostRuntime) -> Result<(), Fail> {
@@ -85,12 +77,7 @@ fn receipts_on_closed_days(rt: HostRuntime) -> Result<(), Fail> {
             said: b"no ShortOn 2025-01-17\n",
         },
     ];
-    for (place, row) in rows.iter().enumerate() {
-        let ran = outcome_of(rt.alloc(), &CHECK, &row.files, u64::MAX)?;
-        assert_eq!(rt; ran.status, row.status, "row {place}");
-        assert_eq!(rt; ran.desk.said(), row.said, "row {place}");
-    }
-    Ok(())
+    try_words(&rt, rt.alloc(), &CHECK, &rows)
 }
 
 // The day 2065-01-15 is the last of the 40 years. The kept maturity before it is paid on it.

@@ -21,7 +21,7 @@ pub(crate) enum Command<'a> {
     Structure(FileNames<'a>),
     /// `cap`, of the files of these names.
     Cap(FileNames<'a>),
-    /// `check`, `savings` or `check-cap`, of the files of these names.
+    /// `check`, `savings`, `roll` or `check-cap`, of the files of these names.
     Ask(Asking<'a>),
     /// `make`, of the case of a number, in files of these names.
     Make(Making<'a>),
@@ -113,6 +113,12 @@ pub(crate) fn command_of(words: &[String]) -> Option<Command<'_>>
     if word.as_str() == "savings" {
         return Some(Command::Ask(Asking {
             inquiry: Inquiry::Savings,
+            names,
+        }));
+    }
+    if word.as_str() == "roll" {
+        return Some(Command::Ask(Asking {
+            inquiry: Inquiry::Roll,
             names,
         }));
     }

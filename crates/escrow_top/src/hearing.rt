@@ -4,7 +4,7 @@ ghost use Rattle.std.specs.Prelude.{◌≡◌, ◌+◌, ◌≤◌, IfOk, IsErrOf
 ghost use Rattle.escrow_desk.specs.Content.{IsAbsent};
 ghost use Rattle.case_file.specs.Case.{HasTerms, case_view};
 ghost use Rattle.offer_book.specs.Book.{IsBook};
-ghost use Rattle.escrow_top.specs.Reading.{IsHeard, IsHeardPermitted};
+ghost use Rattle.escrow_top.specs.Reading.{IsHeard, IsHeardRight};
 ghost use Rattle.escrow_top.specs.Stopping.{CountsStep};
 
 use crate::stop::Stop;
@@ -50,7 +50,7 @@ pub(crate) fn hear<D: Desk>(
     requires book { IsBook case.now.book }
     requires terms { HasTerms (case_view case.now) }
     ensures heard { IfOk result (IsHeard (D.told desk.old) name.now (case_view case.now)) }
-    ensures permitted { IfOk result (IsHeardPermitted (case_view case.now)) }
+    ensures right { IfOk result (IsHeardRight (case_view case.now)) }
     ensures absent { IsErrOf result Stop.NoFile → IsAbsent (D.told desk.old) name.now }
     ensures told { D.told desk.new ≡ D.told desk.old }
     ensures counts { CountsStep result (D.counts desk.old) (D.counts desk.new) }

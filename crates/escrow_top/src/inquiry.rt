@@ -10,6 +10,8 @@ pub(crate) enum Inquiry {
     Check,
     /// `savings`: what its portfolio saves, and what idle yield costs.
     Savings,
+    /// `roll`: its rolls, and what it yields without them and with them.
+    Roll,
     /// `check-cap`: the summary of its portfolio, for the case at this cap on the SLGS rates.
     AtCap(Rate),
 }

@@ -12,6 +12,7 @@ mod inquiry;
 mod laws;
 mod making;
 mod program;
+mod rolling;
 mod savings;
 mod status;
 mod stop;
@@ -35,6 +36,8 @@ mod failing_tests;
 mod limit_tests;
 #[cfg(test)]
 mod make_tests;
+#[cfg(test)]
+mod rolling_tests;
 #[cfg(test)]
 mod savings_tests;
 #[cfg(test)]

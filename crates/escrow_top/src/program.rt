@@ -3,7 +3,7 @@
 ghost use Rattle.std.specs.Prelude.{◌≡◌, ◌≢◌, ◌↔◌, map, string_bytes, IfSome, IsTrue, OnErr, OnOk};
 ghost use Rattle.escrow_desk.specs.Content.{SaidAll, SaidPart, told_map};
 ghost use Rattle.escrow_desk.specs.Counts.{AllSteady, CountsWrite};
-ghost use Rattle.escrow_top.specs.Ending.{Answers, AnswersPart, AskedAnswers, AskedAnswersPart, IsAccepted, IsAcceptedAtCap, IsAnswerTo, IsCapped, IsNoCommand, IsNotAccepted, IsSaved, LacksFile, MeansNo, MeansYes, OfFiles, OfNamedFiles, SaidOfFiles, WroteCertificate, is_checked};
+ghost use Rattle.escrow_top.specs.Ending.{Answers, AnswersPart, AskedAnswers, AskedAnswersPart, IsAccepted, IsAcceptedAtCap, IsAnswerTo, IsCapped, IsNoCommand, IsNotAccepted, IsRolled, IsSaved, LacksFile, MeansNo, MeansYes, OfFiles, OfNamedFiles, SaidOfFiles, WroteCertificate, is_checked};
 ghost use Rattle.escrow_top.specs.Accepted.{YesExactly};
 ghost use Rattle.escrow_top.specs.Answer.{asking_of, cap_names, structure_names};
 ghost use Rattle.escrow_top.specs.Capped.{SaysNoCap, WroteCapped};
@@ -30,7 +30,8 @@ use std::alloc::Global;
 // The words of each command; those that came later stand at the end.
 const USAGE: &[u8] =
     b"usage: structure ISSUE RATES PRICES CERT | check ISSUE RATES PRICES CERT | make NUMBER ISSUE RATES PRICES \
-    | cap ISSUE RATES PRICES CERT | check-cap RATE ISSUE RATES PRICES CERT | savings ISSUE RATES PRICES CERT\n";
+    | cap ISSUE RATES PRICES CERT | check-cap RATE ISSUE RATES PRICES CERT | savings ISSUE RATES PRICES CERT \
+    | roll ISSUE RATES PRICES CERT\n";
 
 // Says the text of a status that was reached, and answers the status; `WriteFault` where a call of the desk failed.
 fn say_answer<D: Desk>(desk: &mut D, status: Status, text: &[u8]) -> Status
@@ -201,7 +202,9 @@ fn run_make<D: Desk>(alloc: Global, making: &Making<'_>, desk: &mut D) -> Status
 /// `check ISSUE RATES PRICES CERT` answers whether the certificate is accepted for the three input files, and says why or why
 /// not. `check-cap RATE ISSUE RATES PRICES CERT` answers the same of the case in which each SLGS rate is at most RATE, which is in
 /// percent, in whole hundredths up to 30. `savings ISSUE RATES PRICES CERT` answers as `check`, and says of an accepted portfolio
-/// what the refunding saves in present value at the restricted yield, and what idle yield costs. `structure ISSUE RATES PRICES
+/// what the refunding saves in present value at the restricted yield, and what idle yield costs. `roll ISSUE RATES PRICES CERT`
+/// answers as `check`, and says of an accepted portfolio what is rolled into zero-interest certificates of indebtedness in place of
+/// lying idle, and what its securities yield without and with these rolls. `structure ISSUE RATES PRICES
 /// CERT` searches the cheapest permitted purchases, writes their certificate and says their report; or it writes a certificate
 /// which shows that there is no rival, and says so; or it says that the needs can't be met, or that the budget is spent, with the
 /// bound that its tree shows and the best plan. `cap ISSUE RATES PRICES CERT` searches the greatest common cap on the SLGS rates at
@@ -242,6 +245,9 @@ pub fn run<D: Desk>(alloc: Global, words: &[String], desk: &mut D) -> Status
     ensures no { result ≡ Status.No → IsNotAccepted (D.told desk.old) (map string_bytes words.now) (D.told desk.new) }
     // What `savings` means by its four lines, of the bytes of the four files: they are accepted, and this is what is saved.
     ensures saved { result ≡ Status.Done → IsSaved (D.told desk.old) (map string_bytes words.now) (D.told desk.new) }
+    // What `roll` means by its lines, of the bytes of the four files: they are accepted, and these are the rolls, which leave the
+    // needs met and the yield no higher.
+    ensures rolled { result ≡ Status.Done → IsRolled (D.told desk.old) (map string_bytes words.now) (D.told desk.new) }
     // What `yes` means to `check-cap`, of the case of the files at the cap.
     ensures yes_at_cap { result ≡ Status.Done → IsAcceptedAtCap (D.told desk.old) (map string_bytes words.now) (D.told desk.new) }
     // They end as `Done` exactly where no reason stands.

@@ -2,19 +2,11 @@
 
 use crate::Status;
 use crate::failing_tests::try_failing_calls;
-use crate::tests::{FIRST, Files, NO_RIVAL, NOTE, outcome_of};
+use crate::tests::{FIRST, Files, NO_RIVAL, NOTE, Row, try_words};
 use std::test::Fail;
 
 // The words of `savings`.
 const SAVINGS: [&str; 5] = ["savings", "i", "r", "p", "c"];
-
-// What `savings` answers to four files.
-#[derive(Clone, Copy)]
-struct Row {
-    files: Files,
-    status: Status,
-    said: &'static [u8],
-}
 
 #[test]
 fn what_is_saved(rt: HostRuntime) -> Result<(), Fail> {
@@ -64,12 +56,7 @@ fn what_is_saved(rt: HostRuntime) -> Result<(), Fail> {
             said: b"refused rates row 1 BadNumber\n",
         },
     ];
-    for (place, row) in rows.iter().enumerate() {
-        let ran = outcome_of(rt.alloc(), &SAVINGS, &row.files, u64::MAX)?;
-        assert_eq!(rt; ran.status, row.status, "row {place}");
-        assert_eq!(rt; ran.desk.said(), row.said, "row {place}");
-    }
-    Ok(())
+    try_words(&rt, rt.alloc(), &SAVINGS, &rows)
 }
 
 #[test]

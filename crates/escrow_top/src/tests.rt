@@ -51,7 +51,8 @@ pub(crate) const CHECK: [&str; 5] = ["check", "i", "r", "p", "c"];
 /// What is said to words that are no command.
 pub(crate) const USAGE: &[u8] =
     b"usage: structure ISSUE RATES PRICES CERT | check ISSUE RATES PRICES CERT | make NUMBER ISSUE RATES PRICES \
-    | cap ISSUE RATES PRICES CERT | check-cap RATE ISSUE RATES PRICES CERT | savings ISSUE RATES PRICES CERT\n";
+    | cap ISSUE RATES PRICES CERT | check-cap RATE ISSUE RATES PRICES CERT | savings ISSUE RATES PRICES CERT \
+    | roll ISSUE RATES PRICES CERT\n";
 
 /// A file of a name.
 pub(crate) fn named(alloc: Global, name: &str, bytes: &[u8]) -> Result<NamedBytes, Fail>
@@ -95,21 +96,31 @@ pub(crate) fn outcome_of(
     Ok(Outcome { status, desk })
 }
 
-// What `check` answers to four files.
+/// What is answered to four files.
 #[derive(Clone, Copy)]
-struct Row {
-    files: Files,
-    status: Status,
-    said: &'static [u8],
+pub(crate) struct Row {
+    pub files: Files,
+    pub status: Status,
+    pub said: &'static [u8],
 }
 
-fn try_rows(rt: &impl Abort, alloc: Global, rows: &[Row]) -> Result<(), Fail> {
+/// What words are answered over the files of each row.
+pub(crate) fn try_words(
+    rt: &impl Abort,
+    alloc: Global,
+    words: &[&str],
+    rows: &[Row],
+) -> Result<(), Fail> {
     for (place, row) in rows.iter().enumerate() {
-        let ran = outcome_of(alloc, &CHECK, &row.files, u64::MAX)?;
+        let ran = outcome_of(alloc, words, &row.files, u64::MAX)?;
         assert_eq!(rt; ran.status, row.status, "row {place}");
         assert_eq!(rt; ran.desk.said(), row.said, "row {place}");
     }
     Ok(())
+}
+
+fn try_rows(rt: &impl Abort, alloc: Global, rows: &[Row]) -> Result<(), Fail> {
+    try_words(rt, alloc, &CHECK, rows)
 }
 
 #[test]
@@ -738,11 +749,12 @@ fn limits_of_files(rt: HostRuntime) -> Result<(), Fail> {
 
 #[test]
 fn words_that_read_nothing(rt: HostRuntime) -> Result<(), Fail> {
-    let rows: [(&[&str], Status, &[u8]); 5] = [
+    let rows: [(&[&str], Status, &[u8]); 6] = [
         (&["check-cap", "3", "a", "b", "c"], Status::Usage, USAGE),
         (&[], Status::Usage, USAGE),
         (&["check", "a", "b"], Status::Usage, USAGE),
         (&["savings", "a", "b", "c"], Status::Usage, USAGE),
+        (&["roll", "a", "b", "c", "d", "e"], Status::Usage, USAGE),
         (&["make", "7", "a", "b"], Status::Usage, USAGE),
     ];
     for (words, status, said) in &rows {

@@ -1,5 +1,9 @@
 pub mod SumFacts
+pub mod TermFacts
+pub mod ValueFacts
+pub mod RollLaws
 pub mod RollFacts
 pub mod PlanFacts
 pub mod MoveFacts
 pub mod YieldFacts
+pub mod MovedLaws

@@ -1,3 +1,4 @@
 pub mod Rolls
 pub mod RolledFlows
 pub mod Steps
+pub mod RollsOf

@@ -9,6 +9,7 @@ ghost use Rattle.day_sums.specs.Summed.{cents_on, on, summed};
 ghost use Rattle.offer_book.specs.Portfolio.{IsPermitted, Meets, security_cost, security_flows};
 ghost use Rattle.roll_plan.specs.RolledFlows.{AreRolledFlows, YieldsNoMore};
 ghost use Rattle.roll_plan.specs.Steps.{lessened_by};
+ghost use Rattle.roll_plan.specs.RollsOf.{moved_by};
 ghost use Rattle.roll_plan.specs.Rolls.{AreRollsOf, returned as returned_by, taken as taken_by};
 
 use crate::planning::Roll;
@@ -107,6 +108,7 @@ pub fn rolled(
     requires meets { Meets case.now.book plan.now }
     requires rolls { (terms : Option Terms) × AreRollsOf case.now.book plan.now terms rolls.now }
     ensures flows { IfOk result (λ moved. AreRolledFlows (security_flows case.now.book plan.now) rolls.now moved.items) }
+    ensures value { IfOk result (λ moved. moved.items ≡ moved_by (security_flows case.now.book plan.now) rolls.now) }
     ensures total { IfOk result (λ moved. total moved.items ≡ total (security_flows case.now.book plan.now)) }
     ensures yields { IfOk result (λ moved. YieldsNoMore case.now.book.days.settle (security_cost case.now.book plan.now) (security_flows case.now.book plan.now) moved.items) }
     ensures within { IfOk result (λ moved. FallWithinFortyYears case.now.book.days.settle moved.items) }

@@ -5,8 +5,9 @@ ghost use Rattle.escrow_units.specs.Calendar.{IsBaseDay, years_after_of};
 ghost use Rattle.escrow_units.specs.Denomination.{AreTerms};
 ghost use Rattle.escrow_units.specs.OpenDays.{is_closed};
 ghost use Rattle.offer_book.specs.Portfolio.{IsPermitted, Meets, security_flows};
-ghost use Rattle.roll_plan.specs.Steps.{AreInOrder, IsMostRolled};
-ghost use Rattle.roll_plan.specs.Rolls.{AreRolls, AreRollsOf, IsRollTerm, IsSubscription, StillMeet};
+ghost use Rattle.roll_plan.specs.Steps.{AreInOrder};
+ghost use Rattle.roll_plan.specs.RollsOf.{most_rolled as most_rolled_of, most_subscribed as most_subscribed_of, rolls_along as rolls_along_of, rolls_of};
+ghost use Rattle.roll_plan.specs.Rolls.{AreRollsOf, IsRollTerm, StillMeet};
 
 use case_file::Case;
 use cash_table::{Balance, Plan, balances, flows};
@@ -54,9 +55,7 @@ fn is_roll_term(closed: &ClosedDays, from: Day, to: Day) -> bool
 // The most cents that may be subscribed for, up to a number of cents.
 fn most_subscribed(terms: Terms, free: u64) -> u64
     requires { AreTerms terms }
-    ensures within { result ≤ free }
-    ensures subscribed { IsSubscription terms result }
-    ensures most { (other : ℕ) → IsSubscription terms other → other ≤ free → other ≤ result }
+    ensures { result ≡ most_subscribed_of terms free }
 {
     let whole = free - free % (100 * terms.step);
     if whole < 100 * terms.minimum {
@@ -70,7 +69,7 @@ fn most_rolled(closed: &ClosedDays, terms: Terms, from: Day, to: Day, free: u64)
     requires terms { AreTerms terms }
     requires from { IsBaseDay from }
     requires to { IsBaseDay to }
-    ensures { IsMostRolled closed.now terms from to free result }
+    ensures { result ≡ most_rolled_of closed.now terms from to free }
 {
     if !is_roll_term(closed, from, to) {
         return 0;
@@ -102,7 +101,7 @@ fn rolls_along(
 ) -> Result<Vec<Roll>, NoMemory>
     requires terms { AreTerms terms }
     requires entries { AreInOrder paid.now entries.now }
-    ensures { IfOk result (λ rolls. AreRolls closed.now terms entries.now paid.now.sums rolls.items) }
+    ensures { IfOk result (λ rolls. rolls.items ≡ rolls_along_of closed.now terms paid.now.sums entries.now) }
 {
     let mut rolls = Vec::new(alloc);
     let mut back = 0;
@@ -143,6 +142,7 @@ pub fn rolls(
     requires meets { Meets case.now.book plan.now }
     requires terms { IfSome terms AreTerms }
     ensures rolls { IfOk result (λ rolls. AreRollsOf case.now.book plan.now terms rolls.items) }
+    ensures value { IfOk result (λ rolls. rolls.items ≡ rolls_of case.now.book plan.now terms) }
     ensures meet { IfOk result (λ rolls. StillMeet case.now.book plan.now rolls.items) }
 {
     let Some(terms) = terms else {

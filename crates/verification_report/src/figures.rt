@@ -1,7 +1,7 @@
 //! The summary of an escrow.
 
 ghost use Rattle.std.specs.Prelude.{◌≡◌, ◌++◌, OnOk};
-ghost use Rattle.verification_report.specs.Summary.{summary_text, yield_words};
+ghost use Rattle.verification_report.specs.Summary.{summary_text, text_line, yield_words};
 
 use crate::text::push_line;
 use escrow_desk::NoMemory;
@@ -21,8 +21,8 @@ pub struct Figures {
     pub gap: Cents,
 }
 
-// Adds a yield in words: both ends of its interval, in percent, or a word where it has none.
-fn push_yield(text: &mut Vec<u8>, answer: YieldAnswer) -> Result<(), NoMemory>
+// Adds both ends of the interval of a yield, in percent, or a word where it has none.
+fn push_interval(text: &mut Vec<u8>, answer: YieldAnswer) -> Result<(), NoMemory>
     ensures { OnOk result (text.new.items ≡ text.old.items ++ yield_words answer) }
 {
     match answer {
@@ -38,6 +38,24 @@ fn push_yield(text: &mut Vec<u8>, answer: YieldAnswer) -> Result<(), NoMemory>
     Ok(())
 }
 
+/// Adds a line of words and a yield: both ends of its interval, in percent, or a word where it has none.
+///
+/// # Errors
+///
+/// Where memory ran out; then a part of the line may have been added.
+pub fn push_yield(
+    text: &mut Vec<u8>,
+    words: &[u8],
+    answer: YieldAnswer,
+) -> Result<(), NoMemory>
+    ensures { OnOk result (text.new.items ≡ text.old.items ++ text_line words.now (yield_words answer)) }
+{
+    text.extend_from_slice(words)?;
+    push_interval(text, answer)?;
+    text.push(b'\n')?;
+    Ok(())
+}
+
 /// Adds the four lines of a summary: the cost, the yield, the limit and the gap.
 ///
 /// # Errors
@@ -47,9 +65,7 @@ pub fn push_summary(text: &mut Vec<u8>, figures: &Figures) -> Result<(), NoMemor
     ensures { OnOk result (text.new.items ≡ text.old.items ++ summary_text figures.now) }
 {
     push_line(text, b"cost ", print_cents(figures.cost).as_bytes())?;
-    text.extend_from_slice(b"yield ")?;
-    push_yield(text, figures.answer)?;
-    text.push(b'\n')?;
+    push_yield(text, b"yield ", figures.answer)?;
     push_line(text, b"limit ", print_yield(figures.limit).as_bytes())?;
     push_line(text, b"gap ", print_cents(figures.gap).as_bytes())
 }

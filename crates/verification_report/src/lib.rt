@@ -8,7 +8,7 @@ mod purchases;
 mod text;
 mod verification;
 
-pub use figures::{Figures, push_summary};
+pub use figures::{Figures, push_summary, push_yield};
 pub use text::push_line;
 pub use verification::{report, summary};
 

@@ -80,6 +80,8 @@ def _done(run: Run) -> list[str]:
         return ["accepted: no permitted purchases meet the needs within the yield limit, and the certificate proves it"]
     if run.command == "savings":
         return _saved(run)
+    if run.command == "roll":
+        return _rolled(run)
     try:
         place = 1 if run.first_line == "yes" else [line[:5] for line in run.lines].index("cost ")
         summary = read_summary(run.lines[place : place + 4])
@@ -148,6 +150,23 @@ def _saved(run: Run) -> list[str]:
         )
     lines.append("the limit on the yield costs %s (negative arbitrage); below 0, the escrow yields more" % _between(said["idle"]))
     return lines
+
+
+def _rolled(run: Run) -> list[str]:
+    """The lines of `roll`: a line for each roll, and two yields."""
+    rolls = [line for line in run.lines if line.startswith("roll ")]
+    if len(run.lines) != len(rolls) + 2:
+        return []
+    if not rolls:
+        return [
+            "accepted, as by `check`; nothing is rolled over: no cash lies idle for 15 days to a year between two open days on which "
+            "money moves, in the denominations of the `terms` row"
+        ]
+    return [
+        "accepted, as by `check`; each of these %s is a zero-interest certificate of indebtedness, bought with cash that would lie "
+        "idle, which pays when money is next needed or paid" % counted(len(rolls), "subscription"),
+        "with them no need is short, and the second yield, which is of what the securities then pay, isn't above the first",
+    ]
 
 
 def _between(ends: str) -> str:

@@ -3,7 +3,7 @@ use Rattle.bound_certificate.specs.declared.limits.TheConstants.{MOST_DATES}
 use Rattle.escrow_desk.specs.declared.limits.TheConstants.{CERTIFICATE_LIMIT}
 use Rattle.case_file.specs.Case.{case_view}
 use Rattle.escrow_desk.specs.Content.{Given}
-use Rattle.escrow_top.proofs.HearingFacts.{heard-long, heard-permitted, heard-whole, out-of-memory, read-more, read-nothing}
+use Rattle.escrow_top.proofs.HearingFacts.{heard-long, heard-right, heard-whole, out-of-memory, read-more, read-nothing}
 use Rattle.escrow_top.proofs.hearing.hear.Goals as goal
 
 pub pieces-init : goal.pieces-init
@@ -30,9 +30,9 @@ returns-in-Ok-eq0-clause-heard g c =
     heard-whole (g.D.Desk.told c.args.desk.now) c.args.name.now (take c.room_after-most.result c.pieces.piece) c.read.new.into (case_view c.args.case.now) c.pieces.checker c.pieces.read
     c.in_ok-finish-in-Ok-eq0.field-0 few c.pieces.invariant.so_far short given some c.in_ok-finish-in-Ok-eq0.ensures.verdict
 
-pub returns-in-Ok-eq0-clause-permitted : goal.returns-in-Ok-eq0-clause-permitted
-returns-in-Ok-eq0-clause-permitted g c =
-    heard-permitted (g.D.Desk.told c.args.desk.now) c.args.name.now (case_view c.args.case.now) c.pieces.checker c.pieces.read
+pub returns-in-Ok-eq0-clause-right : goal.returns-in-Ok-eq0-clause-right
+returns-in-Ok-eq0-clause-right g c =
+    heard-right (g.D.Desk.told c.args.desk.now) c.args.name.now (case_view c.args.case.now) c.pieces.checker c.pieces.read
     c.in_ok-finish-in-Ok-eq0.field-0 (c.requires.book, c.requires.terms) c.pieces.invariant.so_far c.in_ok-finish-in-Ok-eq0.ensures.verdict
 
 pub returns-in_err-feed-in-Ok-clause-counts : goal.returns-in_err-feed-in-Ok-clause-counts

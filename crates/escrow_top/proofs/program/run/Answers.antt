@@ -1,6 +1,6 @@
 use Rattle.std.proofs.Common.{map, string_bytes}
 use Rattle.escrow_top.proofs.ExactLaws.{asked_exactly, none_exactly}
-use Rattle.escrow_top.proofs.WordLaws.{asking-caps_none, cap-askings_none, cap-check_caps_none, cap-checks_none, cap-makes_none, cap-savings_none, cap-structures_none, make-askings_none, make-caps_none, make-check_caps_none, make-checks_none, make-savings_none, make-structures_none, structure-askings_none, structure-caps_none}
+use Rattle.escrow_top.proofs.WordLaws.{asking-caps_none, cap-askings_none, cap-check_caps_none, cap-checks_none, cap-makes_none, cap-rolls_none, cap-savings_none, cap-structures_none, make-askings_none, make-caps_none, make-check_caps_none, make-checks_none, make-rolls_none, make-savings_none, make-structures_none, structure-askings_none, structure-caps_none}
 use Rattle.escrow_top.proofs.program.run.Goals as goal
 
 pub returns-in-Some-Structure-clause-exactly : goal.returns-in-Some-Structure-clause-exactly
@@ -42,6 +42,11 @@ pub returns-in-Some-Make-clause-saved : goal.returns-in-Some-Make-clause-saved
 returns-in-Some-Make-clause-saved g c = λ done.
     let is = rw c.in-Some-Make.field-0-is at c.in-Some-Make.ensures in
     rw (make-savings_none (map string_bytes c.args.words.now) _ is) tt
+
+pub returns-in-Some-Make-clause-rolled : goal.returns-in-Some-Make-clause-rolled
+returns-in-Some-Make-clause-rolled g c = λ done.
+    let is = rw c.in-Some-Make.field-0-is at c.in-Some-Make.ensures in
+    rw (make-rolls_none (map string_bytes c.args.words.now) _ is) tt
 
 pub returns-in-Some-Make-clause-yes_at_cap : goal.returns-in-Some-Make-clause-yes_at_cap
 returns-in-Some-Make-clause-yes_at_cap g c = λ done.
@@ -102,6 +107,11 @@ pub returns-in-Some-Cap-clause-saved : goal.returns-in-Some-Cap-clause-saved
 returns-in-Some-Cap-clause-saved g c = λ done.
     let is = rw c.in-Some-Cap.field-0-is at c.in-Some-Cap.ensures in
     rw (cap-savings_none (map string_bytes c.args.words.now) _ is) tt
+
+pub returns-in-Some-Cap-clause-rolled : goal.returns-in-Some-Cap-clause-rolled
+returns-in-Some-Cap-clause-rolled g c = λ done.
+    let is = rw c.in-Some-Cap.field-0-is at c.in-Some-Cap.ensures in
+    rw (cap-rolls_none (map string_bytes c.args.words.now) _ is) tt
 
 pub returns-in-Some-Cap-clause-yes_at_cap : goal.returns-in-Some-Cap-clause-yes_at_cap
 returns-in-Some-Cap-clause-yes_at_cap g c = λ done.

@@ -1,24 +1,21 @@
-use Rattle.std.proofs.Common.{◌≡◌, ◌∙◌, ◌≤◌, ◌≤ℤ◌, sym, ap, subst, arith, ℤ, List, [], ◌++◌}
+use Rattle.std.proofs.Common.{rules, IfOk, ◌≡◌, ◌∙◌, ◌≤◌, ◌≤ℤ◌, sym, ap, subst, arith, ℤ, List, [], ◌++◌}
 use Rattle.std.specs.List.{All}
-use Rattle.std.proofs.lemmas.List.Elements.{All-append}
 use Rattle.std.proofs.lemmas.Result.{IfOk-weaker}
 use Rattle.escrow_units.specs.Calendar.{years_after_of}
 use Rattle.escrow_units.specs.Flows.{FallWithinFortyYears, total}
 use Rattle.escrow_units.specs.declared.security.Flow.{Flow}
 use Rattle.day_sums.specs.Summed.{cents_on, summed}
 use Rattle.day_sums.specs.Table.{SpanSums}
-use Rattle.day_sums.proofs.SumFacts.{above-summed}
-use Rattle.day_sums.proofs.Uniqueness.{fall-within}
 use Rattle.offer_book.specs.Portfolio.{security_cost, security_flows}
 use Rattle.cash_table.proofs.BalanceLaws.{are_balances}
 use Rattle.cash_table.proofs.FlowFacts.{flows_within}
 use Rattle.roll_plan.specs.RolledFlows.{AreRolledFlows, YieldsNoMore}
 use Rattle.roll_plan.specs.Rolls.{returned, taken}
-use Rattle.roll_plan.specs.Steps.{lessened_by}
-use Rattle.roll_plan.proofs.MoveFacts.{moved_days, rolled_flows, same_sum, taken_there}
+use Rattle.roll_plan.proofs.MoveFacts.{taken_there}
 use Rattle.roll_plan.proofs.PlanFacts.{known}
 use Rattle.roll_plan.proofs.SumFacts.{same_total}
-use Rattle.roll_plan.proofs.YieldFacts.{yields_no_more}
+use Rattle.roll_plan.specs.RollsOf.{moved_by}
+use Rattle.roll_plan.proofs.MovedLaws.{both_within, moved_are}
 use Rattle.roll_plan.proofs.moving.rolled.Goals as goal
 
 -- the flows of two lists, summed
@@ -29,13 +26,6 @@ list_is settle last flows more first second items slice sums is one two all same
 
 sums_are : (settle last : ℤ) (flows first : List Flow) (sums : SpanSums) → sums ≡ record { from = settle; to = last; sums = summed (flows ++ []) } → flows ≡ first → sums.sums ≡ summed (first ++ [])
 sums_are settle last flows first sums is one = ap (λ (s : SpanSums). s.sums) is ∙ ap (λ (l : List Flow). summed (l ++ [])) one
-
-both_within : (settle : ℤ) (flows more : List Flow) → FallWithinFortyYears settle flows → FallWithinFortyYears settle more → FallWithinFortyYears settle (summed (flows ++ more))
-both_within settle flows more a b =
-    fall-within settle (years_after_of settle 40) (flows ++ more) (All-append (λ (flow : Flow). (settle ≤ℤ flow.day) × (flow.day ≤ℤ years_after_of settle 40)) flows more a b)
-
-moved_is : (away taken all list moved : List Flow) → moved ≡ lessened_by taken list → taken ≡ away → list ≡ all → moved ≡ lessened_by away all
-moved_is away taken all list moved is one two = is ∙ ap (λ (l : List Flow). lessened_by l list) one ∙ ap (lessened_by away) two
 
 pub sums_of-requires-clause-more : goal.sums_of-requires-clause-more
 sums_of-requires-clause-more c =
@@ -115,64 +105,36 @@ lessened-requires-clause-within c =
 
 pub returns-clause-flows : goal.returns-clause-flows
 returns-clause-flows c =
-    let k = known c.args.case.now.book c.args.plan.now c.requires.rolls.0 c.args.rolls.now c.line_count.ensures.limits c.requires.permitted
-    (are_balances c.args.case.now.book c.args.plan.now c.line_count.ensures.limits c.requires.meets) c.requires.rolls.1 in
-    let settle = c.args.case.now.book.days.settle in
-    let flows = security_flows c.args.case.now.book c.args.plan.now in
-    let list : c.as_slice-4.result.now ≡ summed (flows ++ returned c.args.rolls.now) =
-    list_is c.settle-settle.result (years_after_of c.settle-settle.result 40) c.as_slice.result.now c.as_slice-2.result.now flows (returned c.args.rolls.now) c.in_ok-received-2.received.items c.as_slice-4.result.now c.in_ok-received.received
-    c.in_ok-received.ensures (c.as_slice.ensures.value ∙ c.in_ok-flows.ensures.value) (c.as_slice-2.ensures.value ∙ c.in_ok-returned.ensures) c.in_ok-received-2.ensures.value c.as_slice-4.ensures.value in
-    let away : c.in_ok-taken-2.taken.sums ≡ summed (taken c.args.rolls.now ++ []) =
-    sums_are c.settle-settle.result (years_after_of c.settle-settle.result 40) c.as_slice-3.result.now (taken c.args.rolls.now) c.in_ok-taken-2.taken c.in_ok-taken-2.ensures (c.as_slice-3.ensures.value ∙ c.in_ok-taken.ensures) in
-    IfOk-weaker c.lessened.result (λ left. left.items ≡ lessened_by c.in_ok-taken-2.taken.sums c.as_slice-4.result.now) (λ moved. AreRolledFlows flows c.args.rolls.now moved.items)
-    (λ moved is.
-    let same = moved_is (summed (taken c.args.rolls.now ++ [])) c.in_ok-taken-2.taken.sums (summed (flows ++ returned c.args.rolls.now)) c.as_slice-4.result.now moved.items is away list in
-    rolled_flows flows c.args.rolls.now moved.items k.within same) c.lessened.ensures
+    let book = c.args.case.now.book in
+    let plan = c.args.plan.now in
+    let value : IfOk c.lessened.result (λ moved. moved.items ≡ moved_by (security_flows book plan) c.args.rolls.now) = search rules in
+    let are = moved_are book plan c.requires.rolls.0 c.args.rolls.now c.line_count.ensures.limits c.requires.permitted c.requires.meets c.requires.rolls.1 in
+    IfOk-weaker c.lessened.result (λ moved. moved.items ≡ moved_by (security_flows book plan) c.args.rolls.now) (λ moved. AreRolledFlows (security_flows book plan) c.args.rolls.now moved.items)
+    (λ moved is. subst (AreRolledFlows (security_flows book plan) c.args.rolls.now) (sym is) are.flows) value
 
 pub returns-clause-total : goal.returns-clause-total
 returns-clause-total c =
-    let k = known c.args.case.now.book c.args.plan.now c.requires.rolls.0 c.args.rolls.now c.line_count.ensures.limits c.requires.permitted
-    (are_balances c.args.case.now.book c.args.plan.now c.line_count.ensures.limits c.requires.meets) c.requires.rolls.1 in
-    let settle = c.args.case.now.book.days.settle in
-    let flows = security_flows c.args.case.now.book c.args.plan.now in
-    let list : c.as_slice-4.result.now ≡ summed (flows ++ returned c.args.rolls.now) =
-    list_is c.settle-settle.result (years_after_of c.settle-settle.result 40) c.as_slice.result.now c.as_slice-2.result.now flows (returned c.args.rolls.now) c.in_ok-received-2.received.items c.as_slice-4.result.now c.in_ok-received.received
-    c.in_ok-received.ensures (c.as_slice.ensures.value ∙ c.in_ok-flows.ensures.value) (c.as_slice-2.ensures.value ∙ c.in_ok-returned.ensures) c.in_ok-received-2.ensures.value c.as_slice-4.ensures.value in
-    let away : c.in_ok-taken-2.taken.sums ≡ summed (taken c.args.rolls.now ++ []) =
-    sums_are c.settle-settle.result (years_after_of c.settle-settle.result 40) c.as_slice-3.result.now (taken c.args.rolls.now) c.in_ok-taken-2.taken c.in_ok-taken-2.ensures (c.as_slice-3.ensures.value ∙ c.in_ok-taken.ensures) in
-    IfOk-weaker c.lessened.result (λ left. left.items ≡ lessened_by c.in_ok-taken-2.taken.sums c.as_slice-4.result.now) (λ moved. total moved.items ≡ total flows)
-    (λ moved is.
-    let same = moved_is (summed (taken c.args.rolls.now ++ [])) c.in_ok-taken-2.taken.sums (summed (flows ++ returned c.args.rolls.now)) c.as_slice-4.result.now moved.items is away list in
-    same_sum flows c.args.rolls.now moved.items (rolled_flows flows c.args.rolls.now moved.items k.within same)) c.lessened.ensures
+    let book = c.args.case.now.book in
+    let plan = c.args.plan.now in
+    let value : IfOk c.lessened.result (λ moved. moved.items ≡ moved_by (security_flows book plan) c.args.rolls.now) = search rules in
+    let are = moved_are book plan c.requires.rolls.0 c.args.rolls.now c.line_count.ensures.limits c.requires.permitted c.requires.meets c.requires.rolls.1 in
+    IfOk-weaker c.lessened.result (λ moved. moved.items ≡ moved_by (security_flows book plan) c.args.rolls.now) (λ moved. total moved.items ≡ total (security_flows book plan))
+    (λ moved is. ap total is ∙ are.total) value
 
 pub returns-clause-yields : goal.returns-clause-yields
 returns-clause-yields c =
-    let k = known c.args.case.now.book c.args.plan.now c.requires.rolls.0 c.args.rolls.now c.line_count.ensures.limits c.requires.permitted
-    (are_balances c.args.case.now.book c.args.plan.now c.line_count.ensures.limits c.requires.meets) c.requires.rolls.1 in
-    let settle = c.args.case.now.book.days.settle in
-    let flows = security_flows c.args.case.now.book c.args.plan.now in
-    let list : c.as_slice-4.result.now ≡ summed (flows ++ returned c.args.rolls.now) =
-    list_is c.settle-settle.result (years_after_of c.settle-settle.result 40) c.as_slice.result.now c.as_slice-2.result.now flows (returned c.args.rolls.now) c.in_ok-received-2.received.items c.as_slice-4.result.now c.in_ok-received.received
-    c.in_ok-received.ensures (c.as_slice.ensures.value ∙ c.in_ok-flows.ensures.value) (c.as_slice-2.ensures.value ∙ c.in_ok-returned.ensures) c.in_ok-received-2.ensures.value c.as_slice-4.ensures.value in
-    let away : c.in_ok-taken-2.taken.sums ≡ summed (taken c.args.rolls.now ++ []) =
-    sums_are c.settle-settle.result (years_after_of c.settle-settle.result 40) c.as_slice-3.result.now (taken c.args.rolls.now) c.in_ok-taken-2.taken c.in_ok-taken-2.ensures (c.as_slice-3.ensures.value ∙ c.in_ok-taken.ensures) in
-    IfOk-weaker c.lessened.result (λ left. left.items ≡ lessened_by c.in_ok-taken-2.taken.sums c.as_slice-4.result.now) (λ moved. YieldsNoMore settle (security_cost c.args.case.now.book c.args.plan.now) flows moved.items)
-    (λ moved is.
-    let same = moved_is (summed (taken c.args.rolls.now ++ [])) c.in_ok-taken-2.taken.sums (summed (flows ++ returned c.args.rolls.now)) c.as_slice-4.result.now moved.items is away list in
-    yields_no_more settle (security_cost c.args.case.now.book c.args.plan.now) flows c.args.rolls.now moved.items c.line_count.ensures.limits.settlement (above-summed _) (flows_within c.args.case.now.book c.args.plan.now c.line_count.ensures.limits) (subst (FallWithinFortyYears settle) (sym same) (moved_days (λ day. (settle ≤ℤ day) × (day ≤ℤ years_after_of settle 40)) (summed (taken c.args.rolls.now ++ [])) (summed (flows ++ returned c.args.rolls.now)) (both_within settle flows (returned c.args.rolls.now) (flows_within c.args.case.now.book c.args.plan.now c.line_count.ensures.limits) k.to))) k.from k.to k.order (rolled_flows flows c.args.rolls.now moved.items k.within same)) c.lessened.ensures
+    let book = c.args.case.now.book in
+    let plan = c.args.plan.now in
+    let value : IfOk c.lessened.result (λ moved. moved.items ≡ moved_by (security_flows book plan) c.args.rolls.now) = search rules in
+    let are = moved_are book plan c.requires.rolls.0 c.args.rolls.now c.line_count.ensures.limits c.requires.permitted c.requires.meets c.requires.rolls.1 in
+    IfOk-weaker c.lessened.result (λ moved. moved.items ≡ moved_by (security_flows book plan) c.args.rolls.now) (λ moved. YieldsNoMore book.days.settle (security_cost book plan) (security_flows book plan) moved.items)
+    (λ moved is. subst (YieldsNoMore book.days.settle (security_cost book plan) (security_flows book plan)) (sym is) are.yields) value
 
 pub returns-clause-within : goal.returns-clause-within
 returns-clause-within c =
-    let k = known c.args.case.now.book c.args.plan.now c.requires.rolls.0 c.args.rolls.now c.line_count.ensures.limits c.requires.permitted
-    (are_balances c.args.case.now.book c.args.plan.now c.line_count.ensures.limits c.requires.meets) c.requires.rolls.1 in
-    let settle = c.args.case.now.book.days.settle in
-    let flows = security_flows c.args.case.now.book c.args.plan.now in
-    let list : c.as_slice-4.result.now ≡ summed (flows ++ returned c.args.rolls.now) =
-    list_is c.settle-settle.result (years_after_of c.settle-settle.result 40) c.as_slice.result.now c.as_slice-2.result.now flows (returned c.args.rolls.now) c.in_ok-received-2.received.items c.as_slice-4.result.now c.in_ok-received.received
-    c.in_ok-received.ensures (c.as_slice.ensures.value ∙ c.in_ok-flows.ensures.value) (c.as_slice-2.ensures.value ∙ c.in_ok-returned.ensures) c.in_ok-received-2.ensures.value c.as_slice-4.ensures.value in
-    let away : c.in_ok-taken-2.taken.sums ≡ summed (taken c.args.rolls.now ++ []) =
-    sums_are c.settle-settle.result (years_after_of c.settle-settle.result 40) c.as_slice-3.result.now (taken c.args.rolls.now) c.in_ok-taken-2.taken c.in_ok-taken-2.ensures (c.as_slice-3.ensures.value ∙ c.in_ok-taken.ensures) in
-    IfOk-weaker c.lessened.result (λ left. left.items ≡ lessened_by c.in_ok-taken-2.taken.sums c.as_slice-4.result.now) (λ moved. FallWithinFortyYears settle moved.items)
-    (λ moved is.
-    let same = moved_is (summed (taken c.args.rolls.now ++ [])) c.in_ok-taken-2.taken.sums (summed (flows ++ returned c.args.rolls.now)) c.as_slice-4.result.now moved.items is away list in
-    subst (FallWithinFortyYears settle) (sym same) (moved_days (λ day. (settle ≤ℤ day) × (day ≤ℤ years_after_of settle 40)) (summed (taken c.args.rolls.now ++ [])) (summed (flows ++ returned c.args.rolls.now)) (both_within settle flows (returned c.args.rolls.now) (flows_within c.args.case.now.book c.args.plan.now c.line_count.ensures.limits) k.to))) c.lessened.ensures
+    let book = c.args.case.now.book in
+    let plan = c.args.plan.now in
+    let value : IfOk c.lessened.result (λ moved. moved.items ≡ moved_by (security_flows book plan) c.args.rolls.now) = search rules in
+    let are = moved_are book plan c.requires.rolls.0 c.args.rolls.now c.line_count.ensures.limits c.requires.permitted c.requires.meets c.requires.rolls.1 in
+    IfOk-weaker c.lessened.result (λ moved. moved.items ≡ moved_by (security_flows book plan) c.args.rolls.now) (λ moved. FallWithinFortyYears book.days.settle moved.items)
+    (λ moved is. subst (FallWithinFortyYears book.days.settle) (sym is) are.within) value
