@@ -19,6 +19,8 @@ pub enum FileKind {
     Rates,
     /// The prices of marketable notes.
     Prices,
+    /// What the escrow holds already.
+    Held,
     /// The certificate.
     Cert,
 }
@@ -68,6 +70,8 @@ pub enum RefusalKind {
     TooManyLines,
     /// What is offered matures on a day that opens more than 40 years after settlement.
     ClosedPastEnd,
+    /// The holdings together are over their limit.
+    HeldTooLarge,
 }
 
 /// Where a file is refused, and why.

@@ -88,6 +88,7 @@ abbrev pub file_word : FileKind → List ℕ
 file_word file.Issue = codes "issue"
 file_word file.Rates = codes "rates"
 file_word file.Prices = codes "prices"
+file_word file.Held = codes "held"
 file_word file.Cert = codes "cert"
 
 abbrev pub kind_word : RefusalKind → List ℕ
@@ -112,6 +113,7 @@ kind_word kind.TooLongTerm = codes "TooLongTerm"
 kind_word kind.FirstDate = codes "FirstDate"
 kind_word kind.TooManyLines = codes "TooManyLines"
 kind_word kind.ClosedPastEnd = codes "ClosedPastEnd"
+kind_word kind.HeldTooLarge = codes "HeldTooLarge"
 
 -- a file is refused: which one, at which row, from 1 or 0 for the whole file, and why
 abbrev pub refused_text : Refusal → List ℕ

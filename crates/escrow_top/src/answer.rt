@@ -108,6 +108,7 @@ fn file_word(kind: FileKind) -> &'static [u8]
         FileKind::Issue => b"issue",
         FileKind::Rates => b"rates",
         FileKind::Prices => b"prices",
+        FileKind::Held => b"held",
         FileKind::Cert => b"cert",
     }
 }
@@ -138,6 +139,7 @@ fn kind_word(kind: RefusalKind) -> &'static [u8]
         RefusalKind::FirstDate => b"FirstDate",
         RefusalKind::TooManyLines => b"TooManyLines",
         RefusalKind::ClosedPastEnd => b"ClosedPastEnd",
+        RefusalKind::HeldTooLarge => b"HeldTooLarge",
     }
 }
 
