@@ -131,7 +131,7 @@ pub fn add_receipts(receipts: &mut [u64], needs: &[Flow], payments: &[Flow])
     }
 }
 
-// Adds a payment at the first need date on or after its day, if there is one.
+// Adds a payment at the first need date on or after its day, if there is one, which isn't looked for where it pays nothing.
 fn add_receipt(receipts: &mut [u64], needs: &[Flow], payment: &Flow)
     requires places { length needs.now ≤ length receipts.old }
     requires rising { Rise needs.now }
@@ -141,6 +141,9 @@ fn add_receipt(receipts: &mut [u64], needs: &[Flow], payment: &Flow)
         ≡ sum (take (k + 1) receipts.old) + cents_by (slice_index_or needs.now k d).day payment.now }
     ensures whole { sum receipts.new ≤ sum receipts.old + payment.now.cents.0 }
 {
+    if payment.cents.0 == 0 {
+        return;
+    }
     let place = place_of(needs, payment.day);
     if place < needs.len() {
         receipts[place] += payment.cents.0;

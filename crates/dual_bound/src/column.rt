@@ -170,11 +170,11 @@ impl Column {
         ensures places { result.places.items ≡ [] }
         ensures others { result.others.items ≡ [] }
     {
-        let coefficients = line.coefficients(days);
+        let cost = line.scaled_cost();
         Column {
-            cost_low: coefficients.cost_low,
-            cost_high: coefficients.cost_high,
-            cost_slack: coefficients.cost_slack,
+            cost_low: cost.low,
+            cost_high: cost.high,
+            cost_slack: cost.slack,
             accrued: line.accrued(),
             regular: coefficients_of(line, &regular_payment(days.settle)),
             places: Vec::new(alloc),
@@ -191,12 +191,11 @@ impl Column {
         ensures others { OnOk result (self.new.others.items ≡ self.old.others.items ++ cond (is_other payment.now) (other_by line.now payment.now place ∷ []) []) }
         ensures small { OnOk result (IsSmallOther (other_by line.now payment.now place)) }
     {
-        let other = other_payment(line, payment, place);
         if is_regular(payment) {
             self.places.push(place)?;
             Ok(())
         } else {
-            self.others.push(other)?;
+            self.others.push(other_payment(line, payment, place))?;
             Ok(())
         }
     }

@@ -81,15 +81,15 @@ fn security_day(book: &Book, powers: &Powers, day: Day) -> PricedDay
 }
 
 impl DayTable {
-    /// A table without days.
-    pub(crate) fn new(alloc: Global) -> DayTable
-        ensures empty { result.days.items ≡ [] }
-        ensures table { (n : ℕ) (book : BookContents) → IsDayTable n book result }
+    /// A table without days, with room for so many.
+    pub(crate) fn with_room(alloc: Global, days: usize) -> Result<DayTable, NoMemory>
+        ensures empty { IfOk result (λ table. table.days.items ≡ []) }
+        ensures table { IfOk result (λ table. (n : ℕ) (book : BookContents) → IsDayTable n book table) }
     {
-        DayTable {
-            days: Vec::new(alloc),
+        Ok(DayTable {
+            days: Vec::with_capacity(alloc, days)?,
             places: Vec::new(alloc),
-        }
+        })
     }
 
     // The place of the day that is so many days after settlement, if it is there.

@@ -248,7 +248,7 @@ fn stop_days(
     requires { All (IsStopWithin (length days.now)) stops.now }
     ensures { IfOk result (λ list. list.items ≡ map (stop_day_of dates days.now) stops.now) }
 {
-    let mut list = Vec::new(alloc);
+    let mut list = Vec::with_capacity(alloc, stops.len())?;
     for stop in stops {
         list.push(stop_day(dates, days, *stop))?;
     }

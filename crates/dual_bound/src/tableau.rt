@@ -61,7 +61,7 @@ fn columns_of(
     ensures columns { IfOk result (λ columns. AllZip (IsColumn powers.now.yield_units book.now table.new.days.items) book.now.lines columns.items) }
     ensures small { IfOk result (λ columns. All IsSmallColumn columns.items) }
 {
-    let mut columns = Vec::new(alloc);
+    let mut columns = Vec::with_capacity(alloc, book.lines().len())?;
     for line in book.lines() {
         columns.push(Column::make(alloc, book, powers, table, line)?)?;
     }
@@ -74,7 +74,7 @@ fn worths_of(alloc: Global, leaf: &Leaf, days: &[PricedDay]) -> Result<Vec<Worth
     requires powers { All (λ priced. priced.power ≤ one) days.now }
     ensures { IfOk result (λ worths. worths.items ≡ map (worth_on leaf.now) days.now) }
 {
-    let mut worths = Vec::new(alloc);
+    let mut worths = Vec::with_capacity(alloc, days.len())?;
     for day in days {
         worths.push(price_day(leaf, *day))?;
     }
@@ -103,7 +103,7 @@ impl Tableau {
         ensures yield_units { IfOk result (λ tableau. tableau.yield_units.0 ≡ powers.now.yield_units) }
     {
         let leaf = Leaf::of_zeros(alloc, false, book.need_count())?;
-        let mut table = DayTable::new(alloc);
+        let mut table = DayTable::with_room(alloc, 84 * book.lines().len())?;
         let columns = columns_of(alloc, book, powers, &mut table)?;
         let date_days = days_by_date(alloc, book.need_count(), table.days.as_slice())?;
         let worths = worths_of(alloc, &leaf, table.days.as_slice())?;

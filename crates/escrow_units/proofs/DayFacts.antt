@@ -221,6 +221,10 @@ month_end_test n a b h e t =
     let at_a : date_of n ≡ parts a = rw e at (date_of-date a (rw e h)) in
     rw at_a t
 
+-- a base day is a day that a `Day` has
+pub base_number : (n : ℤ) → IsBaseDay n → IsDayNumber n
+base_number n base = (omega (arith, signed_arith, base), omega (arith, signed_arith, base))
+
 pub abs-neg : (n : ℕ) → unsigned_abs (neg_ℤ (pos n)) ≡ n
 abs-neg zero = refl
 abs-neg (suc n) = refl

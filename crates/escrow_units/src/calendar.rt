@@ -1,6 +1,6 @@
 //! Dates of the calendar, and the days that are counted from them.
-ghost use Rattle.std.specs.Prelude.{◌≡◌, ◌<◌, ◌≤◌, ◌-◌, pos, ◌+ℤ◌, ◌≤ℤ◌, unsigned_abs};
-ghost use Rattle.jiff.specs.Words.{add_months, epoch_day};
+ghost use Rattle.std.specs.Prelude.{◌≡◌, ◌<◌, ◌≤◌, ◌-◌, pos, ◌+ℤ◌, ◌≤ℤ◌, neg_ℤ, unsigned_abs};
+ghost use Rattle.jiff.specs.Words.{add_months, days_in_month, epoch_day};
 ghost use Rattle.escrow_units.specs.Calendar.{IsBaseDay, thirty_day_place_of, half_back_of, years_after_of};
 ghost use Rattle.escrow_units.specs.DayNumber.{IsDayNumber};
 
@@ -9,6 +9,7 @@ use crate::limits::GREATEST_INDEX;
 use crate::security::StepRule;
 use jiff::ToSpan;
 use jiff::civil::Date;
+use jiff_core::civil::days_in_month;
 
 /// The date of a day.
 pub fn plain_date(day: Day) -> jiff_core::civil::Date
@@ -72,6 +73,44 @@ fn shifted(date: Date, months: i32) -> Date
     }
 }
 
+// The same day of the month so many months before, or the last day of a shorter month.
+fn months_before(date: jiff_core::civil::Date, months: u32) -> jiff_core::civil::Date
+    requires few { months ≤ 600 }
+    requires base { IsBaseDay (epoch_day date) }
+    ensures { epoch_day result ≡ add_months date (neg_ℤ (pos months)) }
+{
+    let place = 12 * date.year as u32 + (date.month as u32 - 1) - months;
+    jiff_core::civil::Date::constrain((place / 12) as i16, (place % 12) as u8 + 1, date.day)
+}
+
+// The last day of a date's month.
+fn last_of_month(date: jiff_core::civil::Date) -> jiff_core::civil::Date
+    ensures year { result.year ≡ date.year }
+    ensures month { result.month ≡ date.month }
+    ensures day { result.day ≡ days_in_month date.year date.month }
+{
+    jiff_core::civil::Date::constrain(date.year, date.month, 31)
+}
+
+// The day `k` half-years before a date of the years 2000 to 2190, as [`half_back`] has it.
+pub(crate) fn half_years_before(date: jiff_core::civil::Date, k: u32, rule: StepRule) -> Day
+    requires few { k ≤ 84 }
+    requires base { IsBaseDay (epoch_day date) }
+    ensures { result ≡ half_back_of (epoch_day date) k rule }
+{
+    let back = months_before(date, 6 * k);
+    match rule {
+        StepRule::SameDay => day_of_date(back),
+        StepRule::MonthEnd => {
+            if date.day == days_in_month(date.year, date.month) {
+                day_of_date(last_of_month(back))
+            } else {
+                day_of_date(back)
+            }
+        }
+    }
+}
+
 /// The day `k` half-years before maturity, which is of the years 2000 to 2190, for `k` up to 84.
 ///
 /// It is counted from maturity itself and not from the step before: back from 31 August come 28 February and again
@@ -81,18 +120,7 @@ pub fn half_back(maturity: Day, k: u32, rule: StepRule) -> Day
     requires base { IsBaseDay maturity }
     ensures { result ≡ half_back_of maturity k rule }
 {
-    let date = Date::from_plain(plain_date(maturity));
-    let back = shifted(date, -(6 * k as i32));
-    match rule {
-        StepRule::SameDay => day_of_date(back.to_plain()),
-        StepRule::MonthEnd => {
-            if date.day() == date.days_in_month() {
-                day_of_date(back.last_of_month().to_plain())
-            } else {
-                day_of_date(back.to_plain())
-            }
-        }
-    }
+    half_years_before(plain_date(maturity), k, rule)
 }
 
 /// The same month and day up to 40 years later, or 28 February for a 29th that isn't there.

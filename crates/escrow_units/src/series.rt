@@ -4,7 +4,7 @@ ghost use Rattle.escrow_units.specs.Calendar.{IsBaseDay};
 ghost use Rattle.escrow_units.specs.CalendarLaws.{IsHalfYear};
 ghost use Rattle.escrow_units.specs.Series.{IsFirstAfter, IsLastBy, dates_after_of, next_date_of, previous_date_of};
 
-use crate::calendar::half_back;
+use crate::calendar::{half_years_before, plain_date};
 use crate::day::Day;
 use crate::security::StepRule;
 use arrayvec::ArrayVec;
@@ -34,13 +34,14 @@ pub fn series_around(maturity: Day, rule: StepRule, day: Day) -> SeriesDates
     ensures first { IsFirstAfter maturity rule day result.next }
     ensures half_year { IsHalfYear result.previous result.next }
 {
+    let end = plain_date(maturity);
     let mut after = ArrayVec::new();
     let mut next = maturity;
     let mut date = maturity;
     while date > day {
         after.push(date);
         next = date;
-        date = half_back(maturity, after.len() as u32, rule);
+        date = half_years_before(end, after.len() as u32, rule);
     }
     after.reverse();
     SeriesDates {

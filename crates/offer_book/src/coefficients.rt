@@ -46,9 +46,11 @@ pub struct Coefficients {
     pub pays: ArrayVec<PayCoefficients, 84>,
 }
 
-/// What one unit costs, times [`COEFFICIENT_SCALE`].
+/// What one unit of a line costs, times [`COEFFICIENT_SCALE`].
+///
+/// At x units, the scale times the cost, in cents, lies from `low * x - slack` to `high * x + slack`.
 #[derive(Clone, Copy)]
-pub(crate) struct ScaledCost {
+pub struct ScaledCost {
     /// The exact cost, rounded down.
     pub low: u128,
     /// The exact cost, rounded up.

@@ -11,7 +11,9 @@ mod offers;
 mod payment_days;
 
 pub use book::Book;
-pub use coefficients::{COEFFICIENT_SCALE, Coefficients, PayCoefficients, coefficient_laws};
+pub use coefficients::{
+    COEFFICIENT_SCALE, Coefficients, PayCoefficients, ScaledCost, coefficient_laws,
+};
 pub use files::{book_laws, make_book};
 pub use line::{Line, LineKind};
 pub use offers::{offer_laws, slgs_lines};

@@ -197,8 +197,9 @@ impl Line {
         }
     }
 
-    // What one unit of the line costs, scaled and rounded outward.
-    fn scaled_cost(&self) -> ScaledCost
+    /// What one unit of the line costs, scaled and rounded outward, as [`coefficients`](Line::coefficients) has it: its payments
+    /// aren't looked for. The line is one of a book.
+    pub fn scaled_cost(&self) -> ScaledCost
         requires { (days : Days) × IsLine days self.now }
         ensures { cost_coefficients self.now ≡ record { low = result.low; high = result.high; slack = result.slack } }
     {

@@ -12,9 +12,9 @@ loop-next-init c =
 pub loop-next-preserved : goal.loop-next-preserved
 loop-next-preserved c =
     let late : c.args.day <ℤ c.loop-next.date = search rules in
-    walk-more c.args.maturity c.args.rule c.args.day c.loop-next.date c.loop-next.next c.half_back-date.result c.loop-next.after.items c.push.new.self.items
+    walk-more c.args.maturity c.args.rule c.args.day c.loop-next.date c.loop-next.next c.half_years_before-date.result c.loop-next.after.items c.push.new.self.items
     (record { base = c.requires.base; most = c.requires.near }) c.loop-next.invariant late
-    (c.half_back-date.ensures ∙ ap (λ n. half_back_of c.args.maturity n c.args.rule) c.len.ensures.value) c.push.ensures.items
+    (rw c.plain_date-end.ensures.number at c.half_years_before-date.ensures ∙ ap (λ n. half_back_of c.args.maturity n c.args.rule) c.len.ensures.value) c.push.ensures.items
 
 pub returns-clause-previous : goal.returns-clause-previous
 returns-clause-previous c =

@@ -6,8 +6,11 @@ use Rattle.dual_bound.proofs.column.Column.without_payments.Goals as goal
 
 pub returns-clause-head : goal.returns-clause-head
 returns-clause-head c = record {
-  costs = c.coefficients-coefficients.ensures.costs;
+  costs = c.scaled_cost-cost.ensures;
   accrued = c.accrued.ensures.value;
   regular = c.coefficients_of.ensures.value ∙ ap (pay_by (kind_rate c.args.line.now.kind) c.args.line.now.step) c.regular_payment.ensures.value;
-  small = head-small c.args.days.now c.args.line.now _ c.requires.line c.coefficients-coefficients.ensures.costs c.accrued.ensures.days c.coefficients_of.ensures.small;
+  small = head-small c.args.days.now c.args.line.now _ c.requires.line c.scaled_cost-cost.ensures c.accrued.ensures.days c.coefficients_of.ensures.small;
 }
+
+pub scaled_cost-cost-requires : goal.scaled_cost-cost-requires
+scaled_cost-cost-requires c = (c.args.days.now, c.requires.line)

@@ -7,7 +7,7 @@ use Rattle.dual_bound.proofs.TableauFacts.{columns-there, lines-few, worths-ligh
 use Rattle.dual_bound.proofs.tableau.Tableau.make.Goals as goal
 
 pub columns_of-requires-clause-table : goal.columns_of-requires-clause-table
-columns_of-requires-clause-table c = c.new-table.ensures.table c.args.powers.now.yield_units c.args.book.now
+columns_of-requires-clause-table c = c.in_ok-table.ensures.table c.args.powers.now.yield_units c.args.book.now
 
 pub make-requires-clause-lines : goal.make-requires-clause-lines
 make-requires-clause-lines c =
