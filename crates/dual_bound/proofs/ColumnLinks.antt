@@ -19,7 +19,7 @@ use Rattle.offer_book.specs.declared.line.LineKind.{LineKind}
 use Rattle.payment_schedule.specs.Schedule.{flow_by, half_year_accrual}
 use Rattle.offer_book.specs.declared.line.LineKind.TheVariants.{Cash, Market, Security}
 use Rattle.payment_schedule.specs.declared.schedule.ScheduledPayment.{ScheduledPayment}
-use Rattle.dual_bound.specs.Columns.{IsColumn, IsOther, IsPlace, column_form, column_paid, column_reduced, is_other, is_regular, kind_power, other_forms, signed_worth, worth_at, worth_between, worth_on, worth_together}
+use Rattle.dual_bound.specs.Columns.{IsColumn, IsOther, IsPlace, column_form, column_paid, column_reduced, is_other, is_regular, kind_power, other_forms, paying, pays_at, signed_worth, worth_at, worth_between, worth_on, worth_together}
 use Rattle.dual_bound.specs.LeafBound.{cost_worth, form_of, least_side, limit_price, limit_weight, paid_worth, price_on, reduced_cost, signed_sum}
 use Rattle.dual_bound.specs.declared.column.Column.{Column}
 use Rattle.dual_bound.specs.declared.column.OtherPayment.{OtherPayment}
@@ -27,6 +27,7 @@ use Rattle.dual_bound.specs.declared.tree.Leaf.{Leaf}
 use Rattle.dual_bound.specs.declared.worth.PricedDay.{PricedDay}
 use Rattle.dual_bound.specs.declared.worth.Worth.{Worth}
 use Rattle.dual_bound.proofs.FormFacts.{form_of-is}
+use Rattle.dual_bound.proofs.PayingFacts.{kept-count, kept-sum, no-side, unpaid-cents, unpaid-high, unpaid-low, unpaid-slack}
 use Rattle.dual_bound.proofs.Signed.{mul-comm, neg-mul, pos-mul, signed_sum-difference, signed_sum-scaled}
 use Rattle.dual_bound.proofs.Sizes.{pay_slack, pays_slope}
 
@@ -168,7 +169,8 @@ slope-shared : (n : ℕ) (book : BookContents) (leaf : Leaf) (line : Line) (days
     +ℤ (other_forms worths column.others.items).slope
 slope-shared n book leaf line days worths column same is h =
     mapped-sum side pay (schedule_of book.days line)
-    ∙ shared-sum (λ p. side (pay p)) g other (IsPlace n book line.kind days) (IsOther n book line days) regular others (schedule_of book.days line) column.places.items column.others.items h.places h.others
+    ∙ kept-sum (λ p. side (pay p)) (pays_at (kind_rate line.kind)) nothing (schedule_of book.days line)
+    ∙ shared-sum (λ p. side (pay p)) g other (IsPlace n book line.kind days) (IsOther n book line days) regular others (paying book.days line) column.places.items column.others.items h.places h.others
     ∙ ap (λ z. z +ℤ signed_sum other column.others.items) together
   where
     pay : ScheduledPayment → PayCoefficients
@@ -176,6 +178,10 @@ slope-shared n book leaf line days worths column same is h =
 
     side : PayCoefficients → ℤ
     side = λ pay. least_side (neg_ℤ (paid_worth n book leaf line.kind pay.day)) pay.low pay.high
+
+    nothing : (p : ScheduledPayment) → pays_at (kind_rate line.kind) p ≡ false → side (pay p) ≡ pos 0
+    nothing p e =
+        no-side (neg_ℤ (paid_worth n book leaf line.kind p.day)) (pay p).low (pay p).high (unpaid-low (kind_rate line.kind) line.step p e) (unpaid-high (kind_rate line.kind) line.step p e)
 
     above : ℕ → ℕ
     above = λ k. (worth_at worths k).above
@@ -224,8 +230,9 @@ slack-shared : (n : ℕ) (book : BookContents) (leaf : Leaf) (line : Line) (days
     + (other_forms worths column.others.items).slack
 slack-shared n book leaf line days worths column same is h =
     mapped-count (pay_slack (paid_worth n book leaf line.kind)) (pay_by (kind_rate line.kind) line.step) (schedule_of book.days line)
+    ∙ kept-count (λ p. pay_slack (paid_worth n book leaf line.kind) (pay_by (kind_rate line.kind) line.step p)) (pays_at (kind_rate line.kind)) nothing (schedule_of book.days line)
     ∙ shared-count (λ p. pay_slack (paid_worth n book leaf line.kind) (pay_by (kind_rate line.kind) line.step p)) g other (IsPlace n book line.kind days) (IsOther n book line days) regular others
-    (schedule_of book.days line) column.places.items column.others.items h.places h.others
+    (paying book.days line) column.places.items column.others.items h.places h.others
     ∙ ap (λ z. z + sum_by other column.others.items) together
   where
     g : ℕ → ℕ
@@ -233,6 +240,9 @@ slack-shared n book leaf line days worths column same is h =
 
     other : OtherPayment → ℕ
     other = λ o. unsigned_abs (signed_worth (worth_at worths o.place)) * o.coefficients.slack
+
+    nothing : (p : ScheduledPayment) → pays_at (kind_rate line.kind) p ≡ false → unsigned_abs (paid_worth n book leaf line.kind p.day) * (pay_by (kind_rate line.kind) line.step p).slack ≡ 0
+    nothing p e = ap (λ s. unsigned_abs (paid_worth n book leaf line.kind p.day) * s) (unpaid-slack (kind_rate line.kind) line.step p e) ∙ omega arith
 
     regular : (p : ScheduledPayment) (k : ℕ) → is_regular p ≡ true → IsPlace n book line.kind days p k
         → unsigned_abs (paid_worth n book leaf line.kind p.day) * (pay_by (kind_rate line.kind) line.step p).slack
@@ -292,8 +302,9 @@ paid-shared : (n : ℕ) (book : BookContents) (leaf : Leaf) (line : Line) (days 
     ≡ column_paid (kind_rate line.kind) (par line units) worths column
 paid-shared n book leaf line days worths column units same is h =
     mapped-sum (λ (flow : Flow). paid_worth n book leaf line.kind flow.day *ℤ pos flow.cents.0) (flow_by (kind_rate line.kind) (par line units)) (schedule_of book.days line)
+    ∙ kept-sum (λ p. paid_worth n book leaf line.kind p.day *ℤ pos (flow_by (kind_rate line.kind) (par line units) p).cents.0) (pays_at (kind_rate line.kind)) nothing (schedule_of book.days line)
     ∙ shared-sum (λ p. paid_worth n book leaf line.kind p.day *ℤ pos (flow_by (kind_rate line.kind) (par line units) p).cents.0) g other (IsPlace n book line.kind days) (IsOther n book line days) regular others
-    (schedule_of book.days line) column.places.items column.others.items h.places h.others
+    (paying book.days line) column.places.items column.others.items h.places h.others
     ∙ ap (λ z. z +ℤ signed_sum other column.others.items) (together (earned_of (par line units) (kind_rate line.kind) 1 2))
   where
     g : ℕ → ℤ
@@ -301,6 +312,11 @@ paid-shared n book leaf line days worths column units same is h =
 
     other : OtherPayment → ℤ
     other = λ o. signed_worth (worth_at worths o.place) *ℤ pos (flow_by (kind_rate line.kind) (par line units) o.payment).cents.0
+
+    nothing : (p : ScheduledPayment) → pays_at (kind_rate line.kind) p ≡ false
+        → paid_worth n book leaf line.kind p.day *ℤ pos (flow_by (kind_rate line.kind) (par line units) p).cents.0 ≡ pos 0
+    nothing p e =
+        ap (λ cents. paid_worth n book leaf line.kind p.day *ℤ pos cents) (unpaid-cents (kind_rate line.kind) (par line units) p e) ∙ omega (arith, ints)
 
     no-more : (a : ℕ) → a + 0 ≡ a
     no-more a = omega arith

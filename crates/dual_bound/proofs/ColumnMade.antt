@@ -1,8 +1,8 @@
 -- A column, as the payments of its line are put into it.
-use Rattle.std.proofs.Common.{◌≡◌, ◌∙◌, ℕ, ◌+◌, ◌<◌, ◌≤◌, List, [], ◌∷◌, ◌++◌, All, cond, get_or, length, map, take, refl, sym, ap, subst, arith, ℤ, ◌≤ℤ◌, Bool, true, false, length-append, append-nil}
+use Rattle.std.proofs.Common.{◌≡◌, ◌∙◌, ℕ, ◌+◌, ◌<◌, ◌≤◌, List, [], ◌∷◌, ◌++◌, All, cond, get_or, length, take, refl, sym, ap, subst, arith, ◌≤ℤ◌, Bool, true, false, length-append, append-nil}
 use Rattle.std.specs.List.{AllZip, filter}
 use Rattle.std.proofs.lemmas.List.{length-map, take_all}
-use Rattle.std.proofs.lemmas.List.Elements.{All-push, filter_more}
+use Rattle.std.proofs.lemmas.List.Elements.{All-filter, All-push, filter_more}
 use Rattle.std.proofs.Math.ListN.{get_or-map}
 use Rattle.escrow_units.specs.Calendar.{years_after_of}
 use Rattle.escrow_units.specs.SlgsTerms.{IsSettlement}
@@ -13,7 +13,7 @@ use Rattle.offer_book.specs.declared.coefficients.PayCoefficients.{PayCoefficien
 use Rattle.offer_book.specs.declared.line.Line.{Line}
 use Rattle.offer_book.specs.declared.line.LineKind.{LineKind}
 use Rattle.payment_schedule.specs.declared.schedule.ScheduledPayment.{ScheduledPayment}
-use Rattle.dual_bound.specs.Columns.{Extends, HasHead, IsColumn, IsOther, IsPlace, IsSmallColumn, IsSmallOther, KeepsHead, is_other, is_regular, other_by}
+use Rattle.dual_bound.specs.Columns.{Extends, HasHead, IsColumn, IsOther, IsPlace, IsSmallColumn, IsSmallOther, KeepsHead, is_other, is_regular, other_by, paying, pays_at}
 use Rattle.dual_bound.specs.declared.column.Column.{Column}
 use Rattle.dual_bound.specs.declared.column.OtherPayment.{OtherPayment}
 use Rattle.dual_bound.specs.declared.worth.PricedDay.{PricedDay}
@@ -64,8 +64,8 @@ column-stays n book days more e line column h = record {
   costs = h.costs;
   accrued = h.accrued;
   regular = h.regular;
-  places = zip-weaker (IsPlace n book line.kind days) (IsPlace n book line.kind more) (filter is_regular (schedule_of book.days line)) column.places.items (place-stays n book line.kind days more e) h.places;
-  others = zip-weaker (IsOther n book line days) (IsOther n book line more) (filter is_other (schedule_of book.days line)) column.others.items (other-stays n book line days more e) h.others;
+  places = zip-weaker (IsPlace n book line.kind days) (IsPlace n book line.kind more) (filter is_regular (paying book.days line)) column.places.items (place-stays n book line.kind days more e) h.places;
+  others = zip-weaker (IsOther n book line days) (IsOther n book line more) (filter is_other (paying book.days line)) column.others.items (other-stays n book line days more e) h.others;
 }
 
 pub extends-same : (days : List PricedDay) → Extends days days
@@ -109,15 +109,16 @@ one-more n book days more line schedule i payment place old new few is e h at pl
   few_others = omega (arith, ap length others, length-append old.others.items (cond (is_other payment) (other_by line payment place ∷ []) []), cond-short (is_other payment) (other_by line payment place), h.few_others);
 }
 
--- the payments of a schedule fall within forty years
-pub schedule-within : (days : PaymentDays) (line : Line) → IsSettlement days.settle → IsLine days line → All (λ payment. (days.settle ≤ℤ payment.day) × (payment.day ≤ℤ years_after_of days.settle 40)) (schedule_of days line)
+-- the payments of a line fall within forty years
+pub schedule-within : (days : PaymentDays) (line : Line) → IsSettlement days.settle → IsLine days line → All (λ payment. (days.settle ≤ℤ payment.day) × (payment.day ≤ℤ years_after_of days.settle 40)) (paying days line)
 schedule-within days line h is =
-    let pay : ScheduledPayment → PayCoefficients = pay_by (kind_rate line.kind) line.step in
+    All-filter (pays_at (kind_rate line.kind)) (λ payment. (days.settle ≤ℤ payment.day) × (payment.day ≤ℤ years_after_of days.settle 40)) (schedule_of days line)
+    (let pay : ScheduledPayment → PayCoefficients = pay_by (kind_rate line.kind) line.step in
     let P : PayCoefficients → Type 0 = λ pay. (days.settle ≤ℤ pay.day) × (pay.day ≤ℤ years_after_of days.settle 40) in
-    λ k d few. subst P (get_or-map pay (schedule_of days line) k d) (pays-within days line h is k (pay d) (omega (arith, length-map (schedule_of days line) pay, few)))
+    λ k d few. subst P (get_or-map pay (schedule_of days line) k d) (pays-within days line h is k (pay d) (omega (arith, length-map (schedule_of days line) pay, few))))
 
 -- all that a column has, and its size
-pub made : (n : ℕ) (book : BookContents) (days : List PricedDay) (line : Line) (schedule : List ScheduledPayment) (i : ℕ) (start column : Column) → schedule ≡ schedule_of book.days line
+pub made : (n : ℕ) (book : BookContents) (days : List PricedDay) (line : Line) (schedule : List ScheduledPayment) (i : ℕ) (start column : Column) → schedule ≡ paying book.days line
     → length schedule ≤ i → HasHead book.days.settle line start → KeepsHead start column → IsSoFar n book days line schedule i column → IsColumn n book days line column
 made n book days line schedule i start column is all head keeps h = record {
   costs = head.costs ∙ (λ j. record { low = sym keeps.cost_low j; high = sym keeps.cost_high j; slack = sym keeps.cost_slack j });

@@ -1,5 +1,5 @@
 -- How large the parts of a column are.
-use Rattle.std.proofs.Common.{◌≡◌, ℕ, ◌*◌, ◌≤◌, ap, arith, ℤ}
+use Rattle.std.proofs.Common.{◌≡◌, ℕ, ◌*◌, ◌≤◌, ap, arith}
 use Rattle.std.proofs.Math.Nat.{mul-le-mul_left, mul-le-mul_right}
 use Rattle.escrow_units.proofs.RoundingFacts.{near-at-most}
 use Rattle.escrow_units.specs.Interest.{earned_of}

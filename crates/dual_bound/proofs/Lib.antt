@@ -8,6 +8,7 @@ pub mod DateFacts
 pub mod DayFacts
 pub mod FormFacts
 pub mod LineBound
+pub mod PayingFacts
 pub mod PriceFacts
 pub mod RangeFacts
 pub mod RangeLaws

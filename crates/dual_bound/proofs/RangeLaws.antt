@@ -1,5 +1,5 @@
 -- What the ranges of a tree keep.
-use Rattle.std.proofs.Common.{◌≡◌, ◌⊎◌, inl, inr, ℕ, zero, suc, ◌+◌, ◌<◌, ◌≤◌, ◌==◌, List, [], ◌∷◌, drop, get_or, length, map, refl, ap, arith, Bool, true, false, ◌&&◌, nat_lt, nat_le, IsTrue, if◌then◌else◌, All, ℤ}
+use Rattle.std.proofs.Common.{◌≡◌, ◌⊎◌, inl, inr, ℕ, zero, suc, ◌+◌, ◌<◌, ◌≤◌, ◌==◌, List, [], ◌∷◌, drop, get_or, length, map, refl, ap, arith, Bool, true, false, ◌&&◌, nat_lt, nat_le, IsTrue, if◌then◌else◌, All}
 use Rattle.std.proofs.lemmas.List.Elements.{All-cons, All-head, All-nil, All-tail}
 use Rattle.std.specs.List.{AllZip, zip}
 use Rattle.offer_book.specs.Book.{AreLines, IsCashLine, IsSecurityLine}

@@ -18,7 +18,6 @@ use Rattle.fixed_powers.specs.declared.side.Side.TheVariants.{Low}
 use Rattle.fixed_powers.proofs.PowerFacts.{power_of-within}
 use Rattle.market_notes.proofs.AmountFacts.{accrual-short, accrual-some}
 use Rattle.market_notes.specs.NoteFlows as notes
-use Rattle.market_notes.specs.declared.note.Note.{Note}
 use Rattle.offer_book.specs.Book.{BookContents, IsCashLine, IsLine, IsSecurity, IsSecurityLine}
 use Rattle.offer_book.specs.Coefficients.{cost_coefficients, interest_high, interest_low, interest_slack, kind_costs, pay_by, pay_coefficients}
 use Rattle.offer_book.specs.Portfolio.{line_cost}

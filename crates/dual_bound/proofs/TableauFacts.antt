@@ -11,9 +11,8 @@ use Rattle.fixed_powers.specs.DiscountPowers.{one}
 use Rattle.offer_book.specs.Book.{AreLines, BookContents, IsBook, IsLine}
 use Rattle.offer_book.specs.declared.coefficients.TheConstants.{COEFFICIENT_SCALE}
 use Rattle.offer_book.specs.declared.line.Line.{Line}
-use Rattle.offer_book.specs.Schedule.{schedule_of}
 use Rattle.offer_book.specs.declared.line.LineKind.TheVariants.{Cash}
-use Rattle.dual_bound.specs.Columns.{Extends, IsColumn, IsLightWorth, IsOther, IsPlace, IsRun, IsRunOf, IsSmallColumn, IsTableau, is_other, is_regular, worth_at, worth_between, worth_on, worth_together}
+use Rattle.dual_bound.specs.Columns.{Extends, IsColumn, IsLightWorth, IsOther, IsPlace, IsRun, IsRunOf, IsSmallColumn, IsTableau, is_other, is_regular, paying, worth_at, worth_between, worth_on, worth_together}
 use Rattle.dual_bound.specs.LeafBound.{bound_of, least_within, priced_needs, signed_sum}
 use Rattle.dual_bound.specs.Tree.{IsLeaf}
 use Rattle.dual_bound.specs.declared.column.Column.{Column}
@@ -68,9 +67,9 @@ ready book t place line column limits h few is column_is = record {
   is_line = subst (IsLine book.days) (sym is) (all-lines book.days book.lines limits.lines place line few);
   is_column = own;
   small = subst IsSmallColumn (sym column_is) (h.small place column (omega (arith, few, columns-long)));
-  there = zip-right (IsPlace t.yield_units.0 book line.kind t.days.items) (λ place. place < length t.worths.items) (filter is_regular (schedule_of book.days line)) column.places.items
+  there = zip-right (IsPlace t.yield_units.0 book line.kind t.days.items) (λ place. place < length t.worths.items) (filter is_regular (paying book.days line)) column.places.items
       (λ p k at. omega (arith, at.there, days)) own.places;
-  others_there = zip-right (IsOther t.yield_units.0 book line t.days.items) (λ (o : OtherPayment). o.place < length t.worths.items) (filter is_other (schedule_of book.days line)) column.others.items
+  others_there = zip-right (IsOther t.yield_units.0 book line t.days.items) (λ (o : OtherPayment). o.place < length t.worths.items) (filter is_other (paying book.days line)) column.others.items
       (λ p o at. omega (arith, at.place.there, days)) own.others;
   light = All-same IsLightWorth t.worths.items (map (worth_on t.leaf) t.days.items) h.worths
       (All-map IsLightWorth (worth_on t.leaf) t.days.items (λ k d lt. light-worth (length book.needs) t.leaf (get_or t.days.items k d) h.leaf (h.powers k d lt)));
@@ -94,7 +93,7 @@ pub columns-there : (n : ℕ) (book : BookContents) (days : List PricedDay) (lin
 columns-there n book days lines columns h =
     zip-right (IsColumn n book days) (λ (column : Column). All (λ place. place < length days) column.places.items) lines columns
     (λ line column own.
-    zip-right (IsPlace n book line.kind days) (λ place. place < length days) (filter is_regular (schedule_of book.days line)) column.places.items (λ p k at. at.there) own.places) h
+    zip-right (IsPlace n book line.kind days) (λ place. place < length days) (filter is_regular (paying book.days line)) column.places.items (λ p k at. at.there) own.places) h
 
 -- days are worth at most 2 each
 pub worths-light : (dates : ℕ) (leaf : Leaf) (days : List PricedDay) (worths : List Worth) → IsLeaf dates leaf → All (λ (priced : PricedDay). priced.power ≤ one) days

@@ -1,6 +1,6 @@
 -- Columns: what each line is in the linear program whose dual the bound is. Made once for a book and the powers of a yield,
 -- they hold each line's coefficients and what each payment day is priced by, so that a leaf is priced without a calendar.
-use Rattle.std.specs.Prelude.{◌≡◌, ℕ, zero, suc, ◌+◌, ◌-◌, ◌*◌, ◌/◌, ◌^◌, ◌<◌, ◌≤◌, ◌==◌, Bool, false, ◌&&◌, not, List, All, length, map, filter, slice_index, slice_index_or, sum_by, ℤ, pos, ◌+ℤ◌, ◌-ℤ◌, ◌*ℤ◌, neg_ℤ, unsigned_abs, Some, None}
+use Rattle.std.specs.Prelude.{◌≡◌, ℕ, zero, suc, ◌+◌, ◌-◌, ◌*◌, ◌/◌, ◌^◌, ◌<◌, ◌≤◌, ◌==◌, Bool, false, ◌&&◌, ◌||◌, not, List, All, length, map, filter, slice_index, slice_index_or, sum_by, ℤ, pos, ◌+ℤ◌, ◌-ℤ◌, ◌*ℤ◌, neg_ℤ, unsigned_abs, Some, None}
 use Rattle.std.specs.List.{AllZip, Contains}
 use Rattle.escrow_units.specs.Flows.{index360_of}
 use Rattle.escrow_units.specs.Interest.{earned_of}
@@ -12,6 +12,7 @@ use Rattle.offer_book.specs.declared.coefficients.PayCoefficients.{PayCoefficien
 use Rattle.offer_book.specs.declared.line.Line.{Line}
 use Rattle.offer_book.specs.declared.line.LineKind.{LineKind}
 use Rattle.offer_book.specs.declared.line.LineKind.TheVariants.{Cash, Market, Security}
+use Rattle.offer_book.specs.declared.payment_days.PaymentDays.{PaymentDays}
 use Rattle.payment_schedule.specs.declared.schedule.ScheduledPayment.{ScheduledPayment}
 use Rattle.payment_schedule.specs.Schedule.{IsShort, flow_by, half_year_accrual}
 use Rattle.offer_book.specs.declared.coefficients.TheConstants.{COEFFICIENT_SCALE}
@@ -100,6 +101,18 @@ is_regular payment = (payment.accrual.parts == 1) && ((payment.accrual.year == 2
 abbrev pub is_other : ScheduledPayment → Bool
 is_other payment = not (is_regular payment)
 
+-- whether the principal is paid with a payment
+abbrev pub is_principal : ScheduledPayment → Bool
+is_principal payment = payment.principal
+
+-- whether a payment pays anything: the principal, or interest at a rate
+abbrev pub pays_at : ℕ → ScheduledPayment → Bool
+pays_at rate payment = payment.principal || not (rate == 0)
+
+-- the payments of a line that pay anything: where it bears no interest, the principal alone
+abbrev pub paying : PaymentDays → Line → List ScheduledPayment
+paying days line = filter (pays_at (kind_rate line.kind)) (schedule_of days line)
+
 abbrev pub regular_on : ℤ → ScheduledPayment
 regular_on day = record { day = day; accrual = half_year_accrual; principal = false }
 
@@ -114,14 +127,14 @@ pub record IsOther (n : ℕ) (book : BookContents) (line : Line) (days : List Pr
   pub coefficients : other.coefficients ≡ pay_by (kind_rate line.kind) line.step payment
   pub place : IsPlace n book line.kind days payment other.place
 
--- a column is that of a line: the costs and the coefficients are the line's, and each payment of its schedule falls on the day
--- at its place
+-- a column is that of a line: the costs and the coefficients are the line's, and each payment of its schedule that pays anything
+-- falls on the day at its place
 pub record IsColumn (n : ℕ) (book : BookContents) (days : List PricedDay) (line : Line) (column : Column) : Type 0 where
   pub costs : cost_coefficients line ≡ record { low = column.cost_low; high = column.cost_high; slack = column.cost_slack }
   pub accrued : column.accrued ≡ kind_accrued line.kind
   pub regular : column.regular ≡ pay_by (kind_rate line.kind) line.step (regular_on book.days.settle)
-  pub places : AllZip (IsPlace n book line.kind days) (filter is_regular (schedule_of book.days line)) column.places.items
-  pub others : AllZip (IsOther n book line days) (filter is_other (schedule_of book.days line)) column.others.items
+  pub places : AllZip (IsPlace n book line.kind days) (filter is_regular (paying book.days line)) column.places.items
+  pub others : AllZip (IsOther n book line days) (filter is_other (paying book.days line)) column.others.items
 
 -- coefficients with room for their products
 pub record IsSmallPay (pay : PayCoefficients) : Type 0 where

@@ -1,6 +1,6 @@
 //! A line as a column of the linear program.
 ghost use Rattle.offer_book.specs.declared.payment_days.PaymentDays.{PaymentDays};
-ghost use Rattle.std.specs.Prelude.{All, List, ◌≡◌, ◌+◌, ◌*◌, ◌^◌, ◌<◌, ◌≤◌, ◌+ℤ◌, ◌-ℤ◌, ◌*ℤ◌, ℕ, ℤ, [], ◌∷◌, ◌++◌, cond, IfOk, OnOk, length, pos, unsigned_abs};
+ghost use Rattle.std.specs.Prelude.{All, List, ◌≡◌, ◌+◌, ◌*◌, ◌^◌, ◌<◌, ◌≤◌, ◌+ℤ◌, ◌-ℤ◌, ◌*ℤ◌, ℕ, ℤ, [], ◌∷◌, ◌++◌, cond, IfOk, OnOk, filter, length, pos, unsigned_abs};
 ghost use Rattle.escrow_units.specs.Interest.{earned_of};
 ghost use Rattle.escrow_units.specs.SlgsTerms.{IsSettlement};
 ghost use Rattle.fixed_powers.specs.DiscountPowers.{IsLowTable, PowerTable};
@@ -9,7 +9,7 @@ ghost use Rattle.offer_book.specs.Coefficients.{cost_coefficients, pay_by};
 ghost use Rattle.offer_book.specs.Portfolio.{line_cost, par};
 ghost use Rattle.payment_schedule.specs.Schedule.{IsShort, flow_by};
 ghost use Rattle.offer_book.specs.Schedule.{kind_accrued, kind_rate};
-ghost use Rattle.dual_bound.specs.Columns.{Extends, HasHead, IsColumn, IsDayTable, IsLightWorth, IsSmallColumn, IsSmallOther, IsSmallPay, KeepsHead, column_form, column_paid, column_reduced, form_plus, is_other, is_regular as is_regular_of, other_by, other_forms, others_paid as others_paid_of, regular_form as regular_form_of, regular_on, signed_worth, worth_at, worth_together};
+ghost use Rattle.dual_bound.specs.Columns.{Extends, HasHead, IsColumn, IsDayTable, IsLightWorth, IsSmallColumn, IsSmallOther, IsSmallPay, KeepsHead, column_form, column_paid, column_reduced, form_plus, is_other, is_principal, is_regular as is_regular_of, other_by, other_forms, others_paid as others_paid_of, paying as paying_of, regular_form as regular_form_of, regular_on, signed_worth, worth_at, worth_together};
 ghost use Rattle.dual_bound.specs.declared.worth.Worth.{Worth as WorthOf};
 
 use crate::day_table::DayTable;
@@ -17,6 +17,7 @@ use crate::form::Form;
 use crate::leaf_bound::{scaled_difference, weighed};
 use crate::prices::PRICE_SCALE;
 use crate::worth::Worth;
+use arrayvec::ArrayVec;
 use escrow_desk::NoMemory;
 use escrow_units::{Accrual, Cents, Day, GREATEST_RATE, Rate, earned};
 use fixed_powers::Powers;
@@ -82,6 +83,35 @@ fn other_payment(line: &Line, payment: &ScheduledPayment, place: u16) -> OtherPa
         place,
         payment: *payment,
         coefficients: coefficients_of(line, payment),
+    }
+}
+
+// The payments of a schedule with which the principal is paid.
+fn principal_alone(schedule: &[ScheduledPayment]) -> ArrayVec<ScheduledPayment, 84>
+    requires { length schedule.now ≤ 84 }
+    ensures { result.items ≡ filter is_principal schedule.now }
+{
+    let mut payments = ArrayVec::new();
+    for payment in schedule {
+        if payment.principal {
+            payments.push(*payment);
+        }
+    }
+    payments
+}
+
+// The payments of a line that pay anything: where there is no interest, the principal alone.
+fn paying(line: &Line, days: &Days) -> ArrayVec<ScheduledPayment, 84>
+    requires settlement { IsSettlement days.now.settle }
+    requires line { IsLine days.now line.now }
+    ensures value { result.items ≡ paying_of days.now line.now }
+    ensures short { All (λ payment. IsShort payment.accrual) result.items }
+{
+    let schedule = line.schedule(days);
+    if line.rate().0 == 0 {
+        principal_alone(schedule.as_slice())
+    } else {
+        schedule
     }
 }
 
@@ -224,8 +254,8 @@ impl Column {
         ensures small { IfOk result IsSmallColumn }
     {
         let mut column = Column::without_payments(alloc, book.payment_days(), line);
-        let schedule = line.schedule(book.payment_days());
-        for payment in schedule.as_slice() {
+        let payments = paying(line, book.payment_days());
+        for payment in payments.as_slice() {
             let place = table.place(book, powers, line.kind, payment)?;
             column.put(line, payment, place)?;
         }

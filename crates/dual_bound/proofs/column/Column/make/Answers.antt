@@ -1,27 +1,26 @@
-use Rattle.std.proofs.Common.{◌≡◌, ◌∙◌, ◌≤ℤ◌, ℤ, ap, subst, arith}
+use Rattle.std.proofs.Common.{◌≡◌, ◌∙◌, ◌≤ℤ◌, ap, subst, arith}
 use Rattle.std.proofs.lemmas.Int.{ints}
 use Rattle.std.proofs.lemmas.List.Elements.{All-same}
 use Rattle.escrow_units.specs.Calendar.{years_after_of}
-use Rattle.offer_book.specs.Schedule.{schedule_of}
 use Rattle.payment_schedule.specs.declared.schedule.ScheduledPayment.{ScheduledPayment}
-use Rattle.dual_bound.specs.Columns.{HasHead}
+use Rattle.dual_bound.specs.Columns.{HasHead, paying}
 use Rattle.dual_bound.proofs.ColumnMade.{extends-on, keeps-on, made, made-small, one-more, schedule-within}
 use Rattle.dual_bound.proofs.column.Column.make.Goals as goal
 
 pub place-requires-clause-from : goal.place-requires-clause-from
 place-requires-clause-from c =
-    let is : c.as_slice-payment-items.result.now ≡ schedule_of c.args.book.now.days c.args.line.now =
-    c.as_slice-payment-items.ensures.value ∙ c.schedule-schedule.ensures.value ∙ ap (λ days. schedule_of days c.args.line.now) c.payment_days-2.ensures in
-    let within = All-same (λ (p : ScheduledPayment). (c.args.book.now.days.settle ≤ℤ p.day) × (p.day ≤ℤ years_after_of c.args.book.now.days.settle 40)) c.as_slice-payment-items.result.now (schedule_of c.args.book.now.days c.args.line.now)
+    let is : c.as_slice-payment-items.result.now ≡ paying c.args.book.now.days c.args.line.now =
+    c.as_slice-payment-items.ensures.value ∙ c.paying-payments.ensures.value ∙ ap (λ days. paying days c.args.line.now) c.payment_days-2.ensures in
+    let within = All-same (λ (p : ScheduledPayment). (c.args.book.now.days.settle ≤ℤ p.day) × (p.day ≤ℤ years_after_of c.args.book.now.days.settle 40)) c.as_slice-payment-items.result.now (paying c.args.book.now.days c.args.line.now)
     is (schedule-within c.args.book.now.days c.args.line.now c.requires.limits.settlement c.requires.line)
     c.loop-payment.payment-index c.payment-item.result c.loop-payment-test.true in
     omega (arith, ints, ap (λ (p : ScheduledPayment). p.day) c.payment-item.is, within.0)
 
 pub place-requires-clause-to : goal.place-requires-clause-to
 place-requires-clause-to c =
-    let is : c.as_slice-payment-items.result.now ≡ schedule_of c.args.book.now.days c.args.line.now =
-    c.as_slice-payment-items.ensures.value ∙ c.schedule-schedule.ensures.value ∙ ap (λ days. schedule_of days c.args.line.now) c.payment_days-2.ensures in
-    let within = All-same (λ (p : ScheduledPayment). (c.args.book.now.days.settle ≤ℤ p.day) × (p.day ≤ℤ years_after_of c.args.book.now.days.settle 40)) c.as_slice-payment-items.result.now (schedule_of c.args.book.now.days c.args.line.now)
+    let is : c.as_slice-payment-items.result.now ≡ paying c.args.book.now.days c.args.line.now =
+    c.as_slice-payment-items.ensures.value ∙ c.paying-payments.ensures.value ∙ ap (λ days. paying days c.args.line.now) c.payment_days-2.ensures in
+    let within = All-same (λ (p : ScheduledPayment). (c.args.book.now.days.settle ≤ℤ p.day) × (p.day ≤ℤ years_after_of c.args.book.now.days.settle 40)) c.as_slice-payment-items.result.now (paying c.args.book.now.days c.args.line.now)
     is (schedule-within c.args.book.now.days c.args.line.now c.requires.limits.settlement c.requires.line)
     c.loop-payment.payment-index c.payment-item.result c.loop-payment-test.true in
     omega (arith, ints, ap (λ (p : ScheduledPayment). p.day) c.payment-item.is, within.1)
@@ -39,8 +38,8 @@ loop-payment-preserved c = record {
 
 pub returns : goal.returns
 returns c =
-    let sliced : c.as_slice-payment-items.result.now ≡ schedule_of c.args.book.now.days c.args.line.now =
-    c.as_slice-payment-items.ensures.value ∙ c.schedule-schedule.ensures.value ∙ ap (λ days. schedule_of days c.args.line.now) c.payment_days-2.ensures in
+    let sliced : c.as_slice-payment-items.result.now ≡ paying c.args.book.now.days c.args.line.now =
+    c.as_slice-payment-items.ensures.value ∙ c.paying-payments.ensures.value ∙ ap (λ days. paying days c.args.line.now) c.payment_days-2.ensures in
     let head = subst (λ z. HasHead z.settle c.args.line.now c.without_payments-column.result) c.payment_days.ensures c.without_payments-column.ensures.head in
     record {
       table = c.loop-payment.invariant.table;
