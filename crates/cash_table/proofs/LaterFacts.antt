@@ -1,16 +1,15 @@
 -- Where securities are bought, one pays above 0 at an index of 1 or more.
-use Rattle.std.proofs.Common.{◌≡◌, ◌∙◌, ◌⊎◌, ℕ, zero, suc, ◌+◌, ◌<◌, ◌≤◌, ◌<ℤ◌, refl, sym, ap, subst, arith, ℤ, pos, ◌+ℤ◌, ◌≤ℤ◌, inl, inr, List, [], ◌∷◌, ◌++◌, map, if◌then◌else◌}
+use Rattle.std.proofs.Common.{◌≡◌, ◌∙◌, ◌⊎◌, ℕ, zero, suc, ◌<◌, ◌≤◌, ◌<ℤ◌, refl, sym, ap, subst, arith, ℤ, pos, ◌+ℤ◌, ◌≤ℤ◌, inl, inr, List, [], ◌∷◌, ◌++◌}
 use Rattle.std.specs.Ordering.{int_eq}
 use Rattle.std.specs.List.{All, Any, flat_map, zip}
 use Rattle.std.proofs.lemmas.Bool.{cases_lt}
 use Rattle.std.proofs.lemmas.Int.{ints}
 use Rattle.std.proofs.lemmas.List.{length-map, get_or-map}
-use Rattle.std.proofs.lemmas.List.Elements.{All-head, All-tail, All-nil, All-append, All-map, All-same, All-weaker}
+use Rattle.std.proofs.lemmas.List.Elements.{All-head, All-tail, All-nil, All-append, All-weaker}
 use Rattle.std.proofs.lemmas.List.Sums.{sum_by-cons}
 use Rattle.escrow_units.specs.Calendar.{years_after_of}
 use Rattle.escrow_units.specs.DayNumber.{IsDayNumber}
 use Rattle.escrow_units.specs.Flows.{FallWithinFortyYears, index360_of, indexed, total}
-use Rattle.escrow_units.specs.Interest.{earned_of}
 use Rattle.escrow_units.specs.PresentValue.{IndexedFlow}
 use Rattle.escrow_units.specs.SlgsTerms.{IsSettlement}
 use Rattle.escrow_units.specs.declared.security.Flow.{Flow}
@@ -26,7 +25,6 @@ use Rattle.day_sums.specs.Summed.{cents_on, summed}
 use Rattle.day_sums.specs.SummedLaws.{AreAboveZero}
 use Rattle.day_sums.proofs.SumFacts.{above-summed, count-summed}
 use Rattle.day_sums.proofs.Uniqueness.{here, here-same}
-use Rattle.market_notes.specs.NoteFlows.{payment_dates}
 use Rattle.market_notes.specs.declared.note.Note.{Note}
 use Rattle.market_notes.proofs.AmountFacts.{dates-counted}
 use Rattle.market_notes.proofs.FlowFacts.{note_flows, paid_on, payments-last}
@@ -39,7 +37,7 @@ use Rattle.offer_book.specs.Book.{AreLines, BookContents, EndsInTime, IsBook, Is
 use Rattle.offer_book.specs.Portfolio.{par, security_flows}
 use Rattle.offer_book.proofs.LineFacts.{is_paid, kind_flows, line_payments-none, line_payments-par, line_payments-within, par-some, slgs_flows-late}
 use Rattle.cash_table.specs.LaterFlows.{HaveLaterAmount}
-use Rattle.cash_table.proofs.BalanceLaws.{any_here, any_later, eq_test, some_on}
+use Rattle.cash_table.proofs.BalanceLaws.{any_here, any_later, some_on}
 use Rattle.cash_table.proofs.PaymentFacts.{pair_payments, total-payments}
 use Rattle.cash_table.proofs.PortfolioLaws.{empty_from_nothing}
 use Rattle.cash_table.proofs.ZipFacts.{sum_by-zero}

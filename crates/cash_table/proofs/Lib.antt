@@ -12,3 +12,4 @@ pub mod BalanceFacts
 pub mod BalanceLaws
 pub mod LaterFacts
 pub mod PointFacts
+pub mod StandingFacts

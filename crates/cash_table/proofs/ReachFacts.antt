@@ -1,5 +1,5 @@
 -- The most of every line is permitted, and no permitted portfolio pays more by any day.
-use Rattle.std.proofs.Common.{◌≡◌, ◌∙◌, ◌↔◌, ℕ, zero, suc, ◌+◌, ◌*◌, ◌<◌, ◌≤◌, refl, sym, ap, arith, ℤ, inl, inr, Bool, true, false, if◌then◌else◌, List, [], ◌∷◌, map, length, Option, Some, None, MatchOption, IfSome, IsNone, int_le, get_or, set, take, ◌++◌}
+use Rattle.std.proofs.Common.{◌≡◌, ◌∙◌, ◌↔◌, ℕ, zero, suc, ◌+◌, ◌<◌, ◌≤◌, refl, sym, ap, arith, ℤ, inl, inr, Bool, true, false, if◌then◌else◌, List, [], ◌∷◌, map, length, Option, Some, None, MatchOption, IfSome, IsNone, int_le, get_or, set, take, ◌++◌}
 use Rattle.std.specs.List.{All, zip, flat_map}
 use Rattle.std.proofs.Math.Nat.{mul-le-mul_left}
 use Rattle.std.proofs.lemmas.List.{length-map, get_or-map, get_or-set_same, length-set, take-set, take_all, take_more}

@@ -163,7 +163,7 @@ pub fn place_of(needs: &[Flow], day: Day) -> usize
 }
 
 // The first need date up to which the receipts are less than the needs.
-fn first_uncovered(needs: &[Flow], receipts: &[u64]) -> Option<Day>
+pub(crate) fn first_uncovered(needs: &[Flow], receipts: &[u64]) -> Option<Day>
     requires places { length needs.now ≤ length receipts.now }
     requires needed { total needs.now < 2 ^ 64 }
     requires received { sum receipts.now < 2 ^ 64 }

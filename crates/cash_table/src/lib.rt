@@ -10,6 +10,7 @@ mod plan;
 mod points;
 mod reach;
 mod security_flows;
+mod standing;
 mod yields;
 
 pub use cash::{add_receipts, first_short, line_receipts, place_of, receipts};
@@ -23,6 +24,7 @@ pub use plan::{Plan, first_unpermitted};
 pub use points::point_excluded;
 pub use reach::out_of_reach;
 pub use security_flows::flows;
+pub use standing::{Standing, plan_standing};
 pub use yields::{plan_yield, within_limit};
 
 #[cfg(test)]
