@@ -263,6 +263,7 @@ impl Column {
     }
 
     // The form of the regular payments, by what their days are worth together.
+    #[inline(always)]
     fn regular_form(&self, regular: Worth) -> Form
         requires small { IsSmallColumn self.now }
         requires light { regular.above + regular.below ≤ 84 * (2 * PRICE_SCALE) }
@@ -277,6 +278,7 @@ impl Column {
     }
 
     // A form with those of the other payments.
+    #[inline(always)]
     fn with_others(&self, start: Form, worths: &[Worth]) -> Form
         requires small { IsSmallColumn self.now }
         requires there { All (λ other. other.place < length worths.now) self.now.others.items }
@@ -294,6 +296,7 @@ impl Column {
     }
 
     /// The form of the line, where a cent that it costs counts so much, and its regular days are worth so much together.
+    #[inline(always)]
     pub(crate) fn form(&self, own: i128, regular: Worth, worths: &[Worth]) -> Form
         requires small { IsSmallColumn self.now }
         requires own { unsigned_abs own ≤ PRICE_SCALE }

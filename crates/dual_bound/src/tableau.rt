@@ -184,6 +184,7 @@ impl Tableau {
     }
 
     // What a cent on each regular day of a line is worth, together: a difference of two sums.
+    #[inline(always)]
     fn regular_worth(&self, book: &Book, line: u16) -> Worth
         requires tableau { IsTableau book.now self.now }
         requires line { line < length book.now.lines }
@@ -195,6 +196,7 @@ impl Tableau {
     }
 
     /// The form of a line, counted from 0.
+    #[inline(always)]
     pub(crate) fn form(&self, book: &Book, line: u16) -> Form
         requires tableau { IsTableau book.now self.now }
         requires line { line < length book.now.lines }
@@ -227,6 +229,7 @@ impl Tableau {
     }
 
     /// The least that a line can add within an interval.
+    #[inline(always)]
     pub(crate) fn least(&self, book: &Book, line: u16, interval: Interval) -> i128
         requires tableau { IsTableau book.now self.now }
         requires line { line < length book.now.lines }
@@ -242,7 +245,7 @@ impl Tableau {
             .least_within(book.line(line), interval)
     }
 
-    /// The lower bound of the leaf by which the days are priced.
+    /// The lower bound of the leaf by which the days are priced. What a line adds is inlined into its loop.
     pub(crate) fn bound(&self, book: &Book, ranges: &Ranges) -> i128
         requires tableau { IsTableau book.now self.now }
         requires ranges { AllZip HasRoomFor book.now.lines ranges.now }

@@ -30,11 +30,12 @@ pub(crate) struct Worth {
 }
 
 impl Worth {
-    /// The worth as a signed number.
+    /// The worth as a signed number: by one difference of the machine, since it is less than 2^63.
     pub(crate) fn signed(self) -> i128
+        requires { self.above + self.below < 2 ^ 63 }
         ensures { result ≡ signed_worth self }
     {
-        i128::from(self.above) - i128::from(self.below)
+        i128::from(self.above as i64 - self.below as i64)
     }
 
     /// Two worths together.
