@@ -1,0 +1,5 @@
+pub mod HeldForm
+pub mod Holdings
+pub mod Residual
+pub mod HeldCase
+pub mod Passed
