@@ -1,16 +1,18 @@
 //! The columns of the linear program of a book.
-ghost use Rattle.std.specs.Prelude.{◌≡◌, ◌+◌, ◌*◌, ◌<◌, ◌≤◌, ◌^◌, length, unsigned_abs};
+ghost use Rattle.std.specs.Prelude.{◌≡◌, ◌+◌, ◌*◌, ◌<◌, ◌≤◌, ◌^◌, All, IfOk, length, unsigned_abs};
 ghost use Rattle.escrow_units.specs.Calendar.{years_after_of};
-ghost use Rattle.escrow_units.specs.Flows.{Rise};
 ghost use Rattle.escrow_units.specs.SlgsTerms.{IsSettlement};
+ghost use Rattle.escrow_units.specs.declared.limits.TheConstants.{GREATEST_RATE};
 ghost use Rattle.fixed_powers.specs.DiscountPowers.{IsLowTable, PowerTable, one};
+ghost use Rattle.payment_schedule.specs.Schedule.{IsShort};
 ghost use Rattle.offer_book.specs.Book.{IsBook};
 
 use cash_table::place_of;
 use escrow_desk::NoMemory;
-use escrow_units::{Day, Flow, index360, years_after};
+use escrow_units::{Cents, Day, Rate, index360, years_after};
 use fixed_powers::Powers;
-use offer_book::{Book, COEFFICIENT_SCALE, Coefficients, PayCoefficients};
+use offer_book::{Book, COEFFICIENT_SCALE, PayCoefficients};
+use payment_schedule::ScheduledPayment;
 use sparse_basis::{Matrix, Price, Stop};
 use std::alloc::Global;
 
@@ -28,6 +30,18 @@ pub(crate) struct Program {
     pub matrix: Matrix,
     /// What it costs, perturbed.
     pub costs: Vec<Price>,
+}
+
+// The rate of a line and its step, and by what its coefficients are divided, so that a cent of its face counts.
+#[derive(Clone, Copy)]
+struct CentScale {
+    rate: Rate,
+    step: Cents,
+    divisor: u128,
+    ghost low_rate: { rate.0 ≤ GREATEST_RATE },
+    ghost small_step: { step.0 ≤ 10 ^ 8 },
+    ghost some: { 1 ≤ divisor },
+    ghost small: { divisor ≤ 2 ^ 64 },
 }
 
 // The perturbation of a line's cost, by which it is lowered: a fixed hash of the line, below 2^12, in units of 2^-40.
@@ -73,55 +87,62 @@ fn discounted(entry: Price, power: u64) -> i128
     (entry.wide() * i128::from(power)) >> 62
 }
 
-// What all payments of a line are worth at the yield of powers, by the cent of its face.
-fn worth_of(powers: &Powers, settle: Day, coefficients: &Coefficients, divisor: u128) -> i128
-    requires powers { IsLowTable powers.now }
-    requires settlement { IsSettlement settle }
-    requires some { 1 ≤ divisor }
-    requires small { divisor ≤ 2 ^ 64 }
-    ensures { unsigned_abs result ≤ 2 ^ 65 }
+// What a payment of a line is by the cent of its face, rounded up.
+fn entry_of(payment: &ScheduledPayment, scale: CentScale) -> Price
+    requires { IsShort payment.now.accrual }
 {
-    let last = years_after(settle, 40);
-    let mut worth = 0i128;
-    for pay in coefficients.pays.as_slice() {
-        let entry = Price::ratio_up(pay.high, divisor);
-        worth += discounted(entry, power_on(powers, settle, last, pay.day));
-    }
-    worth
+    let pay = PayCoefficients::of(payment, scale.rate, scale.step);
+    Price::ratio_up(pay.high, scale.divisor)
 }
 
-// Adds what a line pays on the need dates: what is paid after the last of them is left out.
+// Adds what a line pays on the need dates, by the cent of its face, and says what all its payments are worth at the yield of powers. What
+// is paid after the last of the dates isn't added.
 fn add_pays(
     matrix: &mut Matrix,
-    needs: &[Flow],
-    pays: &[PayCoefficients],
-    divisor: u128,
-) -> Result<(), Stop>
-    requires rising { Rise needs.now }
-    requires few { length needs.now ≤ 480 }
-    requires some { 1 ≤ divisor }
-    requires small { divisor ≤ 2 ^ 64 }
+    book: &Book,
+    powers: &Powers,
+    schedule: &[ScheduledPayment],
+    scale: CentScale,
+) -> Result<i128, Stop>
+    requires limits { IsBook book.now }
+    requires powers { IsLowTable powers.now }
+    requires few { length schedule.now ≤ 84 }
+    requires short { All (λ payment. IsShort payment.accrual) schedule.now }
+    ensures { IfOk result (λ worth. unsigned_abs worth ≤ 2 ^ 65) }
 {
-    for pay in pays {
-        let place = place_of(needs, pay.day);
+    let needs = book.needs();
+    let settle = book.settle();
+    let last = years_after(settle, 40);
+    let mut worth = 0i128;
+    for payment in schedule {
+        let entry = entry_of(payment, scale);
+        worth += discounted(entry, power_on(powers, settle, last, payment.day));
+        let place = place_of(needs, payment.day);
         if place < needs.len() {
-            matrix.pay(place as u16 + 1, Price::ratio_up(pay.high, divisor))?;
+            matrix.pay(place as u16 + 1, entry)?;
         }
     }
-    Ok(())
+    Ok(worth)
 }
 
 impl Program {
-    // Adds a line. There is room for its payments, so that it can't stop.
+    // Adds a line. There is room for its payments, so that it can't stop. It isn't inlined: the line's payments would stand on the stack
+    // while all else of the program is made.
+    #[inline(never)]
     fn add_line(&mut self, book: &Book, powers: &Powers, line: u16) -> Result<(), Stop>
         requires powers { IsLowTable powers.now }
         requires limits { IsBook book.now }
         requires line { line < length book.now.lines }
     {
-        let coefficients = book.coefficients(line);
-        let divisor = divisor_of(book.line(line).step);
-        let cost = Price::ratio_down(coefficients.cost_low, divisor).wide();
-        let worth = worth_of(powers, book.settle(), &coefficients, divisor);
+        let own = book.line(line);
+        let schedule = own.schedule(book.payment_days());
+        let scale = CentScale {
+            rate: own.rate(),
+            step: Cents(own.step),
+            divisor: divisor_of(own.step),
+        };
+        let cost = Price::ratio_down(own.scaled_cost().low, scale.divisor).wide();
+        let worth = add_pays(&mut self.matrix, book, powers, schedule.as_slice(), scale)?;
         let value = if line == 0 { 0 } else { worth - cost };
         if self
             .costs
@@ -130,12 +151,6 @@ impl Program {
         {
             return Err(Stop);
         }
-        add_pays(
-            &mut self.matrix,
-            book.needs(),
-            coefficients.pays.as_slice(),
-            divisor,
-        )?;
         self.matrix.end_line(Price::clamp(value))
     }
 
