@@ -74,7 +74,9 @@ fn excess(cost: u128, worth: u128) -> i128
     i128::from(PRICE_SCALE) * cost as i128 - worth as i128
 }
 
-// What a unit of a line costs beyond what its payments are worth, scaled.
+// What a unit of a line costs beyond what its payments are worth, scaled. It isn't inlined: its coefficients would stand on the stack
+// while lines are trimmed.
+#[inline(never)]
 fn saving(book: &Book, line: u16, prices: Option<&Prices>) -> i128
     requires line { line < length book.now.lines }
     requires prices { IfSome prices (λ prices. ArePrices book.now.needs prices.now) }

@@ -10,7 +10,7 @@ ghost use Rattle.offer_book.specs.Portfolio.{IsPermitted, Meets, line_payments, 
 ghost use Rattle.offer_book.specs.declared.line.Line.{Line};
 ghost use Rattle.backward_build.specs.Spare.{ArePaid, AreSpare, Cover};
 
-use cash_table::{Plan, line_receipts, receipts};
+use cash_table::{Plan, add_receipts, receipts};
 use escrow_units::{Flow, MOST_NEED_DATES};
 use offer_book::Book;
 
@@ -42,7 +42,9 @@ fn take_needs(amounts: &mut [u64], needs: &[Flow])
     }
 }
 
-/// What is left after each need date of a permitted plan that meets the needs, in cents.
+/// What is left after each need date of a permitted plan that meets the needs, in cents. It isn't inlined, nor are [`put_paid`] and
+/// [`suffices`]: each has a table on the stack.
+#[inline(never)]
 pub(crate) fn spare_of(book: &Book, plan: &Plan) -> [u64; MOST_NEED_DATES]
     requires permitted { IsPermitted book.now plan.now }
     requires meets { Meets book.now plan.now }
@@ -54,15 +56,20 @@ pub(crate) fn spare_of(book: &Book, plan: &Plan) -> [u64; MOST_NEED_DATES]
     spare
 }
 
-/// What units of a line pay up to and on each need date, in cents.
-pub(crate) fn paid_by(book: &Book, line: u16, units: u64) -> [u64; MOST_NEED_DATES]
+/// Puts in the place of each need date what units of a line pay up to and on it, in cents.
+#[inline(never)]
+pub(crate) fn put_paid(book: &Book, line: u16, units: u64, paid: &mut [u64; MOST_NEED_DATES])
     requires line { line < length book.now.lines }
     requires units { (d : Line) → units ≤ (slice_index_or book.now.lines line d).most }
-    ensures { (d : Line) → ArePaid book.now.needs (line_payments book.now.days (slice_index_or book.now.lines line d) units) result }
+    ensures { (d : Line) → ArePaid book.now.needs (line_payments book.now.days (slice_index_or book.now.lines line d) units) paid.new }
 {
-    let mut paid = line_receipts(book, line, units);
-    run_up(&mut paid, usize::from(book.need_count()));
-    paid
+    *paid = [0; MOST_NEED_DATES];
+    add_receipts(
+        paid,
+        book.needs(),
+        book.line_payments(line, units).as_slice(),
+    );
+    run_up(paid, usize::from(book.need_count()));
 }
 
 /// Takes what a line pays up to each need date down to what it has to pay by then, so that nothing is short: all but what is
@@ -92,13 +99,15 @@ pub fn covers(paid: &[u64], due: &[u64], dates: usize) -> bool
 }
 
 /// Whether units of a line pay what is due by each need date.
+#[inline(never)]
 pub(crate) fn suffices(book: &Book, line: u16, units: u64, due: &[u64]) -> bool
     requires line { line < length book.now.lines }
     requires units { (d : Line) → units ≤ (slice_index_or book.now.lines line d).most }
     requires places { length book.now.needs ≤ length due.now }
     ensures { (d : Line) → IsTrue result ↔ Cover book.now.needs due.now (line_payments book.now.days (slice_index_or book.now.lines line d) units) }
 {
-    let paid = paid_by(book, line, units);
+    let mut paid = [0; MOST_NEED_DATES];
+    put_paid(book, line, units, &mut paid);
     covers(&paid, due, usize::from(book.need_count()))
 }
 

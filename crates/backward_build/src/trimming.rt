@@ -10,7 +10,7 @@ ghost use Rattle.backward_build.specs.Trim.{HasNoMore, IsFewest, IsTrimmed};
 
 use crate::order::{Candidate, order};
 use crate::price_curve::bootstrap;
-use crate::spare::{paid_by, pay_less, spare_of, suffices, take_spare};
+use crate::spare::{pay_less, put_paid, spare_of, suffices, take_spare};
 use cash_table::Plan;
 use dual_bound::Prices;
 use escrow_desk::NoMemory;
@@ -64,7 +64,9 @@ fn fewest(book: &Book, line: u16, units: u64, due: &[u64]) -> u64
     }
 }
 
-// Takes a line down as far as the needs allow, and with it what is left after each need date.
+// Takes a line down as far as the needs allow, and with it what is left after each need date. It isn't inlined: its tables would stand
+// on the stack while lines are put in order.
+#[inline(never)]
 fn trim_line(book: &Book, plan: &mut Plan, spare: &mut [u64; MOST_NEED_DATES], line: u16)
     requires line { line < length book.now.lines }
     requires permitted { IsPermitted book.now plan.old }
@@ -76,11 +78,13 @@ fn trim_line(book: &Book, plan: &mut Plan, spare: &mut [u64; MOST_NEED_DATES], l
 {
     let dates = usize::from(book.need_count());
     let units = plan.get(line);
-    let before = paid_by(book, line, units);
+    let mut before = [0; MOST_NEED_DATES];
+    put_paid(book, line, units, &mut before);
     let mut due = before;
     take_spare(&mut due, spare);
     let fewest = fewest(book, line, units, &due);
-    let after = paid_by(book, line, fewest);
+    let mut after = [0; MOST_NEED_DATES];
+    put_paid(book, line, fewest, &mut after);
     pay_less(spare, &before, &after, dates);
     plan.put(line, fewest);
 }
