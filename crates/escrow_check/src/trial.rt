@@ -1,6 +1,7 @@
 //! A certificate on trial, line by line.
-ghost use Rattle.std.specs.Prelude.{◌≡◌, ◌+◌, ◌<◌, IfErr, IfOk, OnOk, false, length, true, ℕ};
+ghost use Rattle.std.specs.Prelude.{◌≡◌, ◌+◌, ◌<◌, IfErr, IfOk, List, OnOk, false, length, true, ℕ};
 ghost use Rattle.case_file.specs.Case.{HasTerms, case_view};
+ghost use Rattle.cash_table.specs.First.{first_short_of};
 ghost use Rattle.dual_bound.specs.Tree.{IsLeaf};
 ghost use Rattle.offer_book.specs.Book.{IsBook};
 ghost use Rattle.offer_book.specs.Portfolio.{IsPermitted};
@@ -20,10 +21,10 @@ use crate::verdict::{Portfolio, Reason, Verdict};
 use crate::walk::Walk;
 use bound_certificate::{Buy, Item, MOST_NODES};
 use case_file::Case;
-use cash_table::{Plan, cost, first_short, plan_yield};
+use cash_table::{Plan, Standing, cost, plan_standing};
 use dual_bound::{Columns, Leaf};
 use escrow_desk::NoMemory;
-use escrow_units::{Cents, GREATEST_INDEX, YieldUnits};
+use escrow_units::{Cents, Day, GREATEST_INDEX, YieldUnits};
 use fixed_powers::{Powers, Side};
 use offer_book::Book;
 use std::alloc::Global;
@@ -76,12 +77,11 @@ fn is_within(answer: YieldAnswer, limit: YieldUnits) -> bool
     }
 }
 
-// Why a permitted portfolio with a yield isn't accepted, but for its tree and its gap.
-fn portfolio_reason(case: &Case, plan: &Plan, answer: YieldAnswer) -> Option<Reason>
-    requires { IsPermitted case.now.book plan.now }
-    ensures { result ≡ plan_reason (case_view case.now) plan.now answer }
+// Why a portfolio isn't accepted, by its first short day and its yield: but for its tree and its gap.
+fn portfolio_reason(case: &Case, short: Option<Day>, answer: YieldAnswer) -> Option<Reason>
+    ensures { (plan : List ℕ) → short ≡ first_short_of case.now.book plan → result ≡ plan_reason (case_view case.now) plan answer }
 {
-    if let Some(day) = first_short(&case.book, plan) {
+    if let Some(day) = short {
         return Some(Reason::ShortOn(day));
     }
     if is_within(answer, case.limit) {
@@ -156,9 +156,10 @@ impl<'a> Trial<'a> {
         if !self.named || self.reason.is_some() {
             return Ok(());
         }
-        self.answer = plan_yield(alloc, &case.book, &self.plan)?;
+        let Standing { short, answer } = plan_standing(alloc, &case.book, &self.plan)?;
+        self.answer = answer;
         self.claim = Some(i128::from(cost(&case.book, &self.plan).0) - i128::from(gap));
-        self.reason = portfolio_reason(case, &self.plan, self.answer);
+        self.reason = portfolio_reason(case, short, answer);
         Ok(())
     }
 
