@@ -1,14 +1,15 @@
 //! A line as a column of the linear program.
 ghost use Rattle.offer_book.specs.declared.payment_days.PaymentDays.{PaymentDays};
-ghost use Rattle.std.specs.Prelude.{All, List, ◌≡◌, ◌+◌, ◌*◌, ◌^◌, ◌<◌, ◌≤◌, ◌+ℤ◌, ◌-ℤ◌, ◌*ℤ◌, ℕ, ℤ, [], ◌∷◌, ◌++◌, cond, IfOk, OnOk, filter, length, pos, unsigned_abs};
+ghost use Rattle.std.specs.Prelude.{All, List, ◌≡◌, ◌+◌, ◌*◌, ◌^◌, ◌<◌, ◌≤◌, ◌+ℤ◌, ◌-ℤ◌, ◌*ℤ◌, ◌≢◌, ℕ, ℤ, [], ◌∷◌, ◌++◌, cond, IfOk, OnOk, filter, length, pos, unsigned_abs};
 ghost use Rattle.escrow_units.specs.Interest.{earned_of};
-ghost use Rattle.escrow_units.specs.SlgsTerms.{IsSettlement};
+ghost use Rattle.escrow_units.specs.SlgsTerms.{IsSettlement, IsSlgs};
 ghost use Rattle.fixed_powers.specs.DiscountPowers.{IsLowTable, PowerTable};
 ghost use Rattle.offer_book.specs.Book.{BookContents, IsBook, IsLine};
 ghost use Rattle.offer_book.specs.Coefficients.{cost_coefficients, pay_by};
 ghost use Rattle.offer_book.specs.Portfolio.{line_cost, par};
 ghost use Rattle.payment_schedule.specs.Schedule.{IsShort, flow_by};
-ghost use Rattle.offer_book.specs.Schedule.{kind_accrued, kind_rate};
+ghost use Rattle.offer_book.specs.Schedule.{kind_accrued, kind_rate, schedule_of};
+ghost use Rattle.slgs_interest.specs.Payments.{slgs_schedule};
 ghost use Rattle.dual_bound.specs.Columns.{Extends, HasHead, IsColumn, IsDayTable, IsLightWorth, IsSmallColumn, IsSmallOther, IsSmallPay, KeepsHead, column_form, column_paid, column_reduced, form_plus, is_other, is_principal, is_regular as is_regular_of, other_by, other_forms, others_paid as others_paid_of, paying as paying_of, regular_form as regular_form_of, regular_on, signed_worth, worth_at, worth_together};
 ghost use Rattle.dual_bound.specs.declared.worth.Worth.{Worth as WorthOf};
 
@@ -19,9 +20,9 @@ use crate::prices::PRICE_SCALE;
 use crate::worth::Worth;
 use arrayvec::ArrayVec;
 use escrow_desk::NoMemory;
-use escrow_units::{Accrual, Cents, Day, GREATEST_RATE, Rate, earned};
+use escrow_units::{Accrual, Cents, Day, GREATEST_RATE, Rate, Slgs, earned};
 use fixed_powers::Powers;
-use offer_book::{Book, Line, PayCoefficients, PaymentDays as Days};
+use offer_book::{Book, Line, LineKind, PayCoefficients, PaymentDays as Days};
 use payment_schedule::{HALF_YEAR, ScheduledPayment};
 use std::alloc::Global;
 
@@ -100,6 +101,30 @@ fn principal_alone(schedule: &[ScheduledPayment]) -> ArrayVec<ScheduledPayment, 
     payments
 }
 
+// The principal of a security, where it isn't paid with the first payment: the dates before it aren't looked for.
+fn late_principal(slgs: &Slgs, days: &Days) -> ArrayVec<ScheduledPayment, 84>
+    requires settlement { IsSettlement slgs.now.settle }
+    requires terms { IsSlgs slgs.now }
+    requires late { slgs.now.first ≢ slgs.now.maturity }
+    ensures { result.items ≡ filter is_principal (slgs_schedule slgs.now days.now.closed) }
+{
+    let mut payments = ArrayVec::new();
+    payments.push(ScheduledPayment::due(&days.closed, slgs.maturity, HALF_YEAR, true));
+    payments
+}
+
+// The payments of a line with which the principal is paid.
+fn principal_of(line: &Line, days: &Days) -> ArrayVec<ScheduledPayment, 84>
+    requires settlement { IsSettlement days.now.settle }
+    requires line { IsLine days.now line.now }
+    ensures { result.items ≡ filter is_principal (schedule_of days.now line.now) }
+{
+    match line.kind {
+        LineKind::Security(slgs) if slgs.first != slgs.maturity => late_principal(&slgs, days),
+        _ => principal_alone(line.schedule(days).as_slice()),
+    }
+}
+
 // The payments of a line that pay anything: where there is no interest, the principal alone.
 fn paying(line: &Line, days: &Days) -> ArrayVec<ScheduledPayment, 84>
     requires settlement { IsSettlement days.now.settle }
@@ -107,11 +132,10 @@ fn paying(line: &Line, days: &Days) -> ArrayVec<ScheduledPayment, 84>
     ensures value { result.items ≡ paying_of days.now line.now }
     ensures short { All (λ payment. IsShort payment.accrual) result.items }
 {
-    let schedule = line.schedule(days);
     if line.rate().0 == 0 {
-        principal_alone(schedule.as_slice())
+        principal_of(line, days)
     } else {
-        schedule
+        line.schedule(days)
     }
 }
 
