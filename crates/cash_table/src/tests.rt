@@ -7,9 +7,10 @@ ghost use Rattle.escrow_units.specs.OpenDays.{no_closings};
 ghost use Rattle.offer_book.specs.Book.{IsCashLine, IsSecurityLine};
 
 use crate::{
-    Balance, Plan, balances, bounds, cost, cost_parts, empty_flows, excluded_laws, first_short,
-    first_unpermitted, flow_days, flows, line_receipts, meets_cost, out_of_reach, plan_yield,
-    point_excluded, receipts, security_cost, within_limit, zero_interest_total, zero_yield,
+    Balance, Plan, Standing, balances, bounds, cost, cost_parts, empty_flows, excluded_laws,
+    first_short, first_unpermitted, flow_days, flows, line_receipts, meets_cost, out_of_reach,
+    plan_standing, plan_yield, point_excluded, receipts, security_cost, within_limit,
+    zero_interest_total, zero_yield,
 };
 use escrow_desk::{FILE_LIMIT, read_rows};
 use escrow_units::{
@@ -448,6 +449,8 @@ fn notes_cost_their_price(rt: HostRuntime) -> Result<(), Fail> {
     let few = plan_of_line(&rt, rt.alloc(), &book, 99)?;
     assert!(&rt; first_unpermitted(&book, &few).is_none());
     assert!(&rt; first_short(&book, &few) == Some(Day::new(20_284)));
+    let Standing { short, .. } = plan_standing(rt.alloc(), &book, &few)?;
+    assert!(&rt; short == Some(Day::new(20_284)));
     let plan = plan_of_line(&rt, rt.alloc(), &book, 100)?;
     assert!(&rt; first_unpermitted(&book, &plan).is_none());
     assert_eq!(&rt; cost(&book, &plan), Cents(10_300_000));
@@ -486,6 +489,9 @@ fn yields_lie_in_two_units(rt: HostRuntime) -> Result<(), Fail> {
         lo: YieldUnits(399_999_999),
         hi: YieldUnits(400_000_001),
     };
+    assert!(&rt; answer == ends);
+    let Standing { short, answer } = plan_standing(rt.alloc(), &book, &plan)?;
+    assert!(&rt; short.is_none());
     assert!(&rt; answer == ends);
     assert!(&rt; within_limit(rt.alloc(), &book, &plan, YieldUnits(400_000_001))?);
     assert!(&rt; !within_limit(rt.alloc(), &book, &plan, YieldUnits(400_000_000))?);
