@@ -37,7 +37,7 @@ value_next closed terms entries flows p back cents rolls more entry next within 
     let same : rolled_on closed terms flows back (get_or entries p d) (get_or entries (p + 1) d) ≡ cents =
     ap (λ (b : Balance). rolled_on closed terms flows back b (get_or entries (p + 1) d)) here ∙ ap (rolled_on closed terms flows back entry) there ∙ sym amount in
     let step : rolls_from closed terms flows back (get_or entries p d) (drop (p + 1) entries)
-        ≡ roll_of entry next cents ++ rolls_from closed terms flows cents (get_or entries (p + 1) d) (drop (p + 1 + 1) entries) =
+    ≡ roll_of entry next cents ++ rolls_from closed terms flows cents (get_or entries (p + 1) d) (drop (p + 1 + 1) entries) =
     value_step closed terms entries flows p back d within
     ∙ ap (λ n. roll_of (get_or entries p d) (get_or entries (p + 1) d) n ++ rolls_from closed terms flows n (get_or entries (p + 1) d) (drop (p + 1 + 1) entries)) same
     ∙ ap (λ (b : Balance). roll_of b (get_or entries (p + 1) d) cents ++ rolls_from closed terms flows cents (get_or entries (p + 1) d) (drop (p + 1 + 1) entries)) here

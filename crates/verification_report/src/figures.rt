@@ -43,11 +43,7 @@ fn push_interval(text: &mut Vec<u8>, answer: YieldAnswer) -> Result<(), NoMemory
 /// # Errors
 ///
 /// Where memory ran out; then a part of the line may have been added.
-pub fn push_yield(
-    text: &mut Vec<u8>,
-    words: &[u8],
-    answer: YieldAnswer,
-) -> Result<(), NoMemory>
+pub fn push_yield(text: &mut Vec<u8>, words: &[u8], answer: YieldAnswer) -> Result<(), NoMemory>
     ensures { OnOk result (text.new.items ≡ text.old.items ++ text_line words.now (yield_words answer)) }
 {
     text.extend_from_slice(words)?;

@@ -25,7 +25,7 @@ loop-place-preserved c =
     let day : (get_or c.args.entries.now place next).day ≡ next.day = ap (λ (b : Balance). b.day) (sym c.index-entries-place-in-loop-place.is) in
     let free : c.min-free.result ≡ min entry.balance.0 (cents_on entry.day c.args.paid.now.sums + c.loop-place.back) = c.min-free.ensures ∙ ap (λ n. min entry.balance.0 (n + c.loop-place.back)) c.on.ensures in
     let came : ((c.most_rolled-back.result ≡ 0) × (c.if-back-gt0.rolls.items ≡ c.loop-place.rolls.items))
-        ⊎ ((1 ≤ c.most_rolled-back.result) × (c.if-back-gt0.rolls.items ≡ c.loop-place.rolls.items ++ record { day = entry.day; next = next.day; cents = record { 0 = c.most_rolled-back.result } } ∷ [])) =
+    ⊎ ((1 ≤ c.most_rolled-back.result) × (c.if-back-gt0.rolls.items ≡ c.loop-place.rolls.items ++ record { day = entry.day; next = next.day; cents = record { 0 = c.most_rolled-back.result } } ∷ [])) =
     elim c.if-back-gt0.branch [
       | then-back-gt0+in_ok-push w ↦ inr (omega (arith, w.if-back-gt0.true), rw w.rolls-is (rw day at w.in_ok-push.ensures.items))
       | else-back-gt0 w ↦ inl (omega (arith, w.if-back-gt0.false), rw w.rolls-is refl)
