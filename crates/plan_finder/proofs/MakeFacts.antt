@@ -74,8 +74,8 @@ pub zeros : (n : ℕ) → AreNone (replicate n 0)
 zeros n = λ k within. grind (arith, get_or-replicate, length-replicate)
 
 pub make-ledger : (n : ℕ) (book : BookContents) (ledger : Account) → IsBook book → ledger.plan ≡ replicate (length book.lines) 0
-    → AreTerms n book ledger.terms.items → AreHeld n book (replicate (length book.lines) 0) ledger.held.items → ArePaid book.needs book.needs ledger.needed
-    → ((k : ℕ) → k < length book.needs → get_or ledger.received k 0 ≡ 0) → ledger.cost.0 ≡ 0 → ledger.worth ≡ 0 → IsAccount n book ledger
+    → AreTerms n book ledger.terms.items → AreHeld n book (replicate (length book.lines) 0) ledger.held.items → ArePaid book.needs book.needs ledger.needed.value
+    → ((k : ℕ) → k < length book.needs → get_or ledger.received.value k 0 ≡ 0) → ledger.cost.0 ≡ 0 → ledger.worth ≡ 0 → IsAccount n book ledger
 make-ledger n book ledger limits plan terms held needed received cost worth =
     let none = zeros (length book.lines) in
     record {

@@ -55,7 +55,7 @@ purchase-paid n book line units purchase paid own are = subst (λ flows. ArePaid
 
 pub received-part : (n : ℕ) (book : BookContents) (ledger : Account) (i : ℕ) (before : Purchase) (paid : List ℕ) → IsAccount n book ledger → i < length book.lines
     → before ≡ get_or ledger.held.items i before → ArePaid book.needs before.payments.items paid
-    → (k : ℕ) → k < length book.needs → get_or paid k 0 ≤ get_or ledger.received k 0
+    → (k : ℕ) → k < length book.needs → get_or paid k 0 ≤ get_or ledger.received.value k 0
 received-part n book ledger i before paid is within at are k here =
     let line = get_or book.lines i some_line in
     let own = purchase-paid n book line (get_or ledger.plan i 0) before paid (held-is n book ledger.plan ledger.held.items i before is.held within at some_line) are in
@@ -66,7 +66,7 @@ pub received-set : (n : ℕ) (book : BookContents) (ledger : Account) (i units :
     → before ≡ get_or ledger.held.items i before → ((d : Line) → IsPurchase n book.days (get_or book.lines i d) units after)
     → ArePaid book.needs before.payments.items paid → ArePaid book.needs after.payments.items now
     → (k : ℕ) (d : Flow) → k < length book.needs
-    → get_or ledger.received k 0 - get_or paid k 0 + get_or now k 0 ≡ total_by (get_or book.needs k d).day (payments_of book (set ledger.plan i units))
+    → get_or ledger.received.value k 0 - get_or paid k 0 + get_or now k 0 ≡ total_by (get_or book.needs k d).day (payments_of book (set ledger.plan i units))
 received-set n book ledger i units before after paid now is within at own were are k d here =
     let line = get_or book.lines i some_line in
     let t = (get_or book.needs k d).day in
@@ -85,7 +85,7 @@ pub received-room : (n : ℕ) (book : BookContents) (ledger : Account) (i units 
     → ((d : Line) → IsPermittedUnits (get_or book.lines i d) units)
     → before ≡ get_or ledger.held.items i before → ((d : Line) → IsPurchase n book.days (get_or book.lines i d) units after)
     → ArePaid book.needs before.payments.items paid → ArePaid book.needs after.payments.items now
-    → (k : ℕ) → k < length book.needs → get_or ledger.received k 0 - get_or paid k 0 + get_or now k 0 < 2 ^ 64
+    → (k : ℕ) → k < length book.needs → get_or ledger.received.value k 0 - get_or paid k 0 + get_or now k 0 < 2 ^ 64
 received-room n book ledger i units before after paid now is within permitted at own were are k here =
     omega (
       arith,
@@ -191,8 +191,8 @@ pub put-ledger : (n : ℕ) (book : BookContents) (old new : Account) (i units : 
     → ((d : Line) → IsPermittedUnits (get_or book.lines i d) units)
     → before ≡ get_or old.held.items i before → ((d : Line) → IsPurchase n book.days (get_or book.lines i d) units after)
     → ArePaid book.needs before.payments.items paid → ArePaid book.needs after.payments.items now
-    → new.plan ≡ set old.plan i units → new.terms.items ≡ old.terms.items → new.held.items ≡ set old.held.items i after → new.needed ≡ old.needed
-    → ((k : ℕ) → k < length book.needs → get_or new.received k 0 ≡ get_or old.received k 0 - get_or paid k 0 + get_or now k 0)
+    → new.plan ≡ set old.plan i units → new.terms.items ≡ old.terms.items → new.held.items ≡ set old.held.items i after → new.needed.value ≡ old.needed.value
+    → ((k : ℕ) → k < length book.needs → get_or new.received.value k 0 ≡ get_or old.received.value k 0 - get_or paid k 0 + get_or now k 0)
     → new.cost.0 ≡ old.cost.0 - before.cost.0 + after.cost.0 → new.worth ≡ old.worth - before.worth + after.worth
     → IsAccount n book new
 put-ledger n book old new i units before after paid now is within permitted at own were are plan terms held needed received cost worth = record {

@@ -68,8 +68,8 @@ pub record IsAccount (n : ℕ) (book : BookContents) (account : Account) : Type 
   pub permitted : IsPermitted book account.plan
   pub terms : AreTerms n book account.terms.items
   pub held : AreHeld n book account.plan account.held.items
-  pub needed : ArePaid book.needs book.needs account.needed
-  pub received : ArePaid book.needs (payments_of book account.plan) account.received
+  pub needed : ArePaid book.needs book.needs account.needed.value
+  pub received : ArePaid book.needs (payments_of book account.plan) account.received.value
   pub cost : account.cost.0 ≡ cost_of book account.plan
   pub worth : account.worth ≡ plan_worth n book account.plan
 

@@ -20,7 +20,7 @@ use offer_book::Book;
 use std::alloc::Global;
 
 /// A plan, and all that it comes to. A line's units are changed by [`Account::put`] alone, which reads that line and the need
-/// dates, and no other line.
+/// dates, and no other line. Its tables stand on the heap, so that an account is moved in little room on the stack.
 #[derive(Drop)]
 pub(crate) struct Account {
     /// The units of each line.
@@ -30,9 +30,9 @@ pub(crate) struct Account {
     /// What the plan's units of each line cost and pay.
     pub held: Vec<Purchase>,
     /// What is needed up to each need date, in cents.
-    pub needed: [u64; MOST_NEED_DATES],
+    pub needed: Box<[u64; MOST_NEED_DATES]>,
     /// What the plan pays up to each need date, in cents.
-    pub received: [u64; MOST_NEED_DATES],
+    pub received: Box<[u64; MOST_NEED_DATES]>,
     /// What the plan costs, opening cash included.
     pub cost: Cents,
     /// What its securities are worth at the yield limit, in units of 2^-62 of a cent.
@@ -52,7 +52,8 @@ fn paid_by(needs: &[Flow], flows: &[Flow]) -> [u64; MOST_NEED_DATES]
     paid
 }
 
-/// What a purchase pays up to each need date, in cents.
+/// What a purchase pays up to each need date, in cents. It isn't inlined: each call would have a table of its own on the stack.
+#[inline(never)]
 pub(crate) fn paid(book: &Book, purchase: &Purchase) -> [u64; MOST_NEED_DATES]
     requires { total purchase.now.payments.items ≤ 2 * 10 ^ 13 }
     ensures { ArePaid book.now.needs purchase.now.payments.items result }
@@ -99,11 +100,13 @@ fn nothing_held(alloc: Global, book: &Book, terms: &[LineTerms]) -> Result<Vec<P
 }
 
 impl Account {
-    /// The account of the plan that buys nothing, against the limit of the powers. It reads the calendar of each line once.
+    /// The account of the plan that buys nothing, against the limit of the powers. It reads the calendar of each line once. It isn't
+    /// inlined: its tables would stand on the stack while the program is made.
     ///
     /// # Errors
     ///
     /// Where memory ran out.
+    #[inline(never)]
     pub(crate) fn make(alloc: Global, book: &Book, powers: &Powers) -> Result<Account, NoMemory>
         requires powers { IsLowTable powers.now }
         ensures { IfOk result (IsAccount powers.now.yield_units book.now) }
@@ -114,8 +117,8 @@ impl Account {
             plan: Plan::zero(alloc, book)?,
             terms,
             held,
-            needed: paid_by(book.needs(), book.needs()),
-            received: [0; MOST_NEED_DATES],
+            needed: Box::new(alloc, paid_by(book.needs(), book.needs()))?,
+            received: Box::new(alloc, [0; MOST_NEED_DATES])?,
             cost: Cents(0),
             worth: 0,
         })
@@ -161,7 +164,7 @@ impl Account {
         let after = self.purchase(book, line, units);
         let before = &self.held[place];
         exchange(
-            &mut self.received,
+            &mut *self.received,
             &paid(book, before),
             &paid(book, &after),
             usize::from(book.need_count()),
@@ -189,8 +192,8 @@ impl Account {
     /// By how much the plan is short up to a need date, counted from 0, in cents.
     pub(crate) fn short_by(&self, place: u16) -> u64
         requires place { place < MOST_NEED_DATES }
-        requires short { slice_index self.now.received place < slice_index self.now.needed place }
-        ensures { result ≡ slice_index self.now.needed place - slice_index self.now.received place }
+        requires short { slice_index self.now.received.value place < slice_index self.now.needed.value place }
+        ensures { result ≡ slice_index self.now.needed.value place - slice_index self.now.received.value place }
     {
         self.needed[usize::from(place)] - self.received[usize::from(place)]
     }
@@ -212,7 +215,7 @@ impl Account {
     pub(crate) fn first_short(&self, book: &Book) -> Option<u16>
         requires account { (n : ℕ) × IsAccount n book.now self.now }
         ensures none { IfNone result (Meets book.now self.now.plan) }
-        ensures some { IfSome result (λ place. (place < length book.now.needs) × (slice_index self.now.received place < slice_index self.now.needed place)) }
+        ensures some { IfSome result (λ place. (place < length book.now.needs) × (slice_index self.now.received.value place < slice_index self.now.needed.value place)) }
     {
         for place in 0..book.need_count() {
             if self.received[usize::from(place)] < self.needed[usize::from(place)] {

@@ -52,7 +52,8 @@ enum Turn {
 pub(crate) struct Diver<'a> {
     /// The book.
     pub book: &'a Book,
-    simplex: Simplex<'a>,
+    // The linear program, on the heap: so a diver is moved in little room on the stack.
+    simplex: Box<Simplex<'a>>,
     // The basis before a line is fixed.
     start: Basis,
     // The basis with the line fixed below.
@@ -106,7 +107,7 @@ impl<'a> Diver<'a> {
         requires order { AreLinesOf book.now order.items }
         ensures { IfOk result (λ diver. diver.book.now ≡ book.now) }
     {
-        let mut simplex = Simplex::make(alloc, book, powers)?;
+        let mut simplex = Box::new(alloc, Simplex::make(alloc, book, powers)?)?;
         simplex.aim(Purpose::Plan, true);
         Ok(Diver {
             book,

@@ -82,6 +82,7 @@ impl<'a> Finder<'a> {
     /// # Errors
     ///
     /// Where memory ran out.
+    #[inline(never)]
     pub fn make(alloc: Global, book: &'a Book, limit: YieldUnits) -> Result<Finder<'a>, NoMemory>
         requires limit_from { 1 ≤ limit.0 }
         requires limit_to { limit.0 ≤ GREATEST_YIELD }

@@ -84,8 +84,8 @@ pub fn find(
     if book.need_count() == 0 {
         search.offer()?;
         search.promote()?;
-        return Ok(search.into_best());
+    } else {
+        look(&mut search)?;
     }
-    look(&mut search)?;
     Ok(search.into_best())
 }

@@ -117,6 +117,7 @@ impl<'a> Ledger<'a> {
     }
 
     /// Changes the units of a line, and with them all that the plan comes to.
+    #[inline(never)]
     pub(crate) fn put(&mut self, line: u16, units: u64)
         requires line { line < length self.old.book.lines }
         requires permitted { (d : Line) → IsPermittedUnits (slice_index_or self.old.book.lines line d) units }

@@ -82,6 +82,7 @@ fn weight(held: Cents, bought: Cents, filled: u64, short: u64) -> u64 {
 }
 
 // The rise of a line that covers a shortage, or as much of it as the line can, if it pays anything by then.
+#[inline(never)]
 fn rise_of(ledger: &Ledger, line: u16, shortage: &Shortage) -> Option<Rise>
     requires { line < length ledger.now.book.lines }
     ensures { IfSome result (IsRise ledger.now.book) }

@@ -49,6 +49,7 @@ fn end_of(needs: &[Flow], flows: &[Flow]) -> u16
 /// # Errors
 ///
 /// Where memory ran out.
+#[inline(never)]
 pub(crate) fn ends_of(alloc: Global, ledger: &Ledger) -> Result<Vec<u16>, NoMemory>
     ensures { IfOk result (λ ends. length ends.items ≡ length ledger.now.book.lines) }
 {

@@ -26,6 +26,7 @@ struct Bracket {
 }
 
 // Whether units of a line pay what is due up to each need date.
+#[inline(never)]
 fn suffices(ledger: &Ledger, duty: &Duty, units: u64) -> bool
     requires line { duty.now.line < length ledger.now.book.lines }
     requires units { (d : Line) → units ≤ (slice_index_or ledger.now.book.lines duty.now.line d).most }
@@ -116,6 +117,7 @@ fn tries_of(taken: u64) -> u32 {
 }
 
 // Takes a line down as far as the needs allow. It answers how many numbers of units were tried.
+#[inline(never)]
 fn trim_line(ledger: &mut Ledger, line: u16) -> u32
     requires line { line < length ledger.old.book.lines }
     requires meets { Meets ledger.old.book ledger.old.plan }

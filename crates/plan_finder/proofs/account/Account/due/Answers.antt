@@ -1,4 +1,4 @@
-use Rattle.std.proofs.Common.{◌≡◌, ◌∙◌, ◌<◌, get_or, length, inl, inr, rules, arith}
+use Rattle.std.proofs.Common.{◌≡◌, ◌∙◌, ◌<◌, ap, get_or, length, inl, inr, rules, arith}
 use Rattle.std.proofs.lemmas.Bool.{cases_eq}
 use Rattle.std.proofs.lemmas.List.{get_or-set_other, get_or-set_same, length-set}
 use Rattle.plan_finder.proofs.LedgerFacts.{held-little}
@@ -11,14 +11,15 @@ paid-due-requires c =
     let ledger = c.requires.account.1 in
     held-little c.requires.account.0 c.args.book.now c.args.self.now.plan c.args.self.now.held.items c.args.line c.index.result.now ledger.limits ledger.permitted ledger.held c.requires.line at
 
-pub overflow_sub-self : goal.overflow_sub-self
-overflow_sub-self c =
+pub overflow_sub-deref : goal.overflow_sub-deref
+overflow_sub-deref c =
     let at : c.index.result.now ≡ get_or c.args.self.now.held.items c.args.line c.index.result.now = search rules in
     omega (
       arith,
       received-part c.requires.account.0 c.args.book.now c.args.self.now c.args.line c.index.result.now c.paid-due.result c.requires.account.1 c.requires.line at c.paid-due.ensures c.loop-place.place
           (omega arith),
       c.loop-place.invariant.rest c.loop-place.place (omega arith),
+      ap (λ l. get_or l c.loop-place.place 0) c.deref-in-loop-place.ensures,
     )
 
 pub returns : goal.returns
@@ -46,7 +47,7 @@ loop-place-preserved c =
     record {
       size = length-set due place v ∙ c.loop-place.invariant.size;
       done = λ k below. elim (cases_eq k place) [
-        | inl here ↦ rw here (omega (arith, get_or-set_same due place v 0 within, c.saturating_sub.ensures, c.loop-place.invariant.rest place (omega arith)))
+        | inl here ↦ rw here (omega (arith, get_or-set_same due place v 0 within, c.saturating_sub.ensures, c.loop-place.invariant.rest place (omega arith), ap (λ l. get_or l place 0) c.deref.ensures, ap (λ l. get_or l place 0) c.deref-in-loop-place.ensures))
         | inr away ↦ get_or-set_other due place k v 0 away ∙ c.loop-place.invariant.done k (omega (arith, below, away))
       ];
       rest = λ k above. elim (cases_eq k place) [

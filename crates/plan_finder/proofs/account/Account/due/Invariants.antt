@@ -5,6 +5,6 @@ use Rattle.plan_finder.proofs.account.Account.due.Given as goal
 abbrev pub invariant-loop-place : goal.invariant-loop-place
 invariant-loop-place l = record {
   size : length l.due ≡ MOST_NEED_DATES;
-  done : (k : ℕ) → k < l.place → get_or l.due k 0 ≡ get_or l.self.needed k 0 - (get_or l.self.received k 0 - get_or l.initial.due k 0);
+  done : (k : ℕ) → k < l.place → get_or l.due k 0 ≡ get_or l.self.needed.value k 0 - (get_or l.self.received.value k 0 - get_or l.initial.due k 0);
   rest : (k : ℕ) → l.place ≤ k → get_or l.due k 0 ≡ get_or l.initial.due k 0;
 }
