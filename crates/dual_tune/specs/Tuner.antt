@@ -13,6 +13,6 @@ pub record TunerContents : Type 0 where
 -- the parts of a tuner are for the same book, and have room for its need dates
 pub record AreParts (book : BookContents) (parts : Parts) : Type 0 where
   pub swept : IsSweep parts.sweep.columns.yield_units book parts.sweep
-  pub dates : parts.simplex.dates ≡ length book.needs
+  pub dates : parts.simplex.value.dates ≡ length book.needs
   pub proposed : IsLeaf (length book.needs) parts.proposal
   pub zeros : parts.zeros ≡ zeros_like book parts.zeros

@@ -27,8 +27,8 @@ const NEAR_ITERATIONS: u32 = 12;
 pub(crate) struct Parts<'a> {
     /// The steps, priced one by one.
     pub sweep: Sweep<'a>,
-    /// The linear program.
-    pub simplex: Simplex<'a>,
+    /// The linear program, on the heap: so parts are moved in little room on the stack.
+    pub simplex: Box<Simplex<'a>>,
     /// The leaf that it proposes.
     pub proposal: Leaf,
     /// The leaf of prices of 0, without a weight of the limit.
@@ -119,7 +119,7 @@ impl<'a> Parts<'a> {
     {
         Ok(Parts {
             sweep: Sweep::make(alloc, book, powers)?,
-            simplex: Simplex::make(alloc, book, powers)?,
+            simplex: Box::new(alloc, Simplex::make(alloc, book, powers)?)?,
             proposal: Leaf::of_zeros(alloc, true, book.need_count())?,
             zeros: Leaf::of_zeros(alloc, true, book.need_count())?,
         })
