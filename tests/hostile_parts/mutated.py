@@ -45,6 +45,12 @@ def _changed(draw: random.Random, data: bytes) -> bytes:
     return data
 
 
+def _has_closed_days(name: str) -> bool:
+    """Whether an example's issue says which days are closed, which a plain program that judges may not know."""
+    rows = (ROOT / "examples" / name / NAMES[0]).read_bytes().splitlines()
+    return any(row.split(b",")[0] in (b"weekends", b"closed") for row in rows)
+
+
 def _judged(judge: str, folder: Path) -> Run:
     done = subprocess.run([judge, "check", *NAMES], cwd=folder, stdin=subprocess.DEVNULL, capture_output=True, check=False)
     return Run(done.returncode, done.stdout, b"")
@@ -62,6 +68,8 @@ def _keep(folder: Path, number: int) -> str:
 def tries(tries: Tries, asked) -> None:
     draw = random.Random(asked.seed)
     examples = sorted(path.parent.name for path in (ROOT / "examples").glob("*/certificate.txt"))
+    if asked.judge:
+        examples = [name for name in examples if not _has_closed_days(name)]
     until = time.monotonic() + asked.seconds
     number = 0
     while time.monotonic() < until:
