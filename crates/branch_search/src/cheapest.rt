@@ -20,6 +20,7 @@ use std::alloc::Global;
 const EFFORT: u32 = 30_000;
 
 // The backward plan, where there is one.
+#[inline(never)]
 fn backward(alloc: Global, book: &Book) -> Result<Option<Plan>, NoMemory>
     ensures { IfOk result (λ plan. MatchOption plan ((fault : BuildFault) × (backward_plan book.now ≡ Err fault)) (IsBuilt book.now)) }
 {

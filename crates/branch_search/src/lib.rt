@@ -1,4 +1,7 @@
 //! The search for the cheapest permitted purchases, with a tree that shows how much cheaper others can be.
+//!
+//! A small stack is enough: the steps of a search aren't inlined that have tables as locals, or make what it holds, so that those of
+//! several steps don't stand beside one another.
 #![tactic(auto)]
 
 mod best;

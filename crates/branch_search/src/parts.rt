@@ -126,6 +126,7 @@ impl<'a> Search<'a> {
 
     /// The first day on which even the high ends of the ranges at hand are short, where the needs up to it are more than all that
     /// the ranges can pay by then.
+    #[inline(never)]
     pub(crate) fn unreached(&mut self) -> Option<Day>
         ensures search { self.new ≡ self.old }
         ensures some { IfSome result (λ day. pos 0 <ℤ bound_of (self.old.case.limit - 1) self.old.case.book self.old.ranges (reach_leaf self.old.case.book.needs day)) }
@@ -147,6 +148,7 @@ impl<'a> Search<'a> {
     }
 
     // Takes the plan of the low ends for the best, where it meets the needs within the limit and there is none as cheap.
+    #[inline(never)]
     fn take_plan(&mut self, alloc: Global) -> Result<(), NoMemory>
         ensures kept { OnOk result (AreSameBut self.old self.new) }
         ensures no_dearer { OnOk result (IsNoDearer (best_cents self.old.best) (best_cents self.new.best)) }

@@ -1,6 +1,7 @@
 //! The search, from a case to what it comes to.
-ghost use Rattle.std.specs.Prelude.{◌≡◌, ◌≤◌, ◌⊎◌, ◌<◌, ◌-◌, ◌^◌, None, unsigned_abs, IfOk, IfErr, OnOk};
-ghost use Rattle.cash_table.specs.Reach.{IsInReach};
+ghost use Rattle.std.specs.Prelude.{◌≡◌, ◌≤◌, ◌↔◌, ◌⊎◌, ◌<◌, ◌-◌, ◌^◌, None, IsNone, unsigned_abs, IfOk, IfSome, IfErr, OnOk};
+ghost use Rattle.cash_table.specs.First.{first_short_of};
+ghost use Rattle.cash_table.specs.Reach.{AreAllShort, IsInReach, plan_of_most};
 ghost use Rattle.dual_bound.specs.Ranges.{root_of};
 ghost use Rattle.branch_search.specs.Plain.{IsPlainWithin};
 ghost use Rattle.branch_search.specs.Growth.{IsBegun, IsClosedTree, IsFullTree};
@@ -21,7 +22,7 @@ use cash_table::{Plan, cost, out_of_reach};
 use dual_bound::{Leaf, Ranges};
 use dual_tune::Tuner;
 use escrow_desk::NoMemory;
-use escrow_units::{AMOUNT_LIMIT, Cents, GREATEST_INDEX, GREATEST_YIELD, YieldUnits};
+use escrow_units::{AMOUNT_LIMIT, Cents, Day, GREATEST_INDEX, GREATEST_YIELD, YieldUnits};
 use fixed_powers::{Powers, Side};
 use halving_tree::{SplitRule, base_leaf};
 use offer_book::Book;
@@ -33,7 +34,18 @@ use std::alloc::Global;
 // through all columns of the linear program.
 const SWEEPS_A_NODE: u32 = 30;
 
+// The first day on which even the most of every line is short.
+#[inline(never)]
+fn day_out_of_reach(book: &Book) -> Option<Day>
+    ensures value { result ≡ first_short_of book.now (plan_of_most book.now) }
+    ensures none { IsNone result ↔ IsInReach book.now }
+    ensures all_short { IfSome result (λ day. AreAllShort book.now day) }
+{
+    out_of_reach(book)
+}
+
 // What prices leaves one unit below a limit.
+#[inline(never)]
 fn tuner_of<'a>(alloc: Global, book: &'a Book, limit: YieldUnits) -> Result<Tuner<'a>, NoMemory>
     requires limit_from { 1 ≤ limit.0 }
     requires limit_to { limit.0 ≤ GREATEST_YIELD }
@@ -45,6 +57,7 @@ fn tuner_of<'a>(alloc: Global, book: &'a Book, limit: YieldUnits) -> Result<Tune
 
 impl<'a> Search<'a> {
     // What a search of a case holds, at the ranges of the root, before there is a plan.
+    #[inline(never)]
     fn start(
         alloc: Global,
         book: &'a Book,
@@ -82,6 +95,7 @@ impl<'a> Search<'a> {
     }
 
     // Looks for a plan that costs no more than the backward one; it ends early where a plan costs just what the root's bound says.
+    #[inline(never)]
     fn find_plan(&mut self, alloc: Global, bound: i128) -> Result<(), NoMemory>
         requires bound { unsigned_abs bound < 10 ^ 37 }
         requires none { self.old.best ≡ None }
@@ -233,6 +247,7 @@ impl<'a> Search<'a> {
 
     // Looks for a cheaper plan, by the work of so many sweeps for each node of the budget; it ends early where a plan costs just a
     // bound.
+    #[inline(never)]
     fn find_cheaper(&mut self, alloc: Global, bound: Cents) -> Result<(), NoMemory>
         ensures kept { OnOk result (AreSameBut self.old self.new) }
         ensures no_dearer { OnOk result (IsNoDearer (best_cents self.old.best) (best_cents self.new.best)) }
@@ -331,7 +346,7 @@ pub fn search(
 {
     // A book keeps its limits.
     prove!(book.line_count() > 0);
-    if let Some(day) = out_of_reach(book) {
+    if let Some(day) = day_out_of_reach(book) {
         return Err(SearchEnd::Short(day));
     }
     let mut search = Search::start(alloc, book, limit, allowance, budget)?;

@@ -21,7 +21,7 @@ pub returns-clause-ended : goal.returns-clause-ended
 returns-clause-ended c = subst (λ (s : SearchContents). IfErr c.run.result (EndsOf s.case)) c.in_ok-search.ensures c.run.ensures.ended
 
 pub run-requires-clause-reach : goal.run-requires-clause-reach
-run-requires-clause-reach c = subst (λ (s : SearchContents). IsInReach s.case.book) (sym c.in_ok-search.ensures) (c.out_of_reach.ensures.none.0 (is-none c.out_of_reach.result c.in_default.not-Some))
+run-requires-clause-reach c = subst (λ (s : SearchContents). IsInReach s.case.book) (sym c.in_ok-search.ensures) (c.day_out_of_reach.ensures.none.0 (is-none c.day_out_of_reach.result c.in_default.not-Some))
   where
     is-none : {X : Type 0} → (o : Option X) → ((x : X) → o ≡ Some x → ⊥) → IsNone o
     is-none None not-some = refl
