@@ -7,6 +7,7 @@ ghost use Rattle.offer_book.specs.Portfolio.{IsPermitted, cost as cost_of};
 ghost use Rattle.plan_finder.specs.Proposal.{IsProposal};
 ghost use Rattle.branch_search.specs.Plans.{HasNone, IsBest, IsBuilt};
 
+use crate::hint::Hint;
 use crate::taken::taken;
 use backward_build::{BuildEnd, build, trim};
 use cash_table::{Plan, cost};
@@ -89,19 +90,22 @@ fn cheaper(book: &Book, plan: Option<Plan>, proposed: Option<Proposal>) -> Optio
     }
 }
 
-/// The cheapest of the backward plan, the one that it is trimmed to and one that is looked for, of those within the limit; None
-/// where there is none. Another one is looked for only where the first two cost more than the target.
+/// The cheapest of the backward plan, the one that it is trimmed to, that of a hint and one that is looked for, of those within the
+/// limit; None where there is none. Another one is looked for only where the first three cost more than the target.
 pub(crate) fn cheapest(
     alloc: Global,
     book: &Book,
     limit: YieldUnits,
     target: Cents,
+    hint: &Hint,
 ) -> Result<Option<Plan>, NoMemory>
     requires limit_from { 1 ≤ limit.0 }
     requires limit_to { limit.0 ≤ GREATEST_YIELD }
     ensures { IfOk result (λ plan. MatchOption plan (HasNone limit.0 book.now) (IsBest limit.0 book.now)) }
 {
-    let plan = backward_within(alloc, book, limit)?;
+    let built = backward_within(alloc, book, limit)?;
+    let hinted = hint.proposal(alloc, book, limit)?;
+    let plan = cheaper(book, built, hinted);
     if is_cheap(book, plan.as_ref(), target) {
         return Ok(plan);
     }

@@ -10,6 +10,7 @@ mod ends;
 mod found;
 mod gaps;
 mod growing;
+mod hint;
 mod laws;
 mod parts;
 mod pointing;
@@ -21,6 +22,7 @@ mod taken;
 mod tests;
 
 pub use found::{Found, SearchEnd, Spent};
+pub use hint::Hint;
 pub use laws::{found_laws, settled_laws};
 pub use purchases::purchases_of;
-pub use searching::search;
+pub use searching::{search, search_from};

@@ -101,6 +101,40 @@ impl<'a> Search<'a> {
         Ok(Priced { leaf, bound })
     }
 
+    /// Prices the ranges of the root, from nothing and, where a basis is offered, from that too; the greater bound counts. It keeps where
+    /// its linear program stands.
+    pub(crate) fn price_root(
+        &mut self,
+        alloc: Global,
+        offered: Option<Basis>,
+    ) -> Result<Priced, NoMemory>
+        ensures search { self.new ≡ self.old }
+        ensures priced { IfOk result (IsPriced self.old.case self.old.ranges) }
+    {
+        self.bases.clear();
+        let root = self.price(alloc, None, None)?;
+        let Some(basis) = offered else {
+            return Ok(root);
+        };
+        self.bases.push(basis)?;
+        let near = self.price(alloc, None, Some(NodeId(1)))?;
+        if root.bound < near.bound {
+            self.bases.as_mut_slice().reverse();
+            self.bases.truncate(1);
+            return Ok(near);
+        }
+        self.bases.truncate(1);
+        Ok(root)
+    }
+
+    /// Gives away where the linear program of the root stands, where that is known.
+    pub(crate) fn take_root_basis(&mut self) -> Option<Basis>
+        ensures { self.new ≡ self.old }
+    {
+        self.bases.truncate(1);
+        self.bases.pop()
+    }
+
     /// Whether a bound bears out that no rival costs less than the best plan by more than the allowance.
     pub(crate) fn is_borne(&self, bound: i128) -> bool
         requires { unsigned_abs bound < 10 ^ 37 }

@@ -16,6 +16,7 @@ use crate::cheapest::cheapest;
 use crate::found::{Found, SearchEnd, Spent};
 use crate::gaps::{greatest_cost, tree_gap};
 use crate::growing::Growth;
+use crate::hint::{Hint, best_of};
 use crate::parts::Search;
 use crate::runs::{RunEnd, Shown, greater};
 use cash_table::{Plan, cost, out_of_reach};
@@ -94,16 +95,17 @@ impl<'a> Search<'a> {
         })
     }
 
-    // Looks for a plan that costs no more than the backward one; it ends early where a plan costs just what the root's bound says.
+    // Looks for a plan that costs no more than the backward one, nor than that of a hint; it ends early where a plan costs just what the
+    // root's bound says.
     #[inline(never)]
-    fn find_plan(&mut self, alloc: Global, bound: i128) -> Result<(), NoMemory>
+    fn find_plan(&mut self, alloc: Global, bound: i128, hint: &Hint) -> Result<(), NoMemory>
         requires bound { unsigned_abs bound < 10 ^ 37 }
         requires none { self.old.best ≡ None }
         ensures kept { OnOk result (AreSameBut self.old self.new) }
         ensures backward { OnOk result (IsNoDearerThanBackward self.old.case.limit self.old.case.book (best_cents self.new.best)) }
     {
         let target = greatest_cost(bound, Cents(0));
-        if let Some(plan) = cheapest(alloc, self.book, self.limit, target)? {
+        if let Some(plan) = cheapest(alloc, self.book, self.limit, target, hint)? {
             let cost = cost(self.book, &plan);
             self.best = Some(Best { plan, cost });
         }
@@ -289,7 +291,7 @@ impl<'a> Search<'a> {
     }
 
     // Searches from the ranges of the root, before there is a plan: first by the tree whose splits the relaxation points to.
-    fn run(&mut self, alloc: Global) -> Result<Found, SearchEnd>
+    fn run(&mut self, alloc: Global, hint: &mut Hint) -> Result<Found, SearchEnd>
         requires ranges { self.old.ranges ≡ root_of self.old.case.book.lines }
         requires none { self.old.best ≡ None }
         requires reach { IsInReach self.old.case.book }
@@ -301,14 +303,32 @@ impl<'a> Search<'a> {
     {
         // A book keeps its limits.
         prove!(self.book.line_count() > 0);
-        let root = self.price(alloc, None, None)?;
-        self.find_plan(alloc, root.bound)?;
+        let root = self.price_root(alloc, hint.take_basis())?;
+        self.find_plan(alloc, root.bound, hint)?;
         let mut tree = SearchTree::start(alloc, self.budget, root)?;
         match self.grow_by(alloc, SplitRule::Relaxation, &mut tree)? {
             RunEnd::Found(found) => Ok(found),
             RunEnd::NoRival(nodes) => Err(SearchEnd::NoneWithinYield(nodes)),
             RunEnd::Spent(first) => self.run_again(alloc, first, &mut tree),
         }
+    }
+
+    // Searches likewise, and makes the hint one of this search.
+    fn run_from(&mut self, alloc: Global, hint: &mut Hint) -> Result<Found, SearchEnd>
+        requires ranges { self.old.ranges ≡ root_of self.old.case.book.lines }
+        requires none { self.old.best ≡ None }
+        requires reach { IsInReach self.old.case.book }
+        requires budget_from { 1 ≤ self.old.case.budget }
+        requires budget_to { self.old.case.budget ≤ 10_000 }
+        ensures found { IfOk result (λ found. IsFound self.old.case found.plan found.tree found.gap) }
+        ensures found_by { IfOk result (λ found. IsFoundBy self.old.case found.plan found.tree) }
+        ensures ended { IfErr result (EndsOf self.old.case) }
+    {
+        let book = self.book;
+        let ended = self.run(alloc, hint);
+        let basis = self.take_root_basis();
+        hint.keep(alloc, book, best_of(&ended), basis)?;
+        ended
     }
 }
 
@@ -344,11 +364,39 @@ pub fn search(
     ensures ended { IfErr result (EndsOf (searched book.now limit.0 allowance.0 budget)) }
     ensures plain { IsPlainWithin (searched book.now limit.0 allowance.0 budget) → IfErr result (λ ended. ended ≡ SearchEnd.NoMemory) }
 {
+    search_from(alloc, book, limit, allowance, budget, &mut Hint::none())
+}
+
+/// The same as [`search`], with the hint of a search before: the plan of the hint counts where it is permitted, meets the needs and is
+/// within the limit, and the root is priced from its basis too. All that is said of what `search` finds and of how it ends is so
+/// whatever the hint. After it the hint is that of this search; where it found no plan, that of the one before stays.
+///
+/// # Errors
+///
+/// Those of [`search`].
+pub fn search_from(
+    alloc: Global,
+    book: &Book,
+    limit: YieldUnits,
+    allowance: Cents,
+    budget: u32,
+    hint: &mut Hint,
+) -> Result<Found, SearchEnd>
+    requires limit_from { 1 ≤ limit.0 }
+    requires limit_to { limit.0 ≤ GREATEST_YIELD }
+    requires allowance { allowance.0 ≤ AMOUNT_LIMIT }
+    requires budget_from { 1 ≤ budget }
+    requires budget_to { budget ≤ 10_000 }
+    ensures found { IfOk result (λ found. IsFound (searched book.now limit.0 allowance.0 budget) found.plan found.tree found.gap) }
+    ensures found_by { IfOk result (λ found. IsFoundBy (searched book.now limit.0 allowance.0 budget) found.plan found.tree) }
+    ensures ended { IfErr result (EndsOf (searched book.now limit.0 allowance.0 budget)) }
+    ensures plain { IsPlainWithin (searched book.now limit.0 allowance.0 budget) → IfErr result (λ ended. ended ≡ SearchEnd.NoMemory) }
+{
     // A book keeps its limits.
     prove!(book.line_count() > 0);
     if let Some(day) = day_out_of_reach(book) {
         return Err(SearchEnd::Short(day));
     }
     let mut search = Search::start(alloc, book, limit, allowance, budget)?;
-    search.run(alloc)
+    search.run_from(alloc, hint)
 }

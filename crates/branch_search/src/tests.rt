@@ -1,9 +1,9 @@
 //! Worked figures.
-ghost use Rattle.std.specs.Prelude.{◌≡◌, IfOk, IfSome};
+ghost use Rattle.std.specs.Prelude.{◌≡◌, IfErr, IfOk, IfSome};
 ghost use Rattle.case_file.specs.Case.{HasTerms, case_view};
 ghost use Rattle.branch_search.specs.Search.{EndsOf, IsFound, IsOverBound};
 
-use crate::{Found, SearchEnd, Spent, found_laws, search};
+use crate::{Found, Hint, SearchEnd, Spent, found_laws, search, search_from};
 use bound_certificate::{Buy, write_cert};
 use case_file::{Case, read_case};
 use cash_table::cost;
@@ -132,12 +132,38 @@ fn is_ended(rt: &impl Abort, ending: Ending, told: &Told) -> Result<(), Fail> {
     Ok(())
 }
 
-fn try_row(rt: &impl Abort, alloc: Global, row: &Row) -> Result<(), Fail> {
-    let case = case_of(rt, alloc, row)?;
-    match search(alloc, &case.book, case.limit, case.allowance, case.budget) {
-        Ok(found) => is_found(rt, alloc, &case, found, &row.told),
-        Err(end) => is_ended(rt, ending_of(&case, end), &row.told),
+// A search comes to what is told.
+fn is_told(
+    rt: &impl Abort,
+    alloc: Global,
+    case: &Case,
+    ended: Result<Found, SearchEnd>,
+    told: &Told,
+) -> Result<(), Fail>
+    requires terms { HasTerms (case_view case.now) }
+    requires found { IfOk ended (λ found. IsFound (case_view case.now) found.plan found.tree found.gap) }
+    requires ended { IfErr ended (EndsOf (case_view case.now)) }
+{
+    match ended {
+        Ok(found) => is_found(rt, alloc, case, found, told),
+        Err(end) => is_ended(rt, ending_of(case, end), told),
     }
+}
+
+// A row comes to what is told, without a hint and with one of the row before.
+fn try_row(rt: &impl Abort, alloc: Global, row: &Row, hint: &mut Hint) -> Result<(), Fail> {
+    let case = case_of(rt, alloc, row)?;
+    let ended = search(alloc, &case.book, case.limit, case.allowance, case.budget);
+    is_told(rt, alloc, &case, ended, &row.told)?;
+    let ended = search_from(
+        alloc,
+        &case.book,
+        case.limit,
+        case.allowance,
+        case.budget,
+        hint,
+    );
+    is_told(rt, alloc, &case, ended, &row.told)
 }
 
 // Of an offer without interest, of two offers at the greatest rate, and of cash alone.
@@ -248,8 +274,9 @@ fn cases_close_or_end(rt: HostRuntime) -> Result<(), Fail> {
             told: Told::Ended(Ending::Short(Day::new(20_108))),
         },
     ];
+    let mut hint = Hint::none();
     for row in &rows {
-        try_row(&rt, rt.alloc(), row)?;
+        try_row(&rt, rt.alloc(), row, &mut hint)?;
     }
     Ok(())
 }

@@ -8,7 +8,7 @@ ghost use Rattle.cap_finder.specs.Ends.{IsCapEnd, IsPlainAtTop};
 
 use crate::ends::CapEnd;
 use crate::progress::Progress;
-use branch_search::settled_laws;
+use branch_search::{Hint, settled_laws};
 use case_file::Case;
 use escrow_desk::NoMemory;
 use rate_cap::{cap_laws, top_rate};
@@ -17,6 +17,7 @@ use std::alloc::Global;
 /// The greatest common cap on the SLGS rates of a case at which an escrow is found, by halves: first the top is tried, the greatest
 /// of the rates, then 0, and then the middle of the greatest found and the least not found, until they are one hundredth of a
 /// percentage point apart. For each the case at the cap is searched, with its allowance and its budget: at most fourteen searches.
+/// Each has the hint of the one before, which is but a hint: what is found, and why none is, is so without it.
 /// Beside the given case it holds two more at most.
 ///
 /// The rates are whole hundredths of a percentage point, at most 30 percent, as those of files are: `cap_laws` of rate_cap says it.
@@ -35,9 +36,10 @@ pub fn find_cap(alloc: Global, case: &Case) -> Result<CapEnd, NoMemory>
     prove!(case.book.line_count() > 0);
     cap_laws();
     settled_laws();
+    let mut hint = Hint::none();
     let mut progress = Progress::start(top_rate(case));
     while let Some(cap) = progress.search.ask() {
-        progress.try_cap(alloc, case, cap)?;
+        progress.try_cap(alloc, case, cap, &mut hint)?;
     }
     progress.end(alloc, case)
 }

@@ -9,7 +9,7 @@ ghost use Rattle.cap_finder.specs.Ends.{IsCapEnd, IsCappedEscrow, IsInTheWay};
 ghost use Rattle.cap_finder.specs.Progress.{IsAsked, IsOneMore, IsProgress, IsZeroUnfound};
 
 use crate::ends::{CapEnd, CappedEscrow, CaseAtZero, GreatestCap, Obstacle, Unfound};
-use branch_search::search;
+use branch_search::{Hint, search_from};
 use case_file::Case;
 use escrow_desk::NoMemory;
 use escrow_units::Rate;
@@ -79,9 +79,15 @@ impl Progress {
         self.unfound = Some(unfound);
     }
 
-    /// Searches the case at the cap that was asked, and tells whether an escrow is found.
+    /// Searches the case at the cap that was asked, with the hint of the cap before, and tells whether an escrow is found.
     #[inline(never)]
-    pub(crate) fn try_cap(&mut self, alloc: Global, case: &Case, cap: Rate) -> Result<(), NoMemory>
+    pub(crate) fn try_cap(
+        &mut self,
+        alloc: Global,
+        case: &Case,
+        cap: Rate,
+        hint: &mut Hint,
+    ) -> Result<(), NoMemory>
         requires terms { HasTerms (case_view case.now) }
         requires progress { IsProgress (case_view case.now) self.old }
         requires asked { IsAsked self.old.search cap }
@@ -91,7 +97,7 @@ impl Progress {
         // There is one case at each cap.
         cap_laws();
         let at = at_cap(alloc, case, cap)?;
-        match search(alloc, &at.book, at.limit, at.allowance, at.budget) {
+        match search_from(alloc, &at.book, at.limit, at.allowance, at.budget, hint) {
             Ok(found) => self.tell_found(CappedEscrow {
                 cap,
                 case: at,
