@@ -13,7 +13,11 @@ use Rattle.escrow_desk.specs.Rows.{rows_of}
 use Rattle.escrow_desk.specs.declared.refusal.Refusal.{Refusal}
 use Rattle.issue_schedule.specs.IssueForm.{issue_of}
 use Rattle.issue_schedule.specs.declared.issue.Issue.{Issue}
+use Rattle.escrow_units.specs.declared.security.Flow.{Flow}
 use Rattle.escrow_units.specs.declared.security.Terms.{Terms}
+use Rattle.held_escrow.specs.HeldCase.{held_case_of}
+use Rattle.held_escrow.specs.HeldForm.{held_of}
+use Rattle.held_escrow.proofs.CaseFacts.{cases-are_alike, cases-are_one}
 use Rattle.rate_table.specs.RateForm.{rate_file_of}
 use Rattle.roll_plan.specs.Steps.{stated_by}
 use Rattle.offer_book.specs.Book.{AreWithoutInterest, IsBook}
@@ -32,16 +36,19 @@ use Rattle.escrow_check.proofs.OneVerdict.{bytes_have, judged-by, one_verdict}
 use Rattle.escrow_check.proofs.ReasonFacts.{yes_where_unopposed}
 use Rattle.escrow_check.proofs.VerdictFacts.{none-told, yes-told, yes_is_right, yes_none_is_right}
 use Rattle.escrow_top.specs.InputFiles.{InputFiles}
-use Rattle.escrow_top.specs.Answer.{Answer, answer_for, answer_with, case_of, certificate_answer, files_answer, judged_case, portfolio_text, refused, verdict_answer, yes_text}
+use Rattle.escrow_top.specs.Answer.{Answer, answer_for, answer_with, certificate_answer, files_answer, judged_case, judged_of, portfolio_text, refused, verdict_answer, yes_text}
 use Rattle.escrow_top.proofs.YieldFacts.{printed_yield}
 use Rattle.escrow_units.specs.declared.amount.Rate.{Rate}
 use Rattle.rate_cap.specs.CaseAt.{case_at}
-use Rattle.escrow_top.proofs.CapFacts.{given_at, keeps_judged}
+use Rattle.escrow_top.proofs.CapFacts.{given_at}
+use Rattle.escrow_top.proofs.JudgedFacts.{beside_is, one-case}
 use Rattle.escrow_top.proofs.RollingFacts.{has_rolls}
 use Rattle.escrow_top.proofs.SavingsFacts.{savings_are}
 use Rattle.escrow_top.specs.AtCap.{AcceptedAt}
 use Rattle.escrow_top.specs.Accepted.{Accepted, HasNoReason, HasNoRival, HasPortfolio, IsAcceptedText, YesExactly, yield_without_interest}
 use Rattle.escrow_top.specs.Ending.{MeansYes}
+use Rattle.escrow_top.specs.Holding.{AcceptedBeside, AcceptedHolding, GiveCaseHolding, HasNoHeldRival, HasPortfolioHolding, IsAcceptedTextBeside, IsAcceptedTextHolding}
+use Rattle.escrow_top.specs.Judged.{IsJudged}
 use Rattle.escrow_top.specs.Rolled.{HasPlan, Rolled}
 use Rattle.escrow_top.specs.Saved.{HasSavings, Saved}
 use Rattle.escrow_top.specs.SavingsText.{saved_text}
@@ -174,14 +181,6 @@ accepted files cert case gives keeps done =
           (accepted-as case certificate yes.told yes.taken.means);
     }
 
--- what `check-cap` says of it
-at-as : (cap : Rate) (files : InputFiles) (at : CaseContents) (certificate : Certificate) (told : Verdict) → IsTakenAs at certificate told
-    → HasPortfolio at certificate (verdict_answer (portfolio_text (inquiry.AtCap cap) files at) told).text ⊎ HasNoRival at certificate (verdict_answer (portfolio_text (inquiry.AtCap cap) files at) told).text
-at-as cap files at certificate (verdict.Yes portfolio) means =
-    inl (record { portfolio = portfolio; right = means.right; without_interest = means.without_interest; said = refl })
-at-as cap files at certificate verdict.YesNone means = inr (record { none = means.none; no_rival = means.no_rival; said = refl })
-at-as cap files at certificate (verdict.No why) means = absurd means
-
 -- what `savings` says of it: that of its portfolio by the issue of the files
 saved-as : (files : InputFiles) (issue : Issue) (case : CaseContents) (certificate : Certificate) (told : Verdict) → issue_of (rows_of files.issue) ≡ Ok issue → RestsOn issue case.limit
     → IsTakenAs case certificate told
@@ -241,10 +240,10 @@ rolled files cert case gives keeps done =
 
 -- and `check-cap`, of the case at the cap
 accepted_at : (cap : Rate) (files : InputFiles) (cert : List ℕ) (case : CaseContents) → GiveCase files case → KeepsLimits (case_at cap case)
-    → (answer_for (inquiry.AtCap cap) files (case_at cap case) cert).status ≡ status.Done → AcceptedAt cap files cert (answer_for (inquiry.AtCap cap) files (case_at cap case) cert).text
+    → (certificate_answer (case_at cap case) cert).status ≡ status.Done → AcceptedAt cap files cert (certificate_answer (case_at cap case) cert).text
 accepted_at cap files cert case gives keeps done =
     let at = case_at cap case in
-    let yes = done-by (portfolio_text (inquiry.AtCap cap) files at) at cert keeps done in
+    let yes = done-by (yes_text at) at cert keeps done in
     let certificate = yes.taken.certificate in
     record {
       case = at;
@@ -253,16 +252,67 @@ accepted_at cap files cert case gives keeps done =
       is_certificate = yes.taken.is_certificate;
       right =
           subst (λ (a : Answer). HasPortfolio at certificate a.text ⊎ HasNoRival at certificate a.text) (sym yes.is)
-          (at-as cap files at certificate yes.told yes.taken.means);
+          (accepted-as at certificate yes.told yes.taken.means);
     }
 
+-- and `check-held`, of the case beside the holdings
+holding-as : (case : CaseContents) (held : List Flow) (certificate : Certificate) (told : Verdict) → IsBook case.book → IsTakenAs (held_case_of case held) certificate told
+    → HasPortfolioHolding case held (held_case_of case held) certificate (verdict_answer (yes_text (held_case_of case held)) told).text
+    ⊎ HasNoHeldRival case held (held_case_of case held) certificate (verdict_answer (yes_text (held_case_of case held)) told).text
+holding-as case held certificate (verdict.Yes portfolio) limits means =
+    let alike = cases-are_alike held case limits in
+    inl (record {
+      accepted = record { portfolio = portfolio; right = means.right; without_interest = means.without_interest; said = refl };
+      meets = (alike.meet portfolio.plan).0 means.right.right.covered;
+      least = λ rival own. means.right.right.cheapest rival ((alike.rivals rival).1 own);
+    })
+holding-as case held certificate verdict.YesNone limits means =
+    let alike = cases-are_alike held case limits in
+    inr (record {
+      none = record { none = means.none; no_rival = means.no_rival; said = refl };
+      no_rival = λ rival own. means.no_rival rival ((alike.rivals rival).1 own);
+    })
+holding-as case held certificate (verdict.No why) limits means = absurd means
+
+pub gives_holding : (files : InputFiles) (case : CaseContents) (bytes : List ℕ) (held : List Flow) → GiveCase files case → held_of case.book.days.settle (rows_of bytes) ≡ Ok held → GiveCaseHolding files bytes (held_case_of case held)
+gives_holding files case bytes held gives says = record { case = case; gives = gives; held = held; says = says; is = (cases-are_one held case (held_case_of case held) gives.obeys.limits).1 refl }
+
+accepted_holding : (files : InputFiles) (cert : List ℕ) (case : CaseContents) (bytes : List ℕ) (held : List Flow) → GiveCase files case → held_of case.book.days.settle (rows_of bytes) ≡ Ok held
+    → KeepsLimits (held_case_of case held) → (certificate_answer (held_case_of case held) cert).status ≡ status.Done → AcceptedHolding bytes files cert (certificate_answer (held_case_of case held) cert).text
+unfolding gives_holding
+accepted_holding files cert case bytes held gives says keeps done =
+    let kept = held_case_of case held in
+    let yes = done-by (yes_text kept) kept cert keeps done in
+    let certificate = yes.taken.certificate in
+    record {
+      kept = kept;
+      gives = gives_holding files case bytes held gives says;
+      certificate = certificate;
+      is_certificate = yes.taken.is_certificate;
+      right =
+          subst (λ (a : Answer). HasPortfolioHolding case held kept certificate a.text ⊎ HasNoHeldRival case held kept certificate a.text) (sym yes.is)
+          (holding-as case held certificate yes.told gives.obeys.limits yes.taken.means);
+    }
+
+-- whether holdings are given or not
+beside-accepted : (files : InputFiles) (cert : List ℕ) (case judged : CaseContents) (bytes : Option (List ℕ)) → GiveCase files case → judged_case inquiry.Held bytes case ≡ Ok judged → KeepsLimits judged
+    → (certificate_answer judged cert).status ≡ status.Done → AcceptedBeside bytes files cert (certificate_answer judged cert).text
+beside-accepted files cert case judged None gives is keeps done = accepted files cert judged (subst (GiveCase files) (one-case case judged is) gives) keeps done
+beside-accepted files cert case judged (Some bytes) gives is keeps done =
+    let own = beside_is case bytes judged is in
+    subst (λ (c : CaseContents). KeepsLimits c → (certificate_answer c cert).status ≡ status.Done → AcceptedHolding bytes files cert (certificate_answer c cert).text) own.is
+    (accepted_holding files cert case bytes own.held gives own.says) keeps done
+
 -- by what is asked
-pub means_yes : (asked : Inquiry) (files : InputFiles) (cert : List ℕ) (case : CaseContents) → GiveCase files case → KeepsLimits case → (answer_for asked files (judged_case asked case) cert).status ≡ status.Done
-    → MeansYes asked files cert (answer_for asked files (judged_case asked case) cert).text
-means_yes inquiry.Check files cert case gives keeps done = accepted files cert case gives keeps done
-means_yes inquiry.Savings files cert case gives keeps done = saved files cert case gives keeps done
-means_yes inquiry.Roll files cert case gives keeps done = rolled files cert case gives keeps done
-means_yes (inquiry.AtCap cap) files cert case gives keeps done = accepted_at cap files cert case gives (keeps_judged (inquiry.AtCap cap) case keeps) done
+pub means_yes : (asked : Inquiry) (files : InputFiles) (cert : List ℕ) (judged : CaseContents) → IsJudged asked files judged → (answer_for asked files judged cert).status ≡ status.Done
+    → MeansYes asked files cert (answer_for asked files judged cert).text
+means_yes inquiry.Check files cert judged own done = accepted files cert judged (subst (GiveCase files) (one-case own.case judged own.is) own.gives) (own.book, own.terms) done
+means_yes inquiry.Savings files cert judged own done = saved files cert judged (subst (GiveCase files) (one-case own.case judged own.is) own.gives) (own.book, own.terms) done
+means_yes inquiry.Roll files cert judged own done = rolled files cert judged (subst (GiveCase files) (one-case own.case judged own.is) own.gives) (own.book, own.terms) done
+means_yes inquiry.Held files cert judged own done = beside-accepted files cert own.case judged files.held own.gives own.is (own.book, own.terms) done
+means_yes (inquiry.AtCap cap) files cert judged own done =
+    subst (λ (c : CaseContents). KeepsLimits c → (certificate_answer c cert).status ≡ status.Done → AcceptedAt cap files cert (certificate_answer c cert).text) (one-case (case_at cap own.case) judged own.is)
+    (accepted_at cap files cert own.case own.gives) (own.book, own.terms) done
 
 -- where no reason stands, `yes` is said
 
@@ -311,10 +361,34 @@ accepted_text files cert case gives keeps done = record {
   unopposed = none-where_done (yes_text case) case cert keeps done;
 }
 
--- `yes` exactly where no reason stands, of files that give a case
-pub yes_exactly : (asked : Inquiry) (files : InputFiles) (cert : List ℕ) → ((case : CaseContents) → case_of files ≡ Ok case → KeepsLimits case) → YesExactly (files_answer asked files cert).status asked files cert
+-- the same beside holdings
+accepted_text_holding : (files : InputFiles) (cert : List ℕ) (case : CaseContents) (bytes : List ℕ) (held : List Flow) → GiveCase files case → held_of case.book.days.settle (rows_of bytes) ≡ Ok held
+    → KeepsLimits (held_case_of case held) → (certificate_answer (held_case_of case held) cert).status ≡ status.Done → IsAcceptedTextHolding bytes files cert
+unfolding accepted_holding
+accepted_text_holding files cert case bytes held gives says keeps done =
+    let kept = held_case_of case held in
+    record {
+      text = (certificate_answer kept cert).text;
+      accepted = accepted_holding files cert case bytes held gives says keeps done;
+      fits = fits kept cert done;
+      unopposed = none-where_done (yes_text kept) kept cert keeps done;
+    }
+
+text-beside : (files : InputFiles) (cert : List ℕ) (case judged : CaseContents) (bytes : Option (List ℕ)) → GiveCase files case → judged_case inquiry.Held bytes case ≡ Ok judged → KeepsLimits judged
+    → (certificate_answer judged cert).status ≡ status.Done → IsAcceptedTextBeside bytes files cert
+text-beside files cert case judged None gives is keeps done = accepted_text files cert judged (subst (GiveCase files) (one-case case judged is) gives) keeps done
+text-beside files cert case judged (Some bytes) gives is keeps done =
+    let own = beside_is case bytes judged is in
+    subst (λ (c : CaseContents). KeepsLimits c → (certificate_answer c cert).status ≡ status.Done → IsAcceptedTextHolding bytes files cert) own.is
+    (accepted_text_holding files cert case bytes own.held gives own.says) keeps done
+
+-- of the case that is searched
+pub searched_text : (files : InputFiles) (cert : List ℕ) (judged : CaseContents) → IsJudged inquiry.Held files judged → (certificate_answer judged cert).status ≡ status.Done → IsAcceptedTextBeside files.held files cert
+searched_text files cert judged own done = text-beside files cert own.case judged files.held own.gives own.is (own.book, own.terms) done
+
+-- `yes` exactly where no reason stands, of files that give the case by which it is judged
+pub yes_exactly : (asked : Inquiry) (files : InputFiles) (cert : List ℕ) → ((case : CaseContents) → judged_of asked files ≡ Ok case → KeepsLimits case) → YesExactly (files_answer asked files cert).status asked files cert
 yes_exactly asked files cert keep case is_case within =
-    let judged = judged_case asked case in
-    let keeps = keeps_judged asked case (keep case is_case) in
-    let words = portfolio_text asked files judged in
-    rw is_case ((λ done. none-where_done words judged cert keeps done), (λ found. done-where_none words judged cert keeps within found))
+    let keeps = keep case is_case in
+    let words = portfolio_text asked files case in
+    rw is_case ((λ done. none-where_done words case cert keeps done), (λ found. done-where_none words case cert keeps within found))

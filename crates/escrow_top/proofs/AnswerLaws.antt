@@ -2,61 +2,60 @@
 use Rattle.std.proofs.Common.{◌≡◌, ◌∙◌, ℕ, List, [], Option, Some, None, Result, Ok, Err, refl, sym, ap, subst}
 use Rattle.std.specs.Prelude.{IfOk, IfSome, IsSomeAnd, option_and_then, is_ok, if◌then◌else◌}
 use Rattle.escrow_desk.specs.Content.{Content, Told, file_of, SaidAll, SaidPart}
-use Rattle.escrow_desk.specs.Rows.{rows_of}
 use Rattle.escrow_desk.specs.declared.refusal.FileKind.{FileKind}
 use Rattle.escrow_desk.specs.declared.refusal.RefusalKind.TheVariants as too_long
 use Rattle.row_fields.specs.RowForm.{refusal_of}
 use Rattle.escrow_top.specs.InputFiles.{InputFiles, FileNames, first_too_long, inputs_of}
-use Rattle.case_file.specs.Case.{CaseContents, IsKept, rows_case}
-use Rattle.escrow_top.specs.Answer.{Answer, Asking, CapWords, answer_for, answer_to, asked_answer, asking_of, cap_names, case_answer, case_of, check_cap_words, check_names, judged_case, refused, roll_names, savings_names, structure_names, usage, usage_text}
+use Rattle.case_file.specs.Case.{CaseContents}
+use Rattle.escrow_top.specs.Answer.{Answer, Asking, CapWords, answer_for, answer_to, asked_answer, asking_of, cap_names, case_answer, check_cap_words, check_held_names, check_names, judged_of, refused, roll_names, savings_names, structure_names, usage, usage_text}
 use Rattle.escrow_top.specs.Accepted.{Accepted}
 use Rattle.escrow_top.specs.AtCap.{AcceptedAt}
+use Rattle.escrow_top.specs.Holding.{AcceptedBeside}
+use Rattle.escrow_top.specs.Judged.{IsJudged}
 use Rattle.escrow_top.specs.Rolled.{Rolled}
 use Rattle.escrow_top.specs.Saved.{Saved}
-use Rattle.escrow_top.specs.Ending.{Answers, AnswersPart, AskedAnswers, AskedAnswersPart, HoldsWhereTold, IsAccepted, IsAcceptedAtCap, IsNotAccepted, IsNoCommand, IsRolled, IsSaved, LacksFile, MeansNo, MeansYes, SaidOfFiles}
+use Rattle.escrow_top.specs.Ending.{Answers, AnswersPart, AskedAnswers, AskedAnswersPart, HoldsWhereTold, IsAccepted, IsAcceptedAtCap, IsAcceptedHolding, IsNotAccepted, IsNoCommand, IsRolled, IsSaved, LacksFile, MeansNo, MeansYes, SaidOfFiles}
 use Rattle.escrow_top.specs.MakeWords.{Making, make_words}
 use Rattle.escrow_top.specs.Capping.{Caps, CapsPart}
 use Rattle.escrow_top.specs.Making.{Makes, MakesPart}
 use Rattle.escrow_top.specs.Structure.{Structures, StructuresPart}
 use Rattle.escrow_top.specs.CaseOf.{AreWithin}
-use Rattle.escrow_top.specs.Reading.{AreRead, CertificateAnswers, FilesAnswer, IsKeptFor, IsTooLong, LacksAsked, LacksCertificate, LacksInput}
+use Rattle.escrow_top.specs.Reading.{AreRead, CertificateAnswers, FilesAnswer, IsTooLong, LacksAsked, LacksCertificate, LacksInput}
 use Rattle.escrow_desk.specs.declared.refusal.Refusal.{Refusal}
-use Rattle.escrow_top.specs.declared.inquiry.Inquiry.{Inquiry}
 use Rattle.escrow_top.specs.declared.inquiry.Inquiry.TheVariants as inquiry
 use Rattle.escrow_top.specs.declared.status.Status.{Status}
 use Rattle.escrow_top.specs.declared.status.Status.TheVariants as status
 use Rattle.escrow_top.proofs.AcceptedLaws.{means_yes}
-use Rattle.escrow_top.proofs.CaseLaws.{given}
 use Rattle.escrow_top.proofs.NotAcceptedLaws.{means_no}
 use Rattle.escrow_top.specs.declared.stop.Stop.{Stop}
-use Rattle.escrow_top.proofs.InputFacts.{read-all, rows_alone}
-use Rattle.escrow_top.proofs.WordLaws.{asking-caps_none, asking-makes_none, asks_of, cap-makes_none, check-asks, check_cap-asks, one-asking, roll-asks, savings-asks, structure-caps_none, structure-makes_none}
+use Rattle.escrow_top.proofs.InputFacts.{read-all}
+use Rattle.escrow_top.proofs.WordLaws.{asking-caps_none, asking-makes_none, asks_of, cap-makes_none, check-asks, check_cap-asks, check_held-asks, one-asking, roll-asks, savings-asks, structure-caps_none, structure-makes_none}
 
 answered : (found : Option (List ℕ)) (to_bytes : List ℕ → Answer) (answer : Answer) → IsSomeAnd found (λ file. answer ≡ to_bytes file) → option_and_then (λ cert. Some (to_bytes cert)) found ≡ Some answer
 answered None to_bytes answer said = absurd said
 answered (Some cert) to_bytes answer said = ap Some (sym said)
 
 -- where the input files were read, what is answered to them is what their names are answered
-pub asked_by : (content : Content) (asking : Asking) (texts : InputFiles) (case : Result CaseContents Refusal) → inputs_of content asking.names ≡ Some texts → case_of texts ≡ case
+pub asked_by : (content : Content) (asking : Asking) (texts : InputFiles) (case : Result CaseContents Refusal) → inputs_of content asking.names ≡ Some texts → judged_of asking.inquiry texts ≡ case
     → asked_answer content asking ≡ option_and_then (λ cert. Some (case_answer asking.inquiry texts case cert)) (if is_ok case then file_of content asking.names.cert else Some [])
 asked_by content asking texts case inputs is = rw (inputs, is) refl
 
 -- the certificate was read
-pub certificate_said : (told : Told) (asking : Asking) (texts : InputFiles) (case : CaseContents) (answer : Answer) → AreRead told asking.names texts → AreWithin texts → case_of texts ≡ Ok case
-    → CertificateAnswers told asking.names.cert (answer_for asking.inquiry texts (judged_case asking.inquiry case)) answer → FilesAnswer told asking answer
+pub certificate_said : (told : Told) (asking : Asking) (texts : InputFiles) (case : CaseContents) (answer : Answer) → AreRead told asking.names texts → AreWithin texts → judged_of asking.inquiry texts ≡ Ok case
+    → CertificateAnswers told asking.names.cert (answer_for asking.inquiry texts case) answer → FilesAnswer told asking answer
 certificate_said None asking texts case answer read within is said = tt
 certificate_said (Some content) asking texts case answer read within is said =
     asked_by content asking texts (Ok case) (read-all content asking.names texts read within) is
-    ∙ answered (file_of content asking.names.cert) (answer_for asking.inquiry texts (judged_case asking.inquiry case)) answer said
+    ∙ answered (file_of content asking.names.cert) (answer_for asking.inquiry texts case) answer said
 
-pub certificate_lacks : (told : Told) (asking : Asking) (texts : InputFiles) (case : CaseContents) → AreRead told asking.names texts → AreWithin texts → case_of texts ≡ Ok case
+pub certificate_lacks : (told : Told) (asking : Asking) (texts : InputFiles) (case : CaseContents) → AreRead told asking.names texts → AreWithin texts → judged_of asking.inquiry texts ≡ Ok case
     → LacksCertificate told asking.names.cert → LacksAsked told asking
 certificate_lacks None asking texts case read within is none = tt
 certificate_lacks (Some content) asking texts case read within is none =
     asked_by content asking texts (Ok case) (read-all content asking.names texts read within) is ∙ (rw none refl)
 
--- the input files give no case
-pub no_case_said : (told : Told) (asking : Asking) (texts : InputFiles) (why : Refusal) (answer : Answer) → AreRead told asking.names texts → AreWithin texts → case_of texts ≡ Err why
+-- the input files give no case by which to judge
+pub no_case_said : (told : Told) (asking : Asking) (texts : InputFiles) (why : Refusal) (answer : Answer) → AreRead told asking.names texts → AreWithin texts → judged_of asking.inquiry texts ≡ Err why
     → answer ≡ refused why → FilesAnswer told asking answer
 no_case_said None asking texts why answer read within is said = tt
 no_case_said (Some content) asking texts why answer read within is said =
@@ -94,7 +93,8 @@ certificate_means Holds (Some content) names texts to_bytes answer reached read 
     let issue = read.issue in
     let rates = read.rates in
     let prices = read.prices in
-    rw (issue, rates, prices) (found_means (Holds texts) to_bytes answer reached (file_of content names.cert) means said is)
+    let held = read.held in
+    rw (issue, rates, prices, held) (found_means (Holds texts) to_bytes answer reached (file_of content names.cert) means said is)
 
 -- the same of a reply
 answer_means : (Holds : InputFiles → List ℕ → List ℕ → Type 0) (told : Told) (names : FileNames) (texts : InputFiles) (to_bytes : List ℕ → Answer) (result : Result Answer Stop) (reached : Status) → AreRead told names texts
@@ -104,29 +104,19 @@ answer_means Holds told names texts to_bytes (Err stop) reached read means said 
 answer_means Holds told names texts to_bytes (Ok reply) reached read means said =
     λ is. certificate_means Holds told names texts to_bytes reply reached read means said is
 
-pub answer_accepted : (told : Told) (asking : Asking) (texts : InputFiles) (case : CaseContents) (result : Result Answer Stop) → AreRead told asking.names texts → AreWithin texts → rows_case (rows_of texts.issue) (rows_of texts.rates) (rows_of texts.prices) ≡ Ok case
-    → IsKept (rows_of texts.issue) (rows_of texts.rates) (rows_of texts.prices) case → IfOk result (λ reply. CertificateAnswers told asking.names.cert (answer_for asking.inquiry texts (judged_case asking.inquiry case)) reply)
+pub answer_accepted : (told : Told) (asking : Asking) (texts : InputFiles) (case : CaseContents) (result : Result Answer Stop) → AreRead told asking.names texts → IsJudged asking.inquiry texts case
+    → IfOk result (λ reply. CertificateAnswers told asking.names.cert (answer_for asking.inquiry texts case) reply)
     → IfOk result (λ reply. reply.status ≡ status.Done → HoldsWhereTold (λ files cert. MeansYes asking.inquiry files cert reply.text) told asking.names)
-answer_accepted told asking texts case result read within is kept said =
-    let gives = given texts case within (rows_alone texts within ∙ is) kept in
-    answer_means (MeansYes asking.inquiry) told asking.names texts (answer_for asking.inquiry texts (judged_case asking.inquiry case)) result status.Done read
-    (λ cert done. means_yes asking.inquiry texts cert case gives (kept.book, kept.terms) done) said
+answer_accepted told asking texts case result read own said =
+    answer_means (MeansYes asking.inquiry) told asking.names texts (answer_for asking.inquiry texts case) result status.Done read
+    (λ cert done. means_yes asking.inquiry texts cert case own done) said
 
-pub answer_not_accepted : (told : Told) (asking : Asking) (texts : InputFiles) (case : CaseContents) (result : Result Answer Stop) → AreRead told asking.names texts → AreWithin texts → rows_case (rows_of texts.issue) (rows_of texts.rates) (rows_of texts.prices) ≡ Ok case
-    → IsKept (rows_of texts.issue) (rows_of texts.rates) (rows_of texts.prices) case → IfOk result (λ reply. CertificateAnswers told asking.names.cert (answer_for asking.inquiry texts (judged_case asking.inquiry case)) reply)
+pub answer_not_accepted : (told : Told) (asking : Asking) (texts : InputFiles) (case : CaseContents) (result : Result Answer Stop) → AreRead told asking.names texts → IsJudged asking.inquiry texts case
+    → IfOk result (λ reply. CertificateAnswers told asking.names.cert (answer_for asking.inquiry texts case) reply)
     → IfOk result (λ reply. reply.status ≡ status.No → HoldsWhereTold (λ files cert. MeansNo asking.inquiry files cert reply.text) told asking.names)
-answer_not_accepted told asking texts case result read within is kept said =
-    let gives = given texts case within (rows_alone texts within ∙ is) kept in
-    answer_means (MeansNo asking.inquiry) told asking.names texts (answer_for asking.inquiry texts (judged_case asking.inquiry case)) result status.No read
-    (λ cert denied. means_no asking.inquiry texts cert case gives (kept.book, kept.terms) denied) said
-
--- of the case by which a certificate is judged savings and rolls can be said, where they are asked for
-pub kept_for : (asked : Inquiry) (files : InputFiles) (case judged : CaseContents) → IsKept (rows_of files.issue) (rows_of files.rates) (rows_of files.prices) case → judged ≡ judged_case asked case
-    → IsKeptFor asked files judged
-kept_for inquiry.Check files case judged kept is = tt
-kept_for inquiry.Savings files case judged kept is = subst (λ (c : CaseContents). IsKept (rows_of files.issue) (rows_of files.rates) (rows_of files.prices) c) (sym is) kept
-kept_for inquiry.Roll files case judged kept is = subst (λ (c : CaseContents). IsKept (rows_of files.issue) (rows_of files.rates) (rows_of files.prices) c) (sym is) kept
-kept_for (inquiry.AtCap cap) files case judged kept is = tt
+answer_not_accepted told asking texts case result read own said =
+    answer_means (MeansNo asking.inquiry) told asking.names texts (answer_for asking.inquiry texts case) result status.No read
+    (λ cert denied. means_no asking.inquiry texts cert case own denied) said
 
 -- the answer to what is asked of named files was said
 pub asked_said : (told new : Told) (asking : Asking) (reply : Answer) (reached : Status) → FilesAnswer told asking reply → reached ≡ reply.status → SaidAll told reply.text new → AskedAnswers told asking reached new
@@ -135,7 +125,7 @@ asked_said (Some content) new asking reply reached is ends said = rw is (ends, s
 
 no_command : (words : List (List ℕ)) (content : Content) → IsNoCommand words → answer_to words content ≡ Some usage
 no_command words content none =
-    rw (none.no_check, none.no_savings, none.no_roll, none.no_check_cap) refl
+    rw (none.no_check, none.no_savings, none.no_roll, none.no_check_held, none.no_check_cap) refl
 
 -- the usage was said to words that are no command
 pub usage_said : (told new : Told) (words : List (List ℕ)) → IsNoCommand words → SaidAll told usage_text new → Answers told words status.Usage new
@@ -212,6 +202,15 @@ ask_rolled told new words asking is said = by (roll_names words) refl
     by None e = tt
     by (Some names) e =
         let same : asking ≡ asks_of inquiry.Roll names = one-asking words asking (asks_of inquiry.Roll names) is (roll-asks words names e) in
+        subst (λ (a : Asking). SaidOfFiles (MeansYes a.inquiry) told a.names new) same said
+
+pub ask_accepted_beside : (told new : Told) (words : List (List ℕ)) (asking : Asking) → asking_of words ≡ Some asking → SaidOfFiles (MeansYes asking.inquiry) told asking.names new → IsAcceptedHolding told words new
+ask_accepted_beside told new words asking is said = by (check_held_names words) refl
+  where
+    by : (found : Option FileNames) → check_held_names words ≡ found → IfSome found (λ names. SaidOfFiles (λ files. AcceptedBeside files.held files) told names new)
+    by None e = tt
+    by (Some names) e =
+        let same : asking ≡ asks_of inquiry.Held names = one-asking words asking (asks_of inquiry.Held names) is (check_held-asks words names e) in
         subst (λ (a : Asking). SaidOfFiles (MeansYes a.inquiry) told a.names new) same said
 
 pub ask_accepted_at_cap : (told new : Told) (words : List (List ℕ)) (asking : Asking) → asking_of words ≡ Some asking → SaidOfFiles (MeansYes asking.inquiry) told asking.names new → IsAcceptedAtCap told words new

@@ -1,6 +1,6 @@
 -- What `cap` puts out, proved.
 use Rattle.std.proofs.Common.{◌≡◌, ◌∙◌, ℕ, List, Option, Some, None, Ok, Err, refl, subst, sym, ap, inl, inr, arith}
-use Rattle.std.specs.Prelude.{IsSomeAnd, Result, map}
+use Rattle.std.specs.Prelude.{IsSomeAnd, Result}
 use Rattle.escrow_desk.specs.Content.{Content, SaidPart, Told, with_said}
 use Rattle.escrow_desk.specs.declared.refusal.Refusal.{Refusal}
 use Rattle.escrow_units.specs.declared.amount.Rate.{Rate}
@@ -24,7 +24,7 @@ use Rattle.escrow_check.proofs.VerdictFacts.{yes_is_right, yes_none_is_right}
 use Rattle.halving_tree.specs.Halving.{PartsAreFew, PartsAreWithin}
 use Rattle.offer_book.specs.Book.{IsBook}
 use Rattle.offer_book.specs.Rival.{IsRival}
-use Rattle.rate_cap.specs.CaseAt.{CasesAtCapsAreOne, IsAtCap, IsTopOf, case_at, line_at, slgs_rates}
+use Rattle.rate_cap.specs.CaseAt.{CasesAtCapsAreOne, IsAtCap, IsTopOf, case_at, slgs_rates}
 use Rattle.rate_cap.specs.Search.{zero_cap}
 use Rattle.verification_report.specs.Report.{figures_of}
 use Rattle.escrow_top.proofs.CapFacts.{book-at, terms-at}

@@ -5,6 +5,7 @@ pub mod WordLaws
 pub mod RollingFacts
 pub mod SavingsFacts
 pub mod CapFacts
+pub mod JudgedFacts
 pub mod AcceptedLaws
 pub mod NotAcceptedLaws
 pub mod AnswerLaws

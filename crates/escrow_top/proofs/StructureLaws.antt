@@ -22,19 +22,22 @@ use Rattle.escrow_check.specs.declared.verdict.Verdict.TheVariants as verdict
 use Rattle.offer_book.specs.Book.{IsBook}
 use Rattle.escrow_desk.specs.declared.refusal.Refusal.{Refusal}
 use Rattle.branch_search.specs.Plain.{IsPlainWithin}
-use Rattle.escrow_top.specs.Answer.{Answer, case_of, certificate_answer}
+use Rattle.escrow_top.specs.Answer.{Answer, certificate_answer, searched_of}
 use Rattle.escrow_top.specs.InputFiles.{FileNames, InputFiles, inputs_of}
 use Rattle.escrow_top.specs.Covered.{CoversPortfolios, CoversTree, IsCovered}
-use Rattle.escrow_top.specs.Settling.{OfCase, SaysReach, SettlesCovered, SettlesPlain}
+use Rattle.escrow_top.specs.Settling.{OfSearched, SaysReach, SettlesCovered, SettlesPlain}
 use Rattle.escrow_top.specs.Stopping.{is_reached, is_structured, is_unfound}
-use Rattle.escrow_top.specs.Structure.{FindsPlain, FindsPlainFor, IsAcceptedDraft, IsAcceptedFor, IsDraft, IsDraftFor, IsDraftOf, IsEnd, IsFoundDraft, IsPartPutOut, IsPutOut, IsShortFrom, IsStructuredDraft, PutsOut, PutsOutPart, Structures, StructuresPart, WroteAccepted, WroteOrSaidPart, accepted_none, accepted_with, budget_spent, infeasible}
-use Rattle.escrow_top.proofs.AcceptedLaws.{accepted_text}
+use Rattle.escrow_top.specs.Structure.{FindsPlain, FindsPlainFor, IsAcceptedDraft, IsAcceptedFor, IsDraft, IsDraftFor, IsDraftOf, IsEnd, IsFoundDraft, IsPartPutOut, IsPutOut, IsShortFrom, IsStructuredDraft, PutsOut, PutsOutPart, Structures, StructuresPart, WroteAccepted, WroteOrSaidPart, accepted_none, accepted_with, budget_spent, infeasible, telling_for}
+use Rattle.escrow_top.specs.Judged.{IsJudged}
+use Rattle.escrow_top.proofs.AcceptedLaws.{searched_text}
 use Rattle.escrow_top.proofs.InputFacts.{read-all}
-use Rattle.escrow_top.specs.CaseOf.{AreWithin, GiveCase}
+use Rattle.escrow_top.specs.CaseOf.{AreWithin}
 use Rattle.escrow_top.specs.Reading.{AreRead}
 use Rattle.escrow_top.proofs.CertificateSize.{text_fits}
 use Rattle.escrow_top.specs.declared.draft.Draft.{Draft}
 use Rattle.escrow_top.specs.declared.draft.Draft.TheVariants as draft
+use Rattle.escrow_top.specs.declared.draft.Telling.{Telling}
+use Rattle.escrow_top.specs.declared.inquiry.Inquiry.TheVariants as inquiry
 use Rattle.escrow_top.specs.declared.status.Status.{Status}
 use Rattle.escrow_top.specs.declared.status.Status.TheVariants as status
 
@@ -84,10 +87,10 @@ wrote (Some content) new names (draft.Found texts) reached structured accepted p
     rw put.1 (record { files = accepted.0; cert = texts.cert.items; there = accepted.1; written = get_inserted content.files names.cert texts.cert.items; is = accepted.2 })
 
 -- what is about to be written is accepted
-pub accepted_draft : (files : InputFiles) (case : CaseContents) (d : Draft) → GiveCase files case → IsBook case.book → HasTerms case → IsDraftOf case d → IsAcceptedDraft files d
-accepted_draft files case (draft.Found texts) gives book terms own = accepted_text files texts.cert.items case gives (book, terms) (ap (λ (a : Answer). a.status) own.accepted)
-accepted_draft files case (draft.NoneWithinYield texts) gives book terms own = accepted_text files texts.cert.items case gives (book, terms) (ap (λ (a : Answer). a.status) own.accepted)
-accepted_draft files case (draft.Said answer) gives book terms own = tt
+pub accepted_draft : (files : InputFiles) (tells : Telling) (case : CaseContents) (d : Draft) → IsJudged inquiry.Held files case → IsDraftOf tells case d → IsAcceptedDraft files d
+accepted_draft files tells case (draft.Found texts) judged own = searched_text files texts.cert.items case judged (ap (λ (a : Answer). a.status) own.accepted)
+accepted_draft files tells case (draft.NoneWithinYield texts) judged own = searched_text files texts.cert.items case judged (ap (λ (a : Answer). a.status) own.accepted)
+accepted_draft files tells case (draft.Said answer) judged own = tt
 
 unfound_some : (s : Status) → IsTrue (is_unfound s) → s ≡ status.NoneWithinYield → ⊥
 unfound_some s is none = let clash : is_unfound status.NoneWithinYield ≡ true = subst (λ t. is_unfound t ≡ true) none is in absurd (cc)
@@ -105,13 +108,13 @@ found_done told new name (draft.Found texts) reached found put = put.0
 found_done told new name (draft.NoneWithinYield texts) reached found put = absurd found
 found_done told new name (draft.Said answer) reached found put = absurd found
 
-plain_found : (content : Content) (names : FileNames) (d : Draft) (texts : InputFiles) (case : CaseContents) → FindsPlainFor (Some content) names d → inputs_of content names ≡ Some texts → case_of texts ≡ Ok case → IsPlainWithin case
+plain_found : (content : Content) (names : FileNames) (d : Draft) (texts : InputFiles) (case : CaseContents) → FindsPlainFor (Some content) names d → inputs_of content names ≡ Some texts → searched_of texts ≡ Ok case → IsPlainWithin case
     → IsFoundDraft d
 plain_found content names d texts case finds read is plain =
-    let here : FindsPlain (case_of texts) d = subst (λ (found : Option InputFiles). IsSomeAnd found (λ ts. FindsPlain (case_of ts) d)) read finds in
+    let here : FindsPlain (searched_of texts) d = subst (λ (found : Option InputFiles). IsSomeAnd found (λ ts. FindsPlain (searched_of ts) d)) read finds in
     subst (λ (found : Result CaseContents Refusal). FindsPlain found d) is here plain
 
-pub settles_plain : (told new : Told) (names : FileNames) (d : Draft) (reached : Status) → FindsPlainFor told names d → PutsOut told names.cert d reached new → OfCase (SettlesPlain reached) told names
+pub settles_plain : (told new : Told) (names : FileNames) (d : Draft) (reached : Status) → FindsPlainFor told names d → PutsOut told names.cert d reached new → OfSearched (SettlesPlain reached) told names
 settles_plain None new names d reached finds put = tt
 settles_plain (Some content) new names d reached finds put = λ texts case read is plain.
     found_done (Some content) new names.cert d reached (plain_found content names d texts case finds read is plain) put
@@ -125,45 +128,45 @@ uncovered case spent within few limits is covered = by covered.covers
     by (inl own) = omega (arith, is.larger.more, within case is.larger.part own.tree is.larger.upper own.halving, own.enough)
     by (inr own) = omega (arith, is.larger.more, few case is.larger.part limits is.larger.upper own.portfolios own.all, own.enough)
 
-draft_of : (content : Content) (names : FileNames) (d : Draft) (texts : InputFiles) (case : CaseContents) → IsDraftFor (Some content) names d → inputs_of content names ≡ Some texts → case_of texts ≡ Ok case → IsDraftOf case d
+draft_of : (content : Content) (names : FileNames) (d : Draft) (texts : InputFiles) (case : CaseContents) → IsDraftFor (Some content) names d → inputs_of content names ≡ Some texts → searched_of texts ≡ Ok case → IsDraftOf (telling_for texts.held) case d
 draft_of content names d texts case is read gives =
-    let here : IsDraft (case_of texts) d = subst (λ (found : Option InputFiles). IsSomeAnd found (λ ts. IsDraft (case_of ts) d)) read is in
-    subst (λ (found : Result CaseContents Refusal). IsDraft found d) gives here
+    let here : IsDraft (telling_for texts.held) (searched_of texts) d = subst (λ (found : Option InputFiles). IsSomeAnd found (λ ts. IsDraft (telling_for ts.held) (searched_of ts) d)) read is in
+    subst (λ (found : Result CaseContents Refusal). IsDraft (telling_for texts.held) found d) gives here
 
-of_case : (Holds : CaseContents → Type 0) (told : Told) (names : FileNames) (d : Draft) → ((case : CaseContents) → IsDraftOf case d → Holds case) → IsDraftFor told names d → OfCase Holds told names
+of_case : (Holds : CaseContents → Type 0) (told : Told) (names : FileNames) (d : Draft) → ((tells : Telling) (case : CaseContents) → IsDraftOf tells case d → Holds case) → IsDraftFor told names d → OfSearched Holds told names
 of_case Holds None names d holds is = tt
-of_case Holds (Some content) names d holds is = λ texts case read gives. holds case (draft_of content names d texts case is read gives)
+of_case Holds (Some content) names d holds is = λ texts case read gives. holds (telling_for texts.held) case (draft_of content names d texts case is read gives)
 
 -- where all that is permitted is short, the needs can't be met
 pub unreached : (case : CaseContents) (day : ℤ) → AreAllShort case.book day → IsInReach case.book → ⊥
 unreached case day short reach = omega (arith, short reach.plan reach.permitted, reach.meets day)
 
-settled : (case : CaseContents) (told new : Told) (name : List ℕ) (d : Draft) (reached : Status) → IsDraftOf case d → PutsOut told name d reached new → SettlesCovered reached case
-settled case told new name (draft.Found texts) reached is put = λ covered. inl put.0
-settled case told new name (draft.NoneWithinYield texts) reached is put = λ covered. inr put.0
-settled case told new name (draft.Said answer) reached is put = λ covered. absurd (by is covered)
+settled : (tells : Telling) (case : CaseContents) (told new : Told) (name : List ℕ) (d : Draft) (reached : Status) → IsDraftOf tells case d → PutsOut told name d reached new → SettlesCovered reached case
+settled tells case told new name (draft.Found texts) reached is put = λ covered. inl put.0
+settled tells case told new name (draft.NoneWithinYield texts) reached is put = λ covered. inr put.0
+settled tells case told new name (draft.Said answer) reached is put = λ covered. absurd (by is covered)
   where
     by : IsEnd case answer → IsCovered case → ⊥
     by (inl own) covered = unreached case own.day own.short.all_short covered.in_reach
     by (inr own) covered = own.uncovered covered
 
-reach_said : (case : CaseContents) (told new : Told) (name : List ℕ) (d : Draft) (reached : Status) → IsDraftOf case d → PutsOut told name d reached new → SaysReach reached case
-reach_said case told new name (draft.Found texts) reached is put =
+reach_said : (tells : Telling) (case : CaseContents) (told new : Told) (name : List ℕ) (d : Draft) (reached : Status) → IsDraftOf tells case d → PutsOut told name d reached new → SaysReach reached case
+reach_said tells case told new name (draft.Found texts) reached is put =
     ((λ none. absurd (let clash : status.Done ≡ status.Infeasible = sym put.0 ∙ none in cc)), (λ lost. absurd (lost is.found_by.in_reach)))
-reach_said case told new name (draft.NoneWithinYield texts) reached is put =
+reach_said tells case told new name (draft.NoneWithinYield texts) reached is put =
     ((λ none. absurd (let clash : status.NoneWithinYield ≡ status.Infeasible = sym put.0 ∙ none in cc)), (λ lost. absurd (lost is.none.in_reach)))
-reach_said case told new name (draft.Said answer) reached is put = by is
+reach_said tells case told new name (draft.Said answer) reached is put = by is
   where
     by : IsEnd case answer → SaysReach reached case
     by (inl own) = ((λ none reach. unreached case own.day own.short.all_short reach), (λ lost. put.0 ∙ ap (λ (a : Answer). a.status) own.is_answer))
     by (inr own) =
         ((λ none. absurd (let clash : status.BudgetSpent ≡ status.Infeasible = sym (put.0 ∙ ap (λ (a : Answer). a.status) own.is_answer) ∙ none in cc)), (λ lost. absurd (lost own.is_spent.in_reach)))
 
-pub settles_covered : (told new : Told) (names : FileNames) (d : Draft) (reached : Status) → IsDraftFor told names d → PutsOut told names.cert d reached new → OfCase (SettlesCovered reached) told names
-settles_covered told new names d reached is put = of_case (SettlesCovered reached) told names d (λ case own. settled case told new names.cert d reached own put) is
+pub settles_covered : (told new : Told) (names : FileNames) (d : Draft) (reached : Status) → IsDraftFor told names d → PutsOut told names.cert d reached new → OfSearched (SettlesCovered reached) told names
+settles_covered told new names d reached is put = of_case (SettlesCovered reached) told names d (λ tells case own. settled tells case told new names.cert d reached own put) is
 
-pub says_reach : (told new : Told) (names : FileNames) (d : Draft) (reached : Status) → IsDraftFor told names d → PutsOut told names.cert d reached new → OfCase (SaysReach reached) told names
-says_reach told new names d reached is put = of_case (SaysReach reached) told names d (λ case own. reach_said case told new names.cert d reached own put) is
+pub says_reach : (told new : Told) (names : FileNames) (d : Draft) (reached : Status) → IsDraftFor told names d → PutsOut told names.cert d reached new → OfSearched (SaysReach reached) told names
+says_reach told new names d reached is put = of_case (SaysReach reached) told names d (λ tells case own. reach_said tells case told new names.cert d reached own put) is
 
 -- a spent budget, as an answer
 pub spent_end : (case : CaseContents) (spent : Spent) (answer : Answer) → PartsAreWithin → PartsAreFew → IsBook case.book → IsSpent case spent → answer ≡ budget_spent case.book spent → IsEnd case answer
@@ -178,11 +181,11 @@ pub short_end : (case : CaseContents) (day : ℤ) (answer : Answer) → IsBook c
 short_end case day answer limits is said = inl (record { day = day; short = short_from case day limits is; is_answer = said })
 
 -- ---- what holds of files that were read holds of those of their names
-pub draft_for : (told : Told) (names : FileNames) (texts : InputFiles) (d : Draft) → AreRead told names texts → AreWithin texts → IsDraft (case_of texts) d → IsDraftFor told names d
+pub draft_for : (told : Told) (names : FileNames) (texts : InputFiles) (d : Draft) → AreRead told names texts → AreWithin texts → IsDraft (telling_for texts.held) (searched_of texts) d → IsDraftFor told names d
 draft_for None names texts d read within is = tt
 draft_for (Some content) names texts d read within is = rw (read-all content names texts read within) is
 
-pub finds_plain_for : (told : Told) (names : FileNames) (texts : InputFiles) (d : Draft) → AreRead told names texts → AreWithin texts → FindsPlain (case_of texts) d → FindsPlainFor told names d
+pub finds_plain_for : (told : Told) (names : FileNames) (texts : InputFiles) (d : Draft) → AreRead told names texts → AreWithin texts → FindsPlain (searched_of texts) d → FindsPlainFor told names d
 finds_plain_for None names texts d read within is = tt
 finds_plain_for (Some content) names texts d read within is = rw (read-all content names texts read within) is
 
@@ -195,19 +198,19 @@ accepted_for (Some content) names texts (draft.NoneWithinYield own) read is = (t
 accepted_for (Some content) names texts (draft.Said answer) read is = tt
 
 -- ---- a draft that was put out
-put_of_case : (content : Content) (name : List ℕ) (gives : Result CaseContents Refusal) (d : Draft) (reached : Status) (new : Told) → IsDraft gives d → PutsOut (Some content) name d reached new → IsPutOut content name gives reached new
-put_of_case content name (Err refusal) (draft.Found texts) reached new is put = absurd is
-put_of_case content name (Err refusal) (draft.NoneWithinYield texts) reached new is put = absurd is
-put_of_case content name (Err refusal) (draft.Said answer) reached new is put =
+put_of_case : (content : Content) (name : List ℕ) (tells : Telling) (gives : Result CaseContents Refusal) (d : Draft) (reached : Status) (new : Told) → IsDraft tells gives d → PutsOut (Some content) name d reached new → IsPutOut content name tells gives reached new
+put_of_case content name tells (Err refusal) (draft.Found texts) reached new is put = absurd is
+put_of_case content name tells (Err refusal) (draft.NoneWithinYield texts) reached new is put = absurd is
+put_of_case content name tells (Err refusal) (draft.Said answer) reached new is put =
     (put.0 ∙ ap (λ (a : Answer). a.status) is, put.1 ∙ ap (λ (a : Answer). Some (with_said content a.text)) is)
-put_of_case content name (Ok case) (draft.Found texts) reached new is put = inl (texts.cert.items, texts.said.items, is, put.0, put.1)
-put_of_case content name (Ok case) (draft.NoneWithinYield texts) reached new is put = inr (inl (texts.cert.items, texts.said.items, is, put.0, put.1))
-put_of_case content name (Ok case) (draft.Said answer) reached new is put = inr (inr (answer, is, put.0, put.1))
+put_of_case content name tells (Ok case) (draft.Found texts) reached new is put = inl (texts.cert.items, texts.said.items, is, put.0, put.1)
+put_of_case content name tells (Ok case) (draft.NoneWithinYield texts) reached new is put = inr (inl (texts.cert.items, texts.said.items, is, put.0, put.1))
+put_of_case content name tells (Ok case) (draft.Said answer) reached new is put = inr (inr (answer, is, put.0, put.1))
 
-put_of_files : (content : Content) (name : List ℕ) (found : Option InputFiles) (d : Draft) (reached : Status) (new : Told) → IsSomeAnd found (λ texts. IsDraft (case_of texts) d) → PutsOut (Some content) name d reached new
-    → IsSomeAnd found (λ texts. IsPutOut content name (case_of texts) reached new)
+put_of_files : (content : Content) (name : List ℕ) (found : Option InputFiles) (d : Draft) (reached : Status) (new : Told) → IsSomeAnd found (λ texts. IsDraft (telling_for texts.held) (searched_of texts) d) → PutsOut (Some content) name d reached new
+    → IsSomeAnd found (λ texts. IsPutOut content name (telling_for texts.held) (searched_of texts) reached new)
 put_of_files content name None d reached new is put = absurd is
-put_of_files content name (Some texts) d reached new is put = put_of_case content name (case_of texts) d reached new is put
+put_of_files content name (Some texts) d reached new is put = put_of_case content name (telling_for texts.held) (searched_of texts) d reached new is put
 
 pub structures : (told new : Told) (names : FileNames) (d : Draft) (reached : Status) → IsDraftFor told names d → PutsOut told names.cert d reached new → Structures told names reached new
 structures None new names (draft.Found texts) reached is put = put.1
@@ -216,18 +219,18 @@ structures None new names (draft.Said answer) reached is put = put.1
 structures (Some content) new names d reached is put = put_of_files content names.cert (inputs_of content names) d reached new is put
 
 -- a part of it was put out
-part_of_case : (content : Content) (name : List ℕ) (gives : Result CaseContents Refusal) (d : Draft) (new : Told) → IsDraft gives d → PutsOutPart (Some content) name d new → IsPartPutOut content name gives new
-part_of_case content name (Err refusal) (draft.Found texts) new is part = absurd is
-part_of_case content name (Err refusal) (draft.NoneWithinYield texts) new is part = absurd is
-part_of_case content name (Err refusal) (draft.Said answer) new is part = subst (λ (a : Answer). SaidPart (Some content) a.text new) is part
-part_of_case content name (Ok case) (draft.Found texts) new is part = inl (texts.cert.items, texts.said.items, is, part)
-part_of_case content name (Ok case) (draft.NoneWithinYield texts) new is part = inr (inl (texts.cert.items, texts.said.items, is, part))
-part_of_case content name (Ok case) (draft.Said answer) new is part = inr (inr (answer, is, part))
+part_of_case : (content : Content) (name : List ℕ) (tells : Telling) (gives : Result CaseContents Refusal) (d : Draft) (new : Told) → IsDraft tells gives d → PutsOutPart (Some content) name d new → IsPartPutOut content name tells gives new
+part_of_case content name tells (Err refusal) (draft.Found texts) new is part = absurd is
+part_of_case content name tells (Err refusal) (draft.NoneWithinYield texts) new is part = absurd is
+part_of_case content name tells (Err refusal) (draft.Said answer) new is part = subst (λ (a : Answer). SaidPart (Some content) a.text new) is part
+part_of_case content name tells (Ok case) (draft.Found texts) new is part = inl (texts.cert.items, texts.said.items, is, part)
+part_of_case content name tells (Ok case) (draft.NoneWithinYield texts) new is part = inr (inl (texts.cert.items, texts.said.items, is, part))
+part_of_case content name tells (Ok case) (draft.Said answer) new is part = inr (inr (answer, is, part))
 
-part_of_files : (content : Content) (name : List ℕ) (found : Option InputFiles) (d : Draft) (new : Told) → IsSomeAnd found (λ texts. IsDraft (case_of texts) d) → PutsOutPart (Some content) name d new
-    → IsSomeAnd found (λ texts. IsPartPutOut content name (case_of texts) new)
+part_of_files : (content : Content) (name : List ℕ) (found : Option InputFiles) (d : Draft) (new : Told) → IsSomeAnd found (λ texts. IsDraft (telling_for texts.held) (searched_of texts) d) → PutsOutPart (Some content) name d new
+    → IsSomeAnd found (λ texts. IsPartPutOut content name (telling_for texts.held) (searched_of texts) new)
 part_of_files content name None d new is part = absurd is
-part_of_files content name (Some texts) d new is part = part_of_case content name (case_of texts) d new is part
+part_of_files content name (Some texts) d new is part = part_of_case content name (telling_for texts.held) (searched_of texts) d new is part
 
 none_told : (name text : List ℕ) (new : Told) → WrotePart None name text new → new ≡ None
 none_told name text new (inl same) = same

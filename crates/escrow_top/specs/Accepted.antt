@@ -12,7 +12,7 @@ use Rattle.case_file.specs.Case.{CaseContents}
 use Rattle.escrow_check.specs.Meaning.{IsRightPortfolio}
 use Rattle.escrow_check.specs.Reasons.{IsUnopposed}
 use Rattle.escrow_check.specs.declared.verdict.Portfolio.{Portfolio}
-use Rattle.escrow_top.specs.Answer.{case_of, judged_case, none_text, yes_text}
+use Rattle.escrow_top.specs.Answer.{judged_of, none_text, yes_text}
 use Rattle.escrow_top.specs.CaseOf.{GiveCase}
 use Rattle.escrow_top.specs.InputFiles.{InputFiles}
 use Rattle.escrow_top.specs.declared.inquiry.Inquiry.{Inquiry}
@@ -53,14 +53,14 @@ pub record HasNoReason (case : CaseContents) (cert : List ℕ) : Type 0 where
   pub is_certificate : IsTextOf (length case.book.needs) certificate cert
   pub unopposed : IsUnopposed case certificate
 
--- of bytes that give a case, and a certificate within its limit, `Done` is answered where, and only where, no reason stands, by the
--- case by which the certificate is judged
+-- of bytes that give the case by which a certificate is judged, and a certificate within its limit, `Done` is answered where, and only
+-- where, no reason stands
 abbrev pub YesExactly : Status → Inquiry → InputFiles → List ℕ → Type 0
 YesExactly reached inquiry files cert =
     (case : CaseContents)
-    → case_of files ≡ Ok case
+    → judged_of inquiry files ≡ Ok case
     → length cert ≤ CERTIFICATE_LIMIT
-    → (reached ≡ status.Done) ↔ HasNoReason (judged_case inquiry case) cert
+    → (reached ≡ status.Done) ↔ HasNoReason case cert
 
 -- so it is answered to a certificate that is written: within its limit, no reason stands against it, and this is said of it
 pub record IsAcceptedText (files : InputFiles) (cert : List ℕ) : Type 0 where

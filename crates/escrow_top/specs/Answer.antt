@@ -1,4 +1,4 @@
--- What `check`, `check-cap`, `savings` and `roll` answer: a status and the text that is said. The texts are this project's own.
+-- What `check`, `check-cap`, `check-held`, `savings` and `roll` answer: a status and the text that is said. The texts are this project's own.
 use Rattle.std.specs.Prelude.{ℕ, ◌%◌, ◌==◌, nat_lt, nat_eq, if◌then◌else◌, List, [], ◌∷◌, ◌++◌, length, Option, Some, None, Result, Ok, Err, is_ok, codes, decimal, option_map}
 use Rattle.std.specs.Bool.{then_some}
 use Rattle.std.specs.Option.{option_or}
@@ -14,8 +14,9 @@ use Rattle.escrow_desk.specs.declared.refusal.RefusalKind.TheVariants as kind
 use Rattle.escrow_units.specs.DateText.{day_text}
 use Rattle.escrow_units.specs.NumberText.{rate_of}
 use Rattle.escrow_units.specs.declared.amount.Rate.{Rate}
+use Rattle.escrow_units.specs.declared.security.Flow.{Flow}
 use Rattle.escrow_units.specs.declared.fault.NumberFault.{NumberFault}
-use Rattle.row_fields.specs.RowForm.{refusal_of}
+use Rattle.row_fields.specs.RowForm.{Row, refusal_of}
 use Rattle.bound_certificate.specs.declared.fault.FaultKind.{FaultKind}
 use Rattle.bound_certificate.specs.declared.fault.FaultKind.TheVariants as fault
 use Rattle.case_file.specs.Case.{CaseContents, rows_case}
@@ -26,6 +27,8 @@ use Rattle.escrow_check.specs.declared.verdict.Reason.TheVariants as reason
 use Rattle.escrow_check.specs.declared.verdict.Verdict.{Verdict}
 use Rattle.escrow_check.specs.declared.verdict.Verdict.TheVariants as verdict
 use Rattle.rate_cap.specs.CaseAt.{case_at}
+use Rattle.held_escrow.specs.HeldCase.{held_case_of}
+use Rattle.held_escrow.specs.HeldForm.{held_of}
 use Rattle.verification_report.specs.Summary.{summary_text, text_line}
 use Rattle.issue_schedule.specs.IssueForm.{issue_of}
 use Rattle.rate_table.specs.RateForm.{rate_file_of}
@@ -76,6 +79,7 @@ abbrev pub portfolio_text : Inquiry → InputFiles → CaseContents → Portfoli
 portfolio_text inquiry.Check files case portfolio = yes_text case portfolio
 portfolio_text inquiry.Savings files case portfolio = saved_text (issue_of (rows_of files.issue)) case portfolio.plan
 portfolio_text inquiry.Roll files case portfolio = rolled_text (stated_by (rate_file_of (rows_of files.rates))) case portfolio.plan
+portfolio_text inquiry.Held files case portfolio = yes_text case portfolio
 portfolio_text (inquiry.AtCap cap) files case portfolio = yes_text case portfolio
 
 -- the answer to a verdict, with these words for a portfolio
@@ -141,12 +145,34 @@ case_of_texts None texts = rows_case (rows_of texts.issue) (rows_of texts.rates)
 abbrev pub case_of : InputFiles → Result CaseContents Refusal
 case_of texts = case_of_texts (first_too_long texts) texts
 
--- the case by which a certificate is judged: that of the input files, or that one at a cap
-abbrev pub judged_case : Inquiry → CaseContents → CaseContents
-judged_case inquiry.Check case = case
-judged_case inquiry.Savings case = case
-judged_case inquiry.Roll case = case
-judged_case (inquiry.AtCap cap) case = case_at cap case
+-- the case beside holdings, or the refusal of their file
+abbrev pub held_case_by : CaseContents → Result (List Flow) Refusal → Result CaseContents Refusal
+held_case_by case (Ok held) = Ok (held_case_of case held)
+held_case_by case (Err refusal) = Err refusal
+
+-- a case beside the holdings of the rows of their file, where they are given
+abbrev pub beside : Option (List Row) → CaseContents → Result CaseContents Refusal
+beside None case = Ok case
+beside (Some rows) case = held_case_by case (held_of case.book.days.settle rows)
+
+-- the case by which a certificate is judged: that of the input files, that one beside the holdings, or that one at a cap
+abbrev pub judged_case : Inquiry → Option (List ℕ) → CaseContents → Result CaseContents Refusal
+judged_case inquiry.Check held case = Ok case
+judged_case inquiry.Savings held case = Ok case
+judged_case inquiry.Roll held case = Ok case
+judged_case inquiry.Held held case = beside (option_map rows_of held) case
+judged_case (inquiry.AtCap cap) held case = Ok (case_at cap case)
+
+abbrev pub judged_by : Inquiry → Option (List ℕ) → Result CaseContents Refusal → Result CaseContents Refusal
+judged_by inquiry held (Err refusal) = Err refusal
+judged_by inquiry held (Ok case) = judged_case inquiry held case
+
+abbrev pub judged_of : Inquiry → InputFiles → Result CaseContents Refusal
+judged_of inquiry texts = judged_by inquiry texts.held (case_of texts)
+
+-- the case that is searched: that of the input files, beside the holdings where they are given
+abbrev pub searched_of : InputFiles → Result CaseContents Refusal
+searched_of texts = judged_of inquiry.Held texts
 
 -- the answer to the bytes of a certificate for the case by which it is judged
 abbrev pub answer_for : Inquiry → InputFiles → CaseContents → List ℕ → Answer
@@ -154,13 +180,13 @@ answer_for inquiry texts case cert = answer_with (portfolio_text inquiry texts c
 
 abbrev pub case_answer : Inquiry → InputFiles → Result CaseContents Refusal → List ℕ → Answer
 case_answer inquiry texts (Err refusal) cert = refused refusal
-case_answer inquiry texts (Ok case) cert = answer_for inquiry texts (judged_case inquiry case) cert
+case_answer inquiry texts (Ok case) cert = answer_for inquiry texts case cert
 
--- what is answered to the bytes of the four files, by what is asked of them
+-- what is answered to the bytes of the files, by what is asked of them
 abbrev pub files_answer : Inquiry → InputFiles → List ℕ → Answer
-files_answer inquiry texts cert = case_answer inquiry texts (case_of texts) cert
+files_answer inquiry texts cert = case_answer inquiry texts (judged_of inquiry texts) cert
 
--- what is asked, of the four files of these names
+-- what is asked, of the files of these names
 pub record Asking : Type 0 where
   pub inquiry : Inquiry
   pub names : FileNames
@@ -169,15 +195,16 @@ pub record Asking : Type 0 where
 abbrev pub asked_answer : Content → Asking → Option Answer
 asked_answer content asking = do
   texts ← inputs_of content asking.names
-  cert ← if is_ok (case_of texts) then file_of content asking.names.cert else Some []
+  cert ← if is_ok (judged_of asking.inquiry texts) then file_of content asking.names.cert else Some []
   Some (files_answer asking.inquiry texts cert)
 
 -- the words of each command
 abbrev pub usage_words : List ℕ
 usage_words =
     codes "structure ISSUE RATES PRICES CERT | check ISSUE RATES PRICES CERT | make NUMBER ISSUE RATES PRICES"
-    ++ codes " | cap ISSUE RATES PRICES CERT | check-cap RATE ISSUE RATES PRICES CERT | savings ISSUE RATES PRICES CERT"
-    ++ codes " | roll ISSUE RATES PRICES CERT"
+    ++ codes " | cap ISSUE RATES PRICES CERT | check-cap RATE ISSUE RATES PRICES CERT | roll ISSUE RATES PRICES CERT"
+    ++ codes " | structure-held ISSUE RATES PRICES HELD CERT | check-held ISSUE RATES PRICES HELD CERT"
+    ++ codes " | savings ISSUE RATES PRICES CERT"
 
 abbrev pub usage_text : List ℕ
 usage_text = text_line (codes "usage: ") usage_words
@@ -188,16 +215,26 @@ usage = record { status = status.Usage; text = usage_text }
 -- the names that words give, by their places, where the first is this command
 abbrev pub names_behind : List ℕ → List (List ℕ) → Option FileNames
 names_behind command (word ∷ issue ∷ rates ∷ prices ∷ cert ∷ []) =
-    then_some (pointwise nat_eq word command) (record { issue = issue; rates = rates; prices = prices; cert = cert })
+    then_some (pointwise nat_eq word command) (record { issue = issue; rates = rates; prices = prices; held = None; cert = cert })
 names_behind command words = None
+
+-- the same with that of the holdings
+abbrev pub names_with_holdings : List ℕ → List (List ℕ) → Option FileNames
+names_with_holdings command (word ∷ issue ∷ rates ∷ prices ∷ held ∷ cert ∷ []) =
+    then_some (pointwise nat_eq word command) (record { issue = issue; rates = rates; prices = prices; held = Some held; cert = cert })
+names_with_holdings command words = None
 
 -- the names that the words `check ISSUE RATES PRICES CERT` give
 abbrev pub check_names : List (List ℕ) → Option FileNames
 check_names words = names_behind (codes "check") words
 
--- the names that the words `structure ISSUE RATES PRICES CERT` give
+-- the names that the words `check-held ISSUE RATES PRICES HELD CERT` give
+abbrev pub check_held_names : List (List ℕ) → Option FileNames
+check_held_names words = names_with_holdings (codes "check-held") words
+
+-- the names that the words `structure ISSUE RATES PRICES CERT` or `structure-held ISSUE RATES PRICES HELD CERT` give
 abbrev pub structure_names : List (List ℕ) → Option FileNames
-structure_names words = names_behind (codes "structure") words
+structure_names words = option_or (names_behind (codes "structure") words) (names_with_holdings (codes "structure-held") words)
 
 -- the names that the words `savings ISSUE RATES PRICES CERT` give
 abbrev pub savings_names : List (List ℕ) → Option FileNames
@@ -216,7 +253,7 @@ abbrev pub cap_of : Result Rate NumberFault → Option Rate
 cap_of (Ok rate) = then_some (rate.0 % 10 == 0) rate
 cap_of (Err fault) = None
 
--- a cap, and the names of four files
+-- a cap, and the names of files
 pub record CapWords : Type 0 where
   pub cap : Rate
   pub names : FileNames
@@ -225,7 +262,7 @@ pub record CapWords : Type 0 where
 abbrev pub check_cap_words : List (List ℕ) → Option CapWords
 check_cap_words (word ∷ rate ∷ issue ∷ rates ∷ prices ∷ cert ∷ []) =
     if pointwise nat_eq word (codes "check-cap")
-    then option_map (λ cap. record { cap = cap; names = record { issue = issue; rates = rates; prices = prices; cert = cert } }) (cap_of (rate_of rate))
+    then option_map (λ cap. record { cap = cap; names = record { issue = issue; rates = rates; prices = prices; held = None; cert = cert } }) (cap_of (rate_of rate))
     else None
 check_cap_words words = None
 
@@ -240,7 +277,8 @@ abbrev pub asking_of : List (List ℕ) → Option Asking
 asking_of words =
     option_or (asks inquiry.Check (check_names words))
     (option_or (asks inquiry.Savings (savings_names words))
-    (option_or (asks inquiry.Roll (roll_names words)) (asks_at_cap (check_cap_words words))))
+    (option_or (asks inquiry.Roll (roll_names words))
+    (option_or (asks inquiry.Held (check_held_names words)) (asks_at_cap (check_cap_words words)))))
 
 abbrev pub answer_to_asking : Content → Option Asking → Option Answer
 answer_to_asking content None = Some usage

@@ -1,5 +1,5 @@
 -- The case that three input files give, without a way to work it out.
-use Rattle.std.specs.Prelude.{◌≡◌, ◌≤◌, Ok, length}
+use Rattle.std.specs.Prelude.{◌≡◌, ◌≤◌, Ok, length, IfSome}
 use Rattle.escrow_desk.specs.Rows.{rows_of}
 use Rattle.escrow_desk.specs.declared.limits.TheConstants.{FILE_LIMIT}
 use Rattle.issue_schedule.specs.IssueForm.{issue_of}
@@ -32,6 +32,7 @@ pub record AreWithin (files : InputFiles) : Type 0 where
   pub issue : length files.issue ≤ FILE_LIMIT
   pub rates : length files.rates ≤ FILE_LIMIT
   pub prices : length files.prices ≤ FILE_LIMIT
+  pub held : IfSome files.held (λ bytes. length bytes ≤ FILE_LIMIT)
 
 -- a case is that of the files: its book keeps every limit; its lines are opening cash, then one for each offer of the rate file,
 -- with every rule of term, rate and denomination, and then one for each note of the price file, in the order of their rows; its

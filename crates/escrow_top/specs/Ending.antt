@@ -6,8 +6,9 @@ use Rattle.escrow_top.specs.NotAccepted.{NotAccepted}
 use Rattle.escrow_top.specs.Rolled.{Rolled}
 use Rattle.escrow_top.specs.Saved.{Saved}
 use Rattle.escrow_top.specs.AtCap.{AcceptedAt, NotAcceptedAt}
-use Rattle.escrow_top.specs.InputFiles.{InputFiles, FileNames}
-use Rattle.escrow_top.specs.Answer.{Answer, Asking, answer_to, asked_answer, asking_of, cap_names, check_cap_words, check_names, files_answer, roll_names, savings_names, structure_names}
+use Rattle.escrow_top.specs.Holding.{AcceptedBeside, NotAcceptedBeside}
+use Rattle.escrow_top.specs.InputFiles.{InputFiles, FileNames, holdings_in}
+use Rattle.escrow_top.specs.Answer.{Answer, Asking, answer_to, asked_answer, asking_of, cap_names, check_cap_words, check_held_names, check_names, files_answer, roll_names, savings_names, structure_names}
 use Rattle.escrow_top.specs.Capped.{WroteCapped}
 use Rattle.escrow_top.specs.Capping.{Caps, CapsPart}
 use Rattle.escrow_top.specs.MakeWords.{Making, make_words}
@@ -33,7 +34,7 @@ code_of status.WriteFault = 9
 code_of status.NoFile = 10
 code_of status.NoMemory = 11
 
--- the statuses that `check`, `check-cap`, `savings` and `roll` come to
+-- the statuses that `check`, `check-cap`, `check-held`, `savings` and `roll` come to
 abbrev pub is_checked : Status → Bool
 is_checked status.Done = true
 is_checked status.No = true
@@ -121,14 +122,15 @@ pub record IsNoCommand (words : List (List ℕ)) : Type 0 where
   pub no_savings : savings_names words ≡ None
   pub no_roll : roll_names words ≡ None
   pub no_cap : cap_names words ≡ None
+  pub no_check_held : check_held_names words ≡ None
   pub no_check_cap : check_cap_words words ≡ None
 
 -- the four files of these names are there, and this holds of their bytes
 abbrev pub HoldsOfFiles : (InputFiles → List ℕ → Type 0) → Content → FileNames → Type 0
 HoldsOfFiles Holds content names =
     IsSomeAnd (file_of content names.issue) (λ issue. IsSomeAnd (file_of content names.rates) (λ rates.
-    IsSomeAnd (file_of content names.prices) (λ prices. IsSomeAnd (file_of content names.cert) (λ cert.
-    Holds (record { issue = issue; rates = rates; prices = prices }) cert))))
+    IsSomeAnd (file_of content names.prices) (λ prices. IsSomeAnd (holdings_in content names.held) (λ held.
+    IsSomeAnd (file_of content names.cert) (λ cert. Holds (record { issue = issue; rates = rates; prices = prices; held = held }) cert)))))
 
 -- the same where the desk tells
 abbrev pub HoldsWhereTold : (InputFiles → List ℕ → Type 0) → Told → FileNames → Type 0
@@ -160,7 +162,7 @@ pub record SaidOfFiles (Holds : InputFiles → List ℕ → List ℕ → Type 0)
 abbrev pub IsAccepted : Told → List (List ℕ) → Told → Type 0
 IsAccepted told words new = IfSome (check_names words) (λ names. SaidOfFiles Accepted told names new)
 
--- where they are those of `structure`, `check` accepts the certificate that was written
+-- where they are those of `structure`, or of `structure-held`: `check`, or `check-held`, accepts the certificate that was written
 abbrev pub WroteCertificate : Told → Told → List (List ℕ) → Type 0
 WroteCertificate told new words = IfSome (structure_names words) (WroteAccepted told new)
 
@@ -176,12 +178,17 @@ IsRolled told words new = IfSome (roll_names words) (λ names. SaidOfFiles Rolle
 abbrev pub IsAcceptedAtCap : Told → List (List ℕ) → Told → Type 0
 IsAcceptedAtCap told words new = IfSome (check_cap_words words) (λ capped. SaidOfFiles (AcceptedAt capped.cap) told capped.names new)
 
+-- where they are those of `check-held`: the files that they name are accepted beside the holdings, and this was said
+abbrev pub IsAcceptedHolding : Told → List (List ℕ) → Told → Type 0
+IsAcceptedHolding told words new = IfSome (check_held_names words) (λ names. SaidOfFiles (λ files. AcceptedBeside files.held files) told names new)
+
 -- ---- by what is asked
 -- what an answer of `Done` means, of the bytes of four files and what was said
 abbrev pub MeansYes : Inquiry → InputFiles → List ℕ → List ℕ → Type 0
 MeansYes inquiry.Check = Accepted
 MeansYes inquiry.Savings = Saved
 MeansYes inquiry.Roll = Rolled
+MeansYes inquiry.Held = λ files. AcceptedBeside files.held files
 MeansYes (inquiry.AtCap cap) = AcceptedAt cap
 
 -- what an answer of `No` means
@@ -189,6 +196,7 @@ abbrev pub MeansNo : Inquiry → InputFiles → List ℕ → List ℕ → Type 0
 MeansNo inquiry.Check = NotAccepted
 MeansNo inquiry.Savings = NotAccepted
 MeansNo inquiry.Roll = NotAccepted
+MeansNo inquiry.Held = λ files. NotAcceptedBeside files.held files
 MeansNo (inquiry.AtCap cap) = NotAcceptedAt cap
 
 -- the words ask something of a certificate: the four files that they name aren't accepted, and this was said

@@ -7,7 +7,9 @@ pub mod CaseOf
 pub mod Command
 pub mod Covered
 pub mod Ending
+pub mod Holding
 pub mod InputFiles
+pub mod Judged
 pub mod MakeWords
 pub mod Making
 pub mod NotAccepted

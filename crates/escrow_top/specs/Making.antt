@@ -11,7 +11,7 @@ use Rattle.dual_bound.specs.declared.tree.TreeNode.{TreeNode}
 use Rattle.verification_report.specs.Report.{figures_of}
 use Rattle.verification_report.specs.Summary.{summary_text, text_line}
 use Rattle.escrow_top.specs.Answer.{Answer, case_of, certificate_answer, refused}
-use Rattle.escrow_top.specs.InputFiles.{InputFiles}
+use Rattle.escrow_top.specs.InputFiles.{InputFiles, three_files}
 use Rattle.escrow_top.specs.MakeWords.{MadeNames, Making}
 use Rattle.escrow_top.specs.Accepted.{IsAcceptedText}
 use Rattle.escrow_top.specs.Structure.{IsEnd, accepted_none, accepted_with, nodes_line, none_within_text}
@@ -30,7 +30,7 @@ making_view making = record { number = making.number; names = made_names_view ma
 -- ---- the answer
 -- the files of the case of a number
 abbrev pub made_files : ℕ → InputFiles
-made_files number = record { issue = issue_text number; rates = rates_text number; prices = prices_text number }
+made_files number = three_files (issue_text number) (rates_text number) (prices_text number)
 
 -- what is said of a portfolio that is found for the case of a number: the number, the summary, and how many nodes the tree has
 abbrev pub made_text : ℕ → CaseContents → List ℕ → ℕ → List TreeNode → List ℕ

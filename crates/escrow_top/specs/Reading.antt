@@ -1,15 +1,17 @@
 -- What was read of the files that a desk tells.
-use Rattle.std.specs.Prelude.{◌≡◌, ℕ, ◌≤◌, ◌<◌, List, length, Some, None, MatchOption, IsSomeAnd}
-use Rattle.escrow_desk.specs.declared.limits.TheConstants.{CERTIFICATE_LIMIT}
+use Rattle.std.specs.Prelude.{◌≡◌, ℕ, ◌≤◌, ◌<◌, true, false, List, length, Option, Some, None, MatchOption, IfSome, IsSomeAnd, option_map}
+use Rattle.escrow_desk.specs.declared.limits.TheConstants.{CERTIFICATE_LIMIT, FILE_LIMIT}
 use Rattle.escrow_desk.specs.Content.{Content, Told, file_of}
 use Rattle.escrow_desk.specs.declared.refusal.FileKind.{FileKind}
 use Rattle.escrow_top.specs.declared.files.FileNames.{FileNames as CodeNames}
 use Rattle.escrow_top.specs.declared.files.InputFiles.{InputFiles as CodeFiles}
 use Rattle.escrow_top.specs.declared.files.FileText.{FileText}
 use Rattle.escrow_top.specs.declared.files.FileText.TheVariants as text
+use Rattle.escrow_top.specs.declared.files.HeldText.{HeldText}
+use Rattle.escrow_top.specs.declared.files.HeldText.TheVariants as holdings
 use Rattle.escrow_top.specs.declared.files.Inputs.{Inputs}
 use Rattle.escrow_top.specs.declared.files.Inputs.TheVariants as inputs
-use Rattle.escrow_top.specs.InputFiles.{InputFiles, FileNames, first_too_long, inputs_of}
+use Rattle.escrow_top.specs.InputFiles.{InputFiles, FileNames, are_holdings_long, first_too_long, holdings_in, inputs_of}
 use Rattle.escrow_desk.specs.Rows.{rows_of}
 use Rattle.case_file.specs.Case.{CaseContents, IsKept}
 use Rattle.offer_book.specs.Portfolio.{IsPermitted, Meets}
@@ -26,7 +28,13 @@ use Rattle.escrow_top.specs.declared.hearing.Heard.TheVariants as heard
 
 -- the names as bytes
 abbrev pub names_view : CodeNames → FileNames
-names_view names = record { issue = names.issue.now; rates = names.rates.now; prices = names.prices.now; cert = names.cert.now }
+names_view names = record {
+  issue = names.issue.now;
+  rates = names.rates.now;
+  prices = names.prices.now;
+  held = option_map (λ name. name.now) names.held;
+  cert = names.cert.now;
+}
 
 -- what is asked, of files of these names as bytes
 abbrev pub asking_view : CodeAsking → Asking
@@ -34,7 +42,12 @@ asking_view asking = record { inquiry = asking.inquiry; names = names_view askin
 
 -- the files as bytes
 abbrev pub files_view : CodeFiles → InputFiles
-files_view files = record { issue = files.issue.items; rates = files.rates.items; prices = files.prices.items }
+files_view files = record {
+  issue = files.issue.items;
+  rates = files.rates.items;
+  prices = files.prices.items;
+  held = option_map (λ bytes. bytes.items) files.held;
+}
 
 -- the bytes of a file that has at most so many, or that it has more
 abbrev pub IsBounded : ℕ → List ℕ → FileText → Type 0
@@ -51,11 +64,12 @@ abbrev pub IsRead : Told → List ℕ → ℕ → FileText → Type 0
 IsRead told name limit found =
     MatchOption told (Unit {0}) (λ content. IsSomeAnd (file_of content name) (λ file. IsBounded limit file found))
 
--- the three input files of these names are there, with these bytes
+-- the input files of these names are there, with these bytes
 pub record AreThere (content : Content) (names : FileNames) (texts : InputFiles) : Type 0 where
   pub issue : file_of content names.issue ≡ Some texts.issue
   pub rates : file_of content names.rates ≡ Some texts.rates
   pub prices : file_of content names.prices ≡ Some texts.prices
+  pub held : holdings_in content names.held ≡ Some texts.held
 
 abbrev pub AreRead : Told → FileNames → InputFiles → Type 0
 AreRead told names texts = MatchOption told (Unit {0}) (λ content. AreThere content names texts)
@@ -88,11 +102,30 @@ IsHeardOf case file heard.TooLong = CERTIFICATE_LIMIT < length file
 abbrev pub IsHeard : Told → List ℕ → CaseContents → Heard → Type 0
 IsHeard told name case found = MatchOption told (Unit {0}) (λ content. IsSomeAnd (file_of content name) (λ file. IsHeardOf case file found))
 
+-- what was read of holdings: their bytes, where they are given, or that they are over their limit
+abbrev pub AreHoldings : Option (List ℕ) → HeldText → Type 0
+AreHoldings bytes (holdings.Within found) = (bytes ≡ option_map (λ own. own.items) found) × (are_holdings_long bytes ≡ false)
+AreHoldings bytes holdings.TooLong = are_holdings_long bytes ≡ true
+
+abbrev pub AreHoldingsRead : Told → Option (List ℕ) → HeldText → Type 0
+AreHoldingsRead told name found =
+    MatchOption told (Unit {0}) (λ content. IsSomeAnd (holdings_in content name) (λ bytes. AreHoldings bytes found))
+
+-- holdings that were read keep to their limit
+abbrev pub KeepHoldings : HeldText → Type 0
+KeepHoldings (holdings.Within found) = IfSome (option_map (λ own. own.items) found) (λ bytes. length bytes ≤ FILE_LIMIT)
+KeepHoldings holdings.TooLong = Unit {0}
+
+-- their file isn't there
+abbrev pub LackHoldings : Told → Option (List ℕ) → Type 0
+LackHoldings told name = MatchOption told (Unit {0}) (λ content. holdings_in content name ≡ None)
+
 -- where savings or rolls are asked for, a case was read of these files
 abbrev pub IsKeptFor : Inquiry → InputFiles → CaseContents → Type 0
 IsKeptFor inquiry.Check files case = Unit {0}
 IsKeptFor inquiry.Savings files case = IsKept (rows_of files.issue) (rows_of files.rates) (rows_of files.prices) case
 IsKeptFor inquiry.Roll files case = IsKept (rows_of files.issue) (rows_of files.rates) (rows_of files.prices) case
+IsKeptFor inquiry.Held files case = Unit {0}
 IsKeptFor (inquiry.AtCap cap) files case = Unit {0}
 
 -- a portfolio that is accepted is permitted and meets the needs, whether the desk tells or not

@@ -4,7 +4,7 @@ use Rattle.branch_search.specs.Plain.{IsPlainWithin}
 use Rattle.case_file.specs.Case.{CaseContents}
 use Rattle.cash_table.specs.Reach.{IsInReach}
 use Rattle.escrow_desk.specs.Content.{Told}
-use Rattle.escrow_top.specs.Answer.{case_of}
+use Rattle.escrow_top.specs.Answer.{case_of, searched_of}
 use Rattle.escrow_top.specs.Covered.{IsCovered}
 use Rattle.escrow_top.specs.InputFiles.{FileNames, InputFiles, inputs_of}
 use Rattle.escrow_top.specs.declared.status.Status.{Status}
@@ -14,6 +14,11 @@ use Rattle.escrow_top.specs.declared.status.Status.TheVariants as status
 abbrev pub OfCase : (CaseContents → Type 0) → Told → FileNames → Type 0
 OfCase Holds None names = Unit {0}
 OfCase Holds (Some content) names = (texts : InputFiles) (case : CaseContents) → inputs_of content names ≡ Some texts → case_of texts ≡ Ok case → Holds case
+
+-- the same where they give the case that is searched
+abbrev pub OfSearched : (CaseContents → Type 0) → Told → FileNames → Type 0
+OfSearched Holds None names = Unit {0}
+OfSearched Holds (Some content) names = (texts : InputFiles) (case : CaseContents) → inputs_of content names ≡ Some texts → searched_of texts ≡ Ok case → Holds case
 
 -- a plain case, whose issue allows at least its gap, comes to a portfolio
 abbrev pub SettlesPlain : Status → CaseContents → Type 0

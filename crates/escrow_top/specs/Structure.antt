@@ -1,4 +1,4 @@
--- What `structure` comes to. The texts are this project's own.
+-- What `structure` and `structure-held` come to. The texts are this project's own.
 use Rattle.std.specs.Prelude.{◌≡◌, ◌⊎◌, ℕ, List, [], ◌++◌, codes, decimal, length, Option, Some, None, Result, Ok, Err, IsSomeAnd, IsTrue, ℤ}
 use Rattle.escrow_desk.specs.Content.{Content, Told, file_of, told_map, with_file, with_said, SaidAll, SaidPart, WrotePart}
 use Rattle.escrow_desk.specs.declared.refusal.Refusal.{Refusal}
@@ -16,14 +16,16 @@ use Rattle.offer_book.specs.Book.{BookContents}
 use Rattle.offer_book.specs.Portfolio.{IsFirstShort, cost}
 use Rattle.verification_report.specs.Report.{figures_of, report_text}
 use Rattle.verification_report.specs.Summary.{summary_text, text_line}
-use Rattle.escrow_top.specs.Accepted.{IsAcceptedText}
-use Rattle.escrow_top.specs.Answer.{Answer, case_of, certificate_answer, none_text, refused_text}
+use Rattle.escrow_top.specs.Answer.{Answer, certificate_answer, none_text, refused_text, searched_of}
 use Rattle.escrow_top.specs.Covered.{IsCovered}
+use Rattle.escrow_top.specs.Holding.{IsAcceptedTextBeside}
 use Rattle.escrow_top.specs.InputFiles.{FileNames, InputFiles, inputs_of}
 use Rattle.escrow_top.specs.Reading.{AreThere}
 use Rattle.escrow_top.specs.Stopping.{is_unfound}
 use Rattle.escrow_top.specs.declared.draft.Draft.{Draft}
 use Rattle.escrow_top.specs.declared.draft.Draft.TheVariants as draft
+use Rattle.escrow_top.specs.declared.draft.Telling.{Telling}
+use Rattle.escrow_top.specs.declared.draft.Telling.TheVariants as telling
 use Rattle.escrow_top.specs.declared.status.Status.{Status}
 use Rattle.escrow_top.specs.declared.status.Status.TheVariants as status
 
@@ -59,16 +61,25 @@ accepted_with case plan gap = record { status = status.Done; text = text_line (c
 abbrev pub accepted_none : Answer
 accepted_none = record { status = status.Done; text = none_text }
 
--- the texts of a portfolio that was found, with the least gap that its tree supports: its certificate, which `check` accepts, and its
--- report
-pub record AreTexts (case : CaseContents) (cert report : List ℕ) : Type 0 where
+-- what is said of a portfolio that was found: its report; beside holdings its summary, since the needs of a report are what these leave
+abbrev pub telling_for : Option (List ℕ) → Telling
+telling_for None = telling.Report
+telling_for (Some holdings) = telling.Summary
+
+abbrev pub told_text : Telling → CaseContents → List ℕ → ℕ → List ℕ
+told_text telling.Report case plan gap = report_text case plan gap
+told_text telling.Summary case plan gap = summary_text (figures_of case plan gap)
+
+-- the texts of a portfolio that was found, with the least gap that its tree supports: its certificate, which `check` accepts for the case,
+-- and what is said of it
+pub record AreTexts (tells : Telling) (case : CaseContents) (cert said : List ℕ) : Type 0 where
   pub plan : List ℕ
   pub nodes : List TreeNode
   pub gap : ℕ
   pub found : IsFound case plan nodes gap
   pub found_by : IsFoundBy case plan nodes
   pub is_cert : cert ≡ text_of (certificate_of plan nodes gap)
-  pub is_report : report ≡ report_text case plan gap
+  pub is_said : said ≡ told_text tells case plan gap
   pub accepted : certificate_answer case cert ≡ accepted_with case plan gap
 
 -- the texts of a tree which shows that there is no rival: its certificate, which `check` accepts, and how many nodes it has
@@ -104,46 +115,46 @@ abbrev pub IsEnd : CaseContents → Answer → Type 0
 IsEnd case answer = IsInfeasible case answer ⊎ IsBudgetSpent case answer
 
 -- what is put out for a case: the texts of what was found, or the answer that nothing was
-abbrev pub IsDraftOf : CaseContents → Draft → Type 0
-IsDraftOf case (draft.Found texts) = AreTexts case texts.cert.items texts.said.items
-IsDraftOf case (draft.NoneWithinYield texts) = AreNoneTexts case texts.cert.items texts.said.items
-IsDraftOf case (draft.Said answer) = IsEnd case answer
+abbrev pub IsDraftOf : Telling → CaseContents → Draft → Type 0
+IsDraftOf tells case (draft.Found texts) = AreTexts tells case texts.cert.items texts.said.items
+IsDraftOf tells case (draft.NoneWithinYield texts) = AreNoneTexts case texts.cert.items texts.said.items
+IsDraftOf tells case (draft.Said answer) = IsEnd case answer
 
 -- the same of the input files
-abbrev pub IsDraft : Result CaseContents Refusal → Draft → Type 0
-IsDraft (Err refusal) (draft.Found texts) = ⊥
-IsDraft (Err refusal) (draft.NoneWithinYield texts) = ⊥
-IsDraft (Err refusal) (draft.Said answer) = answer ≡ record { status = status.Refused; text = refused_text refusal }
-IsDraft (Ok case) found = IsDraftOf case found
+abbrev pub IsDraft : Telling → Result CaseContents Refusal → Draft → Type 0
+IsDraft tells (Err refusal) (draft.Found texts) = ⊥
+IsDraft tells (Err refusal) (draft.NoneWithinYield texts) = ⊥
+IsDraft tells (Err refusal) (draft.Said answer) = answer ≡ record { status = status.Refused; text = refused_text refusal }
+IsDraft tells (Ok case) found = IsDraftOf tells case found
 
 -- the same of the input files of names on a desk that tells
 abbrev pub IsDraftFor : Told → FileNames → Draft → Type 0
 IsDraftFor None names found = Unit {0}
-IsDraftFor (Some content) names found = IsSomeAnd (inputs_of content names) (λ texts. IsDraft (case_of texts) found)
+IsDraftFor (Some content) names found = IsSomeAnd (inputs_of content names) (λ texts. IsDraft (telling_for texts.held) (searched_of texts) found)
 
--- what stands after a status: the certificate was written whole, and then the report was said, or that there is no rival; or a text was
--- said, and no file changed
-abbrev pub IsPutOut : Content → List ℕ → Result CaseContents Refusal → Status → Told → Type 0
-IsPutOut content name (Err refusal) reached new =
+-- what stands after a status: the certificate was written whole, and then what is found was said, or that there is no rival; or a text
+-- was said, and no file changed
+abbrev pub IsPutOut : Content → List ℕ → Telling → Result CaseContents Refusal → Status → Told → Type 0
+IsPutOut content name tells (Err refusal) reached new =
     (reached ≡ status.Refused) × (new ≡ Some (with_said content (refused_text refusal)))
-IsPutOut content name (Ok case) reached new =
-    ((cert report : List ℕ) × AreTexts case cert report × (reached ≡ status.Done) × (new ≡ Some (with_said (with_file content name cert) report)))
+IsPutOut content name tells (Ok case) reached new =
+    ((cert said : List ℕ) × AreTexts tells case cert said × (reached ≡ status.Done) × (new ≡ Some (with_said (with_file content name cert) said)))
     ⊎ ((cert said : List ℕ) × AreNoneTexts case cert said × (reached ≡ status.NoneWithinYield) × (new ≡ Some (with_said (with_file content name cert) said)))
     ⊎ ((answer : Answer) × IsEnd case answer × (reached ≡ answer.status) × (new ≡ Some (with_said content answer.text)))
 
 -- what stands after a write that failed: the certificate's file is as before or holds a prefix of its text, and nothing was said; or
--- the file is whole, and a prefix of the report was said; or a prefix of a text was said, and no file changed
-abbrev pub IsPartPutOut : Content → List ℕ → Result CaseContents Refusal → Told → Type 0
-IsPartPutOut content name (Err refusal) new = SaidPart (Some content) (refused_text refusal) new
-IsPartPutOut content name (Ok case) new =
-    ((cert report : List ℕ) × AreTexts case cert report × (WrotePart (Some content) name cert new ⊎ SaidPart (Some (with_file content name cert)) report new))
+-- the file is whole, and a prefix of what is said then; or a prefix of a text was said, and no file changed
+abbrev pub IsPartPutOut : Content → List ℕ → Telling → Result CaseContents Refusal → Told → Type 0
+IsPartPutOut content name tells (Err refusal) new = SaidPart (Some content) (refused_text refusal) new
+IsPartPutOut content name tells (Ok case) new =
+    ((cert said : List ℕ) × AreTexts tells case cert said × (WrotePart (Some content) name cert new ⊎ SaidPart (Some (with_file content name cert)) said new))
     ⊎ ((cert said : List ℕ) × AreNoneTexts case cert said × (WrotePart (Some content) name cert new ⊎ SaidPart (Some (with_file content name cert)) said new))
     ⊎ ((answer : Answer) × IsEnd case answer × SaidPart (Some content) answer.text new)
 
--- `check` accepts what is about to be written, for the input files
+-- what is about to be written is accepted for the input files, by `check` or beside holdings by `check-held`
 abbrev pub IsAcceptedDraft : InputFiles → Draft → Type 0
-IsAcceptedDraft files (draft.Found texts) = IsAcceptedText files texts.cert.items
-IsAcceptedDraft files (draft.NoneWithinYield texts) = IsAcceptedText files texts.cert.items
+IsAcceptedDraft files (draft.Found texts) = IsAcceptedTextBeside files.held files texts.cert.items
+IsAcceptedDraft files (draft.NoneWithinYield texts) = IsAcceptedTextBeside files.held files texts.cert.items
 IsAcceptedDraft files (draft.Said answer) = Unit {0}
 
 -- the same of the input files of names on a desk that tells
@@ -151,8 +162,8 @@ abbrev pub IsAcceptedFor : Told → FileNames → Draft → Type 0
 IsAcceptedFor told names (draft.Said answer) = Unit {0}
 IsAcceptedFor None names (draft.Found texts) = Unit {0}
 IsAcceptedFor None names (draft.NoneWithinYield texts) = Unit {0}
-IsAcceptedFor (Some content) names (draft.Found texts) = (files : InputFiles) × AreThere content names files × IsAcceptedText files texts.cert.items
-IsAcceptedFor (Some content) names (draft.NoneWithinYield texts) = (files : InputFiles) × AreThere content names files × IsAcceptedText files texts.cert.items
+IsAcceptedFor (Some content) names (draft.Found texts) = (files : InputFiles) × AreThere content names files × IsAcceptedTextBeside files.held files texts.cert.items
+IsAcceptedFor (Some content) names (draft.NoneWithinYield texts) = (files : InputFiles) × AreThere content names files × IsAcceptedTextBeside files.held files texts.cert.items
 
 -- a portfolio was found
 abbrev pub IsFoundDraft : Draft → Type 0
@@ -167,7 +178,7 @@ FindsPlain (Ok case) found = IsPlainWithin case → IsFoundDraft found
 
 abbrev pub FindsPlainFor : Told → FileNames → Draft → Type 0
 FindsPlainFor None names found = Unit {0}
-FindsPlainFor (Some content) names found = IsSomeAnd (inputs_of content names) (λ texts. FindsPlain (case_of texts) found)
+FindsPlainFor (Some content) names found = IsSomeAnd (inputs_of content names) (λ texts. FindsPlain (searched_of texts) found)
 
 -- ---- what is put out, of a desk that tells or doesn't
 -- the answer of a draft says that nothing was found
@@ -199,20 +210,20 @@ PutsOutPart old name (draft.Said answer) new = SaidPart old answer.text new
 abbrev pub Structures : Told → FileNames → Status → Told → Type 0
 Structures None names reached new = new ≡ None
 Structures (Some content) names reached new =
-    IsSomeAnd (inputs_of content names) (λ texts. IsPutOut content names.cert (case_of texts) reached new)
+    IsSomeAnd (inputs_of content names) (λ texts. IsPutOut content names.cert (telling_for texts.held) (searched_of texts) reached new)
 
 abbrev pub StructuresPart : Told → FileNames → Told → Type 0
 StructuresPart None names new = new ≡ None
 StructuresPart (Some content) names new =
-    IsSomeAnd (inputs_of content names) (λ texts. IsPartPutOut content names.cert (case_of texts) new)
+    IsSomeAnd (inputs_of content names) (λ texts. IsPartPutOut content names.cert (telling_for texts.held) (searched_of texts) new)
 
--- the certificate's file of names now holds bytes that `check` accepts for the input files as they were
+-- the certificate's file of names now holds bytes that `check`, or beside holdings `check-held`, accepts for the input files as they were
 pub record HoldsAccepted (content after : Content) (names : FileNames) : Type 0 where
   pub files : InputFiles
   pub cert : List ℕ
   pub there : AreThere content names files
   pub written : file_of after names.cert ≡ Some cert
-  pub is : IsAcceptedText files cert
+  pub is : IsAcceptedTextBeside files.held files cert
 
 -- the same where a desk tells
 abbrev pub WroteAccepted : Told → Told → FileNames → Type 0

@@ -19,6 +19,7 @@ const HIGH: Files = Files {
     issue: b"settle,2025-01-15\nneed,2025-07-15,1000.00\nrestricted,3.00\n",
     rates: b"terms,1000,1000\nrate,2025-02-14,2026-01-15,4.00\noffer,2025-07-15,4.00,,2000\n",
     prices: b"",
+    held: b"",
     cert: b"x",
 };
 
@@ -27,6 +28,7 @@ const TIGHT: Files = Files {
     issue: b"settle,2025-01-15\nneed,2026-01-15,1041.00\nrestricted,5.00\nbudget,1\n",
     rates: b"terms,1000,1\nrate,2025-02-14,2026-01-15,0.01\noffer,2026-01-15,max,,10000\n",
     prices: b"",
+    held: b"",
     cert: b"x",
 };
 
@@ -83,6 +85,7 @@ fn capped_cases(rt: HostRuntime) -> Result<(), Fail> {
                 issue: b"settle,2025-01-15\nneed,2025-07-15,1000.00\nrestricted,3.00\n",
                 rates: b"",
                 prices: b"terms,1000,1000\nnote,2025-07-15,4.500,100,2000\n",
+                held: b"",
                 cert: b"x",
             },
             Status::NoneWithinYield,

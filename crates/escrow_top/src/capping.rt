@@ -18,12 +18,13 @@ ghost use Rattle.escrow_top.specs.Structure.{accepted_with};
 use crate::answer::{Answer, budget_spent, infeasible, none_within, refused, too_long};
 use crate::draft::Texts;
 use crate::files::{FileNames, InputFiles, Inputs, read_inputs};
+use crate::judging::given_case;
 use crate::status::Status;
 use crate::stop::Stop;
 use bound_certificate::write_cert;
 use branch_search::{found_laws, settled_laws};
 use cap_finder::{CapEnd, CappedEscrow, CaseAtZero, GreatestCap, Obstacle, Unfound, find_cap};
-use case_file::{Case, read_case};
+use case_file::Case;
 use escrow_desk::{CaseError, Desk, NoMemory};
 use escrow_units::{Cents, print_cents, print_day, print_rate};
 use halving_tree::halving_laws;
@@ -160,12 +161,7 @@ fn draft_of_files(alloc: Global, files: &InputFiles) -> Result<CapDraft, NoMemor
     // The rates of files are those of the table; and what is found is accepted.
     cap_laws();
     found_laws();
-    match read_case(
-        alloc,
-        files.issue.as_slice(),
-        files.rates.as_slice(),
-        files.prices.as_slice(),
-    ) {
+    match given_case(alloc, files) {
         Ok(case) => draft_of_case(alloc, &case),
         Err(CaseError::Refused(refusal)) => Ok(CapDraft::Said(refused(alloc, &refusal)?)),
         Err(CaseError::NoMemory) => Err(NoMemory),

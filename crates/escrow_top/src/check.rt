@@ -1,12 +1,11 @@
-//! `check`, `check-cap`, `savings` and `roll`, from the names of their files to their answer.
+//! `check`, `check-cap`, `check-held`, `savings` and `roll`, from the names of their files to their answer.
 
 ghost use Rattle.std.specs.Prelude.{◌≡◌, IfOk, IsErrOf, IsTrue};
 ghost use Rattle.offer_book.specs.Book.{IsBook};
-ghost use Rattle.escrow_desk.specs.Rows.{rows_of};
-ghost use Rattle.case_file.specs.Case.{HasTerms, IsKept, case_view};
+ghost use Rattle.case_file.specs.Case.{HasTerms, case_view};
 ghost use Rattle.escrow_top.specs.CaseOf.{AreWithin};
 ghost use Rattle.escrow_top.specs.Reading.{AreRead, CertificateAnswers, FilesAnswer, IsKeptFor, LacksAsked, LacksCertificate, asking_view, files_view, names_view};
-ghost use Rattle.escrow_top.specs.Answer.{answer_for, judged_case as judged_case_of};
+ghost use Rattle.escrow_top.specs.Answer.{answer_for};
 ghost use Rattle.escrow_top.specs.Ending.{HoldsWhereTold, MeansNo, MeansYes, OfNamedFiles, is_checked};
 ghost use Rattle.escrow_top.specs.Accepted.{YesExactly};
 ghost use Rattle.escrow_top.specs.Stopping.{CountsStep};
@@ -14,29 +13,13 @@ ghost use Rattle.escrow_top.specs.Stopping.{CountsStep};
 use crate::answer::{Answer, refused, too_long, verdict_answer};
 use crate::files::{InputFiles, Inputs, read_inputs};
 use crate::hearing::{Heard, hear};
-use crate::inquiry::{Asking, Inquiry};
+use crate::inquiry::Asking;
+use crate::judging::judged_case;
 use crate::status::Status;
 use crate::stop::Stop;
-use case_file::{Case, read_case};
-use escrow_desk::{CaseError, Desk, FileKind, NoMemory};
-use rate_cap::{at_cap, cap_laws};
+use case_file::Case;
+use escrow_desk::{CaseError, Desk, FileKind};
 use std::alloc::Global;
-
-// The case by which a certificate is judged: that of the input files, or that one at a cap.
-fn judged_case(alloc: Global, inquiry: Inquiry, case: Case) -> Result<Case, NoMemory>
-    requires book { IsBook case.book }
-    requires terms { HasTerms (case_view case) }
-    ensures case { IfOk result (λ judged. case_view judged ≡ judged_case_of inquiry (case_view case)) }
-    ensures book { IfOk result (λ judged. IsBook judged.book) }
-    ensures terms { IfOk result (λ judged. HasTerms (case_view judged)) }
-{
-    // There is one case at each cap.
-    cap_laws();
-    match inquiry {
-        Inquiry::Check | Inquiry::Savings | Inquiry::Roll => Ok(case),
-        Inquiry::AtCap(cap) => at_cap(alloc, &case, cap),
-    }
-}
 
 // The answer to the certificate, for the case by which it is judged. It isn't inlined: its tables would stand on the stack while rows are
 // read.
@@ -64,26 +47,6 @@ fn answer_to_certificate<D: Desk>(
     }
 }
 
-// The answer to the certificate, for the case of the input files.
-fn answer_to_case<D: Desk>(
-    alloc: Global,
-    desk: &mut D,
-    asking: &Asking<'_>,
-    files: &InputFiles,
-    case: Case,
-) -> Result<Answer, Stop>
-    requires within { AreWithin (files_view files.now) }
-    requires kept { IsKept (rows_of (files_view files.now).issue) (rows_of (files_view files.now).rates) (rows_of (files_view files.now).prices) (case_view case) }
-    ensures answer { IfOk result (λ answer. CertificateAnswers (D.told desk.old) (names_view asking.now.names).cert (answer_for asking.now.inquiry (files_view files.now) (judged_case_of asking.now.inquiry (case_view case))) answer) }
-    ensures status { IfOk result (λ answer. IsTrue (is_checked answer.status)) }
-    ensures absent { IsErrOf result Stop.NoFile → LacksCertificate (D.told desk.old) (names_view asking.now.names).cert }
-    ensures told { D.told desk.new ≡ D.told desk.old }
-    ensures counts { CountsStep result (D.counts desk.old) (D.counts desk.new) }
-{
-    let judged = judged_case(alloc, asking.inquiry, case)?;
-    answer_to_certificate(alloc, desk, asking, files, &judged)
-}
-
 // The answer to the input files that were read, and to the certificate, which is read only where they give a case.
 fn answer_to_files<D: Desk>(
     alloc: Global,
@@ -102,13 +65,8 @@ fn answer_to_files<D: Desk>(
     ensures told { D.told desk.new ≡ D.told desk.old }
     ensures counts { CountsStep result (D.counts desk.old) (D.counts desk.new) }
 {
-    match read_case(
-        alloc,
-        files.issue.as_slice(),
-        files.rates.as_slice(),
-        files.prices.as_slice(),
-    ) {
-        Ok(case) => answer_to_case(alloc, desk, asking, files, case),
+    match judged_case(alloc, asking.inquiry, files) {
+        Ok(case) => answer_to_certificate(alloc, desk, asking, files, &case),
         Err(CaseError::Refused(refusal)) => Ok(refused(alloc, &refusal)?),
         Err(CaseError::NoMemory) => Err(Stop::NoMemory),
     }

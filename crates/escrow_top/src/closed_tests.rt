@@ -22,6 +22,7 @@ const NEXT_DAY: Files = Files {
     issue: b"settle,2025-01-15\nneed,2025-01-18,1020.00\nrestricted,29.99\nallowance,100\nclosed,2025-01-17\nclosed,2025-01-16\n",
     rates: b"",
     prices: b"terms,1000,1000\nnote,2025-01-16,4.000,100,2000\n",
+    held: b"",
     cert: b"escrow-certificate 1\nportfolio 1\nbuy 1 1\ngap 5000\nnodes 1\nl 1 0 980392156862\nend\n",
 };
 

@@ -1,11 +1,10 @@
 //! The words of a command line.
 
-ghost use Rattle.std.specs.Prelude.{◌≡◌, map, string_bytes, MatchOption, None, Some};
+ghost use Rattle.std.specs.Prelude.{◌≡◌, ◌∷◌, [], map, string_bytes, MatchOption};
 ghost use Rattle.escrow_top.specs.Command.{IsCommand};
 ghost use Rattle.escrow_top.specs.Ending.{IsNoCommand};
 ghost use Rattle.escrow_top.specs.MakeWords.{number_of_word};
-ghost use Rattle.escrow_top.specs.Answer.{asks_at_cap, cap_of as cap_of_rate, check_cap_words};
-ghost use Rattle.escrow_top.specs.Reading.{asking_view};
+ghost use Rattle.escrow_top.specs.Answer.{cap_of as cap_of_rate};
 ghost use Rattle.escrow_units.specs.NumberText.{rate_of};
 
 use crate::files::FileNames;
@@ -17,11 +16,11 @@ use itoa::Buffer;
 /// What the words of a command line ask for.
 #[derive(Clone, Copy)]
 pub(crate) enum Command<'a> {
-    /// `structure`, of the files of these names.
+    /// `structure`, or `structure-held` where holdings are named, of the files of these names.
     Structure(FileNames<'a>),
     /// `cap`, of the files of these names.
     Cap(FileNames<'a>),
-    /// `check`, `savings`, `roll` or `check-cap`, of the files of these names.
+    /// `check`, `savings`, `roll`, `check-held` or `check-cap`, of the files of these names.
     Ask(Asking<'a>),
     /// `make`, of the case of a number, in files of these names.
     Make(Making<'a>),
@@ -48,28 +47,90 @@ fn cap_of(word: &str) -> Option<Rate>
     if rate.0 % 10 == 0 { Some(rate) } else { None }
 }
 
-// What words ask, if they are those of `check-cap`.
-fn asking_at_cap(words: &[String]) -> Option<Asking<'_>>
-    ensures { MatchOption result (check_cap_words (map string_bytes words.now) ≡ None)
-        (λ asking. asks_at_cap (check_cap_words (map string_bytes words.now)) ≡ Some (asking_view asking)) }
+// What the words of files ask for behind a first word, where five words stand.
+fn command_of_five<'a>(
+    word: &str,
+    first: &'a str,
+    second: &'a str,
+    third: &'a str,
+    last: &'a str,
+) -> Option<Command<'a>>
+    ensures { MatchOption result (IsNoCommand (word.now ∷ first.now ∷ second.now ∷ third.now ∷ last.now ∷ []))
+        (λ command. IsCommand command (word.now ∷ first.now ∷ second.now ∷ third.now ∷ last.now ∷ [])) }
 {
-    let [word, cap, issue, rates, prices, cert] = words else {
-        return None;
-    };
-    if word.as_str() != "check-cap" {
-        return None;
+    if word == "make" {
+        let number = number_of(first)?;
+        let names = MadeNames {
+            issue: second,
+            rates: third,
+            prices: last,
+        };
+        return Some(Command::Make(Making { number, names }));
     }
-    let cap = cap_of(cap.as_str())?;
     let names = FileNames {
-        issue: issue.as_str(),
-        rates: rates.as_str(),
-        prices: prices.as_str(),
-        cert: cert.as_str(),
+        issue: first,
+        rates: second,
+        prices: third,
+        held: None,
+        cert: last,
     };
-    Some(Asking {
-        inquiry: Inquiry::AtCap(cap),
-        names,
-    })
+    if word == "structure" {
+        return Some(Command::Structure(names));
+    }
+    if word == "cap" {
+        return Some(Command::Cap(names));
+    }
+    let inquiry = if word == "check" {
+        Inquiry::Check
+    } else if word == "savings" {
+        Inquiry::Savings
+    } else if word == "roll" {
+        Inquiry::Roll
+    } else {
+        return None;
+    };
+    Some(Command::Ask(Asking { inquiry, names }))
+}
+
+// The same where six words stand: with a cap, or with holdings.
+fn command_of_six<'a>(
+    word: &str,
+    first: &'a str,
+    second: &'a str,
+    third: &'a str,
+    fourth: &'a str,
+    last: &'a str,
+) -> Option<Command<'a>>
+    ensures { MatchOption result (IsNoCommand (word.now ∷ first.now ∷ second.now ∷ third.now ∷ fourth.now ∷ last.now ∷ []))
+        (λ command. IsCommand command (word.now ∷ first.now ∷ second.now ∷ third.now ∷ fourth.now ∷ last.now ∷ [])) }
+{
+    if word == "check-cap" {
+        let cap = cap_of(first)?;
+        let names = FileNames {
+            issue: second,
+            rates: third,
+            prices: fourth,
+            held: None,
+            cert: last,
+        };
+        let inquiry = Inquiry::AtCap(cap);
+        return Some(Command::Ask(Asking { inquiry, names }));
+    }
+    let names = FileNames {
+        issue: first,
+        rates: second,
+        prices: third,
+        held: Some(fourth),
+        cert: last,
+    };
+    if word == "structure-held" {
+        return Some(Command::Structure(names));
+    }
+    if word == "check-held" {
+        let inquiry = Inquiry::Held;
+        return Some(Command::Ask(Asking { inquiry, names }));
+    }
+    None
 }
 
 /// The command of words, which are read by their places; None where they are no command.
@@ -77,50 +138,22 @@ pub(crate) fn command_of(words: &[String]) -> Option<Command<'_>>
     ensures { MatchOption result (IsNoCommand (map string_bytes words.now))
         (λ command. IsCommand command (map string_bytes words.now)) }
 {
-    if let Some(asking) = asking_at_cap(words) {
-        return Some(Command::Ask(asking));
+    match words {
+        [word, first, second, third, last] => command_of_five(
+            word.as_str(),
+            first.as_str(),
+            second.as_str(),
+            third.as_str(),
+            last.as_str(),
+        ),
+        [word, first, second, third, fourth, last] => command_of_six(
+            word.as_str(),
+            first.as_str(),
+            second.as_str(),
+            third.as_str(),
+            fourth.as_str(),
+            last.as_str(),
+        ),
+        _ => None,
     }
-    let [word, first, second, third, last] = words else {
-        return None;
-    };
-    if word.as_str() == "make" {
-        let number = number_of(first.as_str())?;
-        let names = MadeNames {
-            issue: second.as_str(),
-            rates: third.as_str(),
-            prices: last.as_str(),
-        };
-        return Some(Command::Make(Making { number, names }));
-    }
-    let names = FileNames {
-        issue: first.as_str(),
-        rates: second.as_str(),
-        prices: third.as_str(),
-        cert: last.as_str(),
-    };
-    if word.as_str() == "structure" {
-        return Some(Command::Structure(names));
-    }
-    if word.as_str() == "cap" {
-        return Some(Command::Cap(names));
-    }
-    if word.as_str() == "check" {
-        return Some(Command::Ask(Asking {
-            inquiry: Inquiry::Check,
-            names,
-        }));
-    }
-    if word.as_str() == "savings" {
-        return Some(Command::Ask(Asking {
-            inquiry: Inquiry::Savings,
-            names,
-        }));
-    }
-    if word.as_str() == "roll" {
-        return Some(Command::Ask(Asking {
-            inquiry: Inquiry::Roll,
-            names,
-        }));
-    }
-    None
 }

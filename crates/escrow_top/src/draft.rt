@@ -1,4 +1,4 @@
-//! What `structure` is about to put out.
+//! What `structure` and `structure-held` are about to put out.
 
 use crate::answer::Answer;
 
@@ -7,8 +7,17 @@ use crate::answer::Answer;
 pub(crate) struct Texts {
     /// The certificate.
     pub cert: Vec<u8>,
-    /// What is said: the report of a portfolio, or that there is no rival.
+    /// What is said: of a portfolio that was found, or that there is no rival.
     pub said: Vec<u8>,
+}
+
+/// What is said of a portfolio that was found.
+#[derive(Clone, Copy)]
+pub(crate) enum Telling {
+    /// Its report.
+    Report,
+    /// Its summary.
+    Summary,
 }
 
 /// What `structure` is about to put out. All its texts are built before anything is written.

@@ -1,29 +1,33 @@
 //! The input files.
 
-ghost use Rattle.std.specs.Prelude.{◌≡◌, ◌≤◌, IfOk, IfSome, IsErrOf, MatchResult, length};
+ghost use Rattle.std.specs.Prelude.{◌≡◌, ◌≤◌, IfOk, IsErrOf, MatchResult, length, option_map};
 ghost use Rattle.escrow_desk.specs.Content.{IsAbsent};
-ghost use Rattle.escrow_top.specs.Reading.{AreFound, IsRead, KeepToLimits, KeepsTo, LacksInput, names_view};
+ghost use Rattle.escrow_top.specs.Reading.{AreFound, AreHoldingsRead, IsRead, KeepHoldings, KeepToLimits, KeepsTo, LackHoldings, LacksInput, names_view};
 ghost use Rattle.escrow_top.specs.Stopping.{CountsStep};
 
 use crate::stop::Stop;
 use escrow_desk::{Desk, FILE_LIMIT, FileKind, ReadRefusal, read_all};
 use std::alloc::Global;
 
-/// The names of the four files of `check`.
+/// The names of the files of `check`.
 #[derive(Clone, Copy)]
 pub(crate) struct FileNames<'a> {
     pub issue: &'a str,
     pub rates: &'a str,
     pub prices: &'a str,
+    /// What the escrow holds already, where that is given.
+    pub held: Option<&'a str>,
     pub cert: &'a str,
 }
 
-/// The bytes of the three input files.
+/// The bytes of the input files.
 #[derive(Drop)]
 pub(crate) struct InputFiles {
     pub issue: Vec<u8>,
     pub rates: Vec<u8>,
     pub prices: Vec<u8>,
+    /// What the escrow holds already, where that is given.
+    pub held: Option<Vec<u8>>,
 }
 
 /// What was read of a file.
@@ -38,7 +42,7 @@ pub(crate) enum FileText {
 /// What was read of the input files.
 #[derive(Drop)]
 pub(crate) enum Inputs {
-    /// All three.
+    /// All of them.
     Within(InputFiles),
     /// This is the first that has more bytes than its limit.
     TooLong(FileKind),
@@ -66,8 +70,34 @@ pub(crate) fn read_file<D: Desk>(
     }
 }
 
-/// The three input files, read in their order; or the first that has more bytes than its limit, after which none is
-/// read. No content changes.
+// What was read of the holdings.
+#[derive(Drop)]
+enum HeldText {
+    // All their bytes, at most as many as the limit, where they are given.
+    Within(Option<Vec<u8>>),
+    // They have more bytes than the limit.
+    TooLong,
+}
+
+// The holdings, where they are given. No content changes.
+fn read_holdings<D: Desk>(alloc: Global, desk: &mut D, name: Option<&str>) -> Result<HeldText, Stop>
+    ensures read { IfOk result (λ text. AreHoldingsRead (D.told desk.old) (option_map (λ own. own.now) name.entry) text) }
+    ensures within { IfOk result KeepHoldings }
+    ensures absent { IsErrOf result Stop.NoFile → LackHoldings (D.told desk.old) (option_map (λ own. own.now) name.entry) }
+    ensures told { D.told desk.new ≡ D.told desk.old }
+    ensures counts { CountsStep result (D.counts desk.old) (D.counts desk.new) }
+{
+    let Some(name) = name else {
+        return Ok(HeldText::Within(None));
+    };
+    match read_file(alloc, desk, name, FILE_LIMIT)? {
+        FileText::Within(bytes) => Ok(HeldText::Within(Some(bytes))),
+        FileText::TooLong => Ok(HeldText::TooLong),
+    }
+}
+
+/// The input files, read in their order; or the first that has more bytes than its limit, after which none is read. No
+/// content changes.
 pub(crate) fn read_inputs<D: Desk>(
     alloc: Global,
     desk: &mut D,
@@ -88,9 +118,13 @@ pub(crate) fn read_inputs<D: Desk>(
     let FileText::Within(prices) = read_file(alloc, desk, names.prices, FILE_LIMIT)? else {
         return Ok(Inputs::TooLong(FileKind::Prices));
     };
+    let HeldText::Within(held) = read_holdings(alloc, desk, names.held)? else {
+        return Ok(Inputs::TooLong(FileKind::Held));
+    };
     Ok(Inputs::Within(InputFiles {
         issue,
         rates,
         prices,
+        held,
     }))
 }

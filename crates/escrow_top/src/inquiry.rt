@@ -12,6 +12,8 @@ pub(crate) enum Inquiry {
     Savings,
     /// `roll`: its rolls, and what it yields without them and with them.
     Roll,
+    /// `check-held`: the summary of its portfolio, for the case with what the escrow holds already.
+    Held,
     /// `check-cap`: the summary of its portfolio, for the case at this cap on the SLGS rates.
     AtCap(Rate),
 }

@@ -9,6 +9,7 @@ mod draft;
 mod files;
 mod hearing;
 mod inquiry;
+mod judging;
 mod laws;
 mod making;
 mod program;
@@ -32,6 +33,8 @@ mod cap_tests;
 mod closed_tests;
 #[cfg(test)]
 mod failing_tests;
+#[cfg(test)]
+mod holding_tests;
 #[cfg(test)]
 mod limit_tests;
 #[cfg(test)]

@@ -16,10 +16,11 @@ ghost use Rattle.escrow_top.specs.Stopping.{is_structured};
 
 use crate::answer::{Answer, budget_spent, infeasible, none_within, push_nodes, refused};
 use crate::files::InputFiles;
+use crate::judging::given_case;
 use crate::status::Status;
 use bound_certificate::Nodes;
 use branch_search::{Found, SearchEnd, search};
-use case_file::{Case, read_case};
+use case_file::Case;
 use case_maker::make;
 use escrow_desk::{CaseError, NoMemory};
 use escrow_units::Cents;
@@ -137,12 +138,7 @@ fn answer_of_files(alloc: Global, number: u64, files: &InputFiles) -> Result<Ans
     ensures accepted_none { IfOk result (λ answer. answer.status ≡ Status.NoneWithinYield → HasAcceptedText (files_view files.now)) }
     ensures plain { IfOk result (λ answer. IfOk (case_of (files_view files.now)) (SettlesPlain answer.status)) }
 {
-    match read_case(
-        alloc,
-        files.issue.as_slice(),
-        files.rates.as_slice(),
-        files.prices.as_slice(),
-    ) {
+    match given_case(alloc, files) {
         Ok(case) => answer_of_case(alloc, number, &case),
         Err(CaseError::Refused(refusal)) => refused(alloc, &refusal),
         Err(CaseError::NoMemory) => Err(NoMemory),
@@ -163,6 +159,7 @@ pub(crate) fn made(alloc: Global, number: u64) -> Result<MadeDraft, NoMemory>
         issue: made.issue,
         rates: made.rates,
         prices: made.prices,
+        held: None,
     };
     let answer = answer_of_files(alloc, number, &files)?;
     Ok(MadeDraft { files, answer })

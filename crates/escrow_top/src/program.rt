@@ -3,13 +3,13 @@
 ghost use Rattle.std.specs.Prelude.{◌≡◌, ◌≢◌, ◌↔◌, map, string_bytes, IfSome, IsTrue, OnErr, OnOk};
 ghost use Rattle.escrow_desk.specs.Content.{SaidAll, SaidPart, told_map};
 ghost use Rattle.escrow_desk.specs.Counts.{AllSteady, CountsWrite};
-ghost use Rattle.escrow_top.specs.Ending.{Answers, AnswersPart, AskedAnswers, AskedAnswersPart, IsAccepted, IsAcceptedAtCap, IsAnswerTo, IsCapped, IsNoCommand, IsNotAccepted, IsRolled, IsSaved, LacksFile, MeansNo, MeansYes, OfFiles, OfNamedFiles, SaidOfFiles, WroteCertificate, is_checked};
+ghost use Rattle.escrow_top.specs.Ending.{Answers, AnswersPart, AskedAnswers, AskedAnswersPart, IsAccepted, IsAcceptedAtCap, IsAcceptedHolding, IsAnswerTo, IsCapped, IsNoCommand, IsNotAccepted, IsRolled, IsSaved, LacksFile, MeansNo, MeansYes, OfFiles, OfNamedFiles, SaidOfFiles, WroteCertificate, is_checked};
 ghost use Rattle.escrow_top.specs.Accepted.{YesExactly};
 ghost use Rattle.escrow_top.specs.Answer.{asking_of, cap_names, structure_names};
 ghost use Rattle.escrow_top.specs.Capped.{SaysNoCap, WroteCapped};
 ghost use Rattle.escrow_top.specs.Capping.{Caps, CapsPart, IsCapEnded, PutsOutCap, PutsOutCapPart};
 ghost use Rattle.escrow_top.specs.Structure.{IsStructuredDraft, PutsOut, PutsOutPart, Structures, StructuresPart, WroteAccepted, WroteAndSaid, WroteOrSaidPart};
-ghost use Rattle.escrow_top.specs.Settling.{OfCase, SaysReach, SettlesCovered, SettlesPlain};
+ghost use Rattle.escrow_top.specs.Settling.{OfCase, OfSearched, SaysReach, SettlesCovered, SettlesPlain};
 ghost use Rattle.escrow_top.specs.MakeWords.{make_words};
 ghost use Rattle.escrow_top.specs.Making.{HasAcceptedText, Makes, MakesPart, OfMadeCase, WroteFilesAndSaid, WroteFilesOrSaidPart, WroteSome, made_files, made_names_view, making_view, named_files, with_files};
 ghost use Rattle.escrow_top.specs.Reading.{LacksAsked, LacksInput, asking_view, files_view, names_view};
@@ -30,8 +30,9 @@ use std::alloc::Global;
 // The words of each command; those that came later stand at the end.
 const USAGE: &[u8] =
     b"usage: structure ISSUE RATES PRICES CERT | check ISSUE RATES PRICES CERT | make NUMBER ISSUE RATES PRICES \
-    | cap ISSUE RATES PRICES CERT | check-cap RATE ISSUE RATES PRICES CERT | savings ISSUE RATES PRICES CERT \
-    | roll ISSUE RATES PRICES CERT\n";
+    | cap ISSUE RATES PRICES CERT | check-cap RATE ISSUE RATES PRICES CERT | roll ISSUE RATES PRICES CERT \
+    | structure-held ISSUE RATES PRICES HELD CERT | check-held ISSUE RATES PRICES HELD CERT \
+    | savings ISSUE RATES PRICES CERT\n";
 
 // Says the text of a status that was reached, and answers the status; `WriteFault` where a call of the desk failed.
 fn say_answer<D: Desk>(desk: &mut D, status: Status, text: &[u8]) -> Status
@@ -114,7 +115,7 @@ fn put_out_cap<D: Desk>(desk: &mut D, name: &str, draft: &CapDraft) -> Status
     }
 }
 
-// Carries `structure` out on the files of these names.
+// Carries `structure`, or beside holdings `structure-held`, out on the files of these names.
 fn run_structure<D: Desk>(alloc: Global, names: &FileNames<'_>, desk: &mut D) -> Status
     ensures answers { IsTrue (is_reached result) → Structures (D.told desk.old) (names_view names.now) result (D.told desk.new) }
     ensures part { result ≡ Status.WriteFault → StructuresPart (D.told desk.old) (names_view names.now) (D.told desk.new) }
@@ -122,9 +123,9 @@ fn run_structure<D: Desk>(alloc: Global, names: &FileNames<'_>, desk: &mut D) ->
     ensures structured { IsTrue (is_reached result) → IsTrue (is_structured result) }
     ensures wrote { result ≡ Status.Done → WroteAccepted (D.told desk.old) (D.told desk.new) (names_view names.now) }
     ensures wrote_none { result ≡ Status.NoneWithinYield → WroteAccepted (D.told desk.old) (D.told desk.new) (names_view names.now) }
-    ensures plain { IsTrue (is_reached result) → OfCase (SettlesPlain result) (D.told desk.old) (names_view names.now) }
-    ensures covered { IsTrue (is_reached result) → OfCase (SettlesCovered result) (D.told desk.old) (names_view names.now) }
-    ensures reach { IsTrue (is_reached result) → OfCase (SaysReach result) (D.told desk.old) (names_view names.now) }
+    ensures plain { IsTrue (is_reached result) → OfSearched (SettlesPlain result) (D.told desk.old) (names_view names.now) }
+    ensures covered { IsTrue (is_reached result) → OfSearched (SettlesCovered result) (D.told desk.old) (names_view names.now) }
+    ensures reach { IsTrue (is_reached result) → OfSearched (SaysReach result) (D.told desk.old) (names_view names.now) }
     ensures counts { EndedAs result (D.counts desk.old) (D.counts desk.new) (D.told desk.old) (D.told desk.new) }
 {
     match structure(alloc, desk, names) {
@@ -212,24 +213,26 @@ fn run_make<D: Desk>(alloc: Global, making: &Making<'_>, desk: &mut D) -> Status
 /// at the next hundredth; or it says that none was found, and why. `make NUMBER ISSUE RATES PRICES` structures the made-up case of
 /// a number from 0 to 2^64 - 1, written in decimal digits without a leading zero; it writes the three files of the case, in this
 /// order, and then says the number, the summary of what was found and how many nodes the tree has, or what `structure` says where
-/// it finds no portfolio. All other words are `Usage`.
+/// it finds no portfolio. `check-held ISSUE RATES PRICES HELD CERT` and `structure-held ISSUE RATES PRICES HELD CERT` do as `check` and
+/// `structure`, of the case beside what the escrow holds already, whose needs are what these holdings leave; the latter says the
+/// summary in place of the report. All other words are `Usage`.
 ///
-/// It returns for all words and every desk. It writes no file but the certificate of `structure` or `cap` and the files of
+/// It returns for all words and every desk. It writes no file but the certificate of `structure`, `structure-held` or `cap` and the files of
 /// `make`, and all texts are built before. The texts are this project's own.
 pub fn run<D: Desk>(alloc: Global, words: &[String], desk: &mut D) -> Status
     // Where the run wasn't cut off, the status and what was said are the answer to the words over the desk's content.
     ensures answers { IsTrue (is_reached result) → Answers (D.told desk.old) (map string_bytes words.now) result (D.told desk.new) }
     // What `yes` means, of the bytes of the four files.
     ensures yes { result ≡ Status.Done → IsAccepted (D.told desk.old) (map string_bytes words.now) (D.told desk.new) }
-    // `structure` writes only certificates that `check` accepts.
+    // `structure` writes only certificates that `check` accepts, and `structure-held` those that `check-held` accepts.
     ensures wrote { result ≡ Status.Done → WroteCertificate (D.told desk.old) (D.told desk.new) (map string_bytes words.now) }
     ensures wrote_none { result ≡ Status.NoneWithinYield → WroteCertificate (D.told desk.old) (D.told desk.new) (map string_bytes words.now) }
     // On a plain case, whose issue allows at least its gap, it writes one with a portfolio.
-    ensures plain { IsTrue (is_reached result) → IfSome (structure_names (map string_bytes words.now)) (OfCase (SettlesPlain result) (D.told desk.old)) }
+    ensures plain { IsTrue (is_reached result) → IfSome (structure_names (map string_bytes words.now)) (OfSearched (SettlesPlain result) (D.told desk.old)) }
     // Where the budget covers the halving tree, or all permitted portfolios twice, it writes one, with a portfolio or without.
-    ensures covered { IsTrue (is_reached result) → IfSome (structure_names (map string_bytes words.now)) (OfCase (SettlesCovered result) (D.told desk.old)) }
+    ensures covered { IsTrue (is_reached result) → IfSome (structure_names (map string_bytes words.now)) (OfSearched (SettlesCovered result) (D.told desk.old)) }
     // `infeasible` comes exactly where no permitted portfolio meets the needs.
-    ensures reach { IsTrue (is_reached result) → IfSome (structure_names (map string_bytes words.now)) (OfCase (SaysReach result) (D.told desk.old)) }
+    ensures reach { IsTrue (is_reached result) → IfSome (structure_names (map string_bytes words.now)) (OfSearched (SaysReach result) (D.told desk.old)) }
     // What `cap` means where it writes a certificate: by how much the rates are lowered, and why by no less.
     ensures capped { result ≡ Status.Done → IsCapped (D.told desk.old) (map string_bytes words.now) (D.told desk.new) }
     // And what it means where it writes none: nothing was found for the case at cap 0, nor for the case itself, and why.
@@ -248,6 +251,9 @@ pub fn run<D: Desk>(alloc: Global, words: &[String], desk: &mut D) -> Status
     // What `roll` means by its lines, of the bytes of the four files: they are accepted, and these are the rolls, which leave the
     // needs met and the yield no higher.
     ensures rolled { result ≡ Status.Done → IsRolled (D.told desk.old) (map string_bytes words.now) (D.told desk.new) }
+    // What `yes` means to `check-held`, of the case beside the holdings: with them the needs are met, and no held rival costs less by more
+    // than the gap.
+    ensures yes_beside { result ≡ Status.Done → IsAcceptedHolding (D.told desk.old) (map string_bytes words.now) (D.told desk.new) }
     // What `yes` means to `check-cap`, of the case of the files at the cap.
     ensures yes_at_cap { result ≡ Status.Done → IsAcceptedAtCap (D.told desk.old) (map string_bytes words.now) (D.told desk.new) }
     // They end as `Done` exactly where no reason stands.

@@ -1,4 +1,4 @@
-//! `structure`, from the names of its files to what it is about to put out.
+//! `structure` and `structure-held`, from the names of its files to what it is about to put out.
 
 ghost use Rattle.std.specs.Prelude.{◌≡◌, IfOk, IsErrOf};
 ghost use Rattle.case_file.specs.Case.{HasTerms, case_view};
@@ -6,37 +6,62 @@ ghost use Rattle.branch_search.specs.Plain.{IsPlainWithin};
 ghost use Rattle.branch_search.specs.Search.{EndsOf, IsFound, IsFoundBy, IsNoneFound};
 ghost use Rattle.branch_search.specs.declared.found.SearchEnd.TheVariants.{NoMemory as OutOfMemory};
 ghost use Rattle.offer_book.specs.Book.{IsBook};
-ghost use Rattle.escrow_top.specs.Answer.{case_of};
+ghost use Rattle.escrow_top.specs.Answer.{searched_of};
 ghost use Rattle.escrow_top.specs.CaseOf.{AreWithin};
 ghost use Rattle.escrow_top.specs.Reading.{LacksInput, files_view, names_view};
-ghost use Rattle.escrow_top.specs.Structure.{AreNoneTexts, AreTexts, FindsPlain, FindsPlainFor, IsAcceptedDraft, IsAcceptedFor, IsDraft, IsDraftFor, IsDraftOf, IsFoundDraft, IsStructuredDraft};
+ghost use Rattle.escrow_top.specs.Structure.{AreNoneTexts, AreTexts, FindsPlain, FindsPlainFor, IsAcceptedDraft, IsAcceptedFor, IsDraft, IsDraftFor, IsDraftOf, IsFoundDraft, IsStructuredDraft, told_text as told_text_of, telling_for as telling_of};
 ghost use Rattle.escrow_top.specs.Stopping.{CountsStep};
 
 use crate::answer::{budget_spent, infeasible, none_within, refused, too_long};
-use crate::draft::{Draft, Texts};
+use crate::draft::{Draft, Telling, Texts};
 use crate::files::{FileNames, InputFiles, Inputs, read_inputs};
+use crate::inquiry::Inquiry;
+use crate::judging::judged_case;
 use crate::stop::Stop;
 use bound_certificate::{Certificate, Nodes, write_cert};
 use branch_search::{Found, SearchEnd, search};
-use case_file::{Case, read_case};
+use case_file::Case;
 use escrow_desk::{CaseError, Desk, NoMemory};
 use escrow_units::Cents;
 use halving_tree::halving_laws;
 use std::alloc::Global;
-use verification_report::report;
+use verification_report::{report, summary};
 
-// The texts of a portfolio that was found for a case: its certificate and its report.
-fn texts_of(alloc: Global, case: &Case, found: Found) -> Result<Texts, NoMemory>
+// What is said of a portfolio that is found: beside holdings its summary, and else its report.
+fn telling_for(files: &InputFiles) -> Telling
+    ensures { result ≡ telling_of (files_view files.now).held }
+{
+    match &files.held {
+        None => Telling::Report,
+        Some(_) => Telling::Summary,
+    }
+}
+
+// What is said of a portfolio that was found for a case.
+fn told_text(alloc: Global, tells: Telling, case: &Case, found: &Found) -> Result<Vec<u8>, NoMemory>
+    requires book { IsBook case.now.book }
+    requires terms { HasTerms (case_view case.now) }
+    requires found { IsFound (case_view case.now) found.now.plan found.now.tree found.now.gap }
+    ensures { IfOk result (λ text. text.items ≡ told_text_of tells (case_view case.now) found.now.plan found.now.gap) }
+{
+    match tells {
+        Telling::Report => report(alloc, case, &found.plan, Cents(found.gap)),
+        Telling::Summary => summary(alloc, case, &found.plan, Cents(found.gap)),
+    }
+}
+
+// The texts of a portfolio that was found for a case: its certificate, and what is said of it.
+fn texts_of(alloc: Global, tells: Telling, case: &Case, found: Found) -> Result<Texts, NoMemory>
     requires book { IsBook case.now.book }
     requires terms { HasTerms (case_view case.now) }
     requires found { IsFound (case_view case.now) found.plan found.tree found.gap }
     requires found_by { IsFoundBy (case_view case.now) found.plan found.tree }
-    ensures { IfOk result (λ texts. AreTexts (case_view case.now) texts.cert.items texts.said.items) }
+    ensures { IfOk result (λ texts. AreTexts tells (case_view case.now) texts.cert.items texts.said.items) }
 {
-    let report = report(alloc, case, &found.plan, Cents(found.gap))?;
+    let said = told_text(alloc, tells, case, &found)?;
     let certificate = found.into_certificate(alloc, &case.book)?;
     let cert = write_cert(alloc, &certificate)?;
-    Ok(Texts { cert, said: report })
+    Ok(Texts { cert, said })
 }
 
 // The texts of a tree which shows that there is no rival: its certificate, and how many nodes it has.
@@ -57,11 +82,16 @@ fn none_texts(alloc: Global, case: &Case, nodes: Nodes) -> Result<Texts, NoMemor
 }
 
 // What is put out where a search found no portfolio.
-fn draft_of_end(alloc: Global, case: &Case, ended: SearchEnd) -> Result<Draft, NoMemory>
+fn draft_of_end(
+    alloc: Global,
+    tells: Telling,
+    case: &Case,
+    ended: SearchEnd,
+) -> Result<Draft, NoMemory>
     requires book { IsBook case.now.book }
     requires terms { HasTerms (case_view case.now) }
     requires ended { EndsOf (case_view case.now) ended }
-    ensures draft { IfOk result (IsDraftOf (case_view case.now)) }
+    ensures draft { IfOk result (IsDraftOf tells (case_view case.now)) }
     ensures status { IfOk result IsStructuredDraft }
     ensures memory { ended ≡ OutOfMemory → IfOk result IsFoundDraft }
 {
@@ -79,40 +109,36 @@ fn draft_of_end(alloc: Global, case: &Case, ended: SearchEnd) -> Result<Draft, N
 
 // What is put out for a case. It isn't inlined: the tables of the search would stand on the stack while rows are read.
 #[inline(never)]
-fn draft_of_case(alloc: Global, case: &Case) -> Result<Draft, NoMemory>
+fn draft_of_case(alloc: Global, tells: Telling, case: &Case) -> Result<Draft, NoMemory>
     requires book { IsBook case.now.book }
     requires terms { HasTerms (case_view case.now) }
-    ensures draft { IfOk result (IsDraftOf (case_view case.now)) }
+    ensures draft { IfOk result (IsDraftOf tells (case_view case.now)) }
     ensures plain { IsPlainWithin (case_view case.now) → IfOk result IsFoundDraft }
     ensures status { IfOk result IsStructuredDraft }
 {
     match search(alloc, &case.book, case.limit, case.allowance, case.budget) {
-        Ok(found) => Ok(Draft::Found(texts_of(alloc, case, found)?)),
-        Err(ended) => draft_of_end(alloc, case, ended),
+        Ok(found) => Ok(Draft::Found(texts_of(alloc, tells, case, found)?)),
+        Err(ended) => draft_of_end(alloc, tells, case, ended),
     }
 }
 
 // What is put out for the input files that were read.
 fn draft_of_files(alloc: Global, files: &InputFiles) -> Result<Draft, NoMemory>
     requires { AreWithin (files_view files.now) }
-    ensures draft { IfOk result (IsDraft (case_of (files_view files.now))) }
+    ensures draft { IfOk result (IsDraft (telling_of (files_view files.now).held) (searched_of (files_view files.now))) }
     ensures accepted { IfOk result (IsAcceptedDraft (files_view files.now)) }
-    ensures plain { IfOk result (FindsPlain (case_of (files_view files.now))) }
+    ensures plain { IfOk result (FindsPlain (searched_of (files_view files.now))) }
     ensures status { IfOk result IsStructuredDraft }
 {
-    match read_case(
-        alloc,
-        files.issue.as_slice(),
-        files.rates.as_slice(),
-        files.prices.as_slice(),
-    ) {
-        Ok(case) => draft_of_case(alloc, &case),
+    // Beside the holdings, where they are given.
+    match judged_case(alloc, Inquiry::Held, files) {
+        Ok(case) => draft_of_case(alloc, telling_for(files), &case),
         Err(CaseError::Refused(refusal)) => Ok(Draft::Said(refused(alloc, &refusal)?)),
         Err(CaseError::NoMemory) => Err(NoMemory),
     }
 }
 
-/// What `structure` is about to put out for the input files of these names, which are read in their order. No content changes.
+/// What `structure`, or beside holdings `structure-held`, is about to put out for the input files of these names, which are read in their order. No content changes.
 pub(crate) fn structure<D: Desk>(
     alloc: Global,
     desk: &mut D,

@@ -20,6 +20,7 @@ const PLAIN: Files = Files {
     issue: b"settle,2025-01-15\nneed,2025-07-15,1000000.00\nneed,2026-01-15,2000000.00\nrestricted,5.00\nallowance,2002.33\n",
     rates: b"terms,1000,1\nrate,2025-02-14,2026-01-15,4.00\noffer,2025-07-15,max,,10000000\noffer,2026-01-15,max,,10000000\n",
     prices: b"",
+    held: b"",
     cert: b"",
 };
 
@@ -28,6 +29,7 @@ const DEAR: Files = Files {
     issue: b"settle,2025-01-15\nneed,2025-07-15,2030.00\nrestricted,3.00\nbudget,100\n",
     rates: b"terms,1000,1000\nrate,2025-02-14,2026-01-15,4.00\noffer,2025-04-15,0.00,,3000\noffer,2025-07-15,4.00,,2000\n",
     prices: b"",
+    held: b"",
     cert: b"",
 };
 
@@ -36,6 +38,7 @@ const NONE_WITHIN: Files = Files {
     issue: b"settle,2025-01-15\nneed,2025-07-15,1000.00\nrestricted,3.00\n",
     rates: b"terms,1000,1000\nrate,2025-02-14,2026-01-15,4.00\noffer,2025-07-15,4.00,,2000\n",
     prices: b"",
+    held: b"",
     cert: b"x",
 };
 
@@ -44,6 +47,7 @@ const WHOLE_DOLLARS: Files = Files {
     issue: b"settle,2025-01-15\nneed,2026-01-15,1041.03\nrestricted,5.00\nbudget,3\n",
     rates: b"terms,1000,1\nrate,2025-02-14,2026-01-15,4.00\noffer,2026-01-15,max,,10000\n",
     prices: b"",
+    held: b"",
     cert: b"x",
 };
 
@@ -75,6 +79,7 @@ fn structured_cases(rt: HostRuntime) -> Result<(), Fail> {
                 issue: b"settle,2025-01-15\ncash,50.00\nneed,2025-01-20,100.00\nrestricted,4.00\n",
                 rates: b"",
                 prices: b"",
+                held: b"",
                 cert: b"x",
             },
             Status::Infeasible,

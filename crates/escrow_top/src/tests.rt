@@ -8,12 +8,13 @@ use std::alloc::Global;
 use std::process::Abort;
 use std::test::Fail;
 
-/// The bytes of the four files.
+/// The bytes of the files.
 #[derive(Clone, Copy)]
 pub(crate) struct Files {
     pub issue: &'static [u8],
     pub rates: &'static [u8],
     pub prices: &'static [u8],
+    pub held: &'static [u8],
     pub cert: &'static [u8],
 }
 
@@ -22,6 +23,7 @@ pub(crate) const FIRST: Files = Files {
     issue: b"settle,2025-01-15\nneed,2025-04-15,5000.00\nrestricted,4.00\n",
     rates: b"terms,1000,100\noffer,2025-04-15,0.00,,10000\n",
     prices: b"",
+    held: b"",
     cert: b"escrow-certificate 1\nportfolio 1\nbuy 1 50\ngap 0\nnodes 1\nl 1 0 1000000000000\nend\n",
 };
 
@@ -30,6 +32,7 @@ pub(crate) const NO_RIVAL: Files = Files {
     issue: b"settle,2025-01-15\nneed,2025-07-15,1000.00\nrestricted,3.00\n",
     rates: b"terms,1000,1000\nrate,2025-02-14,2026-01-15,4.00\noffer,2025-07-15,4.00,,2000\n",
     prices: b"",
+    held: b"",
     cert: b"escrow-certificate 1\nportfolio none\ngap 0\nnodes 1\nl 0 1000000000000 2000000000\nend\n",
 };
 
@@ -42,6 +45,7 @@ const SECOND: Files = Files {
     issue: b"settle,2025-01-15\nneed,2025-04-15,3000.00\nneed,2025-07-15,2500.00\nrestricted,4.00\n",
     rates: b"terms,1000,100\noffer,2025-04-15,0.00,,10000\noffer,2025-07-15,0.00,,5000\n",
     prices: b"",
+    held: b"",
     cert: b"escrow-certificate 1\nportfolio 2\nbuy 1 40\nbuy 2 15\ngap 0\nnodes 1\nl 1 0 1000000000000 1000000000000\nend\n",
 };
 
@@ -51,8 +55,9 @@ pub(crate) const CHECK: [&str; 5] = ["check", "i", "r", "p", "c"];
 /// What is said to words that are no command.
 pub(crate) const USAGE: &[u8] =
     b"usage: structure ISSUE RATES PRICES CERT | check ISSUE RATES PRICES CERT | make NUMBER ISSUE RATES PRICES \
-    | cap ISSUE RATES PRICES CERT | check-cap RATE ISSUE RATES PRICES CERT | savings ISSUE RATES PRICES CERT \
-    | roll ISSUE RATES PRICES CERT\n";
+    | cap ISSUE RATES PRICES CERT | check-cap RATE ISSUE RATES PRICES CERT | roll ISSUE RATES PRICES CERT \
+    | structure-held ISSUE RATES PRICES HELD CERT | check-held ISSUE RATES PRICES HELD CERT \
+    | savings ISSUE RATES PRICES CERT\n";
 
 /// A file of a name.
 pub(crate) fn named(alloc: Global, name: &str, bytes: &[u8]) -> Result<NamedBytes, Fail>
@@ -63,13 +68,14 @@ pub(crate) fn named(alloc: Global, name: &str, bytes: &[u8]) -> Result<NamedByte
     Ok(NamedBytes { name, bytes })
 }
 
-// A desk of the four files, of which one call fails.
+// A desk of the files, of which one call fails.
 fn desk_of(alloc: Global, files: &Files, failing: u64) -> Result<MemoryDesk, Fail> {
     let issue = named(alloc, "i", files.issue)?;
     let rates = named(alloc, "r", files.rates)?;
     let prices = named(alloc, "p", files.prices)?;
+    let held = named(alloc, "h", files.held)?;
     let cert = named(alloc, "c", files.cert)?;
-    let files = vec![in alloc; issue, rates, prices, cert]?;
+    let files = vec![in alloc; issue, rates, prices, held, cert]?;
     Ok(MemoryDesk::make(alloc, files, vec![in alloc; failing]?))
 }
 
@@ -80,7 +86,7 @@ pub(crate) struct Outcome {
     pub desk: MemoryDesk,
 }
 
-/// Runs words over a desk of the four files, of which one call fails.
+/// Runs words over a desk of the files, of which one call fails.
 pub(crate) fn outcome_of(
     alloc: Global,
     words: &[&str],
@@ -96,7 +102,7 @@ pub(crate) fn outcome_of(
     Ok(Outcome { status, desk })
 }
 
-/// What is answered to four files.
+/// What is answered to the files.
 #[derive(Clone, Copy)]
 pub(crate) struct Row {
     pub files: Files,
@@ -299,6 +305,7 @@ fn opening_cash_and_gaps(rt: HostRuntime) -> Result<(), Fail> {
                 issue: b"settle,2025-01-15\ncash,20.00\nneed,2025-01-15,10.00\nrestricted,4.00\n",
                 rates: b"",
                 prices: b"",
+                held: b"",
                 cert: b"escrow-certificate 1\nportfolio 1\nbuy 0 1000\ngap 0\nnodes 1\nl 1 0 1000000000000\nend\n",
             },
             status: Status::Done,
@@ -309,6 +316,7 @@ fn opening_cash_and_gaps(rt: HostRuntime) -> Result<(), Fail> {
                 issue: b"settle,2025-01-15\ncash,20.00\nneed,2025-01-15,10.00\nrestricted,4.00\n",
                 rates: b"",
                 prices: b"",
+                held: b"",
                 cert: b"escrow-certificate 1\nportfolio 1\nbuy 0 2001\ngap 0\nnodes 1\nl 1 0 1000000000000\nend\n",
             },
             status: Status::No,
@@ -472,6 +480,7 @@ pub(crate) const NOTE: Files = Files {
     issue: b"settle,2025-01-15\nneed,2025-07-15,102000.00\nrestricted,4.00\nallowance,0.01\n",
     rates: b"",
     prices: b"terms,1000,1000\nnote,2025-07-15,4.000,100,200000\n",
+    held: b"",
     cert: b"escrow-certificate 1\nportfolio 1\nbuy 1 100\ngap 1\nnodes 1\nl 1 0 980392156862\nend\n",
 };
 
@@ -480,6 +489,7 @@ const SPLIT: Files = Files {
     issue: b"settle,2025-01-15\nneed,2026-01-15,1041.03\nrestricted,5.00\n",
     rates: b"terms,1000,1\nrate,2025-02-14,2026-01-15,4.00\noffer,2026-01-15,max,,10000\n",
     prices: b"",
+    held: b"",
     cert: b"escrow-certificate 1\nportfolio 1\nbuy 1 1001\ngap 0\nnodes 3\ns 1 1000\nl 0 0 1000000000000\nl 1 0 0\nend\n",
 };
 
@@ -488,6 +498,7 @@ const POINTS: Files = Files {
     issue: b"settle,2025-01-15\ncash,0.02\nneed,2025-01-20,0.01\nrestricted,4.00\nallowance,0.01\n",
     rates: b"",
     prices: b"",
+    held: b"",
     cert: b"escrow-certificate 1\nportfolio 1\nbuy 0 2\ngap 1\nnodes 5\ns 0 0\np\ns 0 1\np\np\nend\n",
 };
 
@@ -636,6 +647,7 @@ fn order_of_refusals(rt: HostRuntime) -> Result<(), Fail> {
                 issue: b"settle,2025-01-15\nneed,x,1.00\n",
                 rates: b"offer\n",
                 prices: faulty_prices,
+                held: b"",
                 cert: b"",
             },
             status: Status::Refused,
@@ -684,6 +696,7 @@ fn order_of_refusals(rt: HostRuntime) -> Result<(), Fail> {
                 issue: computed,
                 rates: interest,
                 prices: NOTE.prices,
+                held: b"",
                 cert: b"",
             },
             status: Status::No,
@@ -749,7 +762,13 @@ fn limits_of_files(rt: HostRuntime) -> Result<(), Fail> {
 
 #[test]
 fn words_that_read_nothing(rt: HostRuntime) -> Result<(), Fail> {
-    let rows: [(&[&str], Status, &[u8]); 6] = [
+    let rows: [(&[&str], Status, &[u8]); 8] = [
+        (&["check-held", "a", "b", "c", "d"], Status::Usage, USAGE),
+        (
+            &["structure", "a", "b", "c", "d", "e"],
+            Status::Usage,
+            USAGE,
+        ),
         (&["check-cap", "3", "a", "b", "c"], Status::Usage, USAGE),
         (&[], Status::Usage, USAGE),
         (&["check", "a", "b"], Status::Usage, USAGE),

@@ -1,12 +1,9 @@
-use Rattle.std.proofs.Common.{◌∙◌}
 use Rattle.std.proofs.lemmas.Result.{IfOk-weaker}
 use Rattle.case_file.specs.Case.{case_view}
 use Rattle.escrow_top.specs.Capped.{IsCappedDraft}
 use Rattle.escrow_top.specs.Capping.{IsCapDraftOf}
 use Rattle.escrow_top.specs.Reading.{files_view}
 use Rattle.escrow_top.proofs.CappingLaws.{capped_draft}
-use Rattle.escrow_top.proofs.CaseLaws.{given}
-use Rattle.escrow_top.proofs.InputFacts.{rows_alone}
 use Rattle.escrow_top.proofs.capping.draft_of_files.Goals as goal
 
 pub draft_of_case-requires-clause-rates : goal.draft_of_case-requires-clause-rates
@@ -14,12 +11,8 @@ draft_of_case-requires-clause-rates c = c.cap_laws.ensures.rates _ _ _ (case_vie
 
 pub returns-in-Ok-clause-capped : goal.returns-in-Ok-clause-capped
 returns-in-Ok-clause-capped c =
-    let issue = c.as_slice.ensures.value in
-    let rates = c.as_slice-2.ensures.value in
-    let prices = c.as_slice-3.ensures.value in
-    let is = rw (issue, rates, prices) at c.in-Ok.ensures.case in
-    let kept = rw (issue, rates, prices) at c.in-Ok.ensures.kept in
+    let kept = c.in-Ok.ensures.kept in
     let files = files_view c.args.files.now in
     let case = case_view c.in-Ok.case in
     IfOk-weaker c.draft_of_case.result (IsCapDraftOf case) (IsCappedDraft files)
-    (λ d own. capped_draft c.found_laws.ensures.accepted c.cap_laws.ensures.one files case d (given files case c.requires (rows_alone files c.requires ∙ is) kept) kept.book kept.terms own) c.draft_of_case.ensures.draft
+    (λ d own. capped_draft c.found_laws.ensures.accepted c.cap_laws.ensures.one files case d c.in-Ok.ensures.gives kept.book kept.terms own) c.draft_of_case.ensures.draft

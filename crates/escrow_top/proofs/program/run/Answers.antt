@@ -1,6 +1,6 @@
 use Rattle.std.proofs.Common.{map, string_bytes}
 use Rattle.escrow_top.proofs.ExactLaws.{asked_exactly, none_exactly}
-use Rattle.escrow_top.proofs.WordLaws.{asking-caps_none, cap-askings_none, cap-check_caps_none, cap-checks_none, cap-makes_none, cap-rolls_none, cap-savings_none, cap-structures_none, make-askings_none, make-caps_none, make-check_caps_none, make-checks_none, make-rolls_none, make-savings_none, make-structures_none, structure-askings_none, structure-caps_none}
+use Rattle.escrow_top.proofs.WordLaws.{asking-caps_none, cap-askings_none, cap-check_caps_none, cap-check_helds_none, cap-checks_none, cap-makes_none, cap-rolls_none, cap-savings_none, cap-structures_none, make-askings_none, make-caps_none, make-check_caps_none, make-check_helds_none, make-checks_none, make-rolls_none, make-savings_none, make-structures_none, structure-askings_none, structure-caps_none}
 use Rattle.escrow_top.proofs.program.run.Goals as goal
 
 pub returns-in-Some-Structure-clause-exactly : goal.returns-in-Some-Structure-clause-exactly
@@ -242,3 +242,13 @@ pub returns-in-Some-Ask-clause-caps : goal.returns-in-Some-Ask-clause-caps
 returns-in-Some-Ask-clause-caps g c = λ reached.
     let is = rw c.in-Some-Ask.field-0-is at c.in-Some-Ask.ensures in
     rw (asking-caps_none (map string_bytes c.args.words.now) _ is.1) tt
+
+pub returns-in-Some-Cap-clause-yes_beside : goal.returns-in-Some-Cap-clause-yes_beside
+returns-in-Some-Cap-clause-yes_beside g c = λ done.
+    let is = rw c.in-Some-Cap.field-0-is at c.in-Some-Cap.ensures in
+    rw (cap-check_helds_none (map string_bytes c.args.words.now) _ is) tt
+
+pub returns-in-Some-Make-clause-yes_beside : goal.returns-in-Some-Make-clause-yes_beside
+returns-in-Some-Make-clause-yes_beside g c = λ done.
+    let is = rw c.in-Some-Make.field-0-is at c.in-Some-Make.ensures in
+    rw (make-check_helds_none (map string_bytes c.args.words.now) _ is) tt

@@ -1,9 +1,11 @@
-use Rattle.std.proofs.Common.{◌≡◌, ◌∙◌, ap, sym, subst}
+use Rattle.std.proofs.Common.{◌≡◌, ◌∙◌, ap, refl, sym, subst}
+use Rattle.std.specs.Prelude.{IsTrue}
 use Rattle.escrow_desk.specs.Content.{SaidAll}
 use Rattle.escrow_top.specs.Accepted.{YesExactly}
 use Rattle.escrow_top.specs.Answer.{Answer}
 use Rattle.escrow_top.specs.Ending.{OfNamedFiles}
 use Rattle.escrow_top.specs.Reading.{asking_view, names_view}
+use Rattle.escrow_top.specs.Stopping.{is_reached}
 use Rattle.escrow_top.proofs.AnswerLaws.{asked_said}
 use Rattle.escrow_top.proofs.ExactLaws.{bytes-answered, reached-where_steady}
 use Rattle.escrow_top.proofs.program.run_asking.Goals as goal
@@ -23,3 +25,17 @@ returns-in-Ok-clause-bytes g c = λ steady lasts.
     let said : SaidAll told c.in-Ok.answer.text new = rw (c.in-Ok.ensures.told, text) at (c.say_answer.ensures.said reached) in
     bytes-answered told new asking c.say_answer.result
     (asked_said told new asking c.in-Ok.answer c.say_answer.result c.in-Ok.ensures.answer (c.say_answer.ensures.status reached ∙ ap (λ (a : Answer). a.status) c.answer.view_is) said)
+
+pub returns-in-Ok-clause-yes : goal.returns-in-Ok-clause-yes
+returns-in-Ok-clause-yes g c = λ is.
+    let reached : IsTrue (is_reached c.say_answer.result) = rw is refl in
+    let text : c.as_slice.result.now ≡ c.in-Ok.answer.text = c.as_slice.ensures.value ∙ ap (λ (a : Answer). a.text) c.answer.view_is in
+    let status = sym (c.say_answer.ensures.status reached ∙ ap (λ (a : Answer). a.status) c.answer.view_is) ∙ is in
+    record { text = c.in-Ok.answer.text; said = rw (c.in-Ok.ensures.told, text) at (c.say_answer.ensures.said reached); holds = c.in-Ok.ensures.yes status }
+
+pub returns-in-Ok-clause-no : goal.returns-in-Ok-clause-no
+returns-in-Ok-clause-no g c = λ is.
+    let reached : IsTrue (is_reached c.say_answer.result) = rw is refl in
+    let text : c.as_slice.result.now ≡ c.in-Ok.answer.text = c.as_slice.ensures.value ∙ ap (λ (a : Answer). a.text) c.answer.view_is in
+    let status = sym (c.say_answer.ensures.status reached ∙ ap (λ (a : Answer). a.status) c.answer.view_is) ∙ is in
+    record { text = c.in-Ok.answer.text; said = rw (c.in-Ok.ensures.told, text) at (c.say_answer.ensures.said reached); holds = c.in-Ok.ensures.no status }

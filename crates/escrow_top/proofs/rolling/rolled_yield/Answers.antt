@@ -1,4 +1,4 @@
-use Rattle.std.proofs.Common.{◌≡◌, ap, arith}
+use Rattle.std.proofs.Common.{ap, arith}
 use Rattle.escrow_units.specs.Flows.{total}
 use Rattle.cash_table.proofs.FlowFacts.{flows_at_most}
 use Rattle.escrow_top.proofs.rolling.rolled_yield.Goals as goal

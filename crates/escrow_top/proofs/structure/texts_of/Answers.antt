@@ -15,7 +15,7 @@ returns c =
       found = c.requires.found;
       found_by = c.requires.found_by;
       is_cert = is;
-      is_report = c.in_ok-report.ensures;
+      is_said = c.in_ok-said.ensures;
       accepted = text_accepted (case_view c.args.case.now) c.args.found.plan c.args.found.tree c.args.found.gap c.in_ok-cert.cert.items
           found_are_accepted c.requires.book c.requires.terms c.requires.found is;
     }
