@@ -7,7 +7,9 @@ import threading
 from pathlib import Path
 from typing import Callable
 
-from .ground import DONE, INPUTS, NAMES, NO_FILE, READ_FAULT, REFUSED, WRITE_FAULT, Ground, Run, Tries, example, run
+from .ground import (
+    DONE, INPUTS, NAMES, NAMES_BESIDE, NO_FILE, READ_FAULT, REFUSED, WRITE_FAULT, Ground, Run, Tries, example, run,
+)  # fmt: skip
 
 # A file that is longer than each limit.
 TOO_LONG = 68_000_000
@@ -35,10 +37,10 @@ def _with_pipe(folder: Path, words: list, name: str, data: bytes, between: Calla
     return found
 
 
-def _in_place_of_a_file(tries: Tries, command: str, name: str) -> None:
-    """Each of the files that a command reads, as something else."""
-    words = [command, *NAMES]
-    with example("first") as folder:
+def _in_place_of_a_file(tries: Tries, command: str, name: str, of: str = "first", names: tuple = NAMES) -> None:
+    """A file that a command reads, of an example with files of these names, as something else."""
+    words = [command, *names]
+    with example(of) as folder:
         wanted, data = run(folder, words), (folder / name).read_bytes()
         (folder / name).unlink()
         tries.ends("%s without %s" % (command, name), run(folder, words), NO_FILE)
@@ -67,8 +69,17 @@ def _in_place_of_a_file(tries: Tries, command: str, name: str) -> None:
         tries.ends("%s of %s that is too long" % (command, name), found, REFUSED)
         kind = name.partition(".")[0].replace("certificate", "cert").encode()
         tries.note(found.said == b"refused %s row 0 TooLong\n" % kind, "what is said of it", found)
-        found = run(folder, [command] + [name + "/" + one if one == name else one for one in NAMES])
+        found = run(folder, [command] + [name + "/" + one if one == name else one for one in names])
         tries.ends("%s of a file in a file as %s" % (command, name), found, READ_FAULT, REFUSED)
+
+
+def _over_the_holdings(tries: Tries) -> None:
+    """CERT takes the place of the holdings that it is made beside."""
+    with example("holdings") as folder:
+        words = ["structure-held", *NAMES_BESIDE]
+        wanted, certificate = run(folder, words), (folder / NAMES_BESIDE[4]).read_bytes()
+        tries.same("structure-held with held.csv as CERT", run(folder, words[:-1] + ["held.csv"]), wanted)
+        tries.note((folder / "held.csv").read_bytes() == certificate, "what stands in held.csv", (folder / "held.csv").read_bytes())
 
 
 def _certificate_places(tries: Tries) -> None:
@@ -114,5 +125,8 @@ def tries(tries: Tries, _asked) -> None:
         _in_place_of_a_file(tries, "check", name)
     for name in INPUTS:
         _in_place_of_a_file(tries, "structure", name)
+    for command in ("check-held", "structure-held"):
+        _in_place_of_a_file(tries, command, "held.csv", "holdings", NAMES_BESIDE)
     _certificate_places(tries)
+    _over_the_holdings(tries)
     _changed_while_read(tries)

@@ -16,6 +16,8 @@ from typing import Iterator, Optional
 ROOT = Path(__file__).resolve().parents[2]
 INPUTS = ("issue.csv", "rates.csv", "prices.csv")
 NAMES = INPUTS + ("certificate.txt",)
+# The example `holdings` has these.
+NAMES_BESIDE = INPUTS + ("held.csv", "certificate.txt")
 # A run that takes longer hangs.
 LONGEST_SECONDS = 600
 DONE, NO, USAGE, REFUSED, READ_FAULT, WRITE_FAULT, NO_FILE, NO_MEMORY = 0, 1, 2, 3, 8, 9, 10, 11
@@ -110,7 +112,7 @@ def example(name: str) -> Iterator[Path]:
     """A folder with the files of an example, and its certificate."""
     with tempfile.TemporaryDirectory(prefix="escrow.hostile.") as folder:
         os.chmod(folder, 0o777)
-        for file in NAMES:
+        for file in NAMES_BESIDE:
             source = ROOT / "examples" / name / file
             if source.exists():
                 shutil.copyfile(source, Path(folder) / file)

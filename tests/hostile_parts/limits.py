@@ -4,7 +4,7 @@ from __future__ import annotations
 
 import resource
 
-from .ground import DONE, INPUTS, NAMES, READ_FAULT, WRITE_FAULT, Ground, Tries, example, run
+from .ground import DONE, INPUTS, NAMES, NAMES_BESIDE, READ_FAULT, WRITE_FAULT, Ground, Tries, example, run
 
 # The stack that is enough in an empty environment.
 ENOUGH_KILOBYTES = 64
@@ -20,17 +20,26 @@ COMMANDS = (
     ["cap", *INPUTS, "drawn.txt"],
     ["make", "5", *MADE],
 )
+COMMANDS_BESIDE_HOLDINGS = (
+    ["check-held", *NAMES_BESIDE],
+    ["structure-held", *NAMES_BESIDE[:-1], "drawn.txt"],
+)
+
+
+def _in_a_small_stack(tries: Tries, name: str, commands: tuple) -> None:
+    little = Ground(limits={resource.RLIMIT_STACK: ENOUGH_KILOBYTES * 1024})
+    with example(name) as folder:
+        for words in commands:
+            wanted = run(folder, words)
+            for _ in range(DRAWS):
+                what = "%s of %s in %d kB of stack" % (words[0], name, ENOUGH_KILOBYTES)
+                tries.same(what, run(folder, words, little), wanted)
 
 
 def tries(tries: Tries, _asked) -> None:
-    little = Ground(limits={resource.RLIMIT_STACK: ENOUGH_KILOBYTES * 1024})
     for name in ("first", "refunding", "split"):
-        with example(name) as folder:
-            for words in COMMANDS:
-                wanted = run(folder, words)
-                for _ in range(DRAWS):
-                    what = "%s of %s in %d kB of stack" % (words[0], name, ENOUGH_KILOBYTES)
-                    tries.same(what, run(folder, words, little), wanted)
+        _in_a_small_stack(tries, name, COMMANDS)
+    _in_a_small_stack(tries, "holdings", COMMANDS_BESIDE_HOLDINGS)
     with example("first") as folder:
         certificate = (folder / NAMES[3]).read_bytes()
         # three are open at the start; the system needs one more to load the program

@@ -8,7 +8,7 @@ import subprocess
 import tempfile
 from pathlib import Path
 
-from .ground import NAMES, NO_MEMORY, READ_FAULT, Ground, Run, Tries, example, run
+from .ground import NAMES, NAMES_BESIDE, NO_MEMORY, READ_FAULT, Ground, Run, Tries, example, run
 
 # Counts the allocations of a run, and refuses the one of a number.
 REFUSING = r"""
@@ -87,15 +87,15 @@ def _keeps(tries: Tries, what: str, folder: Path, found: Run, wanted: Run, befor
     return False
 
 
-def _one_after_another(tries: Tries, command: str, folder: Path, library: Path) -> None:
+def _one_after_another(tries: Tries, words: list, folder: Path, library: Path) -> None:
     """Each allocation of a run is refused in turn, until none is left to refuse."""
-    wanted = run(folder, [command, *NAMES])
+    command, wanted = words[0], run(folder, words)
     before = (folder / NAMES[3]).read_bytes()
     told = folder / "told"
     for number in range(1, MOST_ALLOCATIONS):
         told.unlink(missing_ok=True)
         surroundings = {"LD_PRELOAD": str(library), "REFUSED_ALLOCATION": str(number), "REFUSED_TOLD": str(told)}
-        found = run(folder, [command, *NAMES], Ground(environment=surroundings))
+        found = run(folder, words, Ground(environment=surroundings))
         if not told.exists():
             tries.same("%s with no allocation refused" % command, found, wanted)
             return
@@ -119,5 +119,8 @@ def tries(tries: Tries, _asked) -> None:
     with tempfile.TemporaryDirectory(prefix="escrow.hostile.") as made, example("refunding") as folder:
         library = _refusing_library(Path(made))
         for command in ("check", "structure"):
-            _one_after_another(tries, command, folder, library)
+            _one_after_another(tries, [command, *NAMES], folder, library)
             _less_and_less(tries, command, folder)
+        with example("holdings") as beside:
+            for command in ("check-held", "structure-held"):
+                _one_after_another(tries, [command, *NAMES_BESIDE], beside, library)

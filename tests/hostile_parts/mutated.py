@@ -7,14 +7,14 @@ import subprocess
 import time
 from pathlib import Path
 
-from .ground import ANSWERS, NAMES, ROOT, Run, Tries, example, run
+from .ground import ANSWERS, NAMES, NAMES_BESIDE, ROOT, Run, Tries, example, run
 
 # Fields and words that fit somewhere.
 PIECES = (
     b"0", b"1", b"00", b"-1", b"9" * 16, b"30.000", b"30.001", b"29.99", b"2025-01-15", b"2024-02-29", b"2065-01-15", b"2199-12-31",
     b"max", b"settle", b"need", b"bond", b"call", b"cash", b"price", b"pay", b"terms", b"rate", b"offer", b"note", b"budget",
-    b"portfolio none", b"nodes", b"s 1 2", b"p", b"l 0 0 0", b"end", b"gap 0", b"buy 1 1", b"1000000000000", b"\r\n", b"\n\n", b'"',
-    b'""', b"\xef\xbb\xbf", b"\xff", b"\x00", b",", b",,", b" ",
+    b"held", b"portfolio none", b"nodes", b"s 1 2", b"p", b"l 0 0 0", b"end", b"gap 0", b"buy 1 1", b"1000000000000", b"\r\n", b"\n\n",
+    b'"', b'""', b"\xef\xbb\xbf", b"\xff", b"\x00", b",", b",,", b" ",
 )  # fmt: skip
 
 
@@ -56,11 +56,11 @@ def _judged(judge: str, folder: Path) -> Run:
     return Run(done.returncode, done.stdout, b"")
 
 
-def _keep(folder: Path, number: int) -> str:
+def _keep(folder: Path, names: tuple, number: int) -> str:
     """Keeps the files of what failed, to be tried again."""
     kept = Path("hostile.found") / ("%d" % number)
     kept.mkdir(parents=True, exist_ok=True)
-    for name in NAMES:
+    for name in names:
         (kept / name).write_bytes((folder / name).read_bytes())
     return str(kept)
 
@@ -74,20 +74,22 @@ def tries(tries: Tries, asked) -> None:
     number = 0
     while time.monotonic() < until:
         with example(draw.choice(examples)) as folder:
-            whole = {name: (folder / name).read_bytes() for name in NAMES}
+            has_holdings = (folder / "held.csv").exists()
+            command, names = ("check-held", NAMES_BESIDE) if has_holdings else ("check", NAMES)
+            whole = {name: (folder / name).read_bytes() for name in names}
             for _ in range(200):
                 number += 1
                 for name, data in whole.items():
                     (folder / name).write_bytes(data)
-                for name in draw.sample(NAMES, draw.choice((1, 1, 1, 2))):
+                for name in draw.sample(names, draw.choice((1, 1, 1, 2))):
                     (folder / name).write_bytes(_changed(draw, whole[name]))
-                found = run(folder, ["check", *NAMES])
+                found = run(folder, [command, *names])
                 is_good = found.status in ANSWERS and found.is_in_order
-                what = "check of drawn bytes"
-                if is_good and asked.judge:
+                what = "%s of drawn bytes" % command
+                if is_good and asked.judge and not has_holdings:
                     other = _judged(asked.judge, folder)
                     is_good = (found.status, found.said) == (other.status, other.said)
                     what = "check of drawn bytes, where the other says %s" % other
                 if not is_good:
-                    what += ", kept in " + _keep(folder, number)
+                    what += ", kept in " + _keep(folder, names, number)
                 tries.note(is_good, what, found)

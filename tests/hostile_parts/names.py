@@ -4,7 +4,7 @@ from __future__ import annotations
 
 import shutil
 
-from .ground import INPUTS, NAMES, NO_FILE, READ_FAULT, USAGE, Tries, example, run
+from .ground import INPUTS, NAMES, NAMES_BESIDE, NO_FILE, READ_FAULT, USAGE, Tries, example, run
 
 ODD_NAMES = ("with blank", "-", "--help", "-rf", "a\nb", "a\tb", "'", '"', "*", "\u00fcml\u00e4ut", "\u2603", "x" * 255)
 FAULTY_WORDS = (
@@ -18,6 +18,10 @@ FAULTY_WORDS = (
     ["check-cap", "3.005", *NAMES],
     ["check-cap", "30.01", *NAMES],
     ["check-cap", "-1", *NAMES],
+    ["check-held", *NAMES],
+    ["check-held", *NAMES_BESIDE, "more"],
+    ["structure-held", *NAMES],
+    ["structure-held", *NAMES_BESIDE, "more"],
     ["Check", *NAMES],
     ["check ", *NAMES],
     ["", *NAMES],

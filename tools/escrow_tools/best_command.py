@@ -2,26 +2,28 @@
 
 from __future__ import annotations
 
-from dataclasses import dataclass
+from dataclasses import dataclass, replace
 from typing import Optional
 
 from . import program
 from .amounts import money, money_for_people
-from .case_files import CERT, ISSUE, PRICES, RATES
+from .case_files import CERT, HELD, ISSUE, PRICES, RATES
 from .explaining.answers import Run, explain_run
 from .explaining.case_reading import CaseRead, read_whole_case
 from .explaining.cautions import Cautions, totals
 from .inputs import REPORT, beside, is_same_file, read_case, write_file
 from .issue_text import GREATEST_ALLOWANCE, with_allowance
 from .program import Answer, CaseBytes, Folder
-from .report import Report, cents_of, read_report
+from .report import Summary, cents_of, read_report, read_summary
 from .speaking import Stop, Words, put_out, tell
 
 WHAT = """\
 The best plan that the search finds and its gap, whatever `allowance` the issue has: CERT is written, and beside it the report,
 which is said on standard output too (certificate.txt has certificate.report.txt); on standard error stands the `allowance`
 row with which `check` says yes to the issue as it stands.
-Where the search says that there is none, its answer and its exit status are `structure`'s."""
+Where the search says that there is none, its answer and its exit status are `structure`'s.
+Beside holdings, by --held, it goes by `structure-held` and `check-held`. These make no report: the summary (cost, yield, limit and
+gap) stands in its place, so that certificate.report.txt holds the summary alone."""
 
 # How many searches are made at most to bring the gap down.
 MOST_SEARCHES = 12
@@ -31,22 +33,21 @@ SMALL_GAP = 1000
 
 @dataclass(frozen=True)
 class Plan:
-    """A plan that was found: the report that was said, word for word, and the certificate."""
+    """A plan that was found: its summary, what was said, word for word, and the certificate."""
 
-    report: Report
+    summary: Summary
     said: bytes
     certificate: bytes
 
     @property
     def gap(self) -> int:
-        return self.report.summary.gap
+        return self.summary.gap
 
     def is_better_than(self, other: Optional[Plan]) -> bool:
         """Whether it costs less, or as much with a smaller gap."""
         if other is None:
             return True
-        mine, others = self.report.summary, other.report.summary
-        return (mine.cost, mine.gap) < (others.cost, others.gap)
+        return (self.summary.cost, self.gap) < (other.summary.cost, other.gap)
 
 
 class Search:
@@ -60,10 +61,11 @@ class Search:
 
     def allow(self, amount: str) -> Answer:
         self.searches += 1
-        changed = CaseBytes(with_allowance(self.case.issue, amount), self.case.rates, self.case.prices)
+        changed = replace(self.case, issue=with_allowance(self.case.issue, amount))
         answer = self.folder.structure(changed, shows_progress=True)
         if answer.status == program.DONE:
-            plan = Plan(read_report(answer.lines), answer.said, self.folder.certificate.read_bytes())
+            summary = read_report(answer.lines).summary if self.case.held is None else read_summary(answer.lines)
+            plan = Plan(summary, answer.said, self.folder.certificate.read_bytes())
             if plan.is_better_than(self.best):
                 self.best = plan
         return answer
@@ -96,18 +98,22 @@ def words() -> Words:
         ("CERT", "certificate to write"),
     ):
         parser.add_argument(name.lower(), metavar=name, help=what)
+    parser.add_argument("--held", metavar="HELD", help="file of holdings, `held,DATE,AMOUNT` rows: what is bought is beside them")
     parser.add_argument("--once", action="store_true", help="one search, and none to bring its gap down")
     return parser
 
 
 def run(arguments: list[str]) -> int:
     chosen = words().parse_args(arguments)
-    names = {ISSUE: chosen.issue, RATES: chosen.rates, PRICES: chosen.prices, CERT: chosen.cert}
-    for file in (ISSUE, RATES, PRICES):
-        if is_same_file(chosen.cert, names[file]):
+    inputs = {ISSUE: chosen.issue, RATES: chosen.rates, PRICES: chosen.prices}
+    if chosen.held is not None:
+        inputs[HELD] = chosen.held
+    for name in inputs.values():
+        if is_same_file(chosen.cert, name):
             raise Stop("CERT, %s, is the same file as an input: it would be written over" % chosen.cert)
-    case = read_case(chosen.issue, chosen.rates, chosen.prices)
-    read = read_whole_case(case.issue, case.rates, case.prices)
+    names = {**inputs, CERT: chosen.cert}
+    case = read_case(*inputs.values())
+    read = read_whole_case(case.issue, case.rates, case.prices, case.held)
     if read.refusal is None:
         tell(*totals(read))
     with program.folder() as folder:
@@ -126,32 +132,36 @@ def _nothing_found(answer: Answer, names: dict, case: CaseBytes, folder: Folder)
         write_file(names[CERT], folder.certificate.read_bytes())
     put_out(answer.said)
     data = {ISSUE: case.issue, RATES: case.rates, PRICES: case.prices}
+    if case.held is not None:
+        data[HELD] = case.held
     tell(*explain_run(Run(["best"], answer.status, answer.lines, names, data)))
     return answer.status
 
 
 def _keep(plan: Plan, names: dict, case: CaseBytes, read: CaseRead, folder: Folder) -> int:
     """Writes the certificate, says the report, and tries what is claimed of the issue's allowance."""
-    row = "allowance," + money(plan.gap)
-    tried = CaseBytes(with_allowance(case.issue, money(plan.gap)), case.rates, case.prices)
+    row, check = "allowance," + money(plan.gap), "check" if case.held is None else "check-held"
+    tried = replace(case, issue=with_allowance(case.issue, money(plan.gap)))
     if folder.check(tried, plan.certificate).status != program.DONE:
-        raise Stop("`check` doesn't accept what `structure` wrote; nothing is kept")
+        raise Stop("`%s` doesn't accept what the search wrote; nothing is kept" % check)
     as_it_stands = folder.check(case, plan.certificate)
     report = beside(names[CERT], REPORT)
     write_file(names[CERT], plan.certificate)
     write_file(report, plan.said)
     put_out(plan.said)
-    summary = plan.report.summary
     tell(
         "the plan costs %s, and no rival costs less by more than %s; %s and %s are written"
-        % (money_for_people(summary.cost), money_for_people(plan.gap), names[CERT], report)
+        % (money_for_people(plan.summary.cost), money_for_people(plan.gap), names[CERT], report)
     )
     allowed = read.issue.amounts.get("allowance") if read.issue else None
     if as_it_stands.status == program.DONE:
-        tell("`check` says yes to it with %s as it stands; enough is the row: %s" % (names[ISSUE], row))
+        tell("`%s` says yes to it with %s as it stands; enough is the row: %s" % (check, names[ISSUE], row))
     elif allowed is None:
-        tell("for `check` to say yes, add to %s the row: %s" % (names[ISSUE], row))
+        tell("for `%s` to say yes, add to %s the row: %s" % (check, names[ISSUE], row))
     else:
-        tell("for `check` to say yes, write in %s, line %d: %s" % (names[ISSUE], allowed.record.line, row))
+        tell("for `%s` to say yes, write in %s, line %d: %s" % (check, names[ISSUE], allowed.record.line, row))
+    if case.held is not None:
+        files = " ".join(names[file] for file in (HELD, ISSUE, RATES, PRICES, CERT))
+        tell("%s holds the summary alone; all schedules are on the page: ./escrow page --held %s" % (report, files))
     tell(*Cautions(read, names).all())
     return program.DONE

@@ -1,4 +1,4 @@
-"""The three files of a case, read by the rules of docs/FORMATS.md, with the first fault that the program would name."""
+"""The files of a case, read by the rules of docs/FORMATS.md, with the first fault that the program would name."""
 
 from __future__ import annotations
 
@@ -12,7 +12,7 @@ from .amounts import FieldFault
 from .days import ClosedDays, days_after, index_from, series_after, years_after
 from .records import Record, records_of
 
-ISSUE, RATES, PRICES, CERT = "issue", "rates", "prices", "cert"
+ISSUE, RATES, PRICES, HELD, CERT = "issue", "rates", "prices", "held", "cert"
 INPUT_LIMIT = 1_048_576
 GREATEST_LINES = 256
 GREATEST_NEED_DATES = 480
@@ -157,6 +157,17 @@ class Prices:
     notes: list[Note] = field(default_factory=list)
 
 
+@dataclass
+class Held:
+    """What the escrow receives of securities that it holds already."""
+
+    receipts: list[Flow] = field(default_factory=list)
+
+    @property
+    def total(self) -> int:
+        return sum(receipt.cents for receipt in self.receipts)
+
+
 class RowReader:
     """Reads the fields of one record by their places, and says at which of them a fault is."""
 
@@ -210,6 +221,7 @@ AMOUNT_READERS = {
 ISSUE_WORDS = ("settle", "call", "bond", "need", "pay") + tuple(AMOUNT_READERS) + ("weekends", "closed")
 RATES_WORDS = ("terms", "rate", "offer")
 PRICES_WORDS = ("terms", "note")
+HELD_WORDS = ("held",)
 
 
 def _read_settlement(row: RowReader) -> date:
@@ -456,6 +468,27 @@ def read_prices(data: bytes, settlement: date) -> Prices:
         prices,
         lambda: [_add_prices_row(RowReader(PRICES, record), prices, settlement, records[0]) for record in records[1:]],
     )
+
+
+def _add_receipt(row: RowReader, held: Held, issue: Issue) -> None:
+    if row.record.word not in HELD_WORDS:
+        raise row.refuse("UnknownRow", 0)
+    row.width(3)
+    receipt = Flow(row.record, row.day(1, issue.last_day), row.read(2, amounts.read_cents))
+    if receipt.day < issue.settlement:
+        raise row.refuse("DateOrder", 1)
+    held.receipts.append(receipt)
+
+
+def read_held(data: bytes, issue: Issue) -> Held:
+    """The receipts of holdings, beside an issue; no rows hold nothing."""
+    if len(data) > INPUT_LIMIT:
+        raise Refusal(HELD, "TooLong")
+    held = Held()
+    _reading(held, lambda: [_add_receipt(RowReader(HELD, record), held, issue) for record in records_of(data)])
+    if held.total > amounts.GREATEST_CENTS:
+        raise Refusal(HELD, "HeldTooLarge")
+    return held
 
 
 def least_days(rate: int) -> int:

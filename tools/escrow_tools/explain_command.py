@@ -9,14 +9,17 @@ from pathlib import Path
 from typing import Optional
 
 from . import program
-from .case_files import CERT, ISSUE, PRICES, RATES
+from .case_files import CERT, HELD, ISSUE, PRICES, RATES
 from .explaining.answers import Run, explain_run
 from .explaining.case_reading import read_whole_case
 from .explaining.cautions import totals
+from .explaining.files import WRITERS
 from .speaking import Stop, put_out, tell
 from .working import wait_for
 
 PLACES = (ISSUE, RATES, PRICES, CERT)
+PLACES_WITH_HELD = (ISSUE, RATES, PRICES, HELD, CERT)
+INPUTS = (ISSUE, RATES, PRICES, HELD)
 # Files that are larger than any that the program reads aren't read here.
 LARGEST = 70_000_000
 # Up to so many bytes of input files their totals are said at once, and else once the search has taken a second.
@@ -37,6 +40,8 @@ def _names(words: list[str]) -> dict:
     """The names of a command's files; of words that are no command none."""
     if len(words) == 6 and words[0] == "check-cap":
         return dict(zip(PLACES, words[2:]))
+    if len(words) == 6 and words[0] in ("check-held", "structure-held"):
+        return dict(zip(PLACES_WITH_HELD, words[1:]))
     if len(words) != 5:
         return {}
     if words[0] in ("cap", "check", "roll", "savings", "structure"):
@@ -53,13 +58,13 @@ def _data(command: str, names: dict) -> dict:
 
 
 def _tell_totals(running: subprocess.Popen, data: dict) -> None:
-    if sum(len(data.get(file, b"")) for file in PLACES[:3]) > SMALL_CASE:
+    if sum(len(data.get(file, b"")) for file in INPUTS) > SMALL_CASE:
         try:
             running.wait(1)
             return
         except subprocess.TimeoutExpired:
             pass
-    case = read_whole_case(data.get(ISSUE), data.get(RATES), data.get(PRICES))
+    case = read_whole_case(*(data.get(file) for file in INPUTS))
     if case.refusal is None:
         tell(*totals(case))
 
@@ -69,8 +74,9 @@ def run_explained(words: list[str]) -> int:
     names = _names(words)
     data = _data(words[0], names) if names else {}
     old_certificate = CERT in names and os.path.isfile(names[CERT])
-    running = subprocess.Popen([program.program_path()] + words, stdout=subprocess.PIPE)
-    if names and words[0] in ("cap", "structure"):
+    # What a shell has opened for it, as by `<(..)`, is handed on.
+    running = subprocess.Popen([program.program_path()] + words, stdout=subprocess.PIPE, close_fds=False)
+    if names and words[0] in WRITERS:
         # What it says is small but for a report, which comes at the very end.
         _tell_totals(running, data)
     said = wait_for(running)[0]

@@ -4,6 +4,7 @@ from __future__ import annotations
 
 import os
 from pathlib import Path
+from typing import Optional
 
 from .program import CaseBytes
 from .speaking import Stop
@@ -41,8 +42,8 @@ def write_file(path: str, data: bytes) -> None:
         raise Stop("%s can't be written: %s" % (path, fault.strerror)) from None
 
 
-def read_case(issue: str, rates: str, prices: str) -> CaseBytes:
-    return CaseBytes(read_file(issue), read_file(rates), read_file(prices))
+def read_case(issue: str, rates: str, prices: str, held: Optional[str] = None) -> CaseBytes:
+    return CaseBytes(read_file(issue), read_file(rates), read_file(prices), None if held is None else read_file(held))
 
 
 def is_same_file(one: str, other: str) -> bool:

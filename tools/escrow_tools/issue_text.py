@@ -3,8 +3,9 @@
 from __future__ import annotations
 
 import re
+from datetime import date
 
-from .amounts import FieldFault, read_cents
+from .amounts import FieldFault, money, read_cents
 from .case_files import Issue
 from .days import ClosedDays
 from .records import BYTE_ORDER_MARK, records_of
@@ -38,9 +39,22 @@ def _with_line(data: bytes, line: int, text: bytes) -> bytes:
 
 def paid_by_cash(issue: Issue, data: bytes) -> bytes:
     """A case in which opening cash pays everything, so that its report has each need."""
-    rows = [record.text for record in records_of(data) if record.word in NEED_WORDS]
-    rows += ["cash," + GREATEST_ALLOWANCE, "restricted,29.99", "allowance," + GREATEST_ALLOWANCE]
+    return _with_cash([record.text for record in records_of(data) if record.word in NEED_WORDS])
+
+
+def with_needs_alone(settlement: date, needs: list[str]) -> bytes:
+    """The same of rows of needs."""
+    return _with_cash(["settle,%s" % settlement] + needs)
+
+
+def _with_cash(rows: list[str]) -> bytes:
+    rows = rows + ["cash," + GREATEST_ALLOWANCE, "restricted,29.99", "allowance," + GREATEST_ALLOWANCE]
     return ("\n".join(rows) + "\n").encode("utf-8", "replace")
+
+
+def need_rows(needs: dict[date, int]) -> list[str]:
+    """A row for each day on which something is needed."""
+    return ["need,%s,%s" % (day, money(needs[day])) for day in sorted(needs)]
 
 
 def closing_rows(closed: ClosedDays) -> list[str]:

@@ -11,15 +11,18 @@ from . import amounts
 from .amounts import counted, money, money_for_people
 from .closed_needs import closed_needs, told_closed_needs
 from .days import ClosedDays, closed_together
-from .issue_text import closing_rows
+from .explaining.cautions import held_totals
+from .issue_text import closing_rows, need_rows
 from .needs import bond_payments, bond_total, is_called, joined
-from .needs_asked import Series, asked_needs, read_series
+from .needs_asked import Series, asked_needs, asked_residual, read_holdings, read_series
 from .records import records_of
 from .speaking import Stop, Words, put_out, tell
 
 WHAT = """\
 What is needed by day, as `need` rows, of one or more issue files, each with its own call: two series, or the called
-part of a series and the part that isn't, are a file each. The figures are the program's own."""
+part of a series and the part that isn't, are a file each. The figures are the program's own.
+With --held it is what is still needed beside holdings that the escrow keeps: these serve the earliest needs first, what they pay
+early waits for later ones, and what they pay late serves none that was due before."""
 
 
 def words() -> Words:
@@ -38,22 +41,34 @@ def words() -> Words:
         action="store_true",
         help="one whole issue file of them all: `settle`, the needs, the days that are closed in any, and the further rows of the files",
     )
+    parser.add_argument(
+        "--held", metavar="HELD", help="file of holdings, `held,DATE,AMOUNT` rows: say what is still needed beside them"
+    )
     return parser
 
 
 def run(arguments: list[str]) -> int:
-    chosen = words().parse_args(arguments)
+    parser = words()
+    chosen = parser.parse_args(arguments)
+    if chosen.held is not None and chosen.by_bond:
+        parser.error("argument --held: not allowed with argument --by-bond, since holdings serve needs and not bonds")
     files = [read_series(name) for name in chosen.issues]
     _try_settlements(files)
     needs: Counter = Counter()
     for series in files:
         needs.update(asked_needs(series))
+    left: dict[date, int] = needs
+    lines = _totals(files, needs)
+    if chosen.held is not None:
+        holdings = read_holdings(chosen.held, files[0])
+        left = asked_residual(needs, holdings, files[0].issue.settlement)
+        lines.append("%s: %s" % (holdings.name, held_totals(holdings.held, needs, left)))
     if chosen.by_bond:
         put_out(_by_bond(files).encode())
     else:
-        rows = ["need,%s,%s" % (day, money(needs[day])) for day in sorted(needs)]
+        rows = need_rows(left)
         put_out(("".join(row + "\n" for row in (_whole_issue(files, rows) if chosen.issue else rows))).encode())
-    tell(*_totals(files, needs))
+    tell(*lines, *_told_closed(files, left))
     return 0
 
 
@@ -132,7 +147,11 @@ def _totals(files: list[Series], needs: dict[date, int]) -> list[str]:
                 counted(len(issue.needs), "direct need"),
             )
         )
-    lines.append("%s, %s together" % (counted(len(needs), "need date"), money_for_people(sum(needs.values()))))
+    return lines + ["%s, %s together" % (counted(len(needs), "need date"), money_for_people(sum(needs.values())))]
+
+
+def _told_closed(files: list[Series], needs: dict[date, int]) -> list[str]:
+    """What is said where needs are on closed days."""
     closed = _closed(files)
     days = closed_needs(needs, closed, files[0].issue.settlement)
-    return lines + ([told_closed_needs(days, closed)] if days else [])
+    return [told_closed_needs(days, closed)] if days else []

@@ -12,7 +12,7 @@ from typing import Optional
 
 from . import program
 from .amounts import counted, money_for_people, rate_text, yield_text
-from .case_files import CERT, ISSUE, PRICES, RATES, read_issue_rows
+from .case_files import CERT, HELD, ISSUE, PRICES, RATES, read_issue_rows
 from .certificate import read_certificate
 from .explaining.answers import Run, explain_run
 from .explaining.case_reading import read_whole_case
@@ -26,13 +26,14 @@ from .page.tables import summary_rows, tables_of
 from .page.writing import Page, page_html, table_csv
 from .program import Answer
 from .report import Report, Summary, read_summary
-from .report_asked import asked_report, first_difference, report_text
+from .report_asked import asked_report, first_difference, report_text, summary_lines
 from .speaking import Stop, Words, put_out, tell
 
 WHAT = """\
 The page that a verifier signs, as one HTML file on standard output: `check` is run first, and nothing is made of what it doesn't
 accept. Each figure is the program's own, or is worked out and tried against it. A report that is kept beside CERT
-(certificate.report.txt beside certificate.txt) has to be the one of these purchases."""
+(certificate.report.txt beside certificate.txt) has to be the one of these purchases.
+With --held it is the page of a plan beside holdings, by `check-held`: all that is needed stands beside all that is received."""
 
 
 def words() -> Words:
@@ -44,6 +45,7 @@ def words() -> Words:
         ("CERT", "certificate"),
     ):
         parser.add_argument(name.lower(), metavar=name, help=what)
+    parser.add_argument("--held", metavar="HELD", help="file of holdings, `held,DATE,AMOUNT` rows, that the plan is beside")
     parser.add_argument("--title", default="Refunding escrow", help="what stands at the head: the issuer and the bonds")
     parser.add_argument(
         "--series",
@@ -67,12 +69,22 @@ class Maker:
 
     def __init__(self, chosen):
         self.chosen = chosen
-        self.names = {ISSUE: chosen.issue, RATES: chosen.rates, PRICES: chosen.prices, CERT: chosen.cert}
-        self.files = read_case(chosen.issue, chosen.rates, chosen.prices)
+        self.names = {ISSUE: chosen.issue, RATES: chosen.rates, PRICES: chosen.prices}
+        if chosen.held is not None:
+            self.names[HELD] = chosen.held
+        self.files = read_case(*self.names.values())
+        self.names[CERT] = chosen.cert
         self.certificate = read_file(chosen.cert)
 
+    @property
+    def check(self) -> str:
+        """The command that tries the certificate."""
+        return "check" if self.files.held is None else "check-held"
+
     def data(self) -> dict:
-        return {ISSUE: self.files.issue, RATES: self.files.rates, PRICES: self.files.prices, CERT: self.certificate}
+        files = self.files
+        data = {ISSUE: files.issue, RATES: files.rates, PRICES: files.prices, HELD: files.held, CERT: self.certificate}
+        return {file: bytes_of for file, bytes_of in data.items() if bytes_of is not None}
 
     def accepted(self, folder) -> Answer:
         """The answer of `check`, which has to be yes."""
@@ -80,8 +92,8 @@ class Maker:
         if answer.status != program.DONE:
             said = answer.lines[0] if answer.lines else answer.complained.decode("ascii", "replace").strip()
             raise Stop(
-                "`check` says `%s`; no page is made" % said,
-                *explain_run(Run(["check"], answer.status, answer.lines, self.names, self.data())),
+                "`%s` says `%s`; no page is made" % (self.check, said),
+                *explain_run(Run([self.check], answer.status, answer.lines, self.names, self.data())),
                 status=answer.status,
             )
         return answer
@@ -103,21 +115,22 @@ class Maker:
         return kept if os.path.isfile(kept) else None
 
     def try_report(self, report: Report) -> None:
-        """A report that is kept is that of these purchases, to the letter."""
+        """A report that is kept is that of these purchases, to the letter; so is a summary, as it is kept beside holdings."""
         kept = self.kept_report()
         if kept is None:
             return
         text = read_file(kept).decode("utf-8", "replace")
-        line = first_difference(text, report_text(report))
+        own = "\n".join(summary_lines(report.summary) + [""]) if text.startswith("cost ") else report_text(report)
+        line = first_difference(text, own)
         if line is not None:
-            wanted = (report_text(report).split("\n") + [""] * line)[line - 1]
+            wanted = (own.split("\n") + [""] * line)[line - 1]
             raise Stop(
                 "%s isn't the report of these purchases: line %d is `%s`, and the program's is `%s`; nothing is made"
                 % (kept, line, (text.split("\n") + [""] * line)[line - 1], wanted)
             )
 
     def figures(self) -> Figures:
-        case = read_whole_case(self.files.issue, self.files.rates, self.files.prices)
+        case = read_whole_case(self.files.issue, self.files.rates, self.files.prices, self.files.held)
         with program.folder() as folder:
             answer = self.accepted(folder)
             if case.refusal is not None:
@@ -168,7 +181,7 @@ def _digest(data: bytes) -> str:
 
 
 def _files(maker: Maker) -> list[tuple]:
-    what = {ISSUE: "issue", RATES: "rates", PRICES: "prices", CERT: "certificate"}
+    what = {ISSUE: "issue", RATES: "rates", PRICES: "prices", HELD: "holdings", CERT: "certificate"}
     rows = [(what[file], os.path.basename(maker.names[file]), _digest(data)) for file, data in maker.data().items()]
     for one in maker.series if maker.chosen.series else []:
         rows.append(("series", os.path.basename(one.name), _digest(one.data)))
@@ -186,18 +199,26 @@ def _files(maker: Maker) -> list[tuple]:
     return rows
 
 
-def verdict(summary: Optional[Summary]) -> tuple[str, str]:
+def verdict(summary: Optional[Summary], check: str = "check") -> tuple[str, str]:
+    beside = "" if check == "check" else " beside the holdings"
     if summary is None:
         return (
-            "check says: yes none",
-            "No permitted purchases meet the needs within the yield limit; the certificate proves it.",
+            check + " says: yes none",
+            "No permitted purchases meet the needs%s within the yield limit; the certificate proves it." % beside,
         )
     return (
-        "check says: yes",
-        "The purchases below pay every need in time, cost %s, and keep to the yield limit of %s percent; no rival costs "
+        check + " says: yes",
+        "The purchases below pay every need%s in time, cost %s, and keep to the yield limit of %s percent; no rival costs "
         "less by more than %s."
-        % (money_for_people(summary.cost), yield_text(summary.limit), money_for_people(summary.gap)),
+        % (beside, money_for_people(summary.cost), yield_text(summary.limit), money_for_people(summary.gap)),
     )
+
+
+# What a yes beside holdings is of, in front of what the yes of `check` means.
+BESIDE_HOLDINGS = (
+    "check-held says what check says, of the case whose needs are what the holdings leave: purchases meet these exactly where, with the "
+    "receipts of the holdings, they meet the needs of the issue. A rival meets them so too. The yield is that of what is bought alone."
+)
 
 
 def run(arguments: list[str]) -> int:
@@ -208,12 +229,13 @@ def run(arguments: list[str]) -> int:
     facts = summary_rows(figures) + [("Day of the rate table", table_day(chosen, figures))]
     page = Page(
         chosen.title,
-        *verdict(figures.summary),
+        *verdict(figures.summary, maker.check),
         facts,
         _files(maker),
         tables,
         meaning(),
         picture(figures.report.balances) if figures.report else "",
+        [] if maker.files.held is None else [BESIDE_HOLDINGS],
     )
     if chosen.csv:
         _write_tables(chosen.csv, tables)

@@ -8,7 +8,7 @@ import tempfile
 from contextlib import contextmanager
 from dataclasses import dataclass
 from pathlib import Path
-from typing import Iterator
+from typing import Iterator, Optional
 
 from .working import wait_for
 
@@ -50,11 +50,12 @@ def run(words: list[str], standard_error=subprocess.PIPE) -> Answer:
 
 @dataclass(frozen=True)
 class CaseBytes:
-    """The bytes of the three input files."""
+    """The bytes of the three input files, and of the holdings where there are any."""
 
     issue: bytes
     rates: bytes
     prices: bytes
+    held: Optional[bytes] = None
 
 
 class Folder:
@@ -64,11 +65,13 @@ class Folder:
         self.folder = folder
 
     def _words(self, command: str, case: CaseBytes) -> list[str]:
-        words = [command]
-        for name, data in (("issue", case.issue), ("rates", case.rates), ("prices", case.prices)):
-            path = self.folder / (name + ".csv")
-            path.write_bytes(data)
-            words.append(str(path))
+        """The words of a command of a case: where there are holdings, of the one that takes them."""
+        words = [command if case.held is None else command + "-held"]
+        for name, data in (("issue", case.issue), ("rates", case.rates), ("prices", case.prices), ("held", case.held)):
+            if data is not None:
+                path = self.folder / (name + ".csv")
+                path.write_bytes(data)
+                words.append(str(path))
         return words + [str(self.certificate)]
 
     @property

@@ -14,10 +14,11 @@ from .amounts import money, rate_text, short_rate, yield_text
 from .case_files import Note, Offer
 from .certificate import Certificate
 from .explaining.case_reading import CaseRead
-from .explaining.holdings import Holdings, holdings_of
+from .explaining.purchases import Purchased, purchased_by
 from .issue_text import GREATEST_ALLOWANCE, closing_rows
+from .needs import needs_by_day
 from .program import CaseBytes, Folder
-from .report import Balance, Idle, Report, read_report
+from .report import Balance, Idle, Report, Summary, read_report
 from .speaking import Stop
 
 
@@ -44,11 +45,11 @@ def _file(terms, ranges: list[str], rows: list[str]) -> bytes:
     return "\n".join(["terms,%d,%d" % (terms.minimum, terms.step)] + ranges + rows + [""]).encode()
 
 
-def forced_case(case: CaseRead, held: Holdings) -> Asked:
-    """A case in which these holdings are the only ones that meet the needs."""
-    offers, notes, lines = [], [], sorted(held.faces)
+def forced_case(case: CaseRead, purchased: Purchased) -> Asked:
+    """A case in which these purchases are the only ones that meet the needs."""
+    offers, notes, lines = [], [], sorted(purchased.faces)
     for number in lines:
-        dollars = held.faces[number] // 100
+        dollars = purchased.faces[number] // 100
         if number <= len(case.rates.offers):
             offers.append(_offer_row(case.rates.offers[number - 1], dollars))
         else:
@@ -57,10 +58,10 @@ def forced_case(case: CaseRead, held: Holdings) -> Asked:
         "settle,%s" % case.issue.settlement,
         "restricted,29.99",
         "allowance," + GREATEST_ALLOWANCE,
-        "cash," + money(held.cash),
+        "cash," + money(purchased.cash),
     ]
     issue += closing_rows(case.issue.closed_days)
-    issue += ["need,%s,%s" % (day, money(cents)) for day, cents in sorted(held.receipts.items()) if cents]
+    issue += ["need,%s,%s" % (day, money(cents)) for day, cents in sorted(purchased.receipts.items()) if cents]
     ranges = [",".join(one.record.fields) for one in case.rates.ranges]
     return Asked(
         CaseBytes(
@@ -73,29 +74,32 @@ def forced_case(case: CaseRead, held: Holdings) -> Asked:
 
 
 def _balances(case: CaseRead, receipts: dict) -> list[Balance]:
-    """The cash by day: settlement, each need date and each day of receipts."""
-    rows, left = [], 0
-    for day in sorted({case.issue.settlement} | set(case.needs) | set(receipts)):
-        left += receipts.get(day, 0) - case.needs.get(day, 0)
-        rows.append(Balance(day, receipts.get(day, 0), case.needs.get(day, 0), left))
+    """The cash by day: settlement, each need date and each day of receipts. Holdings serve all that the issue needs."""
+    needs, rows, left = needs_by_day(case.issue), [], 0
+    for day in sorted({case.issue.settlement} | set(needs) | set(receipts)):
+        left += receipts.get(day, 0) - needs.get(day, 0)
+        rows.append(Balance(day, receipts.get(day, 0), needs.get(day, 0), left))
     return rows
 
 
 def asked_report(folder: Folder, case: CaseRead, certificate: Certificate, summary) -> Report:
-    """The report of a certificate's purchases: the program's own figures, under the needs, the limit and the gap of the case."""
-    held = holdings_of(case, certificate)
-    asked = forced_case(case, held)
+    """The report of a certificate's purchases: the program's own figures, under the needs, the limit and the gap of the case; where
+    there are holdings, with what these pay in its balances."""
+    purchased = purchased_by(case, certificate)
+    asked = forced_case(case, purchased)
     answer = folder.structure(asked.case)
     report = read_report(answer.lines) if answer.status == program.DONE else None
     if (
         report is None
-        or {asked.lines[one.line - 1]: one.face for one in report.bought} != held.faces
-        or report.cash != held.cash
+        or {asked.lines[one.line - 1]: one.face for one in report.bought} != purchased.faces
+        or report.cash != purchased.cash
     ):
         raise Stop("the program doesn't report these purchases as they are worked out here; nothing is made of them")
     report.bought = [replace(one, line=asked.lines[one.line - 1]) for one in report.bought]
     report.paid = [replace(one, line=asked.lines[one.line - 1]) for one in report.paid]
-    receipts: dict = {case.issue.settlement: report.cash} if report.cash else {}
+    receipts: dict = dict(case.receipts_held)
+    if report.cash:
+        receipts[case.issue.settlement] = receipts.get(case.issue.settlement, 0) + report.cash
     for paid in report.paid:
         receipts[paid.day] = receipts.get(paid.day, 0) + paid.cents
     report.balances = _balances(case, receipts)
@@ -111,6 +115,16 @@ def asked_report(folder: Folder, case: CaseRead, certificate: Certificate, summa
     return report
 
 
+def summary_lines(summary: Summary) -> list[str]:
+    """A summary as the program writes it."""
+    return [
+        "cost " + money(summary.cost),
+        "yield " + summary.yields,
+        "limit " + yield_text(summary.limit),
+        "gap " + money(summary.gap),
+    ]
+
+
 def report_text(report: Report) -> str:
     """A report as the program writes it, line by line."""
     idle = {one.day: one for one in report.idle}
@@ -120,14 +134,7 @@ def report_text(report: Report) -> str:
         % (one.line, one.kind, one.maturity, rate_text(one.rate), money(one.face), money(one.cost))
         for one in report.bought
     ]
-    summary = report.summary
-    lines += [
-        "cash " + money(report.cash),
-        "cost " + money(summary.cost),
-        "yield " + summary.yields,
-        "limit " + yield_text(summary.limit),
-        "gap " + money(summary.gap),
-    ]
+    lines += ["cash " + money(report.cash)] + summary_lines(report.summary)
     lines += ["pay %d %s %s" % (one.line, one.day, money(one.cents)) for one in report.paid]
     for one in report.balances:
         lines.append("date %s %s %s %s" % (one.day, money(one.receipts), money(one.needs), money(one.left)))

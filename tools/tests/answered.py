@@ -7,6 +7,8 @@ from typing import Callable
 
 FILES = ("issue.csv", "rates.csv", "prices.csv", "certificate.txt")
 CHECK, STRUCTURE, SAVINGS = ("check",) + FILES, ("structure",) + FILES, ("savings",) + FILES
+FILES_BESIDE = FILES[:3] + ("held.csv", "certificate.txt")
+CHECK_HELD, STRUCTURE_HELD = ("check-held",) + FILES_BESIDE, ("structure-held",) + FILES_BESIDE
 ISSUE = "settle,2025-01-15\nneed,2025-04-15,5000.00\nrestricted,4.00\n"
 RATES = "terms,1000,100\noffer,2025-04-15,0.00,,10000\n"
 CERTIFICATE = "escrow-certificate 1\nportfolio 1\nbuy 1 50\ngap 0\nnodes 1\nl 1 0 1000000000000\nend\n"
@@ -27,6 +29,16 @@ def case(issue=ISSUE, rates=RATES, prices="", certificate=CERTIFICATE) -> Callab
     def set_up(test) -> None:
         test.write_case(issue, rates, prices)
         test.write("certificate.txt", certificate)
+
+    return set_up
+
+
+def beside(held: str, issue=ISSUE, rates=RATES, certificate=CERTIFICATE) -> Callable:
+    """A case with holdings."""
+
+    def set_up(test) -> None:
+        case(issue, rates, "", certificate)(test)
+        test.write("held.csv", held)
 
     return set_up
 
@@ -63,6 +75,11 @@ CLOSED, LAST_CLOSED = "closed,2025-04-15\n", "closed,2065-01-15\n"
 LAST_NOTE = "terms,1000,100\nnote,2065-01-15,4.000,100,10000\n"
 COARSE = "settle,2025-01-15\nneed,2025-04-15,5050.00\nrestricted,4.00\n"
 COARSE_CERT = CERTIFICATE.replace("buy 1 50", "buy 1 51").replace("gap 0", "gap 5000")
+THOUSAND = "held,2025-04-15,1000.00\n"
+BESIDE_CERT = CERTIFICATE.replace("buy 1 50", "buy 1 40")
+AMPLE = "held,2025-02-01,4000.00\nheld,2025-04-15,1500.00\n"
+NOTHING_CERT = "escrow-certificate 1\nportfolio 0\ngap 0\nnodes 1\nl 1 0\nend\n"
+CALLED_OFF = "settle,2025-01-15\nneed,2025-04-15,5000.00\nneed,2025-07-15,1000.00\nrestricted,4.00\n"
 
 # fmt: off
 ANSWERED = (
@@ -137,5 +154,36 @@ ANSWERED = (
     Answered("a folder in the certificate's place", folder_at("certificate.txt"), STRUCTURE, "write fault", ("certificate.txt, is a folder",)),
     Answered("a certificate in a folder that isn't there", case(), STRUCTURE[:4] + ("there/certificate.txt",), "write fault",
              ("its folder there isn't there",)),
+    Answered("a plan beside holdings", beside(THOUSAND), STRUCTURE_HELD, "cost 4000.00",
+             ("read: settlement 2025-01-15; 1 need date, 5,000.00 in all", "holdings: 1 receipt, 1,000.00 in all; still needed: 1 need date, 4,000.00",
+              "these purchases pay every need beside the holdings, cost 4,000.00", "`./escrow check-held` tries it", "page --held")),
+    Answered("a certificate beside holdings", beside(THOUSAND, certificate=BESIDE_CERT), CHECK_HELD, "yes",
+             ("the purchases pay every need beside the holdings, cost 4,000.00",)),
+    Answered("holdings that pay everything", beside(AMPLE), STRUCTURE_HELD, "cost 0.00",
+             ("500.00 of it serves no need", "still needed: nothing", "nothing has to be bought")),
+    Answered("a certificate of nothing", beside(AMPLE, certificate=NOTHING_CERT), CHECK_HELD, "yes", ("accepted: nothing has to be bought",)),
+    Answered("holdings that come a day late", beside(THOUSAND.replace("04-15", "04-16"), certificate=BESIDE_CERT), CHECK_HELD,
+             "no ShortOn 2025-04-15", ("still needed beside the holdings up to then: 5,000.00", "short by 1,000.00", "or of other holdings")),
+    Answered("a certificate for more need dates than the holdings leave", beside(AMPLE), CHECK_HELD, "no Grammar 6 Count",
+             ("that the holdings leave: there are 0 need dates, and here are 1 price",)),
+    Answered("a certificate beside holdings without them", case(issue=CALLED_OFF), CHECK, "no Grammar 6 Count",
+             ("the issue has 2 need dates, and here are 1 price", "tried by `check-held`")),
+    Answered("caps that are too small beside holdings", beside(THOUSAND, rates=NOT_ENOUGH), STRUCTURE_HELD, "infeasible 2025-04-15",
+             ("and the holdings, the needs up to 2025-04-15 aren't met", "4,000.00 is still needed beside the holdings", "1,000.00 is short",
+              "certificate.txt is from an earlier run")),
+    Answered("no allowance beside holdings", beside(THOUSAND, issue=COARSE + "budget,1\n"), STRUCTURE_HELD, "budget spent",
+             ("allowance,50.00", "`./escrow best --held`", "certificate.txt is from an earlier run")),
+    Answered("no rival beside holdings", beside("held,2025-07-15,500.00\n", issue=LOW_ISSUE, rates=HIGH_COARSE), STRUCTURE_HELD, "none within yield",
+             ("beside the holdings within the yield limit", "`check-held` says `yes none`")),
+    Answered("no need left of what would yield too much", beside("held,2025-07-15,1000.00\n", issue=LOW_ISSUE, rates=HIGH_COARSE),
+             STRUCTURE_HELD, "cost 0.00", ("nothing has to be bought",)),
+    Answered("a receipt of holdings on a closed day", beside(THOUSAND, issue=ISSUE.replace("04-15", "04-16") + CLOSED, certificate=BESIDE_CERT),
+             CHECK_HELD, "yes", ("caution: held.csv, line 1", "a Tuesday, is closed", "the day on which it comes, 2025-04-16")),
+    Answered("four words beside holdings", beside(THOUSAND), STRUCTURE_HELD[:5], "usage:", ("takes 5 words, ISSUE RATES PRICES HELD CERT", "here are 4")),
+    Answered("holdings in the prices' place", beside(THOUSAND), ("check-held",) + FILES[:2] + ("held.csv", "prices.csv", "certificate.txt"),
+             "refused prices row 1 Missing", ("held.csv has rows of the file of holdings", "ISSUE RATES PRICES HELD CERT")),
+    Answered("no file of holdings", case(), CHECK_HELD, "no file", ("HELD: held.csv isn't there", "empty file")),
+    Answered("holdings, and a folder in the certificate's place", folder_at("certificate.txt"),
+             STRUCTURE_HELD[:4] + ("prices.csv", "certificate.txt"), "write fault", ("certificate.txt, is a folder",)),
     Answered("a file in the place of a folder", case(), ("check", "issue.csv/x") + FILES[1:], "read fault", ("ISSUE", "is a file")),
 )

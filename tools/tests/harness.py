@@ -52,6 +52,10 @@ def run_script(folder, *words, **further) -> Ran:
     return _run([str(ROOT / "escrow")] + [str(word) for word in words], folder, **further)
 
 
+def run_shell(folder, line: str) -> Ran:
+    return _run(["bash", "-c", line], folder)
+
+
 class FolderTest(unittest.TestCase):
     """A test in a folder of its own."""
 

@@ -126,18 +126,18 @@ def number_of(choices: list[list[Choice]]) -> int:
     return prod(len(line) for line in choices)
 
 
-def needed_by(case: CaseRead) -> tuple:
-    """The needs up to and on each need date."""
+def needed_by(case: CaseRead, held: tuple = ()) -> tuple:
+    """The needs up to and on each need date, less what holdings, as (day, cents), have paid by then: below 0 where that is more."""
     sums, total = [], 0
-    for cents in case.needs.values():
+    for day, cents in case.needs.items():
         total += cents
-        sums.append(total)
+        sums.append(total - sum(paid for paid_on, paid in held if paid_on <= day))
     return tuple(sums)
 
 
-def covering(case: CaseRead, choices: list[list[Choice]]) -> list[Portfolio]:
-    """The permitted portfolios that meet the needs."""
-    needs = needed_by(case)
+def covering(case: CaseRead, choices: list[list[Choice]], held: tuple = ()) -> list[Portfolio]:
+    """The permitted portfolios that meet the needs: with the holdings, where there are any."""
+    needs = needed_by(case, held)
     return [found for found in map(Portfolio, product(*choices)) if found.meets(needs)]
 
 
@@ -160,9 +160,9 @@ class Listed:
         return min((rival.cost for rival in self.rivals), default=None)
 
 
-def listed(case: CaseRead) -> Listed:
+def listed(case: CaseRead, held: tuple = ()) -> Listed:
     choices = choices_of(case)
-    meeting = covering(case, choices)
+    meeting = covering(case, choices, held)
     rivals = [one for one in meeting if one.yields_at_most(case.limit - 1)]
     within = [one for one in meeting if one.yields_at_most(case.limit)]
     return Listed(number_of(choices), Portfolio(tuple(line[-1] for line in choices)), meeting, rivals, within)

@@ -29,6 +29,10 @@ terms,1000,1000
 note,2026-07-15,3.500,99-30,1000000
 note,2027-01-15,4.125,100-12,1000000
 """
+HELD = """\
+held,2025-04-15,1000.00
+held,2025-07-15,31250.00
+"""
 
 
 @dataclass(frozen=True)
@@ -262,4 +266,36 @@ CAUTIONS = [
     _told("a settlement of a year before", "issue", SETTLE, "settle,2024-01-15", "", "caution", "settlement day right"),
     _told("a call after all maturities", "issue", CALL, "call,2036-01-15,101", "", "caution", "nothing is called"),
 ]
-MISTAKES = DATES + AMOUNTS + PERCENTS + ROWS + DAYS + FILES + CAUTIONS
+RECEIPT = "held,2025-04-15,1000.00"
+HOLDINGS = [
+    _field("a receipt by another word", "held", RECEIPT, "receipt,2025-04-15,1000.00", "refused held row 1 UnknownRow", RECEIPT),
+    _field("a receipt in capitals", "held", RECEIPT, "HELD,2025-04-15,1000.00", "refused held row 1 UnknownRow", RECEIPT, "small letters"),
+    _field("a receipt without its word", "held", RECEIPT, "2025-04-15,1000.00", "refused held row 1 UnknownRow", RECEIPT, "begins with `held`"),
+    _told("a heading row above receipts", "held", RECEIPT, "date,amount\n" + RECEIPT, "refused held row 1 UnknownRow", "delete this line"),
+    _told("a need among receipts", "held", RECEIPT, NEED, "refused held row 1 UnknownRow", "belongs to the issue file (issue.csv)"),
+    _told("a receipt in the issue file", "issue", NEED, RECEIPT, "refused issue row 4 UnknownRow", "the file of holdings", "`structure-held`"),
+    _field("principal and interest apart", "held", RECEIPT, "held,2025-04-15,1000.00,20.00", "refused held row 1 WrongFields", None,
+           "are summed, or are a row each"),
+    _field("a CUSIP in a receipt's row", "held", RECEIPT, "held,91282CKJ9,2025-04-15,1000.00", "refused held row 1 WrongFields", RECEIPT),
+    _field("a receipt of thousands with a comma", "held", RECEIPT, "held,2025-04-15,1,000.00", "refused held row 1 WrongFields", RECEIPT),
+    _told("a receipt without its amount", "held", RECEIPT, "held,2025-04-15", "refused held row 1 WrongFields", "held,DATE,AMOUNT"),
+    _field("a receipt's date as month/day/year", "held", RECEIPT, "held,4/15/2025,1000.00", "refused held row 1 BadDate", RECEIPT),
+    _field("a receipt in dollars and a sign", "held", RECEIPT, "held,2025-04-15,$1000", "refused held row 1 BadNumber", RECEIPT, "currency"),
+    _told("a negative receipt", "held", RECEIPT, "held,2025-04-15,-1000.00", "refused held row 1 BadNumber", "a `need` of the issue file"),
+    _told("a receipt beyond all limits", "held", RECEIPT, "held,2025-04-15,100000000000.01", "refused held row 1 OutOfRange",
+          "100,000,000,000.00"),
+    _field("a receipt past 40 years", "held", RECEIPT, "held,2065-01-16,1000.00", "refused held row 1 OutOfRange", "held,2065-01-15,1000.00",
+           "40 years"),
+    _field("a receipt before settlement", "held", RECEIPT, "held,2025-01-14,1000.00", "refused held row 1 DateOrder", "held,2025-01-15,1000.00",
+           "a row of the settlement day"),
+    _whole("receipts over the limit", "held", _bytes("held,2026-01-15,60000000000\n" * 2), "refused held row 0 HeldTooLarge",
+           "100,000,000,000.00"),
+    _whole("a file of receipts over its limit", "held", _bytes(HELD + "\n" * 1_048_576), "refused held row 0 TooLong", "1,048,576", "receipts"),
+    _whole("a spreadsheet file of receipts", "held", b"PK\x03\x04\x14\x00\x06\x00", "refused held row 1 UnknownRow", "save the sheet as CSV"),
+    _whole("the price file in the place of the receipts", "held", _bytes(PRICES), "refused held row 1 UnknownRow", "ISSUE RATES PRICES HELD CERT"),
+    _whole("a certificate in the place of the receipts", "held", b"escrow-certificate 1\nportfolio 0\n", "refused held row 1 UnknownRow",
+           "the last of the words"),
+    _whole("tabs between the fields of receipts", "held", _bytes(HELD.replace(",", "\t")), "refused held row 1 UnknownRow", "commas"),
+    _told("a receipt that stands twice", "held", RECEIPT, RECEIPT + "\n" + RECEIPT, "", "caution", "line 1", "held twice"),
+]
+MISTAKES = DATES + AMOUNTS + PERCENTS + ROWS + DAYS + FILES + CAUTIONS + HOLDINGS

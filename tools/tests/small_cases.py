@@ -167,6 +167,39 @@ def _budget(draw: random.Random, number: int) -> list:
     return ["budget,%d" % min(max(budget, 1), GREATEST_BUDGET)]
 
 
+@dataclass(frozen=True)
+class HeldCase:
+    """A small case, and what is held beside it, as (day, cents)."""
+
+    case: SmallCase
+    held: tuple
+
+    @property
+    def rows(self) -> str:
+        return "".join("held,%s,%s\n" % (day, money(cents)) for day, cents in self.held)
+
+
+def _receipt(draw: random.Random, needs: dict, settlement: date) -> tuple:
+    """A receipt of holdings: on settlement, on a need date or some days beside it, of a part of what is needed on one."""
+    day = draw.choice(sorted(needs))
+    cents = needs[day] * draw.choice((100, draw.randrange(100), draw.randrange(30))) // 100 + draw.choice((0, 0, 1, 3))
+    shifted = draw.choice((day, day, day - timedelta(days=draw.randrange(1, 90)), day + timedelta(days=draw.randrange(1, 90)), settlement))
+    return max(shifted, settlement), cents
+
+
+def drawn_held_case(draw: random.Random) -> HeldCase:
+    """A drawn case with some receipts of holdings; most often as much more is needed, so that the same purchases still matter."""
+    drawn = drawn_case(draw)
+    case = drawn.read()
+    held = tuple(_receipt(draw, case.needs, case.issue.settlement) for _ in range(draw.randrange(1, 4)))
+    rows = [
+        "need,%s,%s\n" % (next((one for one in case.needs if one >= day), max(case.needs)), money(max(cents + draw.choice((0, 0, 1, -1)), 0)))
+        for day, cents in held
+        if draw.random() < 0.7
+    ]
+    return HeldCase(SmallCase(drawn.issue + "".join(rows), drawn.rates, drawn.prices), held)
+
+
 def drawn_case(draw: random.Random) -> SmallCase:
     settlement = date.fromisoformat(draw.choice(SETTLEMENTS))
     count = draw.randrange(1, 5)

@@ -12,11 +12,11 @@ from escrow_tools.amounts import money, yield_text
 from escrow_tools.case_files import read_issue_rows
 from escrow_tools.certificate import Certificate, Purchase
 from escrow_tools.explaining.case_reading import read_whole_case, restricted_yield
-from escrow_tools.explaining.holdings import holdings_of, most_receipts, up_to
+from escrow_tools.explaining.purchases import most_receipts, purchased_by, up_to
 from escrow_tools.needs import needs_by_day
-from escrow_tools.needs_asked import Series, asked_needs
-from escrow_tools.report import read_report, yield_ends
-from escrow_tools.report_asked import first_difference, forced_case, report_text
+from escrow_tools.needs_asked import Series, asked_needs, asked_residual, read_holdings
+from escrow_tools.report import read_report, read_summary, yield_ends
+from escrow_tools.report_asked import first_difference, forced_case, report_text, summary_lines
 from escrow_tools.securities import indexed
 from escrow_tools.yields import Interval, interval, proof_of
 
@@ -131,15 +131,15 @@ class FiguresTest(FolderTest):
         purchases = [
             Purchase(line.number, draw.choice((line.most // line.step, line.least // line.step))) for line in chosen
         ]
-        held = holdings_of(case, Certificate(purchases, 0, 1))
-        asked = forced_case(case, held)
+        purchased = purchased_by(case, Certificate(purchases, 0, 1))
+        asked = forced_case(case, purchased)
         lines = self.ask(asked.case)
         report = read_report(lines)
         self.assertEqual("\n".join(lines) + "\n", report_text(report))
-        self.assertEqual(report.summary.cost, held.cost)
+        self.assertEqual(report.summary.cost, purchased.cost)
         self.try_lines(case, asked, report)
-        flows = indexed(case.issue.settlement, held.receipts)
-        ends = interval(flows, held.security_cost)
+        flows = indexed(case.issue.settlement, purchased.receipts)
+        ends = interval(flows, purchased.security_cost)
         said = yield_ends(report.summary)
         self.assertEqual(ends, said and Interval(*said))
         if ends is not None:
@@ -155,13 +155,13 @@ class FiguresTest(FolderTest):
 
     def own_answer(self, case, certificate: Certificate) -> str:
         """What `check` has to say first of purchases that are permitted, as it is worked out here."""
-        held = holdings_of(case, certificate)
+        purchased = purchased_by(case, certificate)
         for day in case.needs:
-            if up_to(held.receipts, day) < up_to(case.needs, day):
+            if up_to(purchased.receipts, day) < up_to(case.needs, day):
                 return "no ShortOn %s" % day
-        flows = dict(held.receipts)
-        flows[case.issue.settlement] = flows.get(case.issue.settlement, 0) - held.cash
-        ends = interval(indexed(case.issue.settlement, flows), held.security_cost)
+        flows = dict(purchased.receipts)
+        flows[case.issue.settlement] = flows.get(case.issue.settlement, 0) - purchased.cash
+        ends = interval(indexed(case.issue.settlement, flows), purchased.security_cost)
         return "no YieldAbove" if ends is not None and ends.high > case.limit else "no WeakLeaf 1"
 
     def test_drawn_answers(self) -> None:
@@ -225,6 +225,24 @@ class FiguresTest(FolderTest):
                 self.try_needs(issue)
                 self.try_purchases(draw, issue, drawn_rates(draw, settlement), drawn_prices(draw, settlement))
 
+    def test_drawn_residuals(self) -> None:
+        """What is still needed beside holdings, on many days, of which some are those of needs."""
+        for number in range(DRAWS):
+            draw = random.Random(300 + number)
+            settlement = SETTLEMENTS[number % len(SETTLEMENTS)]
+            issue = drawn_issue(draw, settlement)
+            series = Series("issue.csv", issue.encode(), read_issue_rows(issue.encode()))
+            needs = needs_by_day(series.issue)
+            most = sum(needs.values()) // draw.choice((4, 20))
+            rows = [(drawn_day(draw, settlement, 0, 26), draw.randrange(most)) for _ in range(draw.randrange(1, 8))]
+            rows += [(day, needs[day]) for day in draw.sample(sorted(needs), 1)]
+            held = "".join("held,%s,%s\n" % (day, money(cents)) for day, cents in rows)
+            with self.subTest(number=number):
+                path = self.write("held.csv", held)
+                # It stops where what the program still needs differs from what is worked out.
+                left = asked_residual(needs, read_holdings(str(path), series), settlement)
+                self.assertLess(sum(left.values()), sum(needs.values()))
+
     def test_computed_yields(self) -> None:
         """A restricted yield that is computed from the issue's price and payments."""
         for number in range(4):
@@ -239,11 +257,12 @@ class FiguresTest(FolderTest):
                 self.assertEqual(yield_text(report.summary.limit), yield_text(own + 100_000))
 
     def test_examples(self) -> None:
-        """`check` says of each example what its expected.txt has, and its purchases cost what is worked out."""
+        """`check` says of each example what its expected.txt has; where there are holdings, `check-held` does."""
         for folder in sorted(EXAMPLES.iterdir()):
             with self.subTest(folder.name):
-                words = [str(folder / name) for name in ("issue.csv", "rates.csv", "prices.csv", "certificate.txt")]
-                said = run_program(self.folder, "check", *words)
+                held = ["held.csv"] if (folder / "held.csv").exists() else []
+                words = [str(folder / name) for name in ["issue.csv", "rates.csv", "prices.csv"] + held + ["certificate.txt"]]
+                said = run_program(self.folder, "check-held" if held else "check", *words)
                 self.assertEqual(said.out, (folder / "expected.txt").read_bytes())
 
     def test_reports_kept(self) -> None:
@@ -251,7 +270,11 @@ class FiguresTest(FolderTest):
         for path in sorted(EXAMPLES.glob("*/*report.txt")):
             with self.subTest(str(path)):
                 text = path.read_text()
-                self.assertIsNone(first_difference(text, report_text(read_report(text.splitlines()))))
+                if (path.parent / "held.csv").exists():
+                    again = "\n".join(summary_lines(read_summary(text.splitlines())) + [""])
+                else:
+                    again = report_text(read_report(text.splitlines()))
+                self.assertIsNone(first_difference(text, again))
 
 
 if __name__ == "__main__":

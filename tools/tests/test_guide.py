@@ -10,7 +10,7 @@ from escrow_tools.explaining.case_reading import read_whole_case
 from escrow_tools.explaining.cautions import totals
 
 GUIDE = ROOT / "docs" / "GUIDE.md"
-SERIES = EXAMPLES / "series"
+SERIES, HOLDINGS = EXAMPLES / "series", EXAMPLES / "holdings"
 # One need, and one offer at more than the restricted yield.
 DEAR_OFFER = (
     "settle,2025-01-15\nneed,2025-07-15,1000.00\nrestricted,3.00\n",
@@ -48,6 +48,11 @@ class GuideTest(FolderTest):
         shown = [line for line in code_lines(self.text) if line.startswith("escrow: ")]
         for line in said:
             self.assertIn(line, shown)
+        read = [(HOLDINGS / name).read_bytes() for name in ("issue.csv", "rates.csv", "prices.csv", "held.csv")]
+        for line in totals(read_whole_case(*read)):
+            self.assertIn("escrow: " + line, shown)
+        for line in (HOLDINGS / "held.csv").read_text().splitlines():
+            self.assertIn(line, code_lines(self.text))
         case = read_whole_case(*((SERIES / name).read_bytes() for name in ("issue.csv", "rates.csv", "prices.csv")))
         self.assertIn("escrow: " + totals(case)[0], shown)
 
@@ -64,6 +69,7 @@ class GuideTest(FolderTest):
         known = self.answers()
         for name in ("certificate.report.txt", "expected.txt"):
             known += (SERIES / name).read_text().splitlines()
+        known += (HOLDINGS / "expected.txt").read_text().splitlines()
         words = ("buy", "cash", "cost", "yield", "limit", "gap", "pay", "date", "idle", "proof", "old", "new", "saved", "cap", "next")
         for line in code_lines(self.text):
             if line.split(" ")[0] in words and "," not in line and line != "cash,AMOUNT":

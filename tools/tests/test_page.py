@@ -87,7 +87,12 @@ class PageTest(FolderTest):
         words = [word for word in words]
         for series in sorted(self.folder.glob("series-*.csv")):
             words += ["--series", series.name]
-        return words
+        return words + (["--held", "held.csv"] if (self.folder / "held.csv").exists() else [])
+
+    def said_of(self, words: list) -> dict:
+        """The summary that the program says of a certificate, word by word."""
+        beside = ["check-held"] + words[:3] + ["held.csv", words[3]] if "--held" in words else ["check"] + words[:4]
+        return dict(line.split(" ", 1) for line in run_program(self.folder, *beside).lines[1:])
 
     def test_examples(self) -> None:
         for folder in sorted(EXAMPLES.iterdir()):
@@ -96,11 +101,13 @@ class PageTest(FolderTest):
                 words = self.example_words(folder.name)
                 reader = self.make(*words, "--csv", "tables")
                 self.try_totals(reader)
-                said = dict(line.split(" ", 1) for line in run_program(self.folder, "check", *words[:4]).lines[1:])
+                said = self.said_of(words)
                 self.assertEqual(self.total(reader, "sources", "sources"), Decimal(said["cost"]))
                 self.assertEqual(self.total(reader, "sources", "uses"), Decimal(said["cost"]))
                 self.assertEqual(self.total(reader, "cash", "needed"), self.total(reader, "needs", "total"))
                 opening = self.total(reader, "cash", "opening cash")
+                if "holdings" in reader.tables:
+                    opening += self.total(reader, "holdings", "amount")
                 if "receipts" in reader.tables:
                     self.assertEqual(
                         self.total(reader, "cash", "received"), self.total(reader, "receipts", "total") + opening
@@ -118,6 +125,35 @@ class PageTest(FolderTest):
             self.assertEqual(rows[0], table["thead"][0])
             shown = [[cell.replace(",", "") if cell[-3:-2] == "." else cell for cell in row] for row in table["tbody"]]
             self.assertEqual(rows[1:], shown)
+
+    def test_holdings(self) -> None:
+        """All that is received stands beside all that is needed; and the page of what is still needed is of the same purchases."""
+        words = self.example_words("holdings")
+        reader = self.make(*words)
+        cash = reader.tables["cash"]
+        kept = cash["thead"][0].index("holdings")
+        rows = {row[0]: row[kept] for row in cash["tbody"] if row[kept] != "0.00"}
+        held = {"2026-06-01": "26,562.50", "2026-11-30": "1,276,562.50", "2028-08-15": "900,000.00"}
+        self.assertEqual(rows, held)
+        self.assertEqual({row[0]: row[1] for row in reader.tables["holdings"]["tbody"]}, held)
+        self.assertEqual(self.total(reader, "needs", "total"), Decimal("10177837.50"))
+        self.write("left.csv", run_tool(self.folder, "needs", "--held", "held.csv", "--issue", "issue.csv").out)
+        left = self.make("left.csv", *words[1:4])
+        self.assertEqual(self.total(left, "needs", "total"), Decimal("7974712.50"))
+        for key in ("sources", "slgs", "securities", "receipts", "yield"):
+            self.assertEqual(left.tables[key], reader.tables[key])
+        ran = run_tool(self.folder, "page", *words[:4])
+        self.assertEqual((ran.status, ran.out), (1, b""))
+        self.assertIn("`check-held`", ran.err)
+
+    def test_holdings_alone(self) -> None:
+        """Nothing is bought, and the holdings pay everything."""
+        words = self.write_case("settle,2025-01-15\nneed,2025-07-15,1000.00\nrestricted,3.00\n", "", "")
+        self.write("held.csv", "held,2025-03-01,400.00\nheld,2025-07-15,600.00\nheld,2025-07-15,50.00\n")
+        self.assertEqual(run_program(self.folder, "structure-held", *words[:3], "held.csv", words[3]).status, 0)
+        reader = self.make("--held", "held.csv", *words)
+        self.assertEqual(self.total(reader, "holdings", "amount"), Decimal("1050.00"))
+        self.assertEqual([row[-3] for row in reader.tables["cash"]["tbody"]], ["0.00", "400.00", "50.00"])
 
     def test_no_rival(self) -> None:
         """A case without purchases: `portfolio none`."""

@@ -7,7 +7,7 @@ import pty
 import subprocess
 import unittest
 
-from harness import EXAMPLES, ROOT, FolderTest, run_program, run_script
+from harness import EXAMPLES, ROOT, FolderTest, run_program, run_script, run_shell
 
 WITHOUT_PYTHON = (
     "bash",
@@ -49,6 +49,7 @@ class ScriptTest(FolderTest):
         """The output and the exit status are the program's own, explained or not."""
         self.write_example("refunding")
         self.write("certificate.txt", (EXAMPLES / "refunding" / "certificate.txt").read_bytes())
+        self.write("held.csv", "held,2030-01-01,1000.00\n")
         cases = (
             ["check", "issue.csv", "rates.csv", "prices.csv", "certificate.txt"],
             ["check", "rates.csv", "rates.csv", "prices.csv", "certificate.txt"],
@@ -58,6 +59,10 @@ class ScriptTest(FolderTest):
             ["roll", "issue.csv", "rates.csv", "prices.csv", "certificate.txt"],
             ["cap", "issue.csv", "rates.csv", "prices.csv", "other.txt"],
             ["check-cap", "2.00", "issue.csv", "rates.csv", "prices.csv", "certificate.txt"],
+            ["check-held", "issue.csv", "rates.csv", "prices.csv", "held.csv", "certificate.txt"],
+            ["structure-held", "issue.csv", "rates.csv", "prices.csv", "held.csv", "other.txt"],
+            ["structure-held", "issue.csv", "rates.csv", "prices.csv", "rates.csv", "other.txt"],
+            ["structure-held", "issue.csv", "rates.csv", "prices.csv", "none.csv", "other.txt"],
             ["structure", "issue.csv"],
             ["strukture"],
             [],
@@ -99,12 +104,16 @@ class ScriptTest(FolderTest):
         words = self.words("structure")
         os.link(self.folder / "rates.csv", self.folder / "linked.csv")
         os.symlink("prices.csv", self.folder / "symbolic.csv")
-        for cert in ("issue.csv", "./issue.csv", "linked.csv", "symbolic.csv"):
-            before = (self.folder / cert).read_bytes()
-            ran = run_script(self.folder, *words[:4], cert)
-            self.assertEqual((ran.status, ran.out), (124, b""))
-            self.assertIn("same file", ran.err)
-            self.assertEqual((self.folder / cert).read_bytes(), before)
+        self.write("held.csv", "held,2030-01-01,1000.00\n")
+        commands = (words[:4], ["cap"] + words[1:4], ["structure-held"] + words[1:4] + ["held.csv"])
+        places = ("issue.csv", "./issue.csv", "linked.csv", "symbolic.csv")
+        for command, cert in [(command, cert) for command in commands for cert in places] + [(commands[2], "./held.csv")]:
+            with self.subTest(command=command[0], cert=cert):
+                before = (self.folder / cert).read_bytes()
+                ran = run_script(self.folder, *command, cert)
+                self.assertEqual((ran.status, ran.out), (124, b""))
+                self.assertIn("same file", ran.err)
+                self.assertEqual((self.folder / cert).read_bytes(), before)
 
     def test_words_of_its_own(self) -> None:
         ran = run_script(self.folder)
@@ -112,8 +121,11 @@ class ScriptTest(FolderTest):
         self.assertIn("docs/GUIDE.md", ran.err)
         self.assertEqual(len(ran.err.splitlines()), 2)
         listed = run_script(self.folder, "--help").out.decode()
-        for command in ("structure", "check", "cap", "check-cap", "savings", "roll", "best", "needs", "offers", "prices", "page"):
-            self.assertIn("  %s " % command, listed)
+        # Each command that the program's own usage text has, in the same words; and the tools.
+        for form in run_program(self.folder).lines[0].replace("usage: ", "").split(" | "):
+            self.assertIn("\n  %s" % form, listed)
+        for command in ("best", "needs", "offers", "prices", "page"):
+            self.assertIn("\n  %s " % command, listed)
         self.assertRegex(run_script(self.folder, "--version").out.decode(), "^escrow .*sources [0-9a-f]{16}")
         for command in ("best", "needs", "offers", "prices", "page"):
             ran = run_script(self.folder, command, "--help")
@@ -134,6 +146,30 @@ class ScriptTest(FolderTest):
         ran = run_script(self.folder, "--explain", words[0], "pipe", *words[2:])
         os.waitpid(writer, 0)
         self.assertEqual((ran.status, ran.out), (0, (EXAMPLES / "refunding" / "report.txt").read_bytes()))
+
+    def test_pipes_of_a_shell(self) -> None:
+        """So is what a shell puts there by `<(..)`; nothing is said of a case that can't be read again but what the answer means."""
+        self.write_example("holdings")
+        for name in ("held.csv", "certificate.txt"):
+            self.write(name, (EXAMPLES / "holdings" / name).read_bytes())
+        plain = (EXAMPLES / "holdings" / "expected.txt").read_bytes()
+        for words, said in (
+            ("check-held issue.csv rates.csv prices.csv <(cat held.csv) certificate.txt", plain),
+            ("check-held <(cat issue.csv) rates.csv prices.csv held.csv certificate.txt", plain),
+            ("check-held issue.csv rates.csv prices.csv held.csv <(cat certificate.txt)", plain),
+            ("check-held issue.csv rates.csv prices.csv <(sed s/900000/899000/ held.csv) certificate.txt", b"no ShortOn 2029-06-01\n"),
+            ("check-held issue.csv rates.csv prices.csv <(echo) certificate.txt", b"no Grammar 9 Count\n"),
+            ("check-held issue.csv rates.csv prices.csv <(echo held,,1) certificate.txt", b"refused held row 1 BadDate\n"),
+            ("check <(cat issue.csv) rates.csv prices.csv certificate.txt", b"no Grammar 9 Count\n"),
+            ("check issue.csv <(sed s/10177838/1000/ rates.csv) prices.csv certificate.txt", b"no Grammar 9 Count\n"),
+            ("check-held issue.csv <(sed s/10177838/1000/ rates.csv) prices.csv held.csv certificate.txt", b"no NotPermitted 1\n"),
+            ("check-held <(sed s/0.58/0.57/ issue.csv) rates.csv prices.csv held.csv certificate.txt", b"no GapAbove\n"),
+        ):
+            with self.subTest(words):
+                ran = run_shell(self.folder, "%s --explain %s" % (ROOT / "escrow", words))
+                self.assertEqual(ran.out, said)
+                self.assertNotIn("Traceback", ran.err)
+                self.assertIn("escrow: ", ran.err)
 
     def test_without_python(self) -> None:
         words = self.words("check")

@@ -10,7 +10,7 @@ from escrow_tools import program
 from escrow_tools.amounts import money
 from escrow_tools.certificate import read_certificate
 from escrow_tools.explaining.case_reading import CaseRead
-from escrow_tools.report import read_report, read_summary, yield_ends
+from escrow_tools.report import Summary, read_report, read_summary, yield_ends
 from harness import FolderTest, Ran, run_program
 from listed import Listed, Portfolio, listed, needed_by
 from small_cases import drawn_case
@@ -20,7 +20,16 @@ SEED = 344
 ANSWERS = (program.DONE, program.INFEASIBLE, program.NONE_WITHIN, program.BUDGET_SPENT)
 
 
-class SmallCasesTest(FolderTest):
+class SmallCaseTest(FolderTest):
+    """Tries one case by `structure` and `check`, or by others that take the same words."""
+
+    structure, check = "structure", "check"
+    held: tuple = ()
+
+    def read_found(self, ran: Ran) -> Summary:
+        """The summary that is said where a portfolio is found."""
+        return read_report(ran.lines).summary
+
     def bought(self, found: Listed, purchases: list) -> Portfolio:
         """The listed portfolio of a certificate's purchases, which meets the needs within the limit."""
         units = {one.line: one.units for one in purchases}
@@ -42,27 +51,27 @@ class SmallCasesTest(FolderTest):
 
     def try_found(self, ran: Ran, words: list, case: CaseRead, found: Listed, budget: int) -> None:
         """A portfolio is found: it is the best rival's within the gap, and the gap is allowed."""
-        certificate = read_certificate((self.folder / words[3]).read_bytes())
+        certificate = read_certificate((self.folder / words[-1]).read_bytes())
         plan = self.bought(found, certificate.purchases)
         self.assertLessEqual(certificate.nodes, budget)
         self.assertLessEqual(certificate.gap, case.issue.amount("allowance", 0))
         if found.rivals:
             self.assertLessEqual(plan.cost, found.least_rival + certificate.gap)
-        checked = run_program(self.folder, "check", *words)
+        checked = run_program(self.folder, self.check, *words)
         self.assertEqual((checked.status, checked.lines[0]), (program.DONE, "yes"))
         summary = read_summary(checked.lines[1:])
         self.assertEqual((summary.cost, summary.gap, summary.limit), (plan.cost, certificate.gap, case.limit))
-        self.assertEqual(read_report(ran.lines).summary, summary)
+        self.assertEqual(self.read_found(ran), summary)
         self.try_yield(summary, plan)
 
     def try_none(self, ran: Ran, words: list, found: Listed, budget: int) -> None:
         """There is no rival: so it is, and `check` says so too."""
-        certificate = read_certificate((self.folder / words[3]).read_bytes())
+        certificate = read_certificate((self.folder / words[-1]).read_bytes())
         self.assertIsNone(certificate.purchases)
         self.assertEqual(ran.lines, ["none within yield", "nodes %d" % certificate.nodes])
         self.assertLessEqual(certificate.nodes, budget)
         self.assertIsNone(found.least_rival)
-        checked = run_program(self.folder, "check", *words)
+        checked = run_program(self.folder, self.check, *words)
         self.assertEqual((checked.status, checked.lines), (program.DONE, ["yes none"]))
 
     def try_spent(self, ran: Ran, case: CaseRead, found: Listed, budget: int) -> None:
@@ -83,25 +92,27 @@ class SmallCasesTest(FolderTest):
         """No permitted portfolio meets the needs, and the day is the first on which the most of all lines is short."""
         self.assertEqual(len(found.covering), 0)
         paid = [sum(choice.paid[at] for choice in found.most.choices) for at in range(len(case.needs))]
-        days = [day for day, needed, most in zip(case.needs, needed_by(case), paid) if most < needed]
+        days = [day for day, needed, most in zip(case.needs, needed_by(case, self.held), paid) if most < needed]
         self.assertEqual(ran.lines, ["infeasible %s" % days[0]])
 
     def try_case(self, words: list, case: CaseRead, found: Listed) -> int:
         budget = case.issue.amount("budget")
-        ran = run_program(self.folder, "structure", *words)
+        ran = run_program(self.folder, self.structure, *words)
         self.assertIn(ran.status, ANSWERS, ran.err)
         if ran.status == program.DONE:
             self.try_found(ran, words, case, found, budget)
         elif ran.status == program.NONE_WITHIN:
             self.try_none(ran, words, found, budget)
         else:
-            self.assertFalse((self.folder / words[3]).exists())
+            self.assertFalse((self.folder / words[-1]).exists())
             if ran.status == program.BUDGET_SPENT:
                 self.try_spent(ran, case, found, budget)
             else:
                 self.try_infeasible(ran, case, found)
         return ran.status
 
+
+class SmallCasesTest(SmallCaseTest):
     def test_drawn_cases(self) -> None:
         draw = random.Random(SEED)
         said, binding = Counter(), 0

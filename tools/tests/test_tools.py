@@ -38,18 +38,18 @@ class TermSheetTest(FolderTest):
 
     def try_example(self, example) -> None:
         for path in example.iterdir():
-            if path.name in ("table.csv", "notes.csv", "series-a.csv", "series-b.csv"):
+            if path.name in ("table.csv", "notes.csv", "held.csv", "series-a.csv", "series-b.csv"):
                 self.write(path.name, path.read_bytes())
         self.write("prices.csv", b"")
         self.write("issue.csv", self.without_allowance((example / "issue.csv").read_bytes()))
         for words in commands((example / "termsheet.txt").read_text()):
             name, further = words[1], words[2:]
-            if name == "check":
+            if name in ("check", "check-held"):
                 issue = self.folder / "issue.csv"
                 report = (self.folder / "certificate.report.txt").read_text().splitlines()
                 gap = next(line for line in report if line.startswith("gap ")).split()[1]
                 issue.write_bytes(issue.read_bytes() + b"allowance,%s\n" % gap.encode())
-                self.assertEqual(run_program(self.folder, "check", *further).lines[0], "yes")
+                self.assertEqual(run_program(self.folder, name, *further).lines[0], "yes")
                 continue
             output = further[further.index(">") + 1] if ">" in further else None
             ran = run_tool(self.folder, name, *(further[: further.index(">")] if output else further))
@@ -105,6 +105,79 @@ class NeedsTest(FolderTest):
             [called[name] for name in ("principal", "interest", "premium", "total")],
             ["100000.00", "1031.25", "1000.00", "102031.25"],
         )
+
+    def left(self, needs: str, held: str) -> list:
+        """What is still needed, as day and amount, by the tool."""
+        self.write("a.csv", "settle,2025-01-15\n" + needs)
+        self.write("held.csv", held)
+        ran = run_tool(self.folder, "needs", "--held", "held.csv", "a.csv")
+        self.assertEqual(ran.status, 0, ran.err)
+        return [line.replace("need,2025-", "") for line in ran.lines]
+
+    def test_beside_holdings(self) -> None:
+        """Worked by hand: holdings serve the earliest needs; what is early waits, and what is late serves none that was due before."""
+        needs = "need,2025-04-15,5000.00\nneed,2025-07-15,2000.00\nneed,2025-10-15,3000.00\n"
+        for held, left in (
+            ("", ["04-15,5000.00", "07-15,2000.00", "10-15,3000.00"]),
+            ("held,2025-04-15,1000.00\n", ["04-15,4000.00", "07-15,2000.00", "10-15,3000.00"]),
+            ("held,2025-04-15,6000.00\n", ["07-15,1000.00", "10-15,3000.00"]),
+            ("held,2025-01-15,3500.00\nheld,2025-04-15,3000.00\n", ["07-15,500.00", "10-15,3000.00"]),
+            # A day late: it serves the needs behind the first, up to what these come to.
+            ("held,2025-04-16,1000.00\n", ["04-15,5000.00", "07-15,1000.00", "10-15,3000.00"]),
+            ("held,2025-04-16,2500.00\n", ["04-15,5000.00", "10-15,2500.00"]),
+            ("held,2025-04-16,9000.00\n", ["04-15,5000.00"]),
+            ("held,2025-10-16,9000.00\n", ["04-15,5000.00", "07-15,2000.00", "10-15,3000.00"]),
+            ("held,2025-04-15,4999.99\nheld,2025-07-15,0.02\n", ["04-15,0.01", "07-15,1999.98", "10-15,3000.00"]),
+            ("held,2025-04-15,2500.00\nheld,2025-04-15,2500.00\n", ["07-15,2000.00", "10-15,3000.00"]),
+            ("held,2025-02-01,10000.00\n", []),
+        ):
+            with self.subTest(held):
+                self.assertEqual(self.left(needs, held), left)
+
+    def test_issue_beside_holdings(self) -> None:
+        """One issue file of two, beside holdings, closed days and all: what is found beside them holds for it, and the other way round."""
+        self.write("a.csv", "settle,2025-01-15\nbond,2026-07-15,100000.00,4.000\nclosed,2026-07-15\nallowance,100.00\n")
+        self.write("b.csv", "settle,2025-01-15\nweekends\nneed,2026-07-16,1000.00\nrestricted,4.00\n")
+        self.write("held.csv", "held,2025-07-15,1500.00\nheld,2026-01-20,20000.00\n")
+        both = ("a.csv", "b.csv")
+        made = run_tool(self.folder, "needs", "--held", "held.csv", "--issue", *both)
+        rows = ["settle,2025-01-15", "need,2025-07-15,500.00", "need,2026-01-15,2000.00", "need,2026-07-15,82000.00"]
+        rows += ["need,2026-07-16,1000.00", "weekends", "closed,2026-07-15", "allowance,100.00", "restricted,4.00"]
+        self.assertEqual(made.lines, rows)
+        self.assertIn("held.csv: 2 receipts, 21,500.00 in all; still needed: 4 need dates, 85,500.00 in all", made.err)
+        self.assertIn("1 need date is closed, 2026-07-15", made.err)
+        self.write("left.csv", made.out)
+        self.write("whole.csv", run_tool(self.folder, "needs", "--issue", *both).out)
+        rates = "terms,100,1\nrate,2025-02-14,2027-01-15,3.00\n"
+        rates += "".join("offer,%s,max,,100000\n" % day for day in ("2025-07-15", "2026-01-15", "2026-07-14"))
+        others = self.write_case("", rates, "")[1:3]
+        beside, alone = ["whole.csv", *others, "held.csv"], ["left.csv", *others]
+        self.assertEqual(run_program(self.folder, "structure-held", *beside, "one.txt").status, 0)
+        self.assertEqual(run_program(self.folder, "structure", *alone, "other.txt").status, 0)
+        self.assertEqual((self.folder / "one.txt").read_bytes(), (self.folder / "other.txt").read_bytes())
+        said = [run_program(self.folder, "check", *alone, "one.txt"), run_program(self.folder, "check-held", *beside, "other.txt")]
+        self.assertEqual((said[0].lines[0], said[0].out), ("yes", said[1].out))
+
+    def test_faulty_holdings(self) -> None:
+        self.write("a.csv", "settle,2025-01-15\nneed,2025-07-15,1000.00\n")
+        for held, status, told in (
+            ("held,7/15/2025,100.00\n", 3, "held.csv, line 1: held,7/15/2025,100.00"),
+            ("held,7/15/2025,100.00\n", 3, "write instead: held,2025-07-15,100.00"),
+            ("held,2025-01-14,100.00\n", 3, "write instead: held,2025-01-15,100.00"),
+            ("held,2025-07-15,60000000000\nheld,2025-07-15,60000000000\n", 3, "100,000,000,000.00"),
+            (None, 124, "held.csv isn't there"),
+        ):
+            with self.subTest(held, told=told):
+                self.clear()
+                self.write("a.csv", "settle,2025-01-15\nneed,2025-07-15,1000.00\n")
+                if held is not None:
+                    self.write("held.csv", held)
+                ran = run_tool(self.folder, "needs", "--held", "held.csv", "a.csv")
+                self.assertEqual((ran.status, ran.out), (status, b""))
+                self.assertIn(told, ran.err)
+        ran = run_tool(self.folder, "needs", "--held", "held.csv", "--by-bond", "a.csv")
+        self.assertEqual((ran.status, ran.out), (2, b""))
+        self.assertIn("--by-bond", ran.err)
 
     def test_what_is_refused(self) -> None:
         self.write("a.csv", "settle,2025-01-15\nbond,2026-07-15,50000.00,3.000\n")
@@ -358,6 +431,54 @@ class BestTest(FolderTest):
         ran = run_tool(self.folder, "best", *words[:3], "issue.csv")
         self.assertEqual(ran.status, 124)
         self.assertIn("same file", ran.err)
+
+    def test_beside_holdings(self) -> None:
+        """As without holdings, of what they leave; and the summary stands in the report's place."""
+        words = self.write_case(
+            "settle,2025-01-15\nneed,2025-04-15,6050.00\nrestricted,4.00\nbudget,1\n",
+            "terms,1000,100\noffer,2025-04-15,0.00,,10000\n",
+            "",
+        )
+        self.write("held.csv", "held,2025-03-01,1000.00\n")
+        ran = run_tool(self.folder, "best", "--held", "held.csv", *words)
+        self.assertEqual(ran.status, 0, ran.err)
+        summary = ["cost 5100.00", "yield 0.00000000 0.00000000", "limit 4.00100000", "gap 50.00"]
+        self.assertEqual(ran.lines, summary)
+        self.assertIn("holdings: 1 receipt, 1,000.00 in all; still needed: 1 need date, 5,050.00 in all", ran.err)
+        self.assertIn("for `check-held` to say yes, add to issue.csv the row: allowance,50.00", ran.err)
+        self.assertEqual((self.folder / "certificate.report.txt").read_bytes(), ran.out)
+        issue = (self.folder / "issue.csv").read_text()
+        for amount, answer in (("49.99", "no GapAbove"), ("50.00", "yes")):
+            self.write("issue.csv", issue + "allowance,%s\n" % amount)
+            self.assertEqual(run_program(self.folder, "check-held", *words[:3], "held.csv", words[3]).lines[0], answer)
+        # The page of what is still needed takes the summary for the report that is kept, and another one not.
+        self.write("left.csv", run_tool(self.folder, "needs", "--held", "held.csv", "--issue", "issue.csv").out)
+        self.assertEqual(run_tool(self.folder, "page", "left.csv", *words[1:]).status, 0)
+        self.write("certificate.report.txt", ran.out.replace(b"5100.00", b"5200.00"))
+        page = run_tool(self.folder, "page", "left.csv", *words[1:])
+        self.assertEqual((page.status, page.out), (124, b""))
+        self.assertIn("line 1 is `cost 5200.00`", page.err)
+
+    def test_other_answers_beside_holdings(self) -> None:
+        rates = "terms,1000,100\noffer,2025-04-15,0.00,,2000\n"
+        words = self.write_case("settle,2025-01-15\nneed,2025-04-15,5050.00\nrestricted,4.00\n", rates, "")
+        self.write("held.csv", "held,2025-04-15,3000.00\n")
+        beside = ("best", "--held", "held.csv")
+        ran = run_tool(self.folder, *beside, *words)
+        self.assertEqual((ran.status, ran.lines), (4, ["infeasible 2025-04-15"]))
+        self.assertIn("2,050.00 is still needed beside the holdings", ran.err)
+        self.assertFalse((self.folder / "certificate.txt").exists())
+        ran = run_tool(self.folder, *beside, *words[:3], "held.csv")
+        self.assertEqual(ran.status, 124)
+        self.assertIn("same file", ran.err)
+        self.write("held.csv", "held,2025-04-15,3000.00 $\n")
+        ran = run_tool(self.folder, *beside, *words)
+        self.assertEqual((ran.status, ran.lines), (3, ["refused held row 1 BadNumber"]))
+        self.assertIn("write instead: held,2025-04-15,3000.00", ran.err)
+        self.write("held.csv", "held,2025-04-15,9000.00\n")
+        ran = run_tool(self.folder, *beside, *words)
+        self.assertEqual((ran.status, ran.lines[:2]), (0, ["cost 0.00", "yield empty"]))
+        self.assertIn("3,950.00 of it serves no need", ran.err)
 
     def test_faulty_allowance(self) -> None:
         """A faulty allowance row isn't hidden by the one that stands in its place."""

@@ -8,9 +8,9 @@ from typing import Optional
 
 from .. import program
 from ..amounts import counted, money, money_for_people, rate_text, read_hundredths, yield_text
-from ..case_files import CERT, ISSUE, Refusal
+from ..case_files import CERT, HELD, ISSUE, PRICES, RATES, Refusal
 from ..certificate import Certificate, read_certificate
-from ..report import BadReport, cents_of, read_summary
+from ..report import BadReport, Summary, cents_of, read_summary
 from ..securities import indexed
 from ..yields import interval
 from .case_reading import CaseRead, at_cap, read_whole_case
@@ -18,7 +18,7 @@ from .cautions import Cautions
 from .explanation import shown
 from .files import explain_fault
 from .grammar import explain_grammar
-from .holdings import come_later, holdings_of, is_permitted, most_receipts, moved_receipts, up_to
+from .purchases import come_later, is_permitted, most_receipts, moved_receipts, purchased_by, up_to
 from .refusals import explain_refusal
 
 HUGE_ALLOWANCE = 10**13
@@ -49,11 +49,41 @@ class Run:
         """The cap of `check-cap`, in thousandths of a percentage point."""
         return read_hundredths(self.words[1]) if self.command == "check-cap" else None
 
+    @property
+    def has_holdings(self) -> bool:
+        return HELD in self.names
+
+    @property
+    def beside(self) -> str:
+        """What is said behind needs that the holdings help to pay."""
+        return " beside the holdings" if self.has_holdings else ""
+
+    @property
+    def needed(self) -> str:
+        """How the needs of the case are called."""
+        return "still needed beside the holdings" if self.has_holdings else "needed"
+
+    @property
+    def finder(self) -> str:
+        """The tool that finds the best plan of such a case."""
+        return "`./escrow best --held`" if self.has_holdings else "`./escrow best`"
+
+    @property
+    def trier(self) -> str:
+        """The program's command that tries a certificate of such a case."""
+        return "check-held" if self.has_holdings else "check"
+
     def read_case(self) -> CaseRead:
         if "read" not in self.__dict__:
-            case = read_whole_case(self.data.get(ISSUE), self.data.get("rates"), self.data.get("prices"))
+            case = self._read_files()
             self.__dict__["read"] = case if self.cap is None else at_cap(case, self.cap)
         return self.__dict__["read"]
+
+    def _read_files(self) -> CaseRead:
+        """The case; nothing of one whose holdings can't be read again, since it isn't known what is still needed."""
+        case = read_whole_case(*(self.data.get(file) for file in (ISSUE, RATES, PRICES, HELD)))
+        is_known = HELD in self.data or not self.has_holdings
+        return case if is_known or case.refusal is not None else CaseRead()
 
     def read_certificate(self) -> Optional[Certificate]:
         data = self.data.get(CERT)
@@ -67,7 +97,7 @@ def explain_run(run: Run) -> list[str]:
     if run.status in CASE_STATUSES and run.command != "make":
         lines += Cautions(run.read_case(), run.names).all()
     if (
-        run.command == "structure"
+        run.command in ("structure", "structure-held")
         and run.status not in (program.DONE, program.NONE_WITHIN, program.WRITE_FAULT)
         and run.old_certificate
     ):
@@ -77,7 +107,9 @@ def explain_run(run: Run) -> list[str]:
 
 def _done(run: Run) -> list[str]:
     if run.first_line == "yes none":
-        return ["accepted: no permitted purchases meet the needs within the yield limit, and the certificate proves it"]
+        return [
+            "accepted: no permitted purchases meet the needs%s within the yield limit, and the certificate proves it" % run.beside
+        ]
     if run.command == "savings":
         return _saved(run)
     if run.command == "roll":
@@ -87,14 +119,7 @@ def _done(run: Run) -> list[str]:
         summary = read_summary(run.lines[place : place + 4])
     except (BadReport, ValueError):
         return []
-    cost, gap, limit = money_for_people(summary.cost), money_for_people(summary.gap), yield_text(summary.limit)
-    what = (
-        "accepted: the purchases pay every need" if run.first_line == "yes" else "found: these purchases pay every need"
-    )
-    lines = [
-        "%s, cost %s, and keep to the yield limit of %s percent" % (what, cost, limit),
-        "no rival costs less by more than %s: a rival is permitted, pays every need and keeps below the limit" % gap,
-    ]
+    lines = _found(run, summary)
     if run.cap is not None:
         lines.append("that is with no SLGS rate above %s percent, which is what is to be subscribed for" % rate_text(run.cap))
     if run.command == "structure":
@@ -102,11 +127,27 @@ def _done(run: Run) -> list[str]:
             "%s is written; `./escrow check` tries it, and `./escrow page` makes what a verifier signs"
             % run.names[CERT]
         )
+    if run.command == "structure-held":
+        lines.append(
+            "%s is written; `./escrow check-held` tries it, and `./escrow page --held` makes what a verifier signs" % run.names[CERT]
+        )
     if run.command == "cap":
         lines += _capped(run)
     if run.command == "make":
         lines.append("a made-up case: its files are written, for `./escrow structure` to be tried on; no certificate is")
     return lines
+
+
+def _found(run: Run, summary: Summary) -> list[str]:
+    """What the purchases do, and against which others they stand."""
+    verdict, which = ("accepted", "the purchases") if run.first_line == "yes" else ("found", "these purchases")
+    if run.has_holdings and summary.cost == 0:
+        return ["%s: nothing has to be bought, since the holdings pay every need" % verdict]
+    cost, gap, limit = money_for_people(summary.cost), money_for_people(summary.gap), yield_text(summary.limit)
+    return [
+        "%s: %s pay every need%s, cost %s, and keep to the yield limit of %s percent" % (verdict, which, run.beside, cost, limit),
+        "no rival costs less by more than %s: a rival is permitted, pays every need%s and keeps below the limit" % (gap, run.beside),
+    ]
 
 
 def _capped(run: Run) -> list[str]:
@@ -215,15 +256,20 @@ def _refused(run: Run) -> list[str]:
 
 def _infeasible(run: Run) -> list[str]:
     day = date.fromisoformat(run.first_line.split(" ")[1])
-    lines = ["even with all that is on offer, at every cap, the needs up to %s aren't met" % day]
+    held = ", and the holdings" if run.has_holdings else ""
+    lines = ["even with all that is on offer, at every cap%s, the needs up to %s aren't met" % (held, day)]
     case = run.read_case()
-    if case.refusal is not None or case.prices is None:
+    if not case.is_whole:
         return lines
     cash, paid, matured = most_receipts(case, day)
     needed = up_to(case.needs, day)
     lines.append(
-        "up to that day %s is needed, and at most %s comes in (cash %s, securities %s): %s is short"
-        % tuple(money_for_people(cents) for cents in (needed, cash + paid, cash, paid, needed - cash - paid))
+        "up to that day %s is %s, and at most %s comes in (cash %s, securities %s): %s is short"
+        % (
+            money_for_people(needed),
+            run.needed,
+            *(money_for_people(cents) for cents in (cash + paid, cash, paid, needed - cash - paid)),
+        )
     )
     later = come_later(moved_receipts(case), day)
     lines += later
@@ -269,8 +315,8 @@ def _none_within(run: Run) -> list[str]:
     if run.command == "make":
         return ["no permitted purchases meet the needs of this made-up case within the yield limit"]
     return [
-        "no permitted purchases meet the needs within the yield limit; %s holds the proof, and `check` says `yes none` to it"
-        % run.names.get(CERT, "CERT")
+        "no permitted purchases meet the needs%s within the yield limit; %s holds the proof, and `%s` says `yes none` to it"
+        % (run.beside, run.names.get(CERT, "CERT"), run.trier)
     ] + (_needs_low_line(run.read_case()) or ["offer SLGS at lower rates, or bring `cash`"])
 
 
@@ -288,7 +334,7 @@ def _budget_spent(run: Run) -> list[str]:
         "enough would have been the row: allowance,%s; or a greater `budget`, of at most 10000, may prove a smaller gap"
         % money(cents_of(best) - bound)
     )
-    lines.append("`./escrow best` writes the best plan's certificate, whatever is allowed")
+    lines.append("%s writes the best plan's certificate, whatever is allowed" % run.finder)
     return lines + _needs_low_line(run.read_case())
 
 
@@ -299,7 +345,8 @@ def _no(run: Run) -> list[str]:
 
 
 def _grammar(run: Run, words: list[str]) -> list[str]:
-    return explain_grammar(run.data.get(CERT), run.names[CERT], int(words[0]), words[1], len(run.read_case().needs))
+    case = run.read_case()
+    return explain_grammar(run.data.get(CERT), run.names, int(words[0]), words[1], case.needs if case.is_whole else None)
 
 
 def _describe(case: CaseRead, number: int) -> str:
@@ -319,6 +366,8 @@ def _describe(case: CaseRead, number: int) -> str:
 
 def _not_permitted(run: Run, words: list[str]) -> list[str]:
     number, case, certificate = int(words[0]), run.read_case(), run.read_certificate()
+    if not case.is_whole:
+        return ["a purchase of line %d isn't permitted" % number]
     lines = ["a purchase isn't permitted: " + _describe(case, number)]
     if certificate is None or number > len(case.lines):
         return lines
@@ -344,32 +393,36 @@ def _not_permitted(run: Run, words: list[str]) -> list[str]:
 def _short_on(run: Run, words: list[str]) -> list[str]:
     day, case, certificate = date.fromisoformat(words[0]), run.read_case(), run.read_certificate()
     lines = ["up to %s less comes in than is needed" % day]
-    if certificate is not None and case.refusal is None:
-        held = holdings_of(case, certificate)
-        receipts, needed = up_to(held.receipts, day), up_to(case.needs, day)
+    if certificate is not None and case.is_whole:
+        purchased = purchased_by(case, certificate)
+        receipts, needed = up_to(purchased.receipts, day), up_to(case.needs, day)
         lines.append(
-            "needed up to then: %s; received up to then: %s; short by %s"
-            % tuple(money_for_people(cents) for cents in (needed, receipts, needed - receipts))
+            "%s up to then: %s; received up to then: %s; short by %s"
+            % (
+                run.needed,
+                *(money_for_people(cents) for cents in (needed, receipts, needed - receipts)),
+            )
         )
-        lines += come_later(held.moved, day)
-    return lines + ["buy more that pays by that day; or is this the certificate of an earlier issue file?"]
+        lines += come_later(purchased.moved, day)
+    other = ", or of other holdings" if run.has_holdings else ""
+    return lines + ["buy more that pays by that day; or is this the certificate of an earlier issue file%s?" % other]
 
 
 def _yield_above(run: Run, words: list[str]) -> list[str]:
     case, certificate = run.read_case(), run.read_certificate()
     lines = ["the yield of the purchases is above the limit"]
-    if certificate is not None and case.refusal is None:
-        held = holdings_of(case, certificate)
-        receipts = dict(held.receipts)
-        receipts[case.issue.settlement] -= held.cash
-        ends = interval(indexed(case.issue.settlement, receipts), held.security_cost)
+    if certificate is not None and case.is_whole:
+        purchased = purchased_by(case, certificate)
+        receipts = dict(purchased.receipts)
+        receipts[case.issue.settlement] -= purchased.cash
+        ends = interval(indexed(case.issue.settlement, receipts), purchased.security_cost)
         if ends is not None:
             lines = [
                 "the yield of the purchases is %s percent, and the limit %s"
                 % (yield_text(ends.high), yield_text(case.limit))
             ]
     return lines + [
-        "buy some at a lower rate (`offer,DATE,0.00,,CAP`), or `./escrow best` finds what keeps to the limit"
+        "buy some at a lower rate (`offer,DATE,0.00,,CAP`), or %s finds what keeps to the limit" % run.finder
     ]
 
 
@@ -377,14 +430,14 @@ def _bad_split(run: Run, words: list[str]) -> list[str]:
     return [
         "node %s of the certificate's tree splits a line where it has no numbers on one side, or a line that isn't offered"
         % words[0],
-        "is it the certificate of these files? `./escrow best` writes one anew",
+        "is it the certificate of these files? %s writes one anew" % run.finder,
     ]
 
 
 def _weak_leaf(run: Run, words: list[str]) -> list[str]:
     return [
         "node %s of the certificate's tree doesn't bear out that no rival is cheaper by more than the gap" % words[0],
-        "is it the certificate of these files, rates and prices? write a greater `gap`, in cents, or let `./escrow best` write one anew",
+        "is it the certificate of these files, rates and prices? write a greater `gap`, in cents, or let %s write one anew" % run.finder,
     ]
 
 
@@ -392,7 +445,9 @@ def _gap_above(run: Run, words: list[str]) -> list[str]:
     case, certificate = run.read_case(), run.read_certificate()
     allowed = case.issue.amount("allowance") if case.issue else None
     gap = money(certificate.gap) if certificate else "that gap"
-    has = "allows %s" % money_for_people(allowed) if allowed is not None else "has no `allowance` row, which is 0"
+    has = "has no `allowance` row, which is 0" if case.is_whole else "allows less"
+    if allowed is not None:
+        has = "allows %s" % money_for_people(allowed)
     return [
         "all holds but this: the certificate proves a gap of %s, and the issue %s" % (gap, has),
         "enough is the row: allowance,%s" % gap,

@@ -12,33 +12,50 @@ from ..case_files import (
     ISSUE,
     PRICES,
     RATES,
+    Held,
     Issue,
     Prices,
     Rates,
     Refusal,
     Terms,
     complete,
+    read_held,
     read_issue_rows,
     read_prices,
     read_rates,
 )
 from ..amounts import GREATEST_CENTS, GREATEST_YIELD
 from ..needs import needs_by_day
+from ..residual import residual_of
 from ..securities import Line, indexed, lines_of
 from ..yields import MATERIALLY_HIGHER, interval
 
 
 @dataclass
 class CaseRead:
-    """What was read, as far as it goes, and the first refusal."""
+    """What was read, as far as it goes, and the first refusal. Where there are holdings, the needs are what is still needed."""
 
     issue: Optional[Issue] = None
     rates: Optional[Rates] = None
     prices: Optional[Prices] = None
+    held: Optional[Held] = None
     needs: dict = field(default_factory=dict)
     lines: list[Line] = field(default_factory=list)
     limit: Optional[int] = None
     refusal: Optional[Refusal] = None
+
+    @property
+    def receipts_held(self) -> dict:
+        """What the holdings pay by day, in order; of 0 none."""
+        sums: dict = {}
+        for receipt in self.held.receipts if self.held else []:
+            sums[receipt.day] = sums.get(receipt.day, 0) + receipt.cents
+        return {day: sums[day] for day in sorted(sums) if sums[day]}
+
+    @property
+    def is_whole(self) -> bool:
+        """Whether all files were read, and make a case."""
+        return self.limit is not None and self.refusal is None
 
     def terms_of(self, file: str) -> Optional[Terms]:
         found = self.rates if file == RATES else self.prices
@@ -53,6 +70,8 @@ class CaseRead:
             self.rates = refusal.so_far
         elif isinstance(refusal.so_far, Prices):
             self.prices = refusal.so_far
+        elif isinstance(refusal.so_far, Held):
+            self.held = refusal.so_far
 
 
 def restricted_yield(issue: Issue) -> int:
@@ -79,8 +98,10 @@ def _read_issue(case: CaseRead, data: bytes) -> None:
         raise Refusal(ISSUE, "TooManyDates")
 
 
-def read_whole_case(issue: Optional[bytes], rates: Optional[bytes], prices: Optional[bytes]) -> CaseRead:
-    """Reads the three files; one that couldn't be read ends it."""
+def read_whole_case(
+    issue: Optional[bytes], rates: Optional[bytes], prices: Optional[bytes], held: Optional[bytes] = None
+) -> CaseRead:
+    """Reads the three files, of which one that couldn't be read ends it; and the holdings, where there are any."""
     case = CaseRead()
     try:
         if issue is not None:
@@ -95,6 +116,9 @@ def read_whole_case(issue: Optional[bytes], rates: Optional[bytes], prices: Opti
         if len(case.lines) > GREATEST_LINES:
             raise Refusal(PRICES, "TooManyLines")
         case.limit = restricted_yield(case.issue) + MATERIALLY_HIGHER
+        if held is not None:
+            case.held = read_held(held, case.issue)
+            case.needs = residual_of(case.needs, case.held.receipts)
     except Refusal as refusal:
         case.keep(refusal)
     return case

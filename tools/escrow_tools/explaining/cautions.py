@@ -6,9 +6,10 @@ from collections import Counter
 from typing import Iterator
 
 from ..amounts import counted, money_for_people, rate_text
-from ..case_files import ISSUE, PRICES, RATES
+from ..case_files import HELD, ISSUE, PRICES, RATES, Held
 from ..closed_needs import closed_needs, told_closed_needs
 from ..days import NONE_CLOSED, is_weekend, weekday_name
+from ..needs import needs_by_day
 from ..records import Record
 from .case_reading import CaseRead
 from .explanation import shown
@@ -37,6 +38,7 @@ class Cautions:
             self.twice,
             self.weekends,
             self.closed_needs,
+            self.closed_holdings,
             self.far_settlement,
             self.unused_call,
         ):
@@ -80,11 +82,12 @@ class Cautions:
 
     def twice(self) -> Iterator[str]:
         """Rows that stand twice."""
-        issue, rates, prices = self.case.issue, self.case.rates, self.case.prices
+        issue, rates, prices, held = self.case.issue, self.case.rates, self.case.prices, self.case.held
         lists = [
             (ISSUE, issue.bonds + issue.needs if issue else []),
             (RATES, rates.offers if rates else []),
             (PRICES, prices.notes if prices else []),
+            (HELD, held.receipts if held else []),
         ]
         for file, rows in lists:
             seen: dict = {}
@@ -95,7 +98,7 @@ class Cautions:
                     yield self.at(
                         file,
                         row.record,
-                        "the same row as line %d: both count, so that it is needed or offered twice" % seen[fields],
+                        "the same row as line %d: both count, so that it is needed, offered or held twice" % seen[fields],
                     )
                 seen.setdefault(fields, row.record.line)
 
@@ -135,6 +138,26 @@ class Cautions:
             yield "caution: %s: %s, which is too late for that need" % (
                 self.names.get(ISSUE, ISSUE),
                 told_closed_needs(days, issue.closed_days),
+            )
+
+    def closed_holdings(self) -> Iterator[str]:
+        """Receipts of holdings on closed days, which count on these days as they stand."""
+        issue, held = self.case.issue, self.case.held
+        if issue is None or held is None:
+            return
+        closed = issue.closed_days
+        found = [one for one in held.receipts if one.day > issue.settlement and closed.is_closed(one.day)]
+        if found:
+            yield self.at(
+                HELD,
+                found[0].record,
+                "this day, a %s, is closed%s, and a receipt of holdings counts on the day that stands there: write the day on which it "
+                "comes, %s"
+                % (
+                    weekday_name(found[0].day),
+                    ", as are those of %s" % counted(len(found) - 1, "further row") if len(found) > 1 else "",
+                    closed.open_day(found[0].day),
+                ),
             )
 
     def far_settlement(self) -> Iterator[str]:
@@ -178,7 +201,18 @@ def totals(case: CaseRead) -> list[str]:
     if bonds:
         principal = money_for_people(sum(bond.principal for bond in bonds))
         parts.append("%s, principal %s" % (counted(len(bonds), "bond"), principal))
-    needed = money_for_people(sum(case.needs.values()))
-    parts.append("%s, %s in all" % (counted(len(case.needs), "need date"), needed))
+    needs = needs_by_day(case.issue)
+    parts.append("%s, %s in all" % (counted(len(needs), "need date"), money_for_people(sum(needs.values()))))
     parts.append("%s, %s" % (counted(len(case.rates.offers), "offer"), counted(len(case.prices.notes), "note")))
-    return ["read: " + "; ".join(parts)]
+    lines = ["read: " + "; ".join(parts)]
+    return lines if case.held is None else lines + ["holdings: " + held_totals(case.held, needs, case.needs)]
+
+
+def held_totals(held: Held, needs: dict, left: dict) -> str:
+    """What is held, what of it serves no need, and what is left of the needs."""
+    parts = ["%s, %s in all" % (counted(len(held.receipts), "receipt"), money_for_people(held.total))]
+    served = sum(needs.values()) - sum(left.values())
+    if served < held.total:
+        parts.append("%s of it serves no need, since it comes too late or is more than is needed" % money_for_people(held.total - served))
+    still = "%s, %s in all" % (counted(len(left), "need date"), money_for_people(sum(left.values())))
+    return "; ".join(parts + ["still needed: " + (still if left else "nothing")])

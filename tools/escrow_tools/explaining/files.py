@@ -1,4 +1,4 @@
-"""Which of the four files can't be read or written, and why."""
+"""Which of the files can't be read or written, and why."""
 
 from __future__ import annotations
 
@@ -6,8 +6,12 @@ import os
 from pathlib import Path
 
 from .. import program
-from ..case_files import CERT, ISSUE, PRICES, RATES
+from ..case_files import CERT, HELD, ISSUE, PRICES, RATES
 from ..inputs import why_unreadable
+
+
+# The commands that write CERT, and don't read it.
+WRITERS = ("cap", "structure", "structure-held")
 
 
 def _fault_of(path: str) -> str:
@@ -63,15 +67,14 @@ def explain_fault(status: int, names: dict, command: str) -> list[str]:
     if status == program.WRITE_FAULT and command == "make":
         return ["ISSUE, RATES, PRICES or standard output couldn't be written whole: of the files, in their order, one may be a part"]
     if status == program.WRITE_FAULT:
-        return _write_fault(names[CERT]) if command == "structure" else ["standard output couldn't be written whole"]
-    words = {ISSUE: "ISSUE", RATES: "RATES", PRICES: "PRICES", CERT: "CERT"}
-    read = (ISSUE, RATES, PRICES) if command == "structure" else (ISSUE, RATES, PRICES, CERT)
+        return _write_fault(names[CERT]) if command in WRITERS else ["standard output couldn't be written whole"]
     lines = []
-    for file in read:
-        why = _fault_of(names.get(file, ""))
+    for file in names:
+        if file == CERT and command in WRITERS:
+            continue
+        why = _fault_of(names[file])
         if why:
-            empty = names.get(file) == ""
-            lines.append("%s: %s" % (words[file], "its name is empty" if empty else why + _like_it(names[file])))
-    if any("PRICES" in line or "RATES" in line for line in lines) and status == program.NO_FILE:
+            lines.append("%s: %s" % (file.upper(), why + _like_it(names[file]) if names[file] else "its name is empty"))
+    if any(line.startswith(("RATES", "PRICES", "HELD")) for line in lines) and status == program.NO_FILE:
         lines.append("a case without such securities has an empty file in this place")
     return lines or ["a file couldn't be read; now it can: was it changed or moved meanwhile?"]

@@ -5,7 +5,7 @@ from __future__ import annotations
 from dataclasses import dataclass
 from typing import Callable
 
-from ..case_files import ISSUE, PRICES, RATES
+from ..case_files import HELD, ISSUE, PRICES, RATES
 from . import mending
 
 
@@ -18,6 +18,7 @@ class Field:
 DATE = Field("date", mending.mend_date)
 MATURITY = Field("maturity", mending.mend_date)
 AMOUNT = Field("amount", mending.mend_amount)
+RECEIPT = Field("amount", mending.mend_receipt)
 PRINCIPAL = Field("principal", mending.mend_amount)
 COUPON = Field("coupon", mending.mend_rate)
 PRICE = Field("price", mending.mend_price)
@@ -55,6 +56,9 @@ FORMS = {
     PRICES: {
         "terms": ("terms,MINIMUM,STEP", (MINIMUM, STEP)),
         "note": ("note,MATURITY,COUPON,PRICE,CAP", (MATURITY, COUPON, PRICE, CAP)),
+    },
+    HELD: {
+        "held": ("held,DATE,AMOUNT", (DATE, RECEIPT)),
     },
 }
 # Words that people write for those of the files.
@@ -95,7 +99,25 @@ SYNONYMS = {
     },
     RATES: {"rates": "rate", "offers": "offer", "slgs": "offer", "term": "terms", "maximum": "rate", "max": "rate"},
     PRICES: {"notes": "note", "treasury": "note", "bond": "note", "bill": "note", "term": "terms", "security": "note"},
+    HELD: {
+        "hold": "held",
+        "holds": "held",
+        "holding": "held",
+        "holdings": "held",
+        "receipt": "held",
+        "receipts": "held",
+        "receive": "held",
+        "received": "held",
+        "security": "held",
+        "treasury": "held",
+        "slgs": "held",
+    },
 }
+
+
+def words_of(names: dict) -> str:
+    """The words of the command that these files belong to."""
+    return "ISSUE RATES PRICES HELD CERT" if HELD in names else "ISSUE RATES PRICES CERT"
 
 
 def form_of(file: str, word: str) -> str:

@@ -5,7 +5,9 @@ from __future__ import annotations
 from typing import Optional
 
 from ..amounts import counted
+from ..case_files import CERT, HELD
 from .explanation import shown
+from .forms import words_of
 
 FORMS = (
     "escrow-certificate 1",
@@ -28,34 +30,33 @@ MEANINGS = {
 }
 
 
-def explain_grammar(data: Optional[bytes], name: str, number: int, kind: str, dates: int) -> list[str]:
-    lines = ["%s, line %d: it isn't the text of a certificate: %s" % (name, number, MEANINGS.get(kind, kind))]
+def explain_grammar(data: Optional[bytes], names: dict, number: int, kind: str, needs: Optional[dict]) -> list[str]:
+    """Of a line of a certificate for a case with these needs, if they are known."""
+    lines = ["%s, line %d: it isn't the text of a certificate: %s" % (names[CERT], number, MEANINGS.get(kind, kind))]
     if data is None:
         return lines
     pieces = data.split(b"\n")
     text = pieces[number - 1].decode("utf-8", "replace") if number <= len(pieces) else ""
     if text:
         lines.append("the line: " + shown(text))
-    return lines + _advice(data, text, number, kind, dates)
+    return lines + _advice(data, names, text, kind, needs)
 
 
-def _advice(data: bytes, text: str, number: int, kind: str, dates: int) -> list[str]:
+def _advice(data: bytes, names: dict, text: str, kind: str, needs: Optional[dict]) -> list[str]:
     if not data:
-        return ["the file is empty: was `structure` run, and did it end with a report?"]
+        search, end = ("structure-held", "summary") if HELD in names else ("structure", "report")
+        return ["the file is empty: was `%s` run, and did it end with a %s?" % (search, end)]
     if data.startswith(b"\xef\xbb\xbf"):
         return ["the file begins with a byte order mark: save it as plain ASCII"]
     if b"\r" in data:
         return [
             "the lines end as on Windows (CR LF): save the file with plain line ends (LF), or take the one that `structure` wrote"
         ]
-    if data.startswith((b"escrow report", b"settle,", b"terms,")):
-        return ["this is another file, not a certificate: the words are ISSUE RATES PRICES CERT"]
+    if data.startswith((b"escrow report", b"cost ", b"settle,", b"terms,", b"held,")):
+        return ["this is another file, not a certificate: the words are %s" % words_of(names)]
     words = text.split(" ")
     if words[0] == "l" and kind == "Count":
-        return [
-            "behind `l`, WHOLE and WEIGHT stands a price for each need date: the issue has %s, and here are %s"
-            % (counted(dates, "need date"), counted(max(len(words) - 3, 0), "price"))
-        ]
+        return _counted_prices(names, max(len(words) - 3, 0), needs)
     if text != text.strip() or "  " in text or "\t" in text:
         return ["words are parted by one blank, and none stands before or behind them"]
     if words[0] == "buy" and kind == "Number":
@@ -67,3 +68,15 @@ def _advice(data: bytes, text: str, number: int, kind: str, dates: int) -> list[
     if kind == "Truncated":
         return ["add a line end behind the last line"]
     return []
+
+
+def _counted_prices(names: dict, prices: int, needs: Optional[dict]) -> list[str]:
+    """How many prices a leaf has, and how many it should have."""
+    rule = "behind `l`, WHOLE and WEIGHT stands a price for each need date"
+    if needs is None:
+        return [rule]
+    dates, has = counted(len(needs), "need date"), counted(prices, "price")
+    if HELD in names:
+        return ["%s that the holdings leave: there %s %s, and here are %s" % (rule, "is" if len(needs) == 1 else "are", dates, has)]
+    lines = ["%s: the issue has %s, and here are %s" % (rule, dates, has)]
+    return lines + (["what is bought beside holdings is tried by `check-held`"] if prices < len(needs) else [])

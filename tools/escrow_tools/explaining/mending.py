@@ -88,15 +88,20 @@ def _is_negative(text: str) -> bool:
 
 
 def mend_amount(text: str) -> Mended:
+    return _mend_amount(text, "what comes in is no need; leave it out, or take it off the need of that day")
+
+
+def mend_receipt(text: str) -> Mended:
+    return _mend_amount(text, "what is paid out of the escrow is a `need` of the issue file")
+
+
+def _mend_amount(text: str, negative: str) -> Mended:
     plain = _plain_digits(text)
     if not plain:
         return Mended(None, "the amount is missing")
     bare = re.sub(r"(?i)us\$|usd|[$€£]|dollars?", "", plain).strip()
     if _is_negative(bare):
-        return Mended(
-            None,
-            "an amount can't be negative: what comes in is no need; leave it out, or take it off the need of that day",
-        )
+        return Mended(None, "an amount can't be negative: " + negative)
     match = re.fullmatch(r"(?i)([0-9.,' ]+?)\s*(k|thousand|mm?|mio|million|bn|billion)", bare)
     scale = MILLIONS[match.group(2).lower()] if match else 1
     number = _number((match.group(1) if match else bare).lstrip("+").strip())

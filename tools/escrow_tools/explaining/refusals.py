@@ -9,6 +9,7 @@ from ..amounts import counted, money_for_people, short_rate
 from ..case_files import (
     CERT,
     GREATEST_NEED_DATES,
+    HELD,
     INPUT_LIMIT,
     ISSUE,
     PRICES,
@@ -22,10 +23,16 @@ from ..days import days_after, years_after
 from ..records import Record, records_of
 from .case_reading import CaseRead, read_whole_case
 from .explanation import Explanation, place_of, shown
-from .forms import FORMS, fields_of, form_of
+from .forms import FORMS, fields_of, form_of, words_of
 from .rows import meant_word, mended_row, other_separator, plain_word
 
-WHAT_FILES_ARE = {ISSUE: "the issue file", RATES: "the rate file", PRICES: "the price file", CERT: "the certificate"}
+WHAT_FILES_ARE = {
+    ISSUE: "the issue file",
+    RATES: "the rate file",
+    PRICES: "the price file",
+    HELD: "the file of holdings",
+    CERT: "the certificate",
+}
 FIRST_ROWS = {ISSUE: "settle,YYYY-MM-DD", RATES: "terms,1000,1", PRICES: "terms,1000,1000"}
 
 
@@ -36,7 +43,7 @@ class Refused:
         self.refusal = refusal
         self.names = names
         self.data = data
-        self.case: CaseRead = read_whole_case(data.get(ISSUE), data.get(RATES), data.get(PRICES))
+        self.case: CaseRead = read_whole_case(data.get(ISSUE), data.get(RATES), data.get(PRICES), data.get(HELD))
 
     @property
     def file(self) -> str:
@@ -107,7 +114,7 @@ OTHER_KINDS = (
     (b"{", "it is JSON: the rows have to be comma-separated"),
     (b"<", "it is a page or XML: save the rows as comma-separated text"),
     (b"\x1f\x8b", "it is compressed (gzip): unpack it first"),
-    (b"escrow-certificate", "it is a certificate: the words are in another order than ISSUE RATES PRICES CERT"),
+    (b"escrow-certificate", "it is a certificate, which is the last of the words"),
     (b"escrow report", "it is a report: give the file that it was made from"),
 )
 
@@ -121,28 +128,29 @@ def other_kind(data: bytes) -> Optional[str]:
     return "it isn't a text (a byte 0 stands in it): save it as CSV in UTF-8" if b"\0" in data[:4096] else None
 
 
-def looks_like(data: bytes) -> Optional[str]:
-    """Which of the three files the words of these rows belong to."""
+def looks_like(data: bytes, own: str) -> Optional[str]:
+    """Which of the input files the words of these rows belong to; where it is as much the one whose place it has, that one."""
     words = [record.word for record in records_of(data[:65536])[:200]]
     scores = {file: sum(word in forms and word != "terms" for word in words) for file, forms in FORMS.items()}
-    best = max(scores, key=lambda file: scores[file])
+    best = max(scores, key=lambda file: (scores[file], file == own))
     return best if scores[best] else None
 
 
 def _swapped(refused: Refused) -> Optional[str]:
-    seems = looks_like(refused.data.get(refused.file, b""))
+    seems = looks_like(refused.data.get(refused.file, b""), refused.file)
     if seems is None or seems == refused.file:
         return None
     others = [
         name
         for file, name in refused.names.items()
-        if file != refused.file and file in refused.data and looks_like(refused.data[file]) == refused.file
+        if file != refused.file and file in refused.data and looks_like(refused.data[file], file) == refused.file
     ]
     hint = "; %s seems to be %s" % (others[0], WHAT_FILES_ARE[refused.file]) if others else ""
-    return "%s has rows of %s%s: the words are ISSUE RATES PRICES CERT, in this order" % (
+    return "%s has rows of %s%s: the words are %s, in this order" % (
         refused.name,
         WHAT_FILES_ARE[seems],
         hint,
+        words_of(refused.names),
     )
 
 
@@ -197,7 +205,7 @@ def _too_long(refused: Refused) -> Explanation:
         return Explanation("the certificate has more than 67,108,864 bytes: is it another file?")
     advice = (
         other_kind(refused.data.get(refused.file, b""))
-        or "put needs of one day into one row, or leave out what isn't needed"
+        or "put %s of one day into one row, or leave out what isn't needed" % ("receipts" if refused.file == HELD else "needs")
     )
     return Explanation(
         "%s has %s, and %s may be" % (refused.name, counted(size, "byte"), format(INPUT_LIMIT, ",")), advice=[advice]
@@ -207,6 +215,10 @@ def _too_long(refused: Refused) -> Explanation:
 def _unknown_row(refused: Refused) -> Explanation:
     word = refused.record.word
     words = ", ".join("`%s`" % known for known in FORMS[refused.file])
+    # The other files begin with a row of their own, which is missing then.
+    what = other_kind(refused.data.get(HELD, b"")) if refused.file == HELD and refused.refusal.row == 1 else None
+    if what is not None:
+        return Explanation("%s can't be read as %s: %s" % (refused.name, WHAT_FILES_ARE[HELD], what))
     swapped = _swapped(refused)
     if swapped is not None:
         return Explanation(swapped)
@@ -216,7 +228,7 @@ def _unknown_row(refused: Refused) -> Explanation:
         return Explanation("a row without anything but commas and blanks: delete this line")
     for file, forms in FORMS.items():
         if file != refused.file and plain_word(word) in forms:
-            name = refused.names.get(file, WHAT_FILES_ARE[file])
+            name = refused.names.get(file, "of `structure-held` and `check-held`")
             return Explanation(
                 "%s belongs to %s (%s), not to %s"
                 % (_row_of(plain_word(word)), WHAT_FILES_ARE[file], name, WHAT_FILES_ARE[refused.file])
@@ -226,6 +238,8 @@ def _unknown_row(refused: Refused) -> Explanation:
         return Explanation("the word `%s` is written `%s`, in small letters and without blanks" % (shown(word), meant))
     if word.lstrip().startswith(("#", "//", "--", ";")):
         return Explanation("the files have no remarks: delete this line")
+    if refused.file == HELD:
+        return Explanation("each row begins with `held`, and not with `%s`: delete this line, or write the word before it" % shown(word))
     return Explanation(
         "a row begins with one of %s, and not with `%s`: delete this line, or write what it stands for as one of "
         "these" % (words, shown(word))
@@ -245,6 +259,8 @@ def _wrong_fields(refused: Refused) -> Explanation:
         advice.append("commas stand at its end, as a spreadsheet pads rows: delete them")
     elif found > wanted and word == "closed":
         advice.append("what the day is called has no place here: its date alone stands in the row")
+    elif found > wanted and word == "held":
+        advice.append("a day and an amount in dollars alone are wanted: principal and interest of a day are summed, or are a row each")
     elif found > wanted:
         advice.append("a number has no commas in it, and no other field stands between these or behind them")
     elif word == "offer":
@@ -387,11 +403,17 @@ def _date_order(refused: Refused) -> Explanation:
         "bond": "an old bond has to mature after settlement",
         "pay": "a payment has to be after settlement",
         "closed": "a closed day has to be after settlement",
+        "held": "a receipt of holdings can't be before settlement",
     }[word]
     if word == "closed":
         return Explanation(
             "%s: %s, and settlement is on %s" % (kind, refused.field, settlement),
             advice=["nothing is received by then but opening cash, which doesn't move: delete the row"],
+        )
+    if word == "held":
+        return Explanation(
+            "%s: %s, and settlement is on %s" % (kind, refused.field, settlement),
+            advice=["what came in before, and is still there, is a row of the settlement day; else delete the row, or mend its date"],
         )
     return Explanation(
         "%s: %s, and settlement is on %s" % (kind, refused.field, settlement),
@@ -419,6 +441,14 @@ def _needs_too_large(refused: Refused) -> Explanation:
     return Explanation(
         "all needs, or all payments, come to more than 100,000,000,000.00 dollars: are the amounts in dollars? "
         "Else make an issue file for each part",
+        place=refused.name,
+    )
+
+
+def _held_too_large(refused: Refused) -> Explanation:
+    return Explanation(
+        "the holdings come to more than 100,000,000,000.00 dollars together: are the amounts in dollars? Else leave out what comes "
+        "after the last need",
         place=refused.name,
     )
 
@@ -537,6 +567,7 @@ EXPLAINERS = {
     "DateOrder": _date_order,
     "Overlap": _overlap,
     "NeedsTooLarge": _needs_too_large,
+    "HeldTooLarge": _held_too_large,
     "TooManyDates": _too_many_dates,
     "NoRate": _no_rate,
     "RateAboveTable": _rate_above_table,

@@ -7,11 +7,12 @@ import re
 from typing import Callable, Optional
 
 from ..amounts import read_day
-from ..case_files import ISSUE, PRICES, RATES, Refusal
+from ..case_files import HELD, ISSUE, PRICES, RATES, Refusal
 from ..days import days_after, years_after
 from ..records import records_of
 from .case_reading import CaseRead, read_whole_case
 from .forms import FORMS, SYNONYMS, fields_of
+from .mending import mend_date
 
 MOST_TRIES = 8
 OFFER_FAULTS = ("NoRate", "RateAboveTable", "TooShort", "TooLongTerm", "FirstDate", "ClosedPastEnd")
@@ -80,7 +81,7 @@ def _mended_width(file: str, fields: list[str]) -> Optional[list[str]]:
         trimmed.append("1" if file == RATES else trimmed[1])
     if word == "closed" and len(trimmed) > width:
         trimmed = trimmed[:width]
-    if word in ("bond", "note") and len(trimmed) == width + 1:
+    if word in ("bond", "note", "held") and len(trimmed) == width + 1:
         names = [place for place in range(1, len(trimmed)) if re.search("[A-Za-z]{2}|[0-9A-Z]{9}", trimmed[place])]
         if len(names) == 1:
             trimmed.pop(names[0])
@@ -97,6 +98,8 @@ def _mended_word(file: str, fields: list[str], text: str) -> Optional[list[str]]
     mark = other_separator(text)
     if mark is not None:
         return [field.strip() for field in text.split(mark)]
+    if file == HELD and mend_date(fields[0]).text is not None:
+        return ["held"] + fields
     word = meant_word(file, fields[0])
     return None if word is None else [word] + fields[1:]
 
@@ -115,7 +118,7 @@ def _mended_range(refusal: Refusal, case: CaseRead, fields: list[str]) -> Option
         and 0 < int(fields[4]) < terms.minimum
     ):
         return _with_field(fields, 4, str(terms.minimum))
-    if word in ("call", "bond", "need", "pay", "note") and place == 1 and case.issue is not None:
+    if word in ("call", "bond", "need", "pay", "note", "held") and place == 1 and case.issue is not None:
         return _with_field(fields, 1, case.issue.last_day.isoformat())
     if word == "price":
         return None
@@ -134,7 +137,7 @@ def _mended_minimum(fields: list[str]) -> Optional[list[str]]:
 def _mended_order(refusal: Refusal, case: CaseRead, fields: list[str]) -> Optional[list[str]]:
     if refusal.file == RATES:
         return [fields[0], fields[2], fields[1], fields[3]]
-    if fields[0] == "need" and case.issue is not None:
+    if fields[0] in ("need", "held") and case.issue is not None:
         return _with_field(fields, 1, case.issue.settlement.isoformat())
     return None
 
@@ -210,7 +213,7 @@ def reader_of(file: str, data: dict) -> Reader:
     def read(changed: bytes) -> CaseRead:
         files = dict(data)
         files[file] = changed
-        return read_whole_case(files.get(ISSUE), files.get(RATES), files.get(PRICES))
+        return read_whole_case(files.get(ISSUE), files.get(RATES), files.get(PRICES), files.get(HELD))
 
     return read
 

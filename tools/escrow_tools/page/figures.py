@@ -145,8 +145,9 @@ def _try_needs(figures: Figures) -> None:
 
 
 def _try_balances(figures: Figures) -> None:
-    """Receipts by security sum to the balances, and no balance is negative."""
-    receipts: dict = {figures.settlement: figures.cash}
+    """Receipts by security, and of holdings, sum to the balances, and no balance is negative."""
+    receipts: dict = dict(figures.case.receipts_held)
+    receipts[figures.settlement] = receipts.get(figures.settlement, 0) + figures.cash
     for held in figures.held:
         for one in held.receipts:
             receipts[one.day] = receipts.get(one.day, 0) + one.total

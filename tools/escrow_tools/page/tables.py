@@ -199,6 +199,16 @@ def needs(figures: Figures) -> Table:
     return Table("needs", "What is needed, by day", columns, rows)
 
 
+def holdings(figures: Figures) -> Table:
+    return Table(
+        "holdings",
+        "What the escrow holds already, by day",
+        [day_column("received on"), money_column("amount")],
+        list(figures.case.receipts_held.items()),
+        "These receipts serve the needs beside what is bought. They count neither in the cost of the escrow nor in its yield.",
+    )
+
+
 def receipts_by_security(figures: Figures) -> Table:
     """Where a receipt of a closed day is moved, the day on which each is due stands beside the day on which it is paid."""
     paid = [(held, one) for held in figures.held for one in held.receipts if one.total]
@@ -259,18 +269,19 @@ def _by_day(held: list[Held]) -> dict:
 
 def cash(figures: Figures) -> Table:
     idle: dict[date, Idle] = {one.day: one for one in figures.report.idle}
-    paid = _by_day(figures.held)
+    paid, kept = _by_day(figures.held), figures.case.receipts_held
     rows, marked = [], set()
     for row in figures.report.balances:
         principal, interest = paid.get(row.day, (0, 0))
         until = idle[row.day].until if row.day in idle else None
         if until is not None:
             marked.add(len(rows))
-        opening = row.receipts - principal - interest
+        opening = row.receipts - principal - interest - kept.get(row.day, 0)
         rows.append(
             (
                 row.day,
                 opening,
+                *((kept.get(row.day, 0),) if kept else ()),
                 principal,
                 interest,
                 row.receipts,
@@ -283,6 +294,7 @@ def cash(figures: Figures) -> Table:
     columns = [
         day_column("date"),
         money_column("opening cash"),
+        *([money_column("holdings")] if kept else []),
         money_column("principal"),
         money_column("interest"),
         money_column("received"),
@@ -354,7 +366,7 @@ def summary_rows(figures: Figures) -> list[tuple[str, str]]:
     ]
     if not figures.refunded:
         rows.pop(1)
-    rows += _closed_days(issue)
+    rows += _closed_days(issue) + _holdings(figures)
     if summary is None:
         return rows
     rows += [
@@ -386,6 +398,14 @@ def _closed_days(issue: Issue) -> list[tuple[str, str]]:
     ]
 
 
+def _holdings(figures: Figures) -> list[tuple[str, str]]:
+    """What is held, where anything is."""
+    kept = figures.case.receipts_held
+    if not kept:
+        return []
+    return [("Held already", "%s on %s" % (money_for_people(sum(kept.values())), counted(len(kept), "date")))]
+
+
 def yield_sentence(said: str) -> str:
     words = said.split(" ")
     if len(words) == 2:
@@ -398,7 +418,7 @@ def tables_of(figures: Figures, cusips: dict) -> list[Table]:
     tables = []
     if figures.report is not None:
         tables += [sources_and_uses(figures), subscriptions(figures), notes(figures, cusips)]
-    tables += [bonds(figures), needs(figures)]
+    tables += [bonds(figures), needs(figures), holdings(figures)]
     if figures.report is not None:
         tables += [cash(figures), securities(figures)]
     if figures.escrow_yield is not None:

@@ -13,7 +13,7 @@ from .case_reading import CaseRead
 
 
 @dataclass
-class Holdings:
+class Purchased:
     """Opening cash, the faces of lines, and what comes in by day; all in cents."""
 
     cash: int
@@ -25,8 +25,8 @@ class Holdings:
     moved: list[Receipt]
 
 
-def holdings_of(case: CaseRead, certificate: Certificate) -> Holdings:
-    """The holdings of a certificate whose purchases are of lines that are offered."""
+def purchased_by(case: CaseRead, certificate: Certificate) -> Purchased:
+    """What a certificate's purchases come to, which are of lines that are offered."""
     receipts: dict[date, int] = defaultdict(int)
     cash, cost, faces, moved = 0, 0, {}, []
     for purchase in certificate.purchases or []:
@@ -41,7 +41,7 @@ def holdings_of(case: CaseRead, certificate: Certificate) -> Holdings:
             receipts[paid.day] += paid.total
             moved += [paid] if paid.is_moved else []
     receipts[case.issue.settlement] += cash
-    return Holdings(cash, faces, dict(receipts), cost + cash, cost, moved)
+    return Purchased(cash, faces, dict(receipts), cost + cash, cost, moved)
 
 
 def is_permitted(line: Line, face: int) -> bool:
