@@ -2,11 +2,10 @@
 use Rattle.std.proofs.Common.{◌≡◌, ◌∙◌, ◌⊎◌, ℕ, suc, ◌+◌, ◌*◌, ◌/◌, ◌<◌, ◌≤◌, List, [], ◌∷◌, ◌++◌, All, get_or, length, map, set, refl, sym, ap, subst, arith, inl, inr}
 use Rattle.std.specs.List.{Contains}
 use Rattle.std.proofs.lemmas.Bool.{cases_eq, cases_lt}
-use Rattle.std.proofs.lemmas.List.{get_or-map, get_or-set_other, get_or-set_same, length-map}
+use Rattle.std.proofs.lemmas.List.{get_or-map, get_or-set_other, get_or-set_same, get_or_default, get_or_past, length-map}
 use Rattle.std.proofs.lemmas.List.Elements.{All-push, Contains-append_left, Contains-push}
 use Rattle.fixed_powers.specs.DiscountPowers.{one}
-use Rattle.dual_bound.specs.Columns.{AreDateDays, worth_between, worth_on}
-use Rattle.dual_bound.specs.Tree.{with_price}
+use Rattle.dual_bound.specs.Columns.{AreDateDays, IsListedChange, IsPriced, worth_at, worth_between, worth_on}
 use Rattle.dual_bound.specs.declared.date_days.DateDays.{DateDays}
 use Rattle.dual_bound.specs.declared.tree.Leaf.{Leaf}
 use Rattle.dual_bound.specs.declared.worth.PricedDay.{PricedDay}
@@ -70,51 +69,127 @@ all-listed dates count days lists h every all = record {
   listed = λ place d e lt dated. h.listed place d e (omega (arith, lt, all)) dated;
 }
 
--- where one price changes, a day is worth what it was, or is listed
-pub priced-or-listed : (dates : ℕ) (leaf : Leaf) (place price : ℕ) (days : List PricedDay) (lists : List DateDays) (worths : List Worth) → AreDateDays dates days lists → place < dates
-    → worths ≡ map (worth_on leaf) days → (day : ℕ) (d : PricedDay) (w : Worth) (e : DateDays) → day < length days
-    → (get_or worths day w ≡ worth_on (with_price leaf place price) (get_or days day d)) ⊎ Contains (get_or lists place e).places.items day
-priced-or-listed dates leaf place price days lists worths h few priced day d w e there =
-    elim (cases_eq (get_or days day d).need place) [
-      | inl at ↦ inr (subst (λ k. Contains (get_or lists k e).places.items day) at (h.listed day d e there (omega (arith, at, few))))
-      | inr apart ↦
-          inl (ap (λ ws. get_or ws day w) priced ∙ get_or-map (worth_on leaf) days day d w there
-          ∙ ap (λ own. worth_between own (leaf.mu * (get_or days day d).power / one)) (sym (get_or-set_other leaf.prices place (get_or days day d).need price 0 apart)))
+-- a day whose price stays is worth what it was
+pub worth-stays : (old new : Leaf) (day : PricedDay) → old.mu ≡ new.mu → get_or old.prices day.need 0 ≡ get_or new.prices day.need 0 → worth_on old day ≡ worth_on new day
+worth-stays old new day limit price = λ i. worth_between (price i) (limit i * day.power / one)
+
+-- a price that changes is that of a need date
+change-there : (old new : List ℕ) (date : ℕ) → length new ≡ length old → ¬ (get_or old date 0 ≡ get_or new date 0) → date < length old
+change-there old new date same apart =
+    elim (cases_lt date (length old)) [
+      | inl lt ↦ lt
+      | inr past ↦ absurd (apart (get_or_past old date 0 past ∙ sym (get_or_past new date 0 (omega (arith, past, same)))))
+    ]
+
+-- so a day with such a price is listed
+pub listed-change : (dates : ℕ) (old new : List ℕ) (days : List PricedDay) (lists : List DateDays) (place : ℕ) (d : PricedDay) → AreDateDays dates days lists
+    → length old ≡ dates → length new ≡ dates → place < length days → ¬ (get_or old (get_or days place d).need 0 ≡ get_or new (get_or days place d).need 0)
+    → IsListedChange old new lists place
+listed-change dates old new days lists place d h old_long new_long there changed =
+    let within = change-there old new (get_or days place d).need (new_long ∙ sym old_long) changed in
+    record {
+      date = (get_or days place d).need;
+      there = within;
+      changed = changed;
+      listed = λ e. h.listed place d e there (omega (arith, within, old_long));
+    }
+
+-- where the weight of the limit stays, a day is priced at another leaf already, or is listed
+pub priced-or-listed : (dates : ℕ) (old new : Leaf) (days : List PricedDay) (lists : List DateDays) (worths : List Worth) → AreDateDays dates days lists → length old.prices ≡ dates
+    → length new.prices ≡ dates → old.mu ≡ new.mu → worths ≡ map (worth_on old) days → (place : ℕ) → place < length days
+    → IsPriced new days worths place ⊎ IsListedChange old.prices new.prices lists place
+priced-or-listed dates old new days lists worths h old_long new_long limit priced place there =
+    elim (cases_eq (get_or old.prices (get_or days place none).need 0) (get_or new.prices (get_or days place none).need 0)) [
+      | inl same ↦
+          inl (λ d. ap (λ ws. worth_at ws place) priced ∙ get_or-map (worth_on old) days place none (record { above = 0; below = 0 }) there
+          ∙ worth-stays old new (get_or days place none) limit same ∙ ap (worth_on new) (get_or_default days place none d there))
+      | inr changed ↦ inr (listed-change dates old.prices new.prices days lists place none h old_long new_long there changed)
+    ]
+  where
+    none : PricedDay
+    none = record { need = dates; power = 0 }
+
+-- where one price changes, a listed change is at its date
+pub change-at : (old new : List ℕ) (date price : ℕ) (lists : List DateDays) (place : ℕ) (e : DateDays) → new ≡ set old date price → IsListedChange old new lists place
+    → Contains (get_or lists date e).places.items place
+change-at old new date price lists place e is h =
+    elim (cases_eq h.date date) [
+      | inl at ↦ subst (λ k. Contains (get_or lists k e).places.items place) at (h.listed e)
+      | inr apart ↦ absurd (h.changed (sym (ap (λ prices. get_or prices h.date 0) is ∙ get_or-set_other old date h.date price 0 apart)))
+    ]
+
+-- a change at one of the dates from one on
+abbrev pub IsChangeAhead : ℕ → List ℕ → List ℕ → List DateDays → ℕ → Type 0
+IsChangeAhead from old new lists place = (change : IsListedChange old new lists place) × (from ≤ change.date)
+
+-- one date more: what was done stays so, and where its price changes what is listed there gets done
+pub changes-more : (was is : Type 0) (from : ℕ) (old new : List ℕ) (lists : List DateDays) (place : ℕ) → (was → is)
+    → (¬ (get_or old from 0 ≡ get_or new from 0) → ((e : DateDays) → Contains (get_or lists from e).places.items place) → is)
+    → was ⊎ IsChangeAhead from old new lists place → is ⊎ IsChangeAhead (from + 1) old new lists place
+changes-more was is from old new lists place stays done (inl before) = inl (stays before)
+changes-more was is from old new lists place stays done (inr ahead) =
+    elim (cases_eq ahead.0.date from) [
+      | inl at ↦
+          inl (done (subst (λ date. ¬ (get_or old date 0 ≡ get_or new date 0)) at ahead.0.changed)
+          (λ e. subst (λ date. Contains (get_or lists date e).places.items place) at (ahead.0.listed e)))
+      | inr late ↦ inr (ahead.0, omega (arith, ahead.1, late))
     ]
 
 -- a day of the rest of a list
 abbrev pub IsAhead : ℕ → List ℕ → ℕ → Type 0
 IsAhead from places day = (k : ℕ) × (from ≤ k) × (k < length places) × (get_or places k day ≡ day)
 
+-- a place that is listed ahead is the next one, or ahead of that
+pub ahead-more : (from place : ℕ) (places : List ℕ) (k : ℕ) → from < length places → ((d : ℕ) → get_or places from d ≡ place) → IsAhead from places k → (k ≡ place) ⊎ IsAhead (from + 1) places k
+ahead-more from place places k few is ahead =
+    elim (cases_eq ahead.0 from) [
+      | inl at ↦ inl (sym ahead.3 ∙ ap (λ j. get_or places j k) at ∙ is k)
+      | inr late ↦ inr (ahead.0, omega (arith, ahead.1, late), ahead.2, ahead.3)
+    ]
+
 -- a day more is priced
 pub priced-more : (leaf : Leaf) (days : List PricedDay) (places : List ℕ) (worths : List Worth) (from place : ℕ) (own : Worth) → from < length places
     → ((d : ℕ) → get_or places from d ≡ place) → place < length worths → ((d : PricedDay) → own ≡ worth_on leaf (get_or days place d))
-    → ((day : ℕ) (d : PricedDay) (w : Worth) → day < length days → (get_or worths day w ≡ worth_on leaf (get_or days day d)) ⊎ IsAhead from places day)
-    → (day : ℕ) (d : PricedDay) (w : Worth) → day < length days → (get_or (set worths place own) day w ≡ worth_on leaf (get_or days day d)) ⊎ IsAhead (from + 1) places day
-priced-more leaf days places worths from place own few is there own_is h day d w lt =
+    → (day : ℕ) → IsPriced leaf days worths day ⊎ IsAhead from places day → IsPriced leaf days (set worths place own) day ⊎ IsAhead (from + 1) places day
+priced-more leaf days places worths from place own few is there own_is day h =
     elim (cases_eq day place) [
       | inl at ↦
-          inl (ap (λ k. get_or (set worths place own) k w) at ∙ get_or-set_same worths place own w there ∙ own_is d ∙ ap (λ k. worth_on leaf (get_or days k d)) (sym at))
+          inl (λ d. ap (λ k. worth_at (set worths place own) k) at ∙ get_or-set_same worths place own none there ∙ own_is d ∙ ap (λ k. worth_on leaf (get_or days k d)) (sym at))
       | inr apart ↦
-          elim (h day d w lt) [
-            | inl priced ↦ inl (get_or-set_other worths place day own w apart ∙ priced)
+          elim h [
+            | inl priced ↦ inl (λ d. get_or-set_other worths place day own none apart ∙ priced d)
             | inr ahead ↦
-                elim (cases_eq ahead.0 from) [
-                  | inl at ↦ absurd (apart (sym ahead.3 ∙ ap (λ k. get_or places k day) at ∙ is day))
-                  | inr late ↦ inr (ahead.0, omega (arith, ahead.1, late), ahead.2, ahead.3)
+                elim (ahead-more from place places day few is ahead) [
+                  | inl at ↦ absurd (apart at)
+                  | inr more ↦ inr more
                 ]
           ]
     ]
+  where
+    none : Worth
+    none = record { above = 0; below = 0 }
 
 -- all days are priced
-pub all-priced : (leaf : Leaf) (days : List PricedDay) (places : List ℕ) (worths : List Worth) (from : ℕ) → length worths ≡ length days → length places ≤ from
-    → ((day : ℕ) (d : PricedDay) (w : Worth) → day < length days → (get_or worths day w ≡ worth_on leaf (get_or days day d)) ⊎ IsAhead from places day)
+pub all-priced : (leaf : Leaf) (days : List PricedDay) (worths : List Worth) → length worths ≡ length days → ((day : ℕ) → day < length days → IsPriced leaf days worths day)
     → worths ≡ map (worth_on leaf) days
-all-priced leaf days places worths from same all h =
+all-priced leaf days worths same h =
     let none : PricedDay = record { need = 0; power = 0 } in
+    let nothing : Worth = record { above = 0; below = 0 } in
     same-list worths (map (worth_on leaf) days) (omega (arith, same, length-map days (worth_on leaf)))
     (λ k w lt.
-    elim (h k none w (omega (arith, lt, same))) [
-      | inl priced ↦ priced ∙ sym (get_or-map (worth_on leaf) days k none w (omega (arith, lt, same)))
-      | inr ahead ↦ absurd (omega (arith, ahead.1, ahead.2, all))
-    ])
+    let there : k < length days = omega (arith, lt, same) in
+    get_or_default worths k w nothing lt ∙ h k there none ∙ sym (get_or-map (worth_on leaf) days k none w there))
+
+-- where one price changes and the days of its date are priced anew, all days are priced
+pub date-priced : (dates : ℕ) (old new : Leaf) (date price : ℕ) (days : List PricedDay) (lists : List DateDays) (start worths : List Worth) (e : DateDays) → AreDateDays dates days lists
+    → length old.prices ≡ dates → length new.prices ≡ dates → old.mu ≡ new.mu → new.prices ≡ set old.prices date price → start ≡ map (worth_on old) days → length worths ≡ length days
+    → ((day : ℕ) → day < length days → IsPriced new days start day ⊎ Contains (get_or lists date e).places.items day → IsPriced new days worths day)
+    → worths ≡ map (worth_on new) days
+date-priced dates old new date price days lists start worths e h old_long new_long limit is priced every each =
+    all-priced new days worths every
+    (λ day few.
+    each day few
+    (elim (priced-or-listed dates old new days lists start h old_long new_long limit priced day few) [
+      | inl was ↦ inl was
+      | inr change ↦ inr (change-at old.prices new.prices date price lists day e is change)
+    ]))

@@ -7,8 +7,7 @@ use Rattle.std.proofs.lemmas.List.Sums.{sum_by-cons, sum_by_more}
 use Rattle.std.proofs.Math.Seq.{take-append_seam}
 use Rattle.std.proofs.lemmas.List.Elements.{All-append, All-cons, All-map}
 use Rattle.fixed_powers.specs.DiscountPowers.{one}
-use Rattle.dual_bound.specs.Columns.{AreDateDays, AreSmallSums, AreSums, Extends, IsLightWorth, IsRun, IsRunOf, IsStopWithin, IsSummed, stop_day, sum_after, sum_before, worth_at, worth_between, worth_on, worth_together}
-use Rattle.dual_bound.specs.Tree.{with_price}
+use Rattle.dual_bound.specs.Columns.{AreDateDays, AreSmallSums, AreSums, Extends, IsLightWorth, IsListedChange, IsRun, IsRunOf, IsStopWithin, IsSummed, stop_day, sum_after, sum_before, worth_at, worth_between, worth_on, worth_together}
 use Rattle.dual_bound.specs.declared.column.Column.{Column}
 use Rattle.dual_bound.specs.declared.date_days.DateDays.{DateDays}
 use Rattle.dual_bound.specs.declared.prices.TheConstants.{PRICE_SCALE}
@@ -19,7 +18,7 @@ use Rattle.dual_bound.specs.declared.tree.Leaf.{Leaf}
 use Rattle.dual_bound.specs.declared.worth.PricedDay.{PricedDay}
 use Rattle.dual_bound.specs.declared.worth.Worth.{Worth}
 use Rattle.dual_bound.proofs.ColumnMade.{zip-push, zip-weaker}
-use Rattle.dual_bound.proofs.DateFacts.{IsAhead}
+use Rattle.dual_bound.proofs.DateFacts.{change-at, listed-change, worth-stays}
 
 -- two worths together
 abbrev pub joined : Worth → Worth → Worth
@@ -95,14 +94,6 @@ small-more sums at own there small h k lt =
       | inr apart ↦
           let is = get_or-set_other sums at k own (record { above = 0; below = 0 }) apart in
           omega (arith, ap (λ (w : Worth). w.above + w.below) is, h k (omega (arith, lt, length-set {A = Worth})))
-    ]
-
--- a stop that is listed ahead is the next one, or ahead of that
-pub ahead-more : (from place : ℕ) (places : List ℕ) (k : ℕ) → from < length places → ((d : ℕ) → get_or places from d ≡ place) → IsAhead from places k → (k ≡ place) ⊎ IsAhead (from + 1) places k
-ahead-more from place places k few is ahead =
-    elim (cases_eq ahead.0 from) [
-      | inl at ↦ inl (sym ahead.3 ∙ ap (λ j. get_or places j k) at ∙ is k)
-      | inr late ↦ inr (ahead.0, omega (arith, ahead.1, late), ahead.2, ahead.3)
     ]
 
 -- ---- runs
@@ -193,36 +184,35 @@ sums-small worths stops sums s light there k lt = small k lt
         let here = s.summed (suc k) (omega (arith, lt, s.every)) Start in
         omega (arith, ap (λ (w : Worth). w.above + w.below) here, one-more (worth_at sums k) (get_or stops (suc k) Start) (there (suc k) Start (omega (arith, lt, s.every))), small k (omega (arith, lt)))
 
--- where one price changes, a day of another date is worth what it was
-after-same : (dates : ℕ) (leaf : Leaf) (place price : ℕ) (days : List PricedDay) (before : Worth) (stop : Stop) → IsStopWithin (length days) stop → ((stop_day dates days stop).need ≡ place → ⊥)
-    → sum_after (map (worth_on (with_price leaf place price)) days) before stop ≡ sum_after (map (worth_on leaf) days) before stop
-after-same dates leaf place price days before Start h apart = refl
-after-same dates leaf place price days before (Day at) h apart =
+-- where the weight of the limit and a day's price stay, the sum at its stop is what it was
+after-same : (dates : ℕ) (old new : Leaf) (days : List PricedDay) (before : Worth) (stop : Stop) → old.mu ≡ new.mu → IsStopWithin (length days) stop
+    → get_or old.prices (stop_day dates days stop).need 0 ≡ get_or new.prices (stop_day dates days stop).need 0
+    → sum_after (map (worth_on old) days) before stop ≡ sum_after (map (worth_on new) days) before stop
+after-same dates old new days before Start limit h same = refl
+after-same dates old new days before (Day at) limit h same =
     let none : Worth = record { above = 0; below = 0 } in
     let d : PricedDay = record { need = dates; power = 0 } in
-    let day = get_or days at d in
-    let own : worth_on (with_price leaf place price) day ≡ worth_on leaf day =
-    ap (λ price. worth_between price (leaf.mu * day.power / one)) (get_or-set_other leaf.prices place day.need price 0 apart) in
-    let same : worth_at (map (worth_on (with_price leaf place price)) days) at ≡ worth_at (map (worth_on leaf) days) at =
-    get_or-map (worth_on (with_price leaf place price)) days at d none h ∙ own ∙ sym (get_or-map (worth_on leaf) days at d none h) in
-    ap (joined before) same
+    let own : worth_at (map (worth_on old) days) at ≡ worth_at (map (worth_on new) days) at =
+    get_or-map (worth_on old) days at d none h ∙ worth-stays old new (get_or days at d) limit same ∙ sym (get_or-map (worth_on new) days at d none h) in
+    ap (joined before) own
 
--- so there a stop is summed up, or is listed
-pub summed-or-listed : (dates : ℕ) (leaf : Leaf) (place price : ℕ) (days : List PricedDay) (stops : List Stop) (lists : List DateDays) (old sums : List Worth) (e : DateDays)
-    → AreDateDays dates (map (stop_day dates days) stops) lists → All (IsStopWithin (length days)) stops → place < dates → old ≡ map (worth_on leaf) days → AreSums old stops sums
-    → (k : ℕ) → k < length stops → IsSummed (map (worth_on (with_price leaf place price)) days) stops sums k ⊎ Contains (get_or lists place e).places.items k
-summed-or-listed dates leaf place price days stops lists old sums e h there few priced summed k lt =
-    elim (cases_eq (stop_day dates days stop).need place) [
-      | inl at ↦
-          let need : (get_or (map (stop_day dates days) stops) k none).need ≡ place = ap (λ (d : PricedDay). d.need) (get_or-map (stop_day dates days) stops k Start none lt) ∙ at in
-          inr (subst (λ date. Contains (get_or lists date e).places.items k) need
-          (h.listed k none e (omega (arith, lt, length-map stops (stop_day dates days))) (omega (arith, need, few))))
-      | inr apart ↦
+-- so a stop is summed up at another leaf already, or is listed
+pub summed-or-listed : (dates : ℕ) (old new : Leaf) (days : List PricedDay) (stops : List Stop) (lists : List DateDays) (worths sums : List Worth)
+    → AreDateDays dates (map (stop_day dates days) stops) lists → All (IsStopWithin (length days)) stops → length old.prices ≡ dates → length new.prices ≡ dates → old.mu ≡ new.mu
+    → worths ≡ map (worth_on old) days → AreSums worths stops sums → (k : ℕ) → k < length stops
+    → IsSummed (map (worth_on new) days) stops sums k ⊎ IsListedChange old.prices new.prices lists k
+summed-or-listed dates old new days stops lists worths sums h there old_long new_long limit priced summed k lt =
+    elim (cases_eq (get_or old.prices (stop_day dates days stop).need 0) (get_or new.prices (stop_day dates days stop).need 0)) [
+      | inl same ↦
           inl (λ s.
           let is : get_or stops k s ≡ stop = get_or_default stops k s Start lt in
           summed.summed k lt s ∙ (λ i. sum_after (priced i) (sum_before sums k) (is i))
-          ∙ sym (after-same dates leaf place price days (sum_before sums k) stop (there k Start lt) apart)
-          ∙ ap (sum_after (map (worth_on (with_price leaf place price)) days) (sum_before sums k)) (sym is))
+          ∙ after-same dates old new days (sum_before sums k) stop limit (there k Start lt) same
+          ∙ ap (sum_after (map (worth_on new) days) (sum_before sums k)) (sym is))
+      | inr changed ↦
+          let need : (get_or (map (stop_day dates days) stops) k none).need ≡ (stop_day dates days stop).need = ap (λ (d : PricedDay). d.need) (get_or-map (stop_day dates days) stops k Start none lt) in
+          inr (listed-change dates old.prices new.prices (map (stop_day dates days) stops) lists k none h old_long new_long (omega (arith, lt, length-map stops (stop_day dates days)))
+          (subst (λ date. ¬ (get_or old.prices date 0 ≡ get_or new.prices date 0)) (sym need) changed))
     ]
   where
     none : PricedDay
@@ -230,6 +220,22 @@ summed-or-listed dates leaf place price days stops lists old sums e h there few 
 
     stop : Stop
     stop = get_or stops k Start
+
+-- where one price changes and the sums are mended at the stops of its date, all stops are summed up
+pub date-summed : (dates : ℕ) (old new : Leaf) (date price : ℕ) (days : List PricedDay) (stops : List Stop) (lists : List DateDays) (start sums : List Worth) (worths : List Worth) (e : DateDays)
+    → AreDateDays dates (map (stop_day dates days) stops) lists → All (IsStopWithin (length days)) stops → length old.prices ≡ dates → length new.prices ≡ dates → old.mu ≡ new.mu
+    → new.prices ≡ set old.prices date price → worths ≡ map (worth_on old) days → AreSums worths stops start → length sums ≡ length stops
+    → ((k : ℕ) → k < length stops → IsSummed (map (worth_on new) days) stops start k ⊎ Contains (get_or lists date e).places.items k → IsSummed (map (worth_on new) days) stops sums k)
+    → AreSums (map (worth_on new) days) stops sums
+date-summed dates old new date price days stops lists start sums worths e h there old_long new_long limit is priced summed every each = record {
+  every = every;
+  summed = λ k lt.
+      each k lt
+      (elim (summed-or-listed dates old new days stops lists worths start h there old_long new_long limit priced summed k lt) [
+        | inl was ↦ inl was
+        | inr change ↦ inr (change-at old.prices new.prices date price lists k e is change)
+      ]);
+}
 
 -- worths that were written in place are what was written
 pub written : (new rest : List Worth) (len : ℕ) → len ≡ length new → take len (new ++ rest) ≡ new

@@ -93,6 +93,17 @@ pub record AreDateDays (dates : ℕ) (days : List PricedDay) (lists : List DateD
   pub listed : (place : ℕ) (d : PricedDay) (e : DateDays) → place < length days → (slice_index_or days place d).need < dates
       → Contains (slice_index_or lists (slice_index_or days place d).need e).places.items place
 
+-- the day at a place is priced at a leaf
+abbrev pub IsPriced : Leaf → List PricedDay → List Worth → ℕ → Type 0
+IsPriced leaf days worths place = (d : PricedDay) → worth_at worths place ≡ worth_on leaf (slice_index_or days place d)
+
+-- a place stands in the list of a need date whose price changes
+pub record IsListedChange (old new : List ℕ) (lists : List DateDays) (place : ℕ) : Type 0 where
+  pub date : ℕ
+  pub there : date < length old
+  pub changed : ¬ (slice_index old date ≡ slice_index new date)
+  pub listed : (e : DateDays) → Contains (slice_index_or lists date e).places.items place
+
 -- ---- columns
 -- half a year's interest and nothing else, as most dates pay
 abbrev pub is_regular : ScheduledPayment → Bool

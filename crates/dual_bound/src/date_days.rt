@@ -1,9 +1,12 @@
 //! The days that each need date prices.
-ghost use Rattle.std.specs.Prelude.{All, ◌≡◌, ◌<◌, ℕ, [], ◌∷◌, ◌++◌, IfOk, OnOk, length, slice_index_or};
-ghost use Rattle.dual_bound.specs.Columns.{AreDateDays};
+ghost use Rattle.std.specs.Prelude.{All, ◌≡◌, ◌⊎◌, ◌<◌, ◌≤◌, ℕ, [], ◌∷◌, ◌++◌, IfOk, OnOk, length, map, slice_index_or};
+ghost use Rattle.fixed_powers.specs.DiscountPowers.{one};
+ghost use Rattle.dual_bound.specs.Columns.{AreDateDays, IsListedChange, IsPriced, worth_on};
 ghost use Rattle.dual_bound.specs.declared.date_days.DateDays.{DateDays};
 
-use crate::worth::PricedDay;
+use crate::prices::PRICE_SCALE;
+use crate::tree::Leaf;
+use crate::worth::{PricedDay, Worth, price_days_at};
 use escrow_desk::NoMemory;
 use std::alloc::Global;
 
@@ -66,4 +69,29 @@ pub(crate) fn days_by_date(
         list_day(lists.as_mut_slice(), days[place].need, place)?;
     }
     Ok(lists)
+}
+
+/// Prices the days of those need dates whose prices a leaf changes from the old ones, at that leaf, which keeps its limits. Each
+/// other day is priced at it already.
+pub(crate) fn price_dates(
+    leaf: &Leaf,
+    old: &[u64],
+    lists: &[DateDays],
+    days: &[PricedDay],
+    worths: &mut [Worth],
+)
+    requires leaf { leaf.now.mu ≤ PRICE_SCALE }
+    requires powers { All (λ priced. priced.power ≤ one) days.now }
+    requires same { length worths.old ≡ length days.now }
+    requires prices { length leaf.now.prices ≡ length old.now }
+    requires lists { AreDateDays (length old.now) days.now lists.now }
+    requires others { (place : ℕ) → place < length days.now → IsPriced leaf.now days.now worths.old place ⊎ IsListedChange old.now leaf.now.prices lists.now place }
+    ensures { worths.new ≡ map (worth_on leaf.now) days.now }
+{
+    let prices = leaf.prices.as_slice();
+    for date in 0..old.len() {
+        if old[date] != prices[date] {
+            price_days_at(leaf, days, lists[date].places.as_slice(), worths);
+        }
+    }
 }

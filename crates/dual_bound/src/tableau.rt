@@ -11,14 +11,14 @@ ghost use Rattle.dual_bound.specs.Ranges.{HasRoomFor};
 ghost use Rattle.dual_bound.specs.Tree.{IsLeaf, with_price};
 
 use crate::column::Column;
-use crate::date_days::{DateDays, days_by_date};
+use crate::date_days::{DateDays, days_by_date, price_dates};
 use crate::day_table::DayTable;
 use crate::form::Form;
 use crate::leaf_bound::{cost_worth, priced_needs};
 use crate::prices::PRICE_SCALE;
 use crate::ranges::{Interval, Ranges};
 use crate::series::Series;
-use crate::sums::{mend_at, sum_up};
+use crate::sums::{mend_at, mend_dates, sum_up};
 use crate::tree::Leaf;
 use crate::worth::{PricedDay, Worth, price_day, price_days, price_days_at};
 use escrow_desk::NoMemory;
@@ -91,6 +91,16 @@ fn exchanged(sum: i128, old: i128, new: i128) -> i128
     sum - old + new
 }
 
+// Whether at most a quarter of the prices differ. It shows which way of pricing is faster, and nothing rests on it.
+fn are_near(old: &[u64], new: &[u64]) -> bool {
+    let changes = old
+        .iter()
+        .zip(new)
+        .filter(|pair| *pair.0 != *pair.1)
+        .count();
+    changes <= old.len() / 4
+}
+
 impl Tableau {
     /// The tableau of a book, by the powers of a yield, priced at a leaf at which nothing has a weight.
     ///
@@ -144,7 +154,36 @@ impl Tableau {
         self.leaf.prices.copy(&leaf.prices);
     }
 
-    /// Prices the days at a leaf: nothing where its prices and the weight of the limit are those of the leaf before.
+    // Prices the days of those need dates whose prices change at another leaf, with the weight of the limit as it is.
+    fn price_changes(&mut self, book: &Book, leaf: &Leaf)
+        requires leaf { IsLeaf (length book.now.needs) leaf.now }
+        requires limit { self.old.leaf.mu ≡ leaf.now.mu }
+        requires tableau { IsTableau book.now self.old }
+        ensures tableau { IsTableau book.now self.new }
+        ensures leaf { self.new.leaf ≡ leaf.now }
+        ensures yield_units { self.new.yield_units.0 ≡ self.old.yield_units.0 }
+    {
+        price_dates(
+            leaf,
+            self.leaf.prices.as_slice(),
+            self.date_days.as_slice(),
+            self.days.as_slice(),
+            self.worths.as_mut_slice(),
+        );
+        mend_dates(
+            self.series.stops.as_slice(),
+            self.worths.as_slice(),
+            self.series.sums.as_mut_slice(),
+            self.series.date_stops.as_slice(),
+            self.leaf.prices.as_slice(),
+            leaf.prices.as_slice(),
+        );
+        self.leaf.whole = leaf.whole;
+        self.leaf.prices.copy(&leaf.prices);
+    }
+
+    /// Prices the days at a leaf: nothing where its prices and the weight of the limit are those of the leaf before, and where
+    /// the weight is and only some prices differ, the days of those need dates.
     pub(crate) fn price(&mut self, book: &Book, leaf: &Leaf)
         requires leaf { IsLeaf (length book.now.needs) leaf.now }
         requires tableau { IsTableau book.now self.old }
@@ -154,6 +193,10 @@ impl Tableau {
     {
         if self.leaf.mu == leaf.mu && self.leaf.prices.as_slice() == leaf.prices.as_slice() {
             self.leaf.whole = leaf.whole;
+        } else if self.leaf.mu == leaf.mu
+            && are_near(self.leaf.prices.as_slice(), leaf.prices.as_slice())
+        {
+            self.price_changes(book, leaf);
         } else {
             self.price_anew(book, leaf);
         }

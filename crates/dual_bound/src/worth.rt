@@ -2,7 +2,7 @@
 ghost use Rattle.std.specs.Prelude.{All, ◌≡◌, ◌⊎◌, ◌+◌, ◌*◌, ◌/◌, ◌^◌, ◌<◌, ◌≤◌, ℕ, length, map, slice_index, slice_index_or, unsigned_abs};
 ghost use Rattle.std.specs.List.{AllZip, Contains};
 ghost use Rattle.fixed_powers.specs.DiscountPowers.{one};
-ghost use Rattle.dual_bound.specs.Columns.{signed_worth, worth_between as worth_between_of, worth_on};
+ghost use Rattle.dual_bound.specs.Columns.{IsPriced, signed_worth, worth_between as worth_between_of, worth_on};
 ghost use Rattle.dual_bound.specs.Tree.{IsLeaf};
 ghost use Rattle.dual_bound.specs.declared.worth.PricedDay.{PricedDay as PricedDayOf};
 ghost use Rattle.dual_bound.specs.declared.worth.Worth.{Worth as WorthOf};
@@ -118,15 +118,13 @@ pub(crate) fn price_days(leaf: &Leaf, days: &[PricedDay], worths: &mut [Worth])
     }
 }
 
-/// Prices the days at some places at a leaf that keeps its limits, where the others are priced at it already.
+/// Prices the days at some places at a leaf that keeps its limits. A day that is priced at it already stays so.
 pub(crate) fn price_days_at(leaf: &Leaf, days: &[PricedDay], places: &[usize], worths: &mut [Worth])
     requires leaf { leaf.now.mu ≤ PRICE_SCALE }
     requires powers { All (λ priced. priced.power ≤ one) days.now }
     requires same { length worths.old ≡ length days.now }
     requires there { All (λ place. place < length days.now) places.now }
-    requires others { (place : ℕ) (d : PricedDayOf) (w : WorthOf) → place < length days.now
-        → (slice_index_or worths.old place w ≡ worth_on leaf.now (slice_index_or days.now place d)) ⊎ Contains places.now place }
-    ensures { worths.new ≡ map (worth_on leaf.now) days.now }
+    ensures { (place : ℕ) → place < length days.now → (IsPriced leaf.now days.now worths.old place ⊎ Contains places.now place) → IsPriced leaf.now days.now worths.new place }
 {
     for place in places {
         worths[*place] = price_day(leaf, days[*place]);
