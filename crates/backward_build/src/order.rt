@@ -4,12 +4,11 @@ ghost use Rattle.std.specs.Prelude.{◌≡◌, ◌*◌, ◌^◌, ◌≤◌, ◌<
 ghost use Rattle.std.specs.List.{All, range_with_len};
 ghost use Rattle.escrow_units.specs.Flows.{Rise};
 ghost use Rattle.offer_book.specs.declared.line.Line.{Line};
-ghost use Rattle.dual_bound.specs.LeafBound.{price_on as price_on_date};
 ghost use Rattle.backward_build.specs.Order.{AreCandidates, ArePrices, IsOrder, saving_of, worth_of};
 
-use dual_bound::{PRICE_SCALE, Prices};
+use dual_bound::{PRICE_SCALE, Prices, price_on};
 use escrow_desk::NoMemory;
-use escrow_units::{Day, Flow};
+use escrow_units::Flow;
 use offer_book::{Book, PayCoefficients};
 use std::alloc::Global;
 use std::cmp::Reverse;
@@ -23,17 +22,6 @@ pub(crate) struct Candidate {
     pub(crate) line: u16,
 }
 
-// The price of a day: that of the first need date on or after it, and 0 where there is none.
-fn price_on(needs: &[Flow], prices: &Prices, day: Day) -> u64
-    requires rising { Rise needs.now }
-    requires prices { ArePrices needs.now prices.now }
-    ensures value { result ≡ price_on_date needs.now prices.now day }
-    ensures small { result ≤ 2 * PRICE_SCALE }
-{
-    let place = needs.partition_point(|need| need.day < day);
-    prices.as_slice().get(place).copied().unwrap_or(0)
-}
-
 // What a unit's payments are worth, scaled.
 fn worth(needs: &[Flow], prices: &Prices, pays: &[PayCoefficients]) -> u128
     requires rising { Rise needs.now }
@@ -45,7 +33,7 @@ fn worth(needs: &[Flow], prices: &Prices, pays: &[PayCoefficients]) -> u128
 {
     let mut worth = 0;
     for pay in pays {
-        worth += u128::from(price_on(needs, prices, pay.day)) * pay.high;
+        worth += u128::from(price_on(needs, prices.as_slice(), pay.day)) * pay.high;
     }
     worth
 }

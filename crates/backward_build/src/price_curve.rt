@@ -2,17 +2,15 @@
 ghost use Rattle.std.specs.Prelude.{All, ◌≡◌, ◌*◌, ◌^◌, ◌<◌, ◌≤◌, length, IfOk, IfSome, option_map, true};
 ghost use Rattle.escrow_units.specs.Flows.{Rise};
 ghost use Rattle.offer_book.specs.Book.{IsBook, IsSecurityLine};
-ghost use Rattle.dual_bound.specs.LeafBound.{price_on as price_on_date};
 ghost use Rattle.dual_bound.specs.Tree.{IsLeaf};
 ghost use Rattle.backward_build.specs.OwnOffer.{ends_on, need_at};
 ghost use Rattle.backward_build.specs.PriceCurve.{bootstrapped_prices, fair_price as fair_price_of, last_price as last_price_of, leaf_of_prices, next_price as next_price_of, shared as shared_of, unit_paid_in, worth_at};
 
 use crate::offers::own_offer;
 use crate::span::Span;
-use cash_table::place_of;
-use dual_bound::{Leaf, PRICE_SCALE, Prices};
+use dual_bound::{Leaf, PRICE_SCALE, Prices, price_on};
 use escrow_desk::NoMemory;
-use escrow_units::{Day, Flow};
+use escrow_units::Flow;
 use offer_book::{Book, Line, PayCoefficients};
 use std::alloc::Global;
 
@@ -23,20 +21,6 @@ struct UnitPaid {
     worth: u128,
     // What those in the span of the next need date come to.
     left: u128,
-}
-
-// The price of a day: that of the first need date on or after it, and 0 where there is none.
-fn price_on(needs: &[Flow], prices: &[u64], day: Day) -> u64
-    requires rising { Rise needs.now }
-    requires same { length needs.now ≡ length prices.now }
-    ensures { result ≡ price_on_date needs.now prices.now day }
-{
-    let place = place_of(needs, day);
-    if place < prices.len() {
-        prices[place]
-    } else {
-        0
-    }
 }
 
 // What the payments of one unit are worth at the prices of need dates, and what is paid in the span of the next.

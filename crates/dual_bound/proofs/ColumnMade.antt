@@ -1,15 +1,12 @@
 -- A column, as the payments of its line are put into it.
 use Rattle.std.proofs.Common.{◌≡◌, ◌∙◌, ℕ, ◌+◌, ◌<◌, ◌≤◌, List, [], ◌∷◌, ◌++◌, All, cond, get_or, length, take, refl, sym, ap, subst, arith, ◌≤ℤ◌, Bool, true, false, length-append, append-nil}
 use Rattle.std.specs.List.{AllZip, filter}
-use Rattle.std.proofs.lemmas.List.{length-map, take_all}
+use Rattle.std.proofs.lemmas.List.{take_all}
 use Rattle.std.proofs.lemmas.List.Elements.{All-filter, All-push, filter_more}
-use Rattle.std.proofs.Math.ListN.{get_or-map}
 use Rattle.escrow_units.specs.Calendar.{years_after_of}
 use Rattle.escrow_units.specs.SlgsTerms.{IsSettlement}
 use Rattle.offer_book.specs.Book.{BookContents, IsLine}
-use Rattle.offer_book.specs.Coefficients.{pay_by}
 use Rattle.offer_book.specs.Schedule.{kind_rate, schedule_of}
-use Rattle.offer_book.specs.declared.coefficients.PayCoefficients.{PayCoefficients}
 use Rattle.offer_book.specs.declared.line.Line.{Line}
 use Rattle.offer_book.specs.declared.line.LineKind.{LineKind}
 use Rattle.payment_schedule.specs.declared.schedule.ScheduledPayment.{ScheduledPayment}
@@ -17,7 +14,7 @@ use Rattle.dual_bound.specs.Columns.{Extends, HasHead, IsColumn, IsOther, IsPlac
 use Rattle.dual_bound.specs.declared.column.Column.{Column}
 use Rattle.dual_bound.specs.declared.column.OtherPayment.{OtherPayment}
 use Rattle.dual_bound.specs.declared.worth.PricedDay.{PricedDay}
-use Rattle.dual_bound.proofs.FormFacts.{pays-within}
+use Rattle.dual_bound.proofs.FormFacts.{schedule-within}
 use Rattle.offer_book.specs.declared.payment_days.PaymentDays.{PaymentDays}
 
 -- pairs, one more
@@ -109,13 +106,10 @@ one-more n book days more line schedule i payment place old new few is e h at pl
   few_others = omega (arith, ap length others, length-append old.others.items (cond (is_other payment) (other_by line payment place ∷ []) []), cond-short (is_other payment) (other_by line payment place), h.few_others);
 }
 
--- the payments of a line fall within forty years
-pub schedule-within : (days : PaymentDays) (line : Line) → IsSettlement days.settle → IsLine days line → All (λ payment. (days.settle ≤ℤ payment.day) × (payment.day ≤ℤ years_after_of days.settle 40)) (paying days line)
-schedule-within days line h is =
-    All-filter (pays_at (kind_rate line.kind)) (λ payment. (days.settle ≤ℤ payment.day) × (payment.day ≤ℤ years_after_of days.settle 40)) (schedule_of days line)
-    (let pay : ScheduledPayment → PayCoefficients = pay_by (kind_rate line.kind) line.step in
-    let P : PayCoefficients → Type 0 = λ pay. (days.settle ≤ℤ pay.day) × (pay.day ≤ℤ years_after_of days.settle 40) in
-    λ k d few. subst P (get_or-map pay (schedule_of days line) k d) (pays-within days line h is k (pay d) (omega (arith, length-map (schedule_of days line) pay, few))))
+-- the payments of a line that pay fall within forty years
+pub paying-within : (days : PaymentDays) (line : Line) → IsSettlement days.settle → IsLine days line → All (λ payment. (days.settle ≤ℤ payment.day) × (payment.day ≤ℤ years_after_of days.settle 40)) (paying days line)
+paying-within days line h is =
+    All-filter (pays_at (kind_rate line.kind)) (λ payment. (days.settle ≤ℤ payment.day) × (payment.day ≤ℤ years_after_of days.settle 40)) (schedule_of days line) (schedule-within days line h is)
 
 -- all that a column has, and its size
 pub made : (n : ℕ) (book : BookContents) (days : List PricedDay) (line : Line) (schedule : List ScheduledPayment) (i : ℕ) (start column : Column) → schedule ≡ paying book.days line

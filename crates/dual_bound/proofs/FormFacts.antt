@@ -1,6 +1,8 @@
 -- The form of a line, one payment after another.
-use Rattle.std.proofs.Common.{◌≡◌, ◌∙◌, ℕ, ◌+◌, ◌*◌, ◌<◌, List, [], ◌∷◌, All, get_or, length, take, refl, ap, arith, ℤ, pos, ◌+ℤ◌, neg_ℤ, ◌≤ℤ◌, unsigned_abs}
+use Rattle.std.proofs.Common.{◌≡◌, ◌∙◌, ℕ, ◌+◌, ◌*◌, ◌<◌, List, [], ◌∷◌, All, get_or, length, take, refl, ap, subst, arith, ℤ, pos, ◌+ℤ◌, neg_ℤ, ◌≤ℤ◌, unsigned_abs}
 use Rattle.std.proofs.lemmas.Int.{ints}
+use Rattle.std.proofs.Math.ListN.{get_or-map}
+use Rattle.std.proofs.lemmas.List.{length-map}
 use Rattle.std.proofs.lemmas.List.Elements.{All-cons, All-head, All-tail}
 use Rattle.std.proofs.lemmas.List.Sums.{sum_by_more}
 use Rattle.std.specs.List.{AllZip, sum_by}
@@ -11,10 +13,12 @@ use Rattle.escrow_units.specs.declared.security.Flow.{Flow}
 use Rattle.offer_book.proofs.CoefficientFacts.{coefficients-enclose}
 use Rattle.offer_book.proofs.LineFacts.{line_payments-within}
 use Rattle.offer_book.specs.Book.{BookContents, IsLine}
-use Rattle.offer_book.specs.Coefficients.{Enclosure, EnclosesPayment, cost_coefficients, pay_coefficients}
+use Rattle.offer_book.specs.Coefficients.{Enclosure, EnclosesPayment, cost_coefficients, pay_by, pay_coefficients}
 use Rattle.offer_book.specs.Portfolio.{line_payments}
+use Rattle.offer_book.specs.Schedule.{kind_rate, schedule_of}
 use Rattle.offer_book.specs.declared.coefficients.PayCoefficients.{PayCoefficients}
 use Rattle.offer_book.specs.declared.line.Line.{Line}
+use Rattle.payment_schedule.specs.declared.schedule.ScheduledPayment.{ScheduledPayment}
 use Rattle.dual_bound.specs.LeafBound.{cost_worth, form_of, least_side, paid_worth}
 use Rattle.dual_bound.specs.declared.form.Form.{Form}
 use Rattle.dual_bound.specs.declared.tree.Leaf.{Leaf}
@@ -86,3 +90,10 @@ zip-within settle units (pay ∷ pays) (flow ∷ flows) same within =
 pub pays-within : (days : PaymentDays) (line : Line) → IsSettlement days.settle → IsLine days line → All (λ pay. (days.settle ≤ℤ pay.day) × (pay.day ≤ℤ years_after_of days.settle 40)) (pay_coefficients days line)
 pays-within days line h is =
     zip-within days.settle 0 (pay_coefficients days line) (line_payments days line 0) (coefficients-enclose days line h is 0).pays (line_payments-within days line 0 h is)
+
+-- the payments of a line's schedule fall within forty years
+pub schedule-within : (days : PaymentDays) (line : Line) → IsSettlement days.settle → IsLine days line → All (λ payment. (days.settle ≤ℤ payment.day) × (payment.day ≤ℤ years_after_of days.settle 40)) (schedule_of days line)
+schedule-within days line h is =
+    let pay : ScheduledPayment → PayCoefficients = pay_by (kind_rate line.kind) line.step in
+    let P : PayCoefficients → Type 0 = λ pay. (days.settle ≤ℤ pay.day) × (pay.day ≤ℤ years_after_of days.settle 40) in
+    λ k d few. subst P (get_or-map pay (schedule_of days line) k d) (pays-within days line h is k (pay d) (omega (arith, length-map (schedule_of days line) pay, few)))

@@ -3,7 +3,9 @@ use Rattle.std.proofs.Common.{◌≡◌, ◌∙◌, ℕ, zero, suc, ◌*◌, ◌
 use Rattle.std.specs.Int.{div_ceil}
 use Rattle.std.specs.List.{filter, sum_by}
 use Rattle.std.specs.Ordering.{int_eq}
+use Rattle.std.proofs.Math.Bool.{or-false}
 use Rattle.std.proofs.Math.Nat.{zero-div}
+use Rattle.std.proofs.lemmas.Bool.{or_right}
 use Rattle.std.proofs.lemmas.Bool.Decides.{Decides-int_eq, nat_tests}
 use Rattle.std.proofs.lemmas.Int.{ints}
 use Rattle.std.proofs.lemmas.List.Sums.{sum_by-cons}
@@ -25,23 +27,15 @@ use Rattle.dual_bound.specs.Columns.{is_principal, pays_at}
 use Rattle.dual_bound.specs.LeafBound.{least_side, signed_sum}
 
 -- ---- which payments pay
-or-true : (a b : Bool) → b ≡ true → (a || b) ≡ true
-or-true true b e = refl
-or-true false b e = e
-
-or-false : (a b : Bool) → b ≡ false → (a || b) ≡ a
-or-false true b e = refl
-or-false false b e = e
-
 -- at a rate each pays
 pub all-pay : (rate : ℕ) (schedule : List ScheduledPayment) → (rate == 0) ≡ false → filter (pays_at rate) schedule ≡ schedule
 all-pay rate [] e = refl
-all-pay rate (p ∷ ps) e = (λ i. cond (or-true p.principal (not (rate == 0)) (ap not e) i) (p ∷ all-pay rate ps e i) (filter (pays_at rate) ps))
+all-pay rate (p ∷ ps) e = (λ i. cond (or_right p.principal (not (rate == 0)) (ap not e) i) (p ∷ all-pay rate ps e i) (filter (pays_at rate) ps))
 
 -- without one the principal alone
 pub principal-pays : (rate : ℕ) (schedule : List ScheduledPayment) → (rate == 0) ≡ true → filter (pays_at rate) schedule ≡ filter is_principal schedule
 principal-pays rate [] e = refl
-principal-pays rate (p ∷ ps) e = (λ i. cond (or-false p.principal (not (rate == 0)) (ap not e) i) (p ∷ principal-pays rate ps e i) (principal-pays rate ps e i))
+principal-pays rate (p ∷ ps) e = (λ i. cond ((ap (λ t. p.principal || t) (ap not e) ∙ or-false p.principal) i) (p ∷ principal-pays rate ps e i) (principal-pays rate ps e i))
 
 -- ---- what pays nothing
 record IsUnpaid (rate : ℕ) (p : ScheduledPayment) : Type 0 where

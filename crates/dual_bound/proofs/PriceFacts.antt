@@ -1,8 +1,6 @@
 -- The price of a day, one need date after another.
 use Rattle.std.proofs.Common.{◌≡◌, ◌∙◌, ℕ, zero, suc, ◌+◌, ◌<◌, ◌≤◌, List, [], ◌∷◌, drop, get_or, length, refl, sym, ap, arith, ℤ, ◌≤ℤ◌, ◌<ℤ◌, int_le, Bool, true, false, if◌then◌else◌}
-use Rattle.std.proofs.lemmas.Cmp.{int_ranked}
 use Rattle.std.proofs.lemmas.Int.{ints}
-use Rattle.std.specs.Ordering.{int_cmp, is_le}
 use Rattle.escrow_units.specs.declared.security.Flow.{Flow}
 use Rattle.dual_bound.specs.LeafBound.{price_on}
 
@@ -44,10 +42,3 @@ price_on-past [] prices day (suc place) past = refl
 price_on-past (need ∷ needs) prices day zero past = absurd (omega arith)
 price_on-past (need ∷ needs) [] day (suc place) past = ap (λ prices. price_on (drop place needs) prices day) (sym (drop-nil place)) ∙ price_on-past needs [] day place (omega arith)
 price_on-past (need ∷ needs) (price ∷ prices) day (suc place) past = price_on-past needs prices day place (omega arith)
-
--- a comparison of days
-pub due-from_test : (a b : ℤ) → is_le (int_cmp a b) ≡ true → a ≤ℤ b
-due-from_test a b test = grind (arith, ints, int_ranked a b (int_cmp a b) refl)
-
-pub late-from_test : (a b : ℤ) → is_le (int_cmp a b) ≡ false → b <ℤ a
-late-from_test a b test = grind (arith, ints, int_ranked a b (int_cmp a b) refl)

@@ -1,13 +1,12 @@
 -- Sums of worths along series.
-use Rattle.std.proofs.Common.{◌≡◌, ◌∙◌, ◌⊎◌, ℕ, zero, suc, ◌+◌, ◌*◌, ◌/◌, ◌<◌, ◌≤◌, List, [], ◌∷◌, ◌++◌, All, add-one, get_or, length, length-append, map, set, take, refl, sym, ap, subst, arith, inl, inr}
+use Rattle.std.proofs.Common.{◌≡◌, ◌∙◌, ◌⊎◌, ℕ, zero, suc, ◌+◌, ◌*◌, ◌<◌, ◌≤◌, List, [], ◌∷◌, ◌++◌, All, add-one, get_or, length, length-append, map, set, take, refl, sym, ap, subst, arith, inl, inr}
 use Rattle.std.proofs.lemmas.Bool.{cases_eq, cases_lt}
 use Rattle.std.proofs.lemmas.List.{get_or-append-add, get_or-map, get_or-set_other, get_or-set_same, get_or_default, length-map, length-set, take_all, take_more}
 use Rattle.std.specs.List.{AllZip, Contains, sum_by}
 use Rattle.std.proofs.lemmas.List.Sums.{sum_by-cons, sum_by_more}
 use Rattle.std.proofs.Math.Seq.{take-append_seam}
 use Rattle.std.proofs.lemmas.List.Elements.{All-append, All-cons, All-map}
-use Rattle.fixed_powers.specs.DiscountPowers.{one}
-use Rattle.dual_bound.specs.Columns.{AreDateDays, AreSmallSums, AreSums, Extends, IsLightWorth, IsListedChange, IsRun, IsRunOf, IsStopWithin, IsSummed, stop_day, sum_after, sum_before, worth_at, worth_between, worth_on, worth_together}
+use Rattle.dual_bound.specs.Columns.{AreDateDays, AreSmallSums, AreSums, Extends, IsLightWorth, IsListedChange, IsRun, IsRunOf, IsStopWithin, IsSummed, stop_day, sum_after, sum_before, worth_at, worth_on, worth_together}
 use Rattle.dual_bound.specs.declared.column.Column.{Column}
 use Rattle.dual_bound.specs.declared.date_days.DateDays.{DateDays}
 use Rattle.dual_bound.specs.declared.prices.TheConstants.{PRICE_SCALE}

@@ -10,6 +10,7 @@ ghost use Rattle.dual_bound.specs.LeafBound.{price_on};
 ghost use Rattle.dual_bound.specs.declared.worth.PricedDay.{PricedDay};
 
 use crate::worth::PricedDay;
+use cash_table::place_of;
 use escrow_desk::NoMemory;
 use escrow_units::{Day, Flow, index360};
 use fixed_powers::Powers;
@@ -26,22 +27,12 @@ pub(crate) struct DayTable {
     pub places: Vec<Option<u16>>,
 }
 
-// The place of the first need date on or after a day, or how many need dates there are.
+// The place whose price is that of a day, whatever the prices are.
 fn need_place(needs: &[Flow], day: Day) -> usize
     requires { Rise needs.now }
     ensures { (prices : List ℕ) → length prices ≡ length needs.now → slice_index prices result ≡ price_on needs.now prices day }
 {
-    let mut from = 0;
-    let mut to = needs.len();
-    while from < to {
-        let middle = from + (to - from) / 2;
-        if day <= needs[middle].day {
-            to = middle;
-        } else {
-            from = middle + 1;
-        }
-    }
-    from
+    place_of(needs, day)
 }
 
 // The number of days from settlement to a day.

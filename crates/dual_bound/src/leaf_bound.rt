@@ -2,7 +2,7 @@
 ghost use Rattle.std.specs.List.{AllZip};
 ghost use Rattle.std.specs.Prelude.{All, ◌≡◌, ◌*◌, ◌^◌, ◌<◌, ◌≤◌, ◌≤ℤ◌, ◌*ℤ◌, ◌-ℤ◌, ℕ, ℤ, pos, length, unsigned_abs};
 ghost use Rattle.escrow_units.specs.Calendar.{years_after_of};
-ghost use Rattle.escrow_units.specs.Flows.{total};
+ghost use Rattle.escrow_units.specs.Flows.{Rise, total};
 ghost use Rattle.escrow_units.specs.SlgsTerms.{IsSettlement};
 ghost use Rattle.fixed_powers.specs.DiscountPowers.{IsLowTable, PowerTable};
 ghost use Rattle.offer_book.specs.Book.{BookContents, IsBook, IsLine};
@@ -14,21 +14,21 @@ use crate::form::Form;
 use crate::prices::PRICE_SCALE;
 use crate::ranges::{Interval, Ranges};
 use crate::tree::Leaf;
+use crate::worth::price_at;
+use cash_table::place_of;
 use escrow_units::{AMOUNT_LIMIT, Cents, Day, Flow, index360};
 use fixed_powers::{ONE, Powers};
 use offer_book::{Book, COEFFICIENT_SCALE, Line, LineKind};
 
-/// The price of a day: that of the first need date on or after it, and 0 where there is none.
-pub(crate) fn price_on(needs: &[Flow], prices: &[u64], day: Day) -> u64
-    requires { length needs.now ≡ length prices.now }
-    ensures { result ≡ price_on_date needs.now prices.now day }
+/// The price of a day, by binary search: that of the first need date on or after it, and 0 where there is none. There are as
+/// many prices as need dates, which strictly rise.
+pub fn price_on(needs: &[Flow], prices: &[u64], day: Day) -> u64
+    requires rising { Rise needs.now }
+    requires same { length needs.now ≡ length prices.now }
+    ensures value { result ≡ price_on_date needs.now prices.now day }
+    ensures small { All (λ price. price ≤ 2 * PRICE_SCALE) prices.now → result ≤ 2 * PRICE_SCALE }
 {
-    for place in 0..needs.len() {
-        if day <= needs[place].day {
-            return prices[place];
-        }
-    }
-    0
+    price_at(prices, place_of(needs, day))
 }
 
 /// The weight of a cent of cost.

@@ -23,7 +23,7 @@ mod worth;
 pub use columns::Columns;
 pub use form::Form;
 pub use laws::{bound_laws, range_laws};
-pub use leaf_bound::{bound, priced_needs};
+pub use leaf_bound::{bound, price_on, priced_needs};
 pub use prices::{PRICE_SCALE, Prices};
 pub use ranges::{Interval, Ranges};
 pub use tree::{Leaf, TreeNode};

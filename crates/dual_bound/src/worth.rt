@@ -86,8 +86,8 @@ fn limit_part(weight: u64, power: u64) -> u64
     (u128::from(weight) * u128::from(power) / u128::from(ONE)) as u64
 }
 
-// The price at a place, and 0 past the last one.
-fn price_at(prices: &[u64], place: usize) -> u64
+/// The price at a place, and 0 past the last one.
+pub(crate) fn price_at(prices: &[u64], place: usize) -> u64
     ensures { result ≡ slice_index prices.now place }
 {
     match prices.get(place) {

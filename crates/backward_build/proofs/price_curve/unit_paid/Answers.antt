@@ -8,7 +8,7 @@ pub loop-pay-preserved : goal.loop-pay-preserved
 loop-pay-preserved c =
     let within = c.loop-pay-test.true in
     let at = c.pay-item.is in
-    let price = c.from.ensures ∙ c.price_on.ensures in
+    let price = c.from.ensures ∙ c.price_on.ensures.value in
     let high = pay_small c.args.pays.now c.loop-pay.pay-index c.pay-item.result within at c.requires.pays in
     let product = worth_small c.args.needs.now c.args.prices.now c.args.pays.now c.loop-pay.pay-index c.pay-item.result c.from.result within at c.requires.prices c.requires.pays price in
     let worth = worth_more c.args.needs.now c.args.prices.now c.args.pays.now c.loop-pay.pay-index c.pay-item.result c.from.result c.loop-pay.worth within at price c.loop-pay.invariant.0 in

@@ -1,19 +1,14 @@
-use Rattle.std.proofs.Common.{◌∙◌, sym, arith}
-use Rattle.dual_bound.proofs.PriceFacts.{due-from_test, late-from_test, price_on-here, price_on-later, price_on-past}
+use Rattle.std.proofs.Common.{◌≤◌, ◌*◌, ◌∙◌, sym, subst, arith}
+use Rattle.dual_bound.specs.declared.prices.TheConstants.{PRICE_SCALE}
+use Rattle.dual_bound.proofs.DayFacts.{found}
+use Rattle.dual_bound.proofs.Sizes.{price_on-small}
 use Rattle.dual_bound.proofs.leaf_bound.price_on.Goals as goal
 
-pub returns-then-le : goal.returns-then-le
-returns-then-le c =
-    sym (price_on-here c.args.needs.now c.args.prices.now c.args.day c.loop-place.place c.index-needs-place.result 0 c.requires c.loop-place-test.true
-    (due-from_test _ _ (sym c.le.ensures ∙ c.if-le.true)))
-    ∙ c.loop-place.invariant
+pub returns-clause-value : goal.returns-clause-value
+returns-clause-value c =
+    c.price_at.ensures
+    ∙ found c.args.needs.now c.args.prices.now c.args.day c.place_of.result (sym c.requires.same) c.place_of.ensures.bound (λ k d lt. c.place_of.ensures.before k d (omega arith) lt)
+    c.place_of.ensures.from
 
-pub loop-place-preserved : goal.loop-place-preserved
-loop-place-preserved c =
-    sym (price_on-later c.args.needs.now c.args.prices.now c.args.day c.loop-place.place c.index-needs-place.result c.requires c.loop-place-test.true
-    (late-from_test _ _ (sym c.le.ensures ∙ c.if-le.false)))
-    ∙ c.loop-place.invariant
-
-pub returns : goal.returns
-returns c =
-    sym (price_on-past c.args.needs.now c.args.prices.now c.args.day c.loop-place.place (omega arith)) ∙ c.loop-place.invariant
+pub returns-clause-small : goal.returns-clause-small
+returns-clause-small c = λ small. subst (λ n. n ≤ 2 * PRICE_SCALE) (sym (returns-clause-value c)) (price_on-small c.args.needs.now c.args.prices.now c.args.day small)

@@ -1,4 +1,4 @@
-use Rattle.std.proofs.Common.{◌∙◌, List, ap, subst, sym, inl, inr, arith}
+use Rattle.std.proofs.Common.{◌∙◌, List, subst, sym, inl, inr, arith}
 use Rattle.std.specs.List.{Contains}
 use Rattle.dual_bound.specs.Columns.{AreSmallSums, IsSummed}
 use Rattle.dual_bound.specs.declared.worth.Worth.{Worth}

@@ -4,7 +4,7 @@ use Rattle.std.proofs.lemmas.List.Elements.{All-same}
 use Rattle.escrow_units.specs.Calendar.{years_after_of}
 use Rattle.payment_schedule.specs.declared.schedule.ScheduledPayment.{ScheduledPayment}
 use Rattle.dual_bound.specs.Columns.{HasHead, paying}
-use Rattle.dual_bound.proofs.ColumnMade.{extends-on, keeps-on, made, made-small, one-more, schedule-within}
+use Rattle.dual_bound.proofs.ColumnMade.{extends-on, keeps-on, made, made-small, one-more, paying-within}
 use Rattle.dual_bound.proofs.column.Column.make.Goals as goal
 
 pub place-requires-clause-from : goal.place-requires-clause-from
@@ -12,7 +12,7 @@ place-requires-clause-from c =
     let is : c.as_slice-payment-items.result.now ≡ paying c.args.book.now.days c.args.line.now =
     c.as_slice-payment-items.ensures.value ∙ c.paying-payments.ensures.value ∙ ap (λ days. paying days c.args.line.now) c.payment_days-2.ensures in
     let within = All-same (λ (p : ScheduledPayment). (c.args.book.now.days.settle ≤ℤ p.day) × (p.day ≤ℤ years_after_of c.args.book.now.days.settle 40)) c.as_slice-payment-items.result.now (paying c.args.book.now.days c.args.line.now)
-    is (schedule-within c.args.book.now.days c.args.line.now c.requires.limits.settlement c.requires.line)
+    is (paying-within c.args.book.now.days c.args.line.now c.requires.limits.settlement c.requires.line)
     c.loop-payment.payment-index c.payment-item.result c.loop-payment-test.true in
     omega (arith, ints, ap (λ (p : ScheduledPayment). p.day) c.payment-item.is, within.0)
 
@@ -21,7 +21,7 @@ place-requires-clause-to c =
     let is : c.as_slice-payment-items.result.now ≡ paying c.args.book.now.days c.args.line.now =
     c.as_slice-payment-items.ensures.value ∙ c.paying-payments.ensures.value ∙ ap (λ days. paying days c.args.line.now) c.payment_days-2.ensures in
     let within = All-same (λ (p : ScheduledPayment). (c.args.book.now.days.settle ≤ℤ p.day) × (p.day ≤ℤ years_after_of c.args.book.now.days.settle 40)) c.as_slice-payment-items.result.now (paying c.args.book.now.days c.args.line.now)
-    is (schedule-within c.args.book.now.days c.args.line.now c.requires.limits.settlement c.requires.line)
+    is (paying-within c.args.book.now.days c.args.line.now c.requires.limits.settlement c.requires.line)
     c.loop-payment.payment-index c.payment-item.result c.loop-payment-test.true in
     omega (arith, ints, ap (λ (p : ScheduledPayment). p.day) c.payment-item.is, within.1)
 

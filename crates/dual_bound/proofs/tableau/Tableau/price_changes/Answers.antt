@@ -4,7 +4,6 @@ use Rattle.std.specs.List.{Contains}
 use Rattle.dual_bound.specs.Columns.{AreSmallSums, IsStopWithin, IsSummed, worth_at, worth_on}
 use Rattle.dual_bound.specs.declared.date_days.DateDays.{DateDays}
 use Rattle.dual_bound.specs.declared.series.Stop.{Stop}
-use Rattle.dual_bound.specs.declared.worth.PricedDay.{PricedDay}
 use Rattle.dual_bound.specs.declared.worth.Worth.{Worth}
 use Rattle.dual_bound.proofs.DateFacts.{priced-or-listed}
 use Rattle.dual_bound.proofs.SumFacts.{summed-or-listed, sums-small, written}
