@@ -3,6 +3,7 @@
 #![tactic(auto)]
 
 mod backward;
+mod bisection;
 mod laws;
 mod offers;
 mod order;
@@ -17,6 +18,7 @@ mod trimming;
 mod trimming_tests;
 
 pub use backward::{BuildEnd, build};
+pub use bisection::least_passing;
 pub use laws::{offer_laws, plan_laws, price_laws};
 pub use offers::own_offer;
 pub use price_curve::bootstrap;

@@ -7,6 +7,7 @@ ghost use Rattle.offer_book.specs.Portfolio.{IsPermittedUnits};
 ghost use Rattle.backward_build.specs.Residual.{covers as covers_residual, fewest_of};
 ghost use Rattle.backward_build.specs.Span.{paid_in as paid_in_span};
 
+use crate::bisection::least_passing;
 use crate::span::Span;
 use escrow_units::{Cents, Flow};
 use offer_book::{Line, PaymentDays};
@@ -55,17 +56,11 @@ fn fewest_by_halves(line: &Line, days: &PaymentDays, residual: &Residual) -> u64
     ensures enough { covers_residual days.now residual.now line.now result ≡ true }
     ensures fewest { (units : ℕ) → line.now.least ≤ units → units < result → covers_residual days.now residual.now line.now units ≡ false }
 {
-    let mut low = line.least;
-    let mut high = line.most;
-    while low < high {
-        let middle = low + (high - low) / 2;
-        if covers(line, days, residual, middle) {
-            high = middle;
-        } else {
-            low = middle + 1;
-        }
-    }
-    low
+    least_passing(
+        line.least,
+        line.most,
+        |units| covers(line, days, residual, units),
+    )
 }
 
 /// The fewest permitted units of a line that cover a residual: 0 where nothing is left; None exactly where even the most

@@ -1,6 +1,6 @@
 //! Plans taken down to a local minimum.
 
-ghost use Rattle.std.specs.Prelude.{ℕ, ◌<◌, ◌≤◌, IfOk, IfSome, length, slice_index_or};
+ghost use Rattle.std.specs.Prelude.{ℕ, ◌<◌, ◌≤◌, ◌↔◌, IsTrue, IfOk, IfSome, length, slice_index_or};
 ghost use Rattle.std.specs.List.{All};
 ghost use Rattle.offer_book.specs.Portfolio.{IsPermitted, IsPermittedUnits, Meets, cost, line_payments, payments};
 ghost use Rattle.offer_book.specs.declared.line.Line.{Line};
@@ -8,6 +8,7 @@ ghost use Rattle.backward_build.specs.Order.{ArePrices};
 ghost use Rattle.backward_build.specs.Spare.{AreSpare, Cover};
 ghost use Rattle.backward_build.specs.Trim.{HasNoMore, IsFewest, IsTrimmed};
 
+use crate::bisection::least_passing;
 use crate::order::{Candidate, order};
 use crate::price_curve::bootstrap;
 use crate::spare::{pay_less, put_paid, spare_of, suffices, take_spare};
@@ -32,17 +33,13 @@ fn fewest_bought(book: &Book, line: u16, units: u64, due: &[u64]) -> u64
     ensures fewest { (fewer : ℕ) (d : Line) → fewer < result → (slice_index_or book.now.lines line d).least ≤ fewer
         → ¬ Cover book.now.needs due.now (line_payments book.now.days (slice_index_or book.now.lines line d) fewer) }
 {
-    let mut low = book.line(line).least;
-    let mut high = units;
-    while low < high {
-        let middle = low + (high - low) / 2;
-        if suffices(book, line, middle, due) {
-            high = middle;
-        } else {
-            low = middle + 1;
-        }
-    }
-    high
+    let passes = |fewer: u64| -> bool
+        requires line { line < length book.now.lines }
+        requires most { (d : Line) → fewer ≤ (slice_index_or book.now.lines line d).most }
+        requires places { length book.now.needs ≤ length due.now }
+        ensures { (d : Line) → IsTrue result ↔ Cover book.entry.now.needs due.entry.now (line_payments book.entry.now.days (slice_index_or book.entry.now.lines line d) fewer) }
+    { suffices(book, line, fewer, due) };
+    least_passing(book.line(line).least, units, passes)
 }
 
 // The fewest permitted units of a line that pay what is due by each need date, where so many do.

@@ -1,29 +1,30 @@
-use Rattle.std.proofs.Common.{◌+◌, ◌-◌, ◌/◌, get_or, arith}
+use Rattle.std.proofs.Common.{◌∙◌, ◌-◌, get_or, inl, inr, ap, refl, sym, subst, arith}
+use Rattle.std.proofs.lemmas.List.{get_or_default}
+use Rattle.offer_book.specs.Portfolio.{line_payments}
+use Rattle.offer_book.specs.declared.line.Line.{Line}
+use Rattle.backward_build.specs.Spare.{Cover}
 use Rattle.backward_build.proofs.TrimFacts.{cover_more}
 use Rattle.backward_build.proofs.trimming.fewest_bought.Goals as goal
 
-pub loop-low-preserved-then-suffices : goal.loop-low-preserved-then-suffices
-loop-low-preserved-then-suffices c = record {
-  least = c.loop-low.invariant.least;
-  ordered = omega arith;
-  most = omega (arith, c.loop-low.invariant.most, c.loop-low.invariant.ordered);
-  enough = λ d. (c.suffices.ensures d).0 c.if-suffices.true;
-  fewest = c.loop-low.invariant.fewest;
-}
-
-pub loop-low-preserved : goal.loop-low-preserved
-loop-low-preserved c = record {
-  least = λ d. omega (arith, c.loop-low.invariant.least d);
-  ordered = omega (arith, c.loop-low-test.true);
-  most = c.loop-low.invariant.most;
-  enough = c.loop-low.invariant.enough;
-  fewest = λ fewer d below above cover.
-      let middle = c.loop-low.low + (c.loop-low.high - c.loop-low.low) / 2 in
-      let more = cover_more c.args.book.now.days c.args.book.now.needs (get_or c.args.book.now.lines c.args.line d) c.args.due.now fewer middle (omega (arith, below)) cover in
-      let yes = (c.suffices.ensures d).1 more in
-      let no = c.if-suffices.false in
-      cc;
-}
+pub returns-clause-enough : goal.returns-clause-enough
+returns-clause-enough c =
+    λ d.
+    let line = get_or c.args.book.now.lines c.args.line d in
+    elim c.least_passing.ensures.passes [
+      | inl last ↦ subst (λ units. Cover c.args.book.now.needs c.args.due.now (line_payments c.args.book.now.days line units)) (sym last) (c.requires.enough d)
+      | inr passes ↦
+          (passes d).0 refl
+    ]
 
 pub returns-clause-fewest : goal.returns-clause-fewest
-returns-clause-fewest c = λ fewer d below above. c.loop-low.invariant.fewest fewer d (omega (arith, below, c.loop-low-test.false)) above
+returns-clause-fewest c =
+    λ fewer d below above cover.
+    let line = get_or c.args.book.now.lines c.args.line d in
+    elim c.least_passing.ensures.least [
+      | inl first ↦
+          omega (arith, first, below, above, ap (λ (l : Line). l.least) (c.line.ensures ∙ get_or_default c.args.book.now.lines c.args.line c.line.result.now d c.requires.line))
+      | inr fails ↦
+          let more = cover_more c.args.book.now.days c.args.book.now.needs line c.args.due.now fewer (c.least_passing.result - 1) (omega (arith, below)) cover in
+          let no = (fails d).1 more in
+          cc
+    ]
