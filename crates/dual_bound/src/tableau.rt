@@ -91,14 +91,14 @@ fn exchanged(sum: i128, old: i128, new: i128) -> i128
     sum - old + new
 }
 
-// Whether at most a quarter of the prices differ. It shows which way of pricing is faster, and nothing rests on it.
+// Whether at most an eighth of the prices differ. It shows which way of pricing is faster, and nothing rests on it.
 fn are_near(old: &[u64], new: &[u64]) -> bool {
     let changes = old
         .iter()
         .zip(new)
         .filter(|pair| *pair.0 != *pair.1)
         .count();
-    changes <= old.len() / 4
+    changes <= old.len() / 8
 }
 
 impl Tableau {
