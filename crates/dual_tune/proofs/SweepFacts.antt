@@ -20,8 +20,9 @@ use Rattle.dual_bound.proofs.BoundSizes.{bound-more}
 use Rattle.dual_bound.proofs.TableauFacts.{some-line}
 use Rattle.dual_bound.specs.Tree.{IsLeaf, with_price}
 use Rattle.dual_tune.specs.Payers.{ArePayers}
-use Rattle.dual_tune.specs.Steps.{price_after, price_before, price_beside, with_weight}
-use Rattle.dual_tune.specs.Sweep.{AreReached, lines_worth, stepped}
+use Rattle.dual_tune.specs.Steps.{IsBetter, IsImproved, price_after, price_before, price_beside, with_weight}
+use Rattle.dual_tune.specs.Sweep.{AreReached, bound_at, lines_worth, stepped}
+use Rattle.dual_tune.specs.declared.given.Given.{Given}
 use Rattle.dual_tune.specs.declared.steps.Side.{Side}
 use Rattle.dual_tune.specs.declared.steps.Side.TheVariants as side
 use Rattle.dual_tune.specs.declared.sweep.Step.{Step}
@@ -67,16 +68,17 @@ change-more f g change own lines ranges place line interval few same line_is int
     joined change own a b x y more_a more_b h k p q = omega (arith, ints)
 
 -- a bound after a price step is the bound before, with what the needs and the lines add more
-pub bound-changed : (n : ℕ) (book : BookContents) (ranges : List Interval) (leaf : Leaf) (place price : ℕ) (d : Flow) (needs lines : ℤ)
-    → length leaf.prices ≡ length book.needs → place < length book.needs
-    → needs ≡ pos (COEFFICIENT_SCALE * ((get_or book.needs place d).cents.0 * price)) -ℤ pos (COEFFICIENT_SCALE * ((get_or book.needs place d).cents.0 * get_or leaf.prices place 0))
-    → lines ≡ lines_worth n book ranges (with_price leaf place price) -ℤ lines_worth n book ranges leaf
-    → (bound_of n book ranges leaf +ℤ needs) +ℤ lines ≡ bound_of n book ranges (with_price leaf place price)
+pub bound-changed : (given : Given) (place price : ℕ) (d : Flow) (needs lines : ℤ) → place < length given.book.now.needs
+    → needs ≡ pos (COEFFICIENT_SCALE * ((get_or given.book.now.needs place d).cents.0 * price)) -ℤ pos (COEFFICIENT_SCALE * ((get_or given.book.now.needs place d).cents.0 * get_or given.leaf.now.prices place 0))
+    → lines ≡ lines_worth given (with_price given.leaf.now place price) -ℤ lines_worth given given.leaf.now
+    → (bound_at given given.leaf.now +ℤ needs) +ℤ lines ≡ bound_at given (with_price given.leaf.now place price)
 unfolding bound_of
-bound-changed n book ranges leaf place price d needs lines same few needs_is lines_is =
-    joined needs lines (lines_worth n book ranges (with_price leaf place price)) (lines_worth n book ranges leaf) (priced_needs book.needs leaf.prices)
-    (priced_needs book.needs (set leaf.prices place price)) ((get_or book.needs place d).cents.0 * price) ((get_or book.needs place d).cents.0 * get_or leaf.prices place 0)
-    needs_is lines_is (priced-set book.needs leaf.prices place price d same few)
+bound-changed given place price d needs lines few needs_is lines_is =
+    let all = given.book.now.needs in
+    let prices = given.leaf.now.prices in
+    joined needs lines (lines_worth given (with_price given.leaf.now place price)) (lines_worth given given.leaf.now) (priced_needs all prices)
+    (priced_needs all (set prices place price)) ((get_or all place d).cents.0 * price) ((get_or all place d).cents.0 * get_or prices place 0)
+    needs_is lines_is (priced-set all prices place price d given.well_formed.every_date few)
   where
     joined : (needs lines more less : ℤ) (whole now a b : ℕ) → needs ≡ pos (COEFFICIENT_SCALE * a) -ℤ pos (COEFFICIENT_SCALE * b) → lines ≡ more -ℤ less → now + b ≡ whole + a
         → ((pos (COEFFICIENT_SCALE * whole) +ℤ less) +ℤ needs) +ℤ lines ≡ pos (COEFFICIENT_SCALE * now) +ℤ more
@@ -258,11 +260,20 @@ pub leaf-weighed : (dates : ℕ) (leaf : Leaf) (mu : ℕ) → IsLeaf dates leaf 
 leaf-weighed dates leaf mu well small = record { limit = small; every_date = well.every_date; range = well.range; falling = well.falling }
 
 -- what is reached stays reached by more
-pub reached-more : (n : ℕ) (book : BookContents) (ranges : List Interval) (leaf : Leaf) (least most : ℤ) (place : ℕ) → least ≤ℤ most
-    → AreReached n book ranges leaf least place → AreReached n book ranges leaf most place
-reached-more n book ranges leaf least most place le reached = record {
+pub reached-more : (given : Given) (least most : ℤ) (place : ℕ) → least ≤ℤ most → AreReached given least place → AreReached given most place
+reached-more given least most place le reached = record {
   before = omega (arith, ints, le, reached.before);
   after = omega (arith, ints, le, reached.after);
+}
+
+-- a better leaf is improved too
+pub improved-more : (given : Given) {other improved better : Leaf} → IsImproved given.yield_units.0 given.book.now given.ranges.now given.leaf.now improved
+    → IsBetter given.yield_units.0 given.book.now given.ranges.now other improved better → IsImproved given.yield_units.0 given.book.now given.ranges.now given.leaf.now better
+improved-more given improved better = record {
+  well_formed = better.well_formed;
+  whole = better.whole ∙ improved.whole;
+  given = omega (arith, ints, improved.given, better.no_less);
+  steps = λ step is. omega (arith, ints, improved.steps step is, better.no_less);
 }
 
 pub same-items : (xs ys : List ℕ) → length xs ≡ length ys → ((k : ℕ) → k < length xs → get_or xs k 0 ≡ get_or ys k 0) → xs ≡ ys

@@ -18,12 +18,14 @@ use Rattle.dual_bound.specs.declared.form.Form.{Form}
 use Rattle.dual_bound.specs.declared.prices.TheConstants.{PRICE_SCALE}
 use Rattle.dual_bound.specs.declared.ranges.Interval.{Interval}
 use Rattle.dual_bound.specs.declared.tree.Leaf.{Leaf}
-use Rattle.dual_bound.specs.Tree.{IsLeaf}
-use Rattle.dual_bound.proofs.BoundSizes.{form-slack, form-times, least-one, priced-small}
+use Rattle.dual_bound.specs.Tree.{IsLeaf, with_price}
+use Rattle.dual_bound.proofs.BoundSizes.{form-slack, form-times, least-one, priced-small, room-length}
 use Rattle.dual_bound.proofs.Soundness.{all-lines}
 use Rattle.dual_bound.proofs.TableauFacts.{some-line}
-use Rattle.dual_tune.specs.Sweep.{IsFormAt, IsPoint, IsPricedFor}
+use Rattle.dual_tune.specs.Sweep.{IsFormAt, IsPoint, IsPricedFor, IsStepOf}
 use Rattle.dual_tune.specs.Table.{AreLineForms}
+use Rattle.dual_tune.specs.declared.given.Given.{Given}
+use Rattle.dual_tune.specs.declared.sweep.PriceStep.{PriceStep}
 use Rattle.dual_tune.specs.declared.steps.Side.{Side}
 use Rattle.dual_tune.specs.declared.steps.Side.TheVariants as side
 use Rattle.dual_tune.specs.declared.steps.Weight.{Weight}
@@ -52,22 +54,24 @@ least-none n book leaf line interval ordered none =
     sym (reduced_cost-none n book leaf line interval.low (omega (arith, ordered, none))) ∙ least-one n book leaf line interval (omega (arith, ordered, none))
 
 -- the form of a line at a leaf is small
-pub form-light : (n : ℕ) (book : BookContents) (priced leaf : Leaf) (line : ℕ) (interval : Interval) (form : Form) (units : ℕ) → IsBook book
-    → IsFormAt n book priced line interval leaf form → line < length book.lines → units ≤ (get_or book.lines line some-line).most → unsigned_abs form.slope * units ≤ 7 * 10 ^ 34
-form-light n book priced leaf line interval form units limits is few most =
+pub form-light : (given : Given) (priced leaf : Leaf) (line : ℕ) (form : Form) (units : ℕ) → IsBook given.book.now
+    → IsFormAt given priced line leaf form → line < length given.book.now.lines → units ≤ (get_or given.book.now.lines line some-line).most → unsigned_abs form.slope * units ≤ 7 * 10 ^ 34
+form-light given priced leaf line form units limits is few most =
+    let book = given.book.now in
     omega (
       arith,
       ap (λ (f : Form). unsigned_abs f.slope * units) (is.value some-line),
-      form-times n book leaf (get_or book.lines line some-line) units limits.settlement is.well_formed (all-lines book.days book.lines limits.lines line some-line few) most,
+      form-times given.yield_units.0 book leaf (get_or book.lines line some-line) units limits.settlement is.well_formed (all-lines book.days book.lines limits.lines line some-line few) most,
     )
 
-pub form-thin : (n : ℕ) (book : BookContents) (priced leaf : Leaf) (line : ℕ) (interval : Interval) (form : Form) → IsBook book
-    → IsFormAt n book priced line interval leaf form → line < length book.lines → form.slack ≤ 10 ^ 24
-form-thin n book priced leaf line interval form limits is few =
+pub form-thin : (given : Given) (priced leaf : Leaf) (line : ℕ) (form : Form) → IsBook given.book.now → IsFormAt given priced line leaf form → line < length given.book.now.lines
+    → form.slack ≤ 10 ^ 24
+form-thin given priced leaf line form limits is few =
+    let book = given.book.now in
     omega (
       arith,
       ap (λ (f : Form). f.slack) (is.value some-line),
-      form-slack n book leaf (get_or book.lines line some-line) limits.settlement is.well_formed (all-lines book.days book.lines limits.lines line some-line few),
+      form-slack given.yield_units.0 book leaf (get_or book.lines line some-line) limits.settlement is.well_formed (all-lines book.days book.lines limits.lines line some-line few),
     )
 
 -- where ranges hold no point, any leaf will do
@@ -105,14 +109,23 @@ push-more P xs v all own k d lt =
           subst (λ j. P j (get_or (xs ++ v ∷ []) j d)) at (subst (P (length xs)) (sym (get_or-append_seam xs v [] d)) own)
     ]
 
--- the form of a line, and its interval, out of those of all
-pub form-at : (n : ℕ) (book : BookContents) (ranges : List Interval) (priced leaf : Leaf) (forms : List Form) (line : ℕ) (form : Form) (interval : Interval) → IsLeaf (length book.needs) leaf
-    → AreLineForms n book leaf forms → IsPricedFor ranges priced leaf → line < length book.lines → length book.lines ≡ length ranges
-    → form ≡ get_or forms line form → interval ≡ get_or ranges line interval → IsFormAt n book priced line interval leaf form
-form-at n book ranges priced leaf forms line form interval well are priced_is few same form_is interval_is = record {
+-- the form of a line out of those of all
+pub form-at : (given : Given) (priced leaf : Leaf) (forms : List Form) (line : ℕ) (form : Form) → IsLeaf (length given.book.now.needs) leaf
+    → AreLineForms given.yield_units.0 given.book.now leaf forms → IsPricedFor given.ranges.now priced leaf → line < length given.book.now.lines
+    → form ≡ get_or forms line form → IsFormAt given priced line leaf form
+form-at given priced leaf forms line form well are priced_is few form_is = record {
   well_formed = well;
   value = λ d. form_is ∙ are line d form few;
-  point = λ point. priced_is line interval (omega (arith, few, same)) (subst IsPoint interval_is point);
+  point = λ e. priced_is line e (omega (arith, few, room-length given.book.now.lines given.ranges.now given.room));
+}
+
+-- the form of a line that pays for a date, at a price step there
+pub step-form : (given : Given) (priced : Leaf) (step : PriceStep) (payer : ℕ) (e : Form) → IsStepOf given step → IsPricedFor given.ranges.now priced (with_price given.leaf.now step.place step.price)
+    → payer < length step.lines.now → IsFormAt given priced (get_or step.lines.now payer 0) (with_price given.leaf.now step.place step.price) (get_or step.forms.now payer e)
+step-form given priced step payer e is priced_is few = record {
+  well_formed = is.leaf;
+  value = λ d. is.forms payer d e few;
+  point = λ interval. priced_is (get_or step.lines.now payer 0) interval (omega (arith, is.payers.there payer 0 few, room-length given.book.now.lines given.ranges.now given.room));
 }
 
 -- what the needs are worth is small

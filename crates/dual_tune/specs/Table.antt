@@ -8,6 +8,7 @@ use Rattle.dual_bound.specs.LeafBound.{form_of, priced_needs}
 use Rattle.dual_bound.specs.Tree.{IsLeaf, with_price}
 use Rattle.dual_bound.specs.declared.form.Form.{Form}
 use Rattle.dual_bound.specs.declared.tree.Leaf.{Leaf}
+use Rattle.dual_tune.specs.Payers.{ArePayersByDate}
 use Rattle.dual_tune.specs.Steps.{mu_of_weight, price_beside, with_weight}
 use Rattle.dual_tune.specs.declared.payers.Payers.{Payers}
 use Rattle.dual_tune.specs.declared.steps.Side.{Side}
@@ -15,6 +16,7 @@ use Rattle.dual_tune.specs.declared.steps.Side.TheVariants as side
 use Rattle.dual_tune.specs.declared.steps.Weight.{Weight}
 use Rattle.dual_tune.specs.declared.steps.Weight.TheVariants as weight
 use Rattle.dual_tune.specs.declared.table.DateForms.{DateForms}
+use Rattle.dual_tune.specs.declared.table.LineForms.{LineForms}
 use Rattle.dual_tune.specs.declared.table.Table.{Table}
 
 -- the form of each line at a leaf
@@ -33,10 +35,21 @@ forms_beside date side.Before = date.before.items
 forms_beside date side.After = date.after.items
 
 -- the forms of lines with a weight of the limit that is tried
-abbrev pub weight_forms : Table → Weight → List Form
-weight_forms table weight.Nothing = table.free.items
-weight_forms table weight.Half = table.half.items
-weight_forms table weight.Whole = table.whole.items
+abbrev pub weight_forms : LineForms → Weight → List Form
+weight_forms forms weight.Nothing = forms.free.items
+weight_forms forms weight.Half = forms.half.items
+weight_forms forms weight.Whole = forms.whole.items
+
+-- there is a place for so many lines' forms, at the leaf and with each weight
+pub record HasWeightRoom (lines : ℕ) (forms : LineForms) : Type 0 where
+  pub given : length forms.given.items ≡ lines
+  pub weights : (weight : Weight) → length (weight_forms forms weight) ≡ lines
+
+-- forms are those of each line at a leaf, and with each weight that is tried
+pub record AreWeightForms (n : ℕ) (book : BookContents) (leaf : Leaf) (forms : LineForms) : Type 0 where
+  pub room : HasWeightRoom (length book.lines) forms
+  pub given : AreLineForms n book leaf forms.given.items
+  pub weights : (weight : Weight) → AreLineForms n book (with_weight leaf (mu_of_weight weight)) (weight_forms forms weight)
 
 -- there is a place for as many forms on each side of a date as it has payers
 abbrev pub HasRoomForLines : List ℕ → DateForms → Type 0
@@ -57,20 +70,20 @@ AreStepForms n book leaf payers dates =
     (place : ℕ) (d : DateForms) (e : Payers) → place < length book.needs
     → AreDateForms n book leaf place (slice_index_or payers place e).lines.items (slice_index_or dates place d)
 
--- a table has room for a leaf of a book, and for the forms of lines at it and at its steps
-pub record HasTableRoom (book : BookContents) (payers : List Payers) (table : Table) : Type 0 where
+-- a table of a book knows who pays, and has room for a leaf and for the forms of lines at it and at its steps
+pub record HasTableRoom (book : BookContents) (table : Table) : Type 0 where
+  pub own : table.book.now ≡ book
+  pub payers : ArePayersByDate book (length book.lines) table.payers.items
   pub prices : length table.leaf.prices ≡ length book.needs
-  pub given : length table.given.items ≡ length book.lines
-  pub weights : (weight : Weight) → length (weight_forms table weight) ≡ length book.lines
+  pub lines : HasWeightRoom (length book.lines) table.lines
   pub dates : length table.dates.items ≡ length book.needs
-  pub steps : HasRoomForPayers payers table.dates.items
+  pub steps : HasRoomForPayers table.payers.items table.dates.items
 
 -- a table is that of its leaf, at the yield n: it has the form of each line at the leaf and with each weight that is tried, and the
 -- forms of those that pay for a need date at the price steps there
-pub record IsTable (n : ℕ) (book : BookContents) (payers : List Payers) (table : Table) : Type 0 where
-  pub room : HasTableRoom book payers table
+pub record IsTable (n : ℕ) (book : BookContents) (table : Table) : Type 0 where
+  pub room : HasTableRoom book table
   pub leaf : IsLeaf (length book.needs) table.leaf
   pub needs : table.needs ≡ pos (COEFFICIENT_SCALE * priced_needs book.needs table.leaf.prices)
-  pub given : AreLineForms n book table.leaf table.given.items
-  pub weights : (weight : Weight) → AreLineForms n book (with_weight table.leaf (mu_of_weight weight)) (weight_forms table weight)
-  pub steps : AreStepForms n book table.leaf payers table.dates.items
+  pub lines : AreWeightForms n book table.leaf table.lines
+  pub steps : AreStepForms n book table.leaf table.payers.items table.dates.items

@@ -1,6 +1,7 @@
 //! Better prices for a leaf: the best of the linear program's prices, the given leaf and each of its steps.
 #![tactic(auto)]
 
+mod given;
 mod parts;
 mod payers;
 mod steps;

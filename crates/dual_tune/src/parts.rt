@@ -1,14 +1,12 @@
 //! The parts of a tuner: the steps, the linear program, and what it proposes.
-ghost use Rattle.std.specs.Prelude.{All, ◌≡◌, ◌*◌, ◌^◌, ◌<◌, ◌≤◌, length, unsigned_abs, IfOk, IfSome};
-ghost use Rattle.std.specs.List.{AllZip};
+ghost use Rattle.std.specs.Prelude.{◌≡◌, length, IfOk, IfSome};
 ghost use Rattle.fixed_powers.specs.DiscountPowers.{IsLowTable};
-ghost use Rattle.dual_bound.specs.LeafBound.{bound_of};
-ghost use Rattle.dual_bound.specs.Ranges.{HasRoomFor};
 ghost use Rattle.dual_bound.specs.Tree.{IsLeaf};
 ghost use Rattle.dual_tune.specs.Steps.{HasNoGreater, IsBetter, IsImproved, zeros_like};
-ghost use Rattle.dual_tune.specs.Sweep.{IsPlaced, stepped};
-ghost use Rattle.dual_tune.specs.Tuner.{AreParts};
+ghost use Rattle.dual_tune.specs.Sweep.{AreColumnsOf, IsPlaced, bound_at, stepped};
+ghost use Rattle.dual_tune.specs.Tuner.{AreParts, ArePartsFor};
 
+use crate::given::Given;
 use crate::sweep::{Step, Sweep, copy_leaf};
 use dual_bound::{Columns, Leaf, Ranges};
 use escrow_desk::NoMemory;
@@ -76,33 +74,50 @@ fn set_ranges(simplex: &mut Simplex, lines: u16, ranges: &Ranges)
     }
 }
 
-// The better of two leaves over ranges that weigh the cost alike: the other where its bound is greater than the given one.
+/// Solves a program over ranges, an interval for each of so many lines, from a basis where there is one.
+pub(crate) fn solve(
+    simplex: &mut Simplex,
+    lines: u16,
+    ranges: &Ranges,
+    whole: bool,
+    basis: Option<&Basis>,
+)
+    requires { lines ≡ length ranges.now }
+    ensures { simplex.new ≡ simplex.old }
+{
+    simplex.aim(Purpose::Bound, whole);
+    set_ranges(simplex, lines, ranges);
+    match basis {
+        Some(basis) => solve_from(simplex, basis),
+        None => solve_anew(simplex),
+    }
+}
+
+// The better of two leaves over the given ranges that weigh the cost alike: the other where its bound is greater than that of the one,
+// which is known.
 fn better_of(
     columns: &mut Columns,
-    book: &Book,
-    ranges: &Ranges,
+    given: &Given,
     bound: i128,
     other: &Leaf,
     into: &mut Leaf,
 ) -> i128
-    requires own { columns.old.book ≡ book.now }
-    requires ranges { AllZip HasRoomFor book.now.lines ranges.now }
-    requires other { IsLeaf (length book.now.needs) other.now }
-    requires into { IsLeaf (length book.now.needs) into.old }
-    requires bound { bound ≡ bound_of columns.old.yield_units book.now ranges.now into.old }
-    ensures own { columns.new.book ≡ book.now }
-    ensures yield_units { columns.new.yield_units ≡ columns.old.yield_units }
-    ensures better { IsBetter columns.old.yield_units book.now ranges.now other.now into.old into.new }
-    ensures bound { result ≡ bound_of columns.old.yield_units book.now ranges.now into.new }
+    requires own { AreColumnsOf given.now columns.old }
+    requires other { IsLeaf (length given.now.book.now.needs) other.now }
+    requires into { IsLeaf (length given.now.book.now.needs) into.old }
+    requires bound { bound ≡ bound_at given.now into.old }
+    ensures own { AreColumnsOf given.now columns.new }
+    ensures better { IsBetter given.now.yield_units.0 given.now.book.now given.now.ranges.now other.now into.old into.new }
+    ensures bound { result ≡ bound_at given.now into.new }
 {
     if other.whole != into.whole {
         return bound;
     }
-    let reached = columns.bound(ranges, other);
+    let reached = columns.bound(given.ranges, other);
     if reached <= bound {
         return bound;
     }
-    copy_leaf(book.need_count(), other, into);
+    copy_leaf(given.book.need_count(), other, into);
     reached
 }
 
@@ -113,9 +128,8 @@ impl<'a> Parts<'a> {
         book: &'a Book,
         powers: &Powers,
     ) -> Result<Parts<'a>, NoMemory>
-        requires powers { IsLowTable powers.now }
-        ensures parts { IfOk result (AreParts book.now) }
-        ensures yield_units { IfOk result (λ parts. parts.sweep.columns.yield_units ≡ powers.now.yield_units) }
+        requires { IsLowTable powers.now }
+        ensures { IfOk result (AreParts powers.now.yield_units book.now) }
     {
         Ok(Parts {
             sweep: Sweep::make(alloc, book, powers)?,
@@ -125,125 +139,75 @@ impl<'a> Parts<'a> {
         })
     }
 
-    /// Solves the linear program over ranges, from a basis where there is one.
-    pub(crate) fn solve(&mut self, book: &Book, ranges: &Ranges, whole: bool, basis: Option<&Basis>)
-        requires parts { AreParts book.now self.old }
-        requires ranges { AllZip HasRoomFor book.now.lines ranges.now }
-        ensures parts { AreParts book.now self.new }
-        ensures sweep { self.new.sweep ≡ self.old.sweep }
+    // Puts into the proposal what the linear program proposes, and gives its bound.
+    fn propose(&mut self, given: &Given, basis: Option<&Basis>) -> i128
+        requires { ArePartsFor given.now self.old }
+        ensures parts { ArePartsFor given.now self.new }
+        ensures whole { self.new.proposal.whole ≡ given.now.leaf.now.whole }
+        ensures bound { result ≡ bound_at given.now self.new.proposal }
     {
-        self.simplex.aim(Purpose::Bound, whole);
-        set_ranges(&mut self.simplex, book.line_count(), ranges);
-        match basis {
-            Some(basis) => solve_from(&mut self.simplex, basis),
-            None => solve_anew(&mut self.simplex),
-        }
-    }
-
-    // Puts into the proposal what the linear program proposes.
-    fn propose(&mut self, book: &Book, ranges: &Ranges, whole: bool, basis: Option<&Basis>)
-        requires parts { AreParts book.now self.old }
-        requires ranges { AllZip HasRoomFor book.now.lines ranges.now }
-        ensures parts { AreParts book.now self.new }
-        ensures sweep { self.new.sweep ≡ self.old.sweep }
-        ensures whole { self.new.proposal.whole ≡ whole }
-    {
-        self.solve(book, ranges, whole, basis);
+        let whole = given.leaf.whole;
+        let lines = given.book.line_count();
+        solve(&mut self.simplex, lines, given.ranges, whole, basis);
         self.proposal.whole = whole;
         self.simplex.propose(&mut self.proposal);
-    }
-
-    // The bound of what is proposed.
-    fn proposed(&mut self, book: &Book, ranges: &Ranges) -> i128
-        requires parts { AreParts book.now self.old }
-        requires ranges { AllZip HasRoomFor book.now.lines ranges.now }
-        ensures parts { AreParts book.now self.new }
-        ensures proposal { self.new.proposal ≡ self.old.proposal }
-        ensures yield_units { self.new.sweep.columns.yield_units ≡ self.old.sweep.columns.yield_units }
-        ensures bound { result ≡ bound_of self.old.sweep.columns.yield_units book.now ranges.now self.old.proposal }
-    {
-        self.sweep.columns.bound(ranges, &self.proposal)
+        self.sweep.columns.bound(given.ranges, &self.proposal)
     }
 
     // Puts the better leaf of the given one, its steps, and what the linear program proposes into another, with its bound.
-    fn improve(
-        &mut self,
-        book: &Book,
-        ranges: &Ranges,
-        leaf: &Leaf,
-        basis: Option<&Basis>,
-        into: &mut Leaf,
-    ) -> i128
-        requires parts { AreParts book.now self.old }
-        requires ranges { AllZip HasRoomFor book.now.lines ranges.now }
-        requires leaf { IsLeaf (length book.now.needs) leaf.now }
-        requires into { length into.old.prices ≡ length book.now.needs }
-        ensures parts { AreParts book.now self.new }
-        ensures yield_units { self.new.sweep.columns.yield_units ≡ self.old.sweep.columns.yield_units }
-        ensures improved { IsImproved self.old.sweep.columns.yield_units book.now ranges.now leaf.now into.new }
-        ensures bound { result ≡ bound_of self.old.sweep.columns.yield_units book.now ranges.now into.new }
+    fn improve(&mut self, given: &Given, basis: Option<&Basis>, into: &mut Leaf) -> i128
+        requires parts { ArePartsFor given.now self.old }
+        requires into { length into.old.prices ≡ length given.now.book.now.needs }
+        ensures parts { ArePartsFor given.now self.new }
+        ensures improved { IsImproved given.now.yield_units.0 given.now.book.now given.now.ranges.now given.now.leaf.now into.new }
+        ensures bound { result ≡ bound_at given.now into.new }
     {
-        let dates = book.need_count();
-        let best = self.sweep.best_step(book, ranges, leaf);
-        self.propose(book, ranges, leaf.whole, basis);
-        let proposed = self.proposed(book, ranges);
+        let dates = given.book.need_count();
+        let best = self.sweep.best_step(given);
+        let proposed = self.propose(given, basis);
         if proposed > best.bound {
             copy_leaf(dates, &self.proposal, into);
             return proposed;
         }
-        copy_leaf(dates, leaf, into);
+        copy_leaf(dates, given.leaf, into);
         take_step(best.step, into);
         best.bound
     }
 
-    // The better of the leaf of prices of 0 and another, whose bound is given.
-    fn or_zeros(&mut self, book: &Book, ranges: &Ranges, bound: i128, into: &mut Leaf) -> i128
-        requires parts { AreParts book.now self.old }
-        requires ranges { AllZip HasRoomFor book.now.lines ranges.now }
-        requires into { IsLeaf (length book.now.needs) into.old }
-        requires bound { bound ≡ bound_of self.old.sweep.columns.yield_units book.now ranges.now into.old }
-        ensures parts { AreParts book.now self.new }
-        ensures yield_units { self.new.sweep.columns.yield_units ≡ self.old.sweep.columns.yield_units }
-        ensures better { IsBetter self.old.sweep.columns.yield_units book.now ranges.now (zeros_like book.now into.old) into.old into.new }
-        ensures bound { result ≡ bound_of self.old.sweep.columns.yield_units book.now ranges.now into.new }
+    // The better of the leaf of prices of 0 and another, whose bound is known.
+    fn or_zeros(&mut self, given: &Given, bound: i128, into: &mut Leaf) -> i128
+        requires parts { ArePartsFor given.now self.old }
+        requires into { IsLeaf (length given.now.book.now.needs) into.old }
+        requires bound { bound ≡ bound_at given.now into.old }
+        ensures parts { ArePartsFor given.now self.new }
+        ensures better { IsBetter given.now.yield_units.0 given.now.book.now given.now.ranges.now (zeros_like given.now.book.now into.old) into.old into.new }
+        ensures bound { result ≡ bound_at given.now into.new }
     {
         self.zeros.whole = into.whole;
-        better_of(
-            &mut self.sweep.columns,
-            book,
-            ranges,
-            bound,
-            &self.zeros,
-            into,
-        )
+        better_of(&mut self.sweep.columns, given, bound, &self.zeros, into)
     }
 
-    /// Puts the better leaf over ranges into another, as [`Tuner::tune`](crate::Tuner::tune) says.
+    /// Puts the better leaf over the given ranges into another, as [`Tuner::tune`](crate::Tuner::tune) says.
     pub(crate) fn tune(
         &mut self,
-        book: &Book,
-        ranges: &Ranges,
-        leaf: &Leaf,
+        given: &Given,
         start: Option<&Leaf>,
         basis: Option<&Basis>,
         into: &mut Leaf,
     ) -> i128
-        requires parts { AreParts book.now self.old }
-        requires ranges { AllZip HasRoomFor book.now.lines ranges.now }
-        requires leaf { IsLeaf (length book.now.needs) leaf.now }
-        requires start { IfSome start (λ other. IsLeaf (length book.now.needs) other.now) }
-        requires into { length into.old.prices ≡ length book.now.needs }
-        ensures parts { AreParts book.now self.new }
-        ensures yield_units { self.new.sweep.columns.yield_units ≡ self.old.sweep.columns.yield_units }
-        ensures improved { IsImproved self.old.sweep.columns.yield_units book.now ranges.now leaf.now into.new }
-        ensures start { IfSome start.entry (λ other. HasNoGreater self.old.sweep.columns.yield_units book.now ranges.now other.now into.new) }
-        ensures zeros { HasNoGreater self.old.sweep.columns.yield_units book.now ranges.now (zeros_like book.now leaf.now) into.new }
-        ensures bound { result ≡ bound_of self.old.sweep.columns.yield_units book.now ranges.now into.new }
+        requires parts { ArePartsFor given.now self.old }
+        requires start { IfSome start (λ other. IsLeaf (length given.now.book.now.needs) other.now) }
+        requires into { length into.old.prices ≡ length given.now.book.now.needs }
+        ensures parts { ArePartsFor given.now self.new }
+        ensures improved { IsImproved given.now.yield_units.0 given.now.book.now given.now.ranges.now given.now.leaf.now into.new }
+        ensures start { IfSome start.entry (λ other. HasNoGreater given.now.yield_units.0 given.now.book.now given.now.ranges.now other.now into.new) }
+        ensures zeros { HasNoGreater given.now.yield_units.0 given.now.book.now given.now.ranges.now (zeros_like given.now.book.now given.now.leaf.now) into.new }
+        ensures bound { result ≡ bound_at given.now into.new }
     {
-        let bound = self.improve(book, ranges, leaf, basis, into);
-        let bound = self.or_zeros(book, ranges, bound, into);
+        let bound = self.improve(given, basis, into);
+        let bound = self.or_zeros(given, bound, into);
         match start {
-            Some(start) => better_of(&mut self.sweep.columns, book, ranges, bound, start, into),
+            Some(start) => better_of(&mut self.sweep.columns, given, bound, start, into),
             None => bound,
         }
     }

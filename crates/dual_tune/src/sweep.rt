@@ -1,23 +1,20 @@
 //! The steps of a leaf, priced one by one.
-ghost use Rattle.std.specs.Prelude.{All, ◌≡◌, ◌<◌, ◌≤◌, ◌*◌, ◌^◌, ◌+ℤ◌, ◌-ℤ◌, ◌*ℤ◌, ◌≤ℤ◌, ◌⊎◌, ℕ, false, true, length, pos, slice_index, slice_index_or, unsigned_abs, IfOk};
-ghost use Rattle.std.specs.List.{AllZip};
-ghost use Rattle.fixed_powers.specs.DiscountPowers.{IsLowTable, PowerTable};
+ghost use Rattle.std.specs.Prelude.{All, ◌≡◌, ◌<◌, ◌≤◌, ◌*◌, ◌^◌, ◌+ℤ◌, ◌-ℤ◌, ◌≤ℤ◌, ◌⊎◌, ℕ, false, true, length, pos, slice_index_or, unsigned_abs, IfOk};
+ghost use Rattle.fixed_powers.specs.DiscountPowers.{IsLowTable};
 ghost use Rattle.offer_book.specs.Book.{IsBook};
 ghost use Rattle.offer_book.specs.declared.line.Line.{Line};
-ghost use Rattle.dual_bound.specs.LeafBound.{bound_of, least_within, priced_needs};
-ghost use Rattle.dual_bound.specs.Ranges.{HasRoomFor};
+ghost use Rattle.dual_bound.specs.LeafBound.{least_within, priced_needs};
 ghost use Rattle.dual_bound.specs.Tree.{IsLeaf, with_price};
 ghost use Rattle.dual_bound.specs.declared.ranges.Interval.{Interval as IntervalOf};
 ghost use Rattle.dual_bound.specs.declared.tree.Leaf.{Leaf as LeafOf};
-ghost use Rattle.dual_tune.specs.Payers.{ArePayers};
 ghost use Rattle.dual_tune.specs.Steps.{IsStep, IsTriedWeight, mu_of_weight, price_beside as price_beside_of, with_weight};
-ghost use Rattle.dual_tune.specs.Sweep.{AreLeasts, IsBest, AreReached, IsFormAt, IsPoint, IsPricedFor, IsReached, IsReadyFor, IsSweep, IsSweepOf, lines_worth};
-ghost use Rattle.dual_tune.specs.Table.{AreFormsOf, AreLineForms};
+ghost use Rattle.dual_tune.specs.Sweep.{AreColumnsOf, AreLeasts, AreReached, IsBest, IsFormAt, IsPoint, IsPricedFor, IsReached, IsReadyFor, IsStepOf, IsSweep, IsSweepOf, bound_at, lines_worth};
+ghost use Rattle.dual_tune.specs.Table.{AreLineForms};
 
-use crate::payers::{Payers, payers_by_date};
+use crate::given::Given;
 use crate::steps::{Side, Weight, mu_of, price_beside};
 use crate::table::Table;
-use dual_bound::{Columns, Form, Interval, Leaf, PRICE_SCALE, Ranges};
+use dual_bound::{Columns, Form, Leaf, PRICE_SCALE, Ranges};
 use escrow_desk::NoMemory;
 use escrow_units::Cents;
 use fixed_powers::Powers;
@@ -56,20 +53,32 @@ pub(crate) struct Best {
     pub bound: i128,
 }
 
-/// What is kept to price the steps of leaves: the columns, which lines pay for each date, the table of the leaf whose steps were
-/// priced last, and what each line adds at it.
+/// The price of a need date becomes another one.
+#[derive(Drop)]
+pub(crate) struct PriceStep<'t> {
+    /// The place of the need date, counted from 0.
+    pub place: u16,
+    /// Its new price.
+    pub price: u64,
+    /// The lines that pay for it, counted from 0.
+    pub lines: &'t [u16],
+    /// Their forms at the leaf after the step, in the same order.
+    pub forms: &'t [Form],
+}
+
+/// What is kept to price the steps of leaves: the columns, the table of the leaf whose steps were priced last, and what its lines add.
 #[derive(Drop)]
 pub(crate) struct Sweep<'a> {
     /// The columns of the book.
     pub columns: Columns<'a>,
-    /// The lines that pay for each need date.
-    pub payers: Vec<Payers>,
     /// The forms of lines at the given leaf and its steps.
-    pub table: Table,
+    pub table: Table<'a>,
     /// Whether an interval is a point. Then the columns are priced at each leaf that counts, since at a point no form is exact.
     pub points: bool,
     /// What each line adds at least at the given leaf.
     pub leasts: Vec<LineLeast>,
+    /// The bound of the given leaf, scaled.
+    pub bound: i128,
     /// The given leaf, to be given another weight of the limit.
     pub trial: Leaf,
 }
@@ -86,26 +95,26 @@ fn needs_change(cents: Cents, old: u64, new: u64) -> i128
     scaled * i128::from(new) - scaled * i128::from(old)
 }
 
-// The least that a line adds at a leaf within an interval, from its form there; at a point by the columns, which are priced at that
+// The least that a line adds at a leaf within its interval, from its form there; at a point by the columns, which are priced at that
 // leaf.
-fn line_least(book: &Book, columns: &Columns, line: u16, interval: Interval, form: Form) -> i128
-    requires limits { IsBook book.now }
-    requires own { columns.now.book ≡ book.now }
-    requires line { line < length book.now.lines }
-    requires ordered { interval.low ≤ interval.high }
-    requires high { (d : Line) → interval.high ≤ (slice_index_or book.now.lines line d).most }
-    requires form { (leaf : LeafOf) × IsFormAt columns.now.yield_units book.now columns.now.leaf line interval leaf form }
-    ensures value { (d : Line) (leaf : LeafOf) → IsFormAt columns.now.yield_units book.now columns.now.leaf line interval leaf form
-        → result ≡ least_within columns.now.yield_units book.now leaf (slice_index_or book.now.lines line d) interval }
+fn line_least(columns: &Columns, given: &Given, line: u16, form: Form) -> i128
+    requires own { AreColumnsOf given.now columns.now }
+    requires line { line < length given.now.book.now.lines }
+    requires form { (leaf : LeafOf) × IsFormAt given.now columns.now.leaf line leaf form }
+    ensures value { (d : Line) (e : IntervalOf) (leaf : LeafOf) → IsFormAt given.now columns.now.leaf line leaf form
+        → result ≡ least_within given.now.yield_units.0 given.now.book.now leaf (slice_index_or given.now.book.now.lines line d) (slice_index_or given.now.ranges.now line e) }
     ensures size { unsigned_abs result ≤ 71 * 10 ^ 33 }
 {
+    let at = usize::from(line);
+    let interval = given.ranges.intervals()[at];
     if interval.high == 0 {
         return 0;
     }
     if interval.low == interval.high {
         return columns.least(line, interval);
     }
-    form.least_within(book.line(line), interval)
+    let lines = given.book.lines();
+    form.least_within(&lines[at], interval)
 }
 
 // What a line adds more than before.
@@ -140,14 +149,14 @@ fn hold_point(ranges: &Ranges) -> bool
     false
 }
 
-// Prices a leaf, where ranges hold a point.
-fn price_for(columns: &mut Columns, points: bool, ranges: &Ranges, leaf: &Leaf)
-    requires leaf { IsLeaf (length columns.old.book.needs) leaf.now }
-    requires points { points ≡ false → All (λ interval. ¬ IsPoint interval) ranges.now }
-    ensures own { columns.new.book ≡ columns.old.book }
-    ensures yield_units { columns.new.yield_units ≡ columns.old.yield_units }
+// Prices a leaf, where the given ranges hold a point.
+fn price_for(columns: &mut Columns, points: bool, given: &Given, leaf: &Leaf)
+    requires own { AreColumnsOf given.now columns.old }
+    requires points { points ≡ false → All (λ interval. ¬ IsPoint interval) given.now.ranges.now }
+    requires leaf { IsLeaf (length given.now.book.now.needs) leaf.now }
+    ensures own { AreColumnsOf given.now columns.new }
     ensures priced { points ≡ true → columns.new.leaf ≡ leaf.now }
-    ensures there { IsPricedFor ranges.now columns.new.leaf leaf.now }
+    ensures there { IsPricedFor given.now.ranges.now columns.new.leaf leaf.now }
 {
     if !points {
         return;
@@ -169,70 +178,39 @@ fn price_step_for(columns: &mut Columns, points: bool, place: u16, price: u64)
     columns.price_date(place, price);
 }
 
-// The bound of a leaf over ranges, from what the needs are worth, and each line's form.
-fn bound_by(
-    book: &Book,
-    columns: &Columns,
-    ranges: &Ranges,
-    leaf: &Leaf,
-    needs: i128,
-    forms: &[Form],
-) -> i128
-    requires own { columns.now.book ≡ book.now }
-    requires ranges { AllZip HasRoomFor book.now.lines ranges.now }
-    requires leaf { IsLeaf (length book.now.needs) leaf.now }
-    requires priced { IsPricedFor ranges.now columns.now.leaf leaf.now }
-    requires needs { needs ≡ pos (COEFFICIENT_SCALE * priced_needs book.now.needs leaf.now.prices) }
-    requires room { length forms.now ≡ length book.now.lines }
-    requires forms { AreLineForms columns.now.yield_units book.now leaf.now forms.now }
-    ensures value { result ≡ bound_of columns.now.yield_units book.now ranges.now leaf.now }
+// The bound of a leaf over the given ranges, from what the needs are worth, and each line's form.
+fn bound_by(columns: &Columns, given: &Given, leaf: &Leaf, needs: i128, forms: &[Form]) -> i128
+    requires own { AreColumnsOf given.now columns.now }
+    requires leaf { IsLeaf (length given.now.book.now.needs) leaf.now }
+    requires priced { IsPricedFor given.now.ranges.now columns.now.leaf leaf.now }
+    requires needs { needs ≡ pos (COEFFICIENT_SCALE * priced_needs given.now.book.now.needs leaf.now.prices) }
+    requires room { length forms.now ≡ length given.now.book.now.lines }
+    requires forms { AreLineForms given.now.yield_units.0 given.now.book.now leaf.now forms.now }
+    ensures value { result ≡ bound_at given.now leaf.now }
     ensures size { unsigned_abs result < 10 ^ 37 }
 {
-    let intervals = ranges.intervals();
     let mut bound = needs;
-    for line in 0..book.line_count() {
-        let at = usize::from(line);
-        bound += line_least(book, columns, line, intervals[at], forms[at]);
+    for line in 0..given.book.line_count() {
+        bound += line_least(columns, given, line, forms[usize::from(line)]);
     }
     bound
 }
 
-// What the lines add more where the price at a place is another than that of the given leaf, from the forms there of the lines that
-// pay for the need.
-fn lines_change(
-    book: &Book,
-    columns: &Columns,
-    ranges: &Ranges,
-    leaf: &Leaf,
-    payers: &[u16],
-    leasts: &[LineLeast],
-    forms: &[Form],
-    place: u16,
-    price: u64,
-) -> i128
-    requires limits { IsBook book.now }
-    requires own { columns.now.book ≡ book.now }
-    requires ranges { AllZip HasRoomFor book.now.lines ranges.now }
-    requires prices { length leaf.now.prices ≡ length book.now.needs }
-    requires payers { ArePayers book.now (length book.now.lines) place payers.now }
-    requires places { length leasts.now ≡ length book.now.lines }
-    requires small { All (λ least. unsigned_abs least.least ≤ 71 * 10 ^ 33) leasts.now }
-    requires leasts { AreLeasts columns.now.yield_units book.now ranges.now leaf.now leasts.now }
-    requires place { place < length book.now.needs }
-    requires step { IsLeaf (length book.now.needs) (with_price leaf.now place price) }
-    requires priced { IsPricedFor ranges.now columns.now.leaf (with_price leaf.now place price) }
-    requires room { length forms.now ≡ length payers.now }
-    requires forms { AreFormsOf columns.now.yield_units book.now (with_price leaf.now place price) payers.now forms.now }
-    ensures value { result ≡ lines_worth columns.now.yield_units book.now ranges.now (with_price leaf.now place price) -ℤ lines_worth columns.now.yield_units book.now ranges.now leaf.now }
+// What the lines add more after a price step, from the forms there of those that pay for the need.
+fn lines_change(columns: &Columns, given: &Given, leasts: &[LineLeast], step: &PriceStep) -> i128
+    requires limits { IsBook given.now.book.now }
+    requires own { AreColumnsOf given.now columns.now }
+    requires priced { IsPricedFor given.now.ranges.now columns.now.leaf (with_price given.now.leaf.now step.now.place step.now.price) }
+    requires leasts { AreLeasts given.now leasts.now }
+    requires step { IsStepOf given.now step.now }
+    ensures value { result ≡ lines_worth given.now (with_price given.now.leaf.now step.now.place step.now.price) -ℤ lines_worth given.now given.now.leaf.now }
     ensures size { unsigned_abs result ≤ 257 * (142 * 10 ^ 33) }
 {
-    let intervals = ranges.intervals();
     let mut more = 0i128;
-    for payer in 0..payers.len() {
-        let line = payers[payer];
-        let at = usize::from(line);
-        let least = line_least(book, columns, line, intervals[at], forms[payer]);
-        more += change(least, leasts[at]);
+    for payer in 0..step.lines.len() {
+        let line = step.lines[payer];
+        let least = line_least(columns, given, line, step.forms[payer]);
+        more += change(least, leasts[usize::from(line)]);
     }
     more
 }
@@ -289,285 +267,207 @@ impl<'a> Sweep<'a> {
         book: &'a Book,
         powers: &Powers,
     ) -> Result<Sweep<'a>, NoMemory>
-        requires powers { IsLowTable powers.now }
-        ensures sweep { IfOk result (λ sweep. IsSweep sweep.columns.yield_units book.now sweep) }
-        ensures yield_units { IfOk result (λ sweep. sweep.columns.yield_units ≡ powers.now.yield_units) }
+        requires { IsLowTable powers.now }
+        ensures { IfOk result (IsSweep powers.now.yield_units book.now) }
     {
         let mut columns = Columns::make(alloc, book, powers)?;
-        let payers = payers_by_date(alloc, book)?;
-        let mut table = Table::make(alloc, book, payers.as_slice())?;
+        let mut table = Table::make(alloc, book)?;
         let leasts = no_leasts(alloc, book.line_count())?;
         let trial = Leaf::of_zeros(alloc, true, book.need_count())?;
-        table.fill(book, &mut columns, payers.as_slice(), &trial);
+        table.fill(&mut columns, &trial);
         Ok(Sweep {
             columns,
-            payers,
             table,
             points: true,
             leasts,
+            bound: 0,
             trial,
         })
     }
 
     // The bound of the given leaf after a price step, from its own.
-    fn bound_of_price_step(
-        &mut self,
-        book: &Book,
-        ranges: &Ranges,
-        leaf: &Leaf,
-        bound: i128,
-        place: u16,
-        side: Side,
-    ) -> i128
-        requires ranges { AllZip HasRoomFor book.now.lines ranges.now }
-        requires given { IsLeaf (length book.now.needs) leaf.now }
-        requires bound { bound ≡ bound_of self.old.columns.yield_units book.now ranges.now leaf.now }
-        requires size { unsigned_abs bound < 10 ^ 37 }
-        requires place { place < length book.now.needs }
-        requires kept { IsSweepOf self.old.columns.yield_units book.now ranges.now leaf.now self.old }
-        ensures kept { IsSweepOf self.old.columns.yield_units book.now ranges.now leaf.now self.new }
-        ensures value { result ≡ bound_of self.old.columns.yield_units book.now ranges.now (with_price leaf.now place (price_beside_of leaf.now.prices place side)) }
+    fn bound_of_price_step(&mut self, given: &Given, place: u16, side: Side) -> i128
+        requires place { place < length given.now.book.now.needs }
+        requires kept { IsSweepOf given.now self.old }
+        ensures kept { IsSweepOf given.now self.new }
+        ensures value { result ≡ bound_at given.now (with_price given.now.leaf.now place (price_beside_of given.now.leaf.now.prices place side)) }
     {
         let at = usize::from(place);
-        let cents = book.needs()[at].cents;
-        let prices = leaf.prices.as_slice();
+        let cents = given.book.needs()[at].cents;
+        let prices = given.leaf.prices.as_slice();
         let old = prices[at];
         let price = price_beside(prices, place, side);
         price_step_for(&mut self.columns, self.points, place, price);
-        let lines = lines_change(
-            book,
-            &self.columns,
-            ranges,
-            leaf,
-            self.payers[at].lines.as_slice(),
-            self.leasts.as_slice(),
-            self.table.step_forms(place, side),
+        let step = PriceStep {
             place,
             price,
-        );
+            lines: self.table.payers_of(place),
+            forms: self.table.step_forms(place, side),
+        };
+        let lines = lines_change(&self.columns, given, self.leasts.as_slice(), &step);
         price_step_for(&mut self.columns, self.points, place, old);
-        changed(bound, needs_change(cents, old, price), lines)
+        changed(self.bound, needs_change(cents, old, price), lines)
     }
 
     // The better of a step and a price step at a place.
-    fn try_price(
-        &mut self,
-        book: &Book,
-        ranges: &Ranges,
-        leaf: &Leaf,
-        bound: i128,
-        best: Best,
-        place: u16,
-        side: Side,
-    ) -> Best
-        requires ranges { AllZip HasRoomFor book.now.lines ranges.now }
-        requires given { IsLeaf (length book.now.needs) leaf.now }
-        requires bound { bound ≡ bound_of self.old.columns.yield_units book.now ranges.now leaf.now }
-        requires size { unsigned_abs bound < 10 ^ 37 }
-        requires place { place < length book.now.needs }
-        requires kept { IsSweepOf self.old.columns.yield_units book.now ranges.now leaf.now self.old }
-        requires best { IsBest self.old.columns.yield_units book.now ranges.now leaf.now best }
-        ensures kept { IsSweepOf self.old.columns.yield_units book.now ranges.now leaf.now self.new }
-        ensures best { IsBest self.old.columns.yield_units book.now ranges.now leaf.now result }
+    fn try_price(&mut self, given: &Given, best: Best, place: u16, side: Side) -> Best
+        requires place { place < length given.now.book.now.needs }
+        requires kept { IsSweepOf given.now self.old }
+        requires best { IsBest given.now best }
+        ensures kept { IsSweepOf given.now self.new }
+        ensures best { IsBest given.now result }
         ensures better { best.bound ≤ℤ result.bound }
-        ensures tried { IsReached self.old.columns.yield_units book.now ranges.now result.bound (with_price leaf.now place (price_beside_of leaf.now.prices place side)) }
+        ensures tried { IsReached given.now result.bound (with_price given.now.leaf.now place (price_beside_of given.now.leaf.now.prices place side)) }
     {
-        let prices = leaf.prices.as_slice();
+        let prices = given.leaf.prices.as_slice();
         let price = price_beside(prices, place, side);
         if prices[usize::from(place)] == price {
             return best;
         }
-        let reached = self.bound_of_price_step(book, ranges, leaf, bound, place, side);
+        let reached = self.bound_of_price_step(given, place, side);
         better(best, Step::Price { place, price }, reached)
     }
 
     // The better of a step and both price steps at a place.
-    fn try_place(
-        &mut self,
-        book: &Book,
-        ranges: &Ranges,
-        leaf: &Leaf,
-        bound: i128,
-        best: Best,
-        place: u16,
-    ) -> Best
-        requires ranges { AllZip HasRoomFor book.now.lines ranges.now }
-        requires given { IsLeaf (length book.now.needs) leaf.now }
-        requires bound { bound ≡ bound_of self.old.columns.yield_units book.now ranges.now leaf.now }
-        requires size { unsigned_abs bound < 10 ^ 37 }
-        requires place { place < length book.now.needs }
-        requires kept { IsSweepOf self.old.columns.yield_units book.now ranges.now leaf.now self.old }
-        requires best { IsBest self.old.columns.yield_units book.now ranges.now leaf.now best }
-        ensures kept { IsSweepOf self.old.columns.yield_units book.now ranges.now leaf.now self.new }
-        ensures best { IsBest self.old.columns.yield_units book.now ranges.now leaf.now result }
+    fn try_place(&mut self, given: &Given, best: Best, place: u16) -> Best
+        requires place { place < length given.now.book.now.needs }
+        requires kept { IsSweepOf given.now self.old }
+        requires best { IsBest given.now best }
+        ensures kept { IsSweepOf given.now self.new }
+        ensures best { IsBest given.now result }
         ensures better { best.bound ≤ℤ result.bound }
-        ensures tried { AreReached self.old.columns.yield_units book.now ranges.now leaf.now result.bound place }
+        ensures tried { AreReached given.now result.bound place }
     {
-        let best = self.try_price(book, ranges, leaf, bound, best, place, Side::Before);
-        self.try_price(book, ranges, leaf, bound, best, place, Side::After)
+        let best = self.try_price(given, best, place, Side::Before);
+        self.try_price(given, best, place, Side::After)
     }
 
     // The best of a step and all price steps.
-    fn try_places(
-        &mut self,
-        book: &Book,
-        ranges: &Ranges,
-        leaf: &Leaf,
-        bound: i128,
-        given: Best,
-    ) -> Best
-        requires ranges { AllZip HasRoomFor book.now.lines ranges.now }
-        requires given { IsLeaf (length book.now.needs) leaf.now }
-        requires bound { bound ≡ bound_of self.old.columns.yield_units book.now ranges.now leaf.now }
-        requires size { unsigned_abs bound < 10 ^ 37 }
-        requires kept { IsSweepOf self.old.columns.yield_units book.now ranges.now leaf.now self.old }
-        requires best { IsBest self.old.columns.yield_units book.now ranges.now leaf.now given }
-        ensures kept { IsSweepOf self.old.columns.yield_units book.now ranges.now leaf.now self.new }
-        ensures best { IsBest self.old.columns.yield_units book.now ranges.now leaf.now result }
-        ensures better { given.bound ≤ℤ result.bound }
-        ensures tried { (place : ℕ) → place < length book.now.needs → AreReached self.old.columns.yield_units book.now ranges.now leaf.now result.bound place }
+    fn try_places(&mut self, given: &Given, first: Best) -> Best
+        requires kept { IsSweepOf given.now self.old }
+        requires best { IsBest given.now first }
+        ensures kept { IsSweepOf given.now self.new }
+        ensures best { IsBest given.now result }
+        ensures better { first.bound ≤ℤ result.bound }
+        ensures tried { (place : ℕ) → place < length given.now.book.now.needs → AreReached given.now result.bound place }
     {
-        let mut best = given;
-        for place in 0..book.need_count() {
-            best = self.try_place(book, ranges, leaf, bound, best, place);
+        let mut best = first;
+        for place in 0..given.book.need_count() {
+            best = self.try_place(given, best, place);
         }
         best
     }
 
     // The bound of the given leaf with another weight of the limit.
-    fn bound_of_weight(&mut self, book: &Book, ranges: &Ranges, weight: Weight) -> i128
-        requires ranges { AllZip HasRoomFor book.now.lines ranges.now }
-        requires ready { IsReadyFor self.old.columns.yield_units book.now ranges.now self.old.table.leaf self.old }
-        ensures ready { IsReadyFor self.old.columns.yield_units book.now ranges.now self.old.table.leaf self.new }
-        ensures value { result ≡ bound_of self.old.columns.yield_units book.now ranges.now (with_weight self.old.table.leaf (mu_of_weight weight)) }
+    fn bound_of_weight(&mut self, given: &Given, weight: Weight) -> i128
+        requires { IsReadyFor given.now self.old }
+        ensures ready { IsReadyFor given.now self.new }
+        ensures value { result ≡ bound_at given.now (with_weight given.now.leaf.now (mu_of_weight weight)) }
     {
         let own = self.trial.mu;
         self.trial.mu = mu_of(weight);
-        price_for(&mut self.columns, self.points, ranges, &self.trial);
+        price_for(&mut self.columns, self.points, given, &self.trial);
         let bound = bound_by(
-            book,
             &self.columns,
-            ranges,
+            given,
             &self.trial,
             self.table.needs,
-            self.table.weight_forms(weight),
+            self.table.lines.weight_forms(weight),
         );
         self.trial.mu = own;
         bound
     }
 
     // The better of a step and what comes of another weight of the limit.
-    fn try_weight(
-        &mut self,
-        book: &Book,
-        ranges: &Ranges,
-        leaf: &Leaf,
-        best: Best,
-        weight: Weight,
-    ) -> Best
-        requires ranges { AllZip HasRoomFor book.now.lines ranges.now }
-        requires given { IsLeaf (length book.now.needs) leaf.now }
-        requires ready { IsReadyFor self.old.columns.yield_units book.now ranges.now leaf.now self.old }
-        requires best { IsBest self.old.columns.yield_units book.now ranges.now leaf.now best }
-        ensures ready { IsReadyFor self.old.columns.yield_units book.now ranges.now leaf.now self.new }
-        ensures best { IsBest self.old.columns.yield_units book.now ranges.now leaf.now result }
+    fn try_weight(&mut self, given: &Given, best: Best, weight: Weight) -> Best
+        requires ready { IsReadyFor given.now self.old }
+        requires best { IsBest given.now best }
+        ensures ready { IsReadyFor given.now self.new }
+        ensures best { IsBest given.now result }
         ensures better { best.bound ≤ℤ result.bound }
-        ensures tried { IsReached self.old.columns.yield_units book.now ranges.now result.bound (with_weight leaf.now (mu_of_weight weight)) }
+        ensures tried { IsReached given.now result.bound (with_weight given.now.leaf.now (mu_of_weight weight)) }
     {
-        let reached = self.bound_of_weight(book, ranges, weight);
+        let reached = self.bound_of_weight(given, weight);
         better(best, Step::Weight(mu_of(weight)), reached)
     }
 
-    // The best of a step and all steps to another weight.
-    fn try_weights(&mut self, book: &Book, ranges: &Ranges, leaf: &Leaf, best: Best) -> Best
-        requires ranges { AllZip HasRoomFor book.now.lines ranges.now }
-        requires given { IsLeaf (length book.now.needs) leaf.now }
-        requires ready { IsReadyFor self.old.columns.yield_units book.now ranges.now leaf.now self.old }
-        requires best { IsBest self.old.columns.yield_units book.now ranges.now leaf.now best }
-        ensures ready { IsReadyFor self.old.columns.yield_units book.now ranges.now leaf.now self.new }
-        ensures best { IsBest self.old.columns.yield_units book.now ranges.now leaf.now result }
+    // The best of a step and each weight of the limit that is tried.
+    fn try_weights(&mut self, given: &Given, best: Best) -> Best
+        requires ready { IsReadyFor given.now self.old }
+        requires best { IsBest given.now best }
+        ensures ready { IsReadyFor given.now self.new }
+        ensures best { IsBest given.now result }
         ensures better { best.bound ≤ℤ result.bound }
-        ensures tried { (mu : ℕ) → IsTriedWeight mu → IsReached self.old.columns.yield_units book.now ranges.now result.bound (with_weight leaf.now mu) }
+        ensures tried { (mu : ℕ) → IsTriedWeight mu → IsReached given.now result.bound (with_weight given.now.leaf.now mu) }
     {
-        let best = self.try_weight(book, ranges, leaf, best, Weight::Nothing);
-        let best = self.try_weight(book, ranges, leaf, best, Weight::Half);
-        self.try_weight(book, ranges, leaf, best, Weight::Whole)
+        let best = self.try_weight(given, best, Weight::Nothing);
+        let best = self.try_weight(given, best, Weight::Half);
+        self.try_weight(given, best, Weight::Whole)
     }
 
     // Keeps what each line adds at least at a leaf whose table stands.
-    fn keep_leasts(&mut self, book: &Book, ranges: &Ranges, leaf: &Leaf)
-        requires ranges { AllZip HasRoomFor book.now.lines ranges.now }
-        requires ready { IsReadyFor self.old.columns.yield_units book.now ranges.now leaf.now self.old }
-        requires priced { IsPricedFor ranges.now self.old.columns.leaf leaf.now }
-        ensures ready { IsReadyFor self.old.columns.yield_units book.now ranges.now leaf.now self.new }
+    fn keep_leasts(&mut self, given: &Given)
+        requires ready { IsReadyFor given.now self.old }
+        requires priced { IsPricedFor given.now.ranges.now self.old.columns.leaf given.now.leaf.now }
+        ensures ready { IsReadyFor given.now self.new }
         ensures columns { self.new.columns ≡ self.old.columns }
         ensures points { self.new.points ≡ self.old.points }
-        ensures leasts { AreLeasts self.old.columns.yield_units book.now ranges.now leaf.now self.new.leasts.items }
+        ensures leasts { AreLeasts given.now self.new.leasts.items }
     {
-        let intervals = ranges.intervals();
-        for line in 0..book.line_count() {
+        for line in 0..given.book.line_count() {
             let at = usize::from(line);
-            let form = self.table.given[at];
+            let form = self.table.lines.given[at];
             self.leasts[at] = LineLeast {
-                least: line_least(book, &self.columns, line, intervals[at], form),
+                least: line_least(&self.columns, given, line, form),
             };
         }
     }
 
     // Makes the table that of a leaf, where it isn't already.
-    fn turn_to(&mut self, book: &Book, leaf: &Leaf)
-        requires given { IsLeaf (length book.now.needs) leaf.now }
-        requires kept { IsSweep self.old.columns.yield_units book.now self.old }
-        ensures kept { IsSweep self.old.columns.yield_units book.now self.new }
-        ensures leaf { self.new.table.leaf ≡ leaf.now }
+    fn turn_to(&mut self, given: &Given)
+        requires { IsSweep given.now.yield_units.0 given.now.book.now self.old }
+        ensures kept { IsSweep given.now.yield_units.0 given.now.book.now self.new }
+        ensures leaf { self.new.table.leaf ≡ given.now.leaf.now }
     {
-        if self.table.is_of(leaf) {
+        if self.table.is_of(given.leaf) {
             return;
         }
-        let payers = self.payers.as_slice();
-        self.table.fill(book, &mut self.columns, payers, leaf);
-        copy_leaf(book.need_count(), leaf, &mut self.trial);
+        self.table.fill(&mut self.columns, given.leaf);
+        copy_leaf(given.book.need_count(), given.leaf, &mut self.trial);
     }
 
-    // Begins with a leaf over ranges, and gives its bound.
-    fn begin(&mut self, book: &Book, ranges: &Ranges, leaf: &Leaf) -> i128
-        requires ranges { AllZip HasRoomFor book.now.lines ranges.now }
-        requires given { IsLeaf (length book.now.needs) leaf.now }
-        requires kept { IsSweep self.old.columns.yield_units book.now self.old }
-        ensures kept { IsSweepOf self.old.columns.yield_units book.now ranges.now leaf.now self.new }
-        ensures bound { result ≡ bound_of self.old.columns.yield_units book.now ranges.now leaf.now }
-        ensures size { unsigned_abs result < 10 ^ 37 }
+    // Begins with the given leaf, and finds its bound.
+    fn begin(&mut self, given: &Given)
+        requires { IsSweep given.now.yield_units.0 given.now.book.now self.old }
+        ensures { IsSweepOf given.now self.new }
     {
-        self.turn_to(book, leaf);
-        self.points = hold_point(ranges);
-        price_for(&mut self.columns, self.points, ranges, leaf);
-        self.keep_leasts(book, ranges, leaf);
-        bound_by(
-            book,
+        self.turn_to(given);
+        self.points = hold_point(given.ranges);
+        price_for(&mut self.columns, self.points, given, given.leaf);
+        self.keep_leasts(given);
+        self.bound = bound_by(
             &self.columns,
-            ranges,
-            leaf,
+            given,
+            given.leaf,
             self.table.needs,
-            self.table.given.as_slice(),
-        )
+            self.table.lines.given.as_slice(),
+        );
     }
 
-    /// The best step of a leaf over ranges, nothing included, with its bound. Where the leaf is the one of the call before, its forms
-    /// are those of the table, and nothing is priced but where an interval is a point.
-    pub(crate) fn best_step(&mut self, book: &Book, ranges: &Ranges, leaf: &Leaf) -> Best
-        requires ranges { AllZip HasRoomFor book.now.lines ranges.now }
-        requires given { IsLeaf (length book.now.needs) leaf.now }
-        requires kept { IsSweep self.old.columns.yield_units book.now self.old }
-        ensures kept { IsSweep self.old.columns.yield_units book.now self.new }
-        ensures best { IsBest self.old.columns.yield_units book.now ranges.now leaf.now result }
-        ensures steps { (step : Leaf) → IsStep leaf.now step → IsReached self.old.columns.yield_units book.now ranges.now result.bound step }
+    /// The best step of the given leaf, nothing included, with its bound. Where the leaf is the one of the call before, its forms are
+    /// those of the table, and nothing is priced but where an interval is a point.
+    pub(crate) fn best_step(&mut self, given: &Given) -> Best
+        requires { IsSweep given.now.yield_units.0 given.now.book.now self.old }
+        ensures kept { IsSweep given.now.yield_units.0 given.now.book.now self.new }
+        ensures best { IsBest given.now result }
+        ensures steps { (step : LeafOf) → IsStep given.now.leaf.now step → IsReached given.now result.bound step }
     {
-        let bound = self.begin(book, ranges, leaf);
-        let given = Best {
+        self.begin(given);
+        let first = Best {
             step: Step::Nothing,
-            bound,
+            bound: self.bound,
         };
-        let best = self.try_places(book, ranges, leaf, bound, given);
-        self.try_weights(book, ranges, leaf, best)
+        let best = self.try_places(given, first);
+        self.try_weights(given, best)
     }
 }

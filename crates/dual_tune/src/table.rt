@@ -1,21 +1,33 @@
 //! The forms of lines at a leaf and at its steps.
-ghost use Rattle.std.specs.Prelude.{All, ◌≡◌, ◌*◌, ◌/◌, ◌^◌, ◌<◌, ◌≤◌, pos, IfOk, false, true, length, slice_index_or, unsigned_abs};
+ghost use Rattle.std.specs.Prelude.{All, ◌≡◌, ◌*◌, ◌<◌, ◌≤◌, pos, IfOk, true, length, slice_index_or};
 ghost use Rattle.dual_bound.specs.LeafBound.{priced_needs as priced_needs_of};
 ghost use Rattle.dual_bound.specs.Tree.{IsLeaf, with_price};
 ghost use Rattle.dual_tune.specs.Payers.{ArePayersByDate};
-ghost use Rattle.dual_tune.specs.Steps.{mu_of_weight, price_beside as price_beside_of, with_weight};
-ghost use Rattle.dual_tune.specs.Table.{AreDateForms, AreFormsOf, AreLineForms, AreStepForms, HasRoomForLines, HasRoomForPayers, HasTableRoom, IsTable, forms_beside, weight_forms as weight_forms_of};
+ghost use Rattle.dual_tune.specs.Steps.{price_beside as price_beside_of, with_weight};
+ghost use Rattle.dual_tune.specs.Table.{AreDateForms, AreFormsOf, AreLineForms, AreStepForms, AreWeightForms, HasRoomForLines, HasRoomForPayers, HasTableRoom, HasWeightRoom, IsTable, forms_beside, weight_forms as weight_forms_of};
 ghost use Rattle.dual_tune.specs.declared.payers.Payers.{Payers as PayersOf};
-ghost use Rattle.dual_tune.specs.declared.steps.Weight.{Weight as WeightOf};
 ghost use Rattle.dual_tune.specs.declared.table.DateForms.{DateForms as DateFormsOf};
 
-use crate::payers::Payers;
+use crate::payers::{Payers, payers_by_date};
 use crate::steps::{Side, Weight, mu_of, price_beside};
 use crate::sweep::copy_leaf;
 use dual_bound::{Columns, Form, Leaf, PRICE_SCALE, priced_needs};
 use escrow_desk::NoMemory;
 use offer_book::{Book, COEFFICIENT_SCALE};
 use std::alloc::Global;
+
+/// The form of each line at a leaf, and with each weight of the limit that is tried.
+#[derive(Drop)]
+pub(crate) struct LineForms {
+    /// At the leaf.
+    pub given: Vec<Form>,
+    /// Where the limit has no weight.
+    pub free: Vec<Form>,
+    /// Where it has a weight of a half.
+    pub half: Vec<Form>,
+    /// Where it has a weight of 1.
+    pub whole: Vec<Form>,
+}
 
 /// The forms of the lines that pay for a need date at both price steps there, in the order of the payers.
 #[derive(Drop)]
@@ -26,21 +38,19 @@ pub(crate) struct DateForms {
     pub after: Vec<Form>,
 }
 
-/// What belongs to one leaf, whatever the ranges are: the forms of lines at it and at each of its steps.
+/// What belongs to one leaf of a book, whatever the ranges are: the forms of lines at it and at each of its steps.
 #[derive(Drop)]
-pub(crate) struct Table {
+pub(crate) struct Table<'a> {
+    /// The book.
+    pub book: &'a Book,
+    /// The lines that pay for each need date.
+    pub payers: Vec<Payers>,
     /// The leaf.
     pub leaf: Leaf,
     /// What the needs are worth at its prices, scaled.
     pub needs: i128,
-    /// Each line's form at the leaf.
-    pub given: Vec<Form>,
-    /// Each line's form where the limit has no weight.
-    pub free: Vec<Form>,
-    /// Each line's form where the limit has a weight of a half.
-    pub half: Vec<Form>,
-    /// Each line's form where the limit has a weight of 1.
-    pub whole: Vec<Form>,
+    /// The forms of each line.
+    pub lines: LineForms,
     /// The forms at the price steps of each need date.
     pub dates: Vec<DateForms>,
 }
@@ -100,20 +110,18 @@ fn put_forms(columns: &Columns, lines: &[u16], forms: &mut [Form])
 }
 
 // Gives the limit another weight in a leaf, prices the leaf, and puts the form of each line.
-fn put_weight(book: &Book, columns: &mut Columns, leaf: &mut Leaf, mu: u64, forms: &mut [Form])
-    requires own { columns.old.book ≡ book.now }
-    requires leaf { IsLeaf (length book.now.needs) leaf.old }
+fn put_weight(columns: &mut Columns, lines: u16, leaf: &mut Leaf, mu: u64, forms: &mut [Form])
+    requires lines { lines ≡ length columns.old.book.lines }
+    requires leaf { IsLeaf (length columns.old.book.needs) leaf.old }
     requires mu { mu ≤ PRICE_SCALE }
-    requires room { length forms.old ≡ length book.now.lines }
-    ensures own { columns.new.book ≡ book.now }
-    ensures yield_units { columns.new.yield_units ≡ columns.old.yield_units }
-    ensures priced { columns.new.leaf ≡ with_weight leaf.old mu }
+    requires room { length forms.old ≡ lines }
+    ensures columns { columns.new ≡ record { book = columns.old.book; yield_units = columns.old.yield_units; leaf = with_weight leaf.old mu } }
     ensures leaf { leaf.new ≡ with_weight leaf.old mu }
-    ensures forms { AreLineForms columns.old.yield_units book.now (with_weight leaf.old mu) forms.new }
+    ensures forms { AreLineForms columns.old.yield_units columns.old.book (with_weight leaf.old mu) forms.new }
 {
     leaf.mu = mu;
     columns.price(leaf);
-    put_line_forms(columns, book.line_count(), forms);
+    put_line_forms(columns, lines, forms);
 }
 
 // Puts the forms of the lines that pay for a need date at a price step there, of the leaf that is priced.
@@ -154,50 +162,94 @@ fn put_date(columns: &mut Columns, lines: &[u16], leaf: &Leaf, place: u16, date:
     put_step(columns, lines, leaf, place, Side::After, &mut date.after);
 }
 
-// Puts the forms at the price steps of each need date, of the leaf that is priced.
+// Puts the forms at the price steps of each of so many need dates, of the leaf that is priced.
 fn put_dates(
-    book: &Book,
     columns: &mut Columns,
     payers: &[Payers],
     leaf: &Leaf,
+    count: u16,
     dates: &mut [DateForms],
 )
-    requires own { columns.old.book ≡ book.now }
-    requires leaf { IsLeaf (length book.now.needs) leaf.now }
+    requires leaf { IsLeaf (length columns.old.book.needs) leaf.now }
     requires priced { columns.old.leaf ≡ leaf.now }
-    requires payers { ArePayersByDate book.now (length book.now.lines) payers.now }
-    requires count { length dates.old ≡ length book.now.needs }
+    requires payers { ArePayersByDate columns.old.book (length columns.old.book.lines) payers.now }
+    requires count { count ≡ length columns.old.book.needs }
+    requires dates { length dates.old ≡ count }
     requires room { HasRoomForPayers payers.now dates.old }
     ensures columns { columns.new ≡ columns.old }
     ensures room { HasRoomForPayers payers.now dates.new }
-    ensures forms { AreStepForms columns.old.yield_units book.now leaf.now payers.now dates.new }
+    ensures forms { AreStepForms columns.old.yield_units columns.old.book leaf.now payers.now dates.new }
 {
-    for place in 0..book.need_count() {
+    for place in 0..count {
         let at = usize::from(place);
         let lines = payers[at].lines.as_slice();
         put_date(columns, lines, leaf, place, &mut dates[at]);
     }
 }
 
-impl Table {
-    /// Room for the forms of a leaf of a book, whose payers for each need date are given.
+impl LineForms {
+    // Room for the forms of so many lines.
+    fn make(alloc: Global, lines: u16) -> Result<LineForms, NoMemory>
+        ensures { IfOk result (HasWeightRoom lines) }
+    {
+        let count = usize::from(lines);
+        Ok(LineForms {
+            given: no_forms(alloc, count)?,
+            free: no_forms(alloc, count)?,
+            half: no_forms(alloc, count)?,
+            whole: no_forms(alloc, count)?,
+        })
+    }
+
+    // Makes the forms those of a leaf, which is priced then.
+    fn put(&mut self, columns: &mut Columns, lines: u16, leaf: &mut Leaf)
+        requires lines { lines ≡ length columns.old.book.lines }
+        requires leaf { IsLeaf (length columns.old.book.needs) leaf.old }
+        requires room { HasWeightRoom lines self.old }
+        ensures columns { columns.new ≡ record { book = columns.old.book; yield_units = columns.old.yield_units; leaf = leaf.old } }
+        ensures leaf { leaf.new ≡ leaf.old }
+        ensures forms { AreWeightForms columns.old.yield_units columns.old.book leaf.old self.new }
+    {
+        let own = leaf.mu;
+        let nothing = mu_of(Weight::Nothing);
+        let half = mu_of(Weight::Half);
+        let whole = mu_of(Weight::Whole);
+        put_weight(columns, lines, leaf, nothing, &mut self.free);
+        put_weight(columns, lines, leaf, half, &mut self.half);
+        put_weight(columns, lines, leaf, whole, &mut self.whole);
+        put_weight(columns, lines, leaf, own, &mut self.given);
+    }
+
+    /// Each line's form with a weight of the limit that is tried.
+    pub(crate) fn weight_forms(&self, weight: Weight) -> &[Form]
+        ensures { result.now ≡ weight_forms_of self.now weight }
+    {
+        match weight {
+            Weight::Nothing => self.free.as_slice(),
+            Weight::Half => self.half.as_slice(),
+            Weight::Whole => self.whole.as_slice(),
+        }
+    }
+}
+
+impl<'a> Table<'a> {
+    /// Room for the forms of a leaf of a book.
     ///
     /// # Errors
     ///
     /// Where memory ran out.
-    pub(crate) fn make(alloc: Global, book: &Book, payers: &[Payers]) -> Result<Table, NoMemory>
-        requires { length payers.now ≡ length book.now.needs }
-        ensures { IfOk result (HasTableRoom book.now payers.now) }
+    pub(crate) fn make(alloc: Global, book: &'a Book) -> Result<Table<'a>, NoMemory>
+        ensures { IfOk result (HasTableRoom book.now) }
     {
-        let lines = usize::from(book.line_count());
+        let payers = payers_by_date(alloc, book)?;
+        let dates = no_date_forms(alloc, payers.as_slice())?;
         Ok(Table {
+            book,
+            payers,
             leaf: Leaf::of_zeros(alloc, true, book.need_count())?,
             needs: 0,
-            given: no_forms(alloc, lines)?,
-            free: no_forms(alloc, lines)?,
-            half: no_forms(alloc, lines)?,
-            whole: no_forms(alloc, lines)?,
-            dates: no_date_forms(alloc, payers)?,
+            lines: LineForms::make(alloc, book.line_count())?,
+            dates,
         })
     }
 
@@ -210,54 +262,36 @@ impl Table {
             && self.leaf.prices.as_slice() == leaf.prices.as_slice()
     }
 
-    // Puts each line's form at the leaf and with each weight of the limit that is tried; then the leaf is priced.
-    fn put_weights(&mut self, book: &Book, columns: &mut Columns)
-        requires own { columns.old.book ≡ book.now }
-        requires leaf { IsLeaf (length book.now.needs) self.old.leaf }
-        requires given { length self.old.given.items ≡ length book.now.lines }
-        requires weights { (weight : WeightOf) → length (weight_forms_of self.old weight) ≡ length book.now.lines }
-        ensures own { columns.new.book ≡ book.now }
-        ensures yield_units { columns.new.yield_units ≡ columns.old.yield_units }
-        ensures priced { columns.new.leaf ≡ self.old.leaf }
-        ensures leaf { self.new.leaf ≡ self.old.leaf }
-        ensures needs { self.new.needs ≡ self.old.needs }
-        ensures dates { self.new.dates ≡ self.old.dates }
-        ensures given { AreLineForms columns.old.yield_units book.now self.old.leaf self.new.given.items }
-        ensures weights { (weight : WeightOf) → AreLineForms columns.old.yield_units book.now (with_weight self.old.leaf (mu_of_weight weight)) (weight_forms_of self.new weight) }
-        ensures given_room { length self.new.given.items ≡ length book.now.lines }
-        ensures weights_room { (weight : WeightOf) → length (weight_forms_of self.new weight) ≡ length book.now.lines }
-    {
-        let own = self.leaf.mu;
-        let nothing = mu_of(Weight::Nothing);
-        let half = mu_of(Weight::Half);
-        let whole = mu_of(Weight::Whole);
-        put_weight(book, columns, &mut self.leaf, nothing, &mut self.free);
-        put_weight(book, columns, &mut self.leaf, half, &mut self.half);
-        put_weight(book, columns, &mut self.leaf, whole, &mut self.whole);
-        put_weight(book, columns, &mut self.leaf, own, &mut self.given);
-    }
-
     /// Makes the table that of another leaf. It takes no memory.
-    pub(crate) fn fill(
-        &mut self,
-        book: &Book,
-        columns: &mut Columns,
-        payers: &[Payers],
-        leaf: &Leaf,
-    )
-        requires own { columns.old.book ≡ book.now }
-        requires payers { ArePayersByDate book.now (length book.now.lines) payers.now }
-        requires leaf { IsLeaf (length book.now.needs) leaf.now }
-        requires room { HasTableRoom book.now payers.now self.old }
-        ensures own { columns.new.book ≡ book.now }
+    pub(crate) fn fill(&mut self, columns: &mut Columns, leaf: &Leaf)
+        requires leaf { IsLeaf (length columns.old.book.needs) leaf.now }
+        requires room { HasTableRoom columns.old.book self.old }
+        ensures own { columns.new.book ≡ columns.old.book }
         ensures yield_units { columns.new.yield_units ≡ columns.old.yield_units }
-        ensures table { IsTable columns.old.yield_units book.now payers.now self.new }
+        ensures table { IsTable columns.old.yield_units columns.old.book self.new }
         ensures leaf { self.new.leaf ≡ leaf.now }
     {
-        copy_leaf(book.need_count(), leaf, &mut self.leaf);
-        self.needs = needs_worth(book, leaf);
-        self.put_weights(book, columns);
-        put_dates(book, columns, payers, leaf, &mut self.dates);
+        let dates = self.book.need_count();
+        copy_leaf(dates, leaf, &mut self.leaf);
+        self.needs = needs_worth(self.book, leaf);
+        self.lines
+            .put(columns, self.book.line_count(), &mut self.leaf);
+        put_dates(
+            columns,
+            self.payers.as_slice(),
+            leaf,
+            dates,
+            &mut self.dates,
+        );
+    }
+
+    /// The lines that pay for a need date, counted from 0.
+    pub(crate) fn payers_of(&self, place: u16) -> &[u16]
+        requires { place < length self.now.payers.items }
+        ensures { (e : PayersOf) → result.now ≡ (slice_index_or self.now.payers.items place e).lines.items }
+    {
+        let of_date = &self.payers[usize::from(place)];
+        of_date.lines.as_slice()
     }
 
     /// The forms of the lines that pay for a need date at a price step there.
@@ -269,17 +303,6 @@ impl Table {
         match side {
             Side::Before => date.before.as_slice(),
             Side::After => date.after.as_slice(),
-        }
-    }
-
-    /// Each line's form with a weight of the limit that is tried.
-    pub(crate) fn weight_forms(&self, weight: Weight) -> &[Form]
-        ensures { result.now ≡ weight_forms_of self.now weight }
-    {
-        match weight {
-            Weight::Nothing => self.free.as_slice(),
-            Weight::Half => self.half.as_slice(),
-            Weight::Whole => self.whole.as_slice(),
         }
     }
 }

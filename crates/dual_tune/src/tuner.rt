@@ -7,9 +7,11 @@ ghost use Rattle.dual_bound.specs.Ranges.{HasRoomFor};
 ghost use Rattle.dual_bound.specs.Tree.{IsLeaf};
 ghost use Rattle.dual_tune.specs.Steps.{HasNoGreater, IsImproved, zeros_like};
 
-use crate::parts::Parts;
+use crate::given::Given;
+use crate::parts::{Parts, solve};
 use dual_bound::{Leaf, Ranges};
 use escrow_desk::NoMemory;
+use escrow_units::YieldUnits;
 use fixed_powers::Powers;
 use offer_book::Book;
 use price_lp::Basis;
@@ -21,6 +23,7 @@ use std::marker::Model;
 #[derive(Drop)]
 pub struct Tuner<'a> {
     book: &'a Book,
+    yield_units: YieldUnits,
     parts: Parts<'a>,
 }
 
@@ -29,9 +32,9 @@ impl<'a> Model for Tuner<'a> {
 
     ghost Value = { TunerContents };
 
-    ghost view = { λ t. record { book = t.book.now; yield_units = t.parts.sweep.columns.yield_units } };
+    ghost view = { λ t. record { book = t.book.now; yield_units = t.yield_units.0 } };
 
-    ghost invariant = { λ t. AreParts t.book.now t.parts };
+    ghost invariant = { λ t. AreParts t.yield_units.0 t.book.now t.parts };
 }
 
 impl<'a> Tuner<'a> {
@@ -45,7 +48,11 @@ impl<'a> Tuner<'a> {
         ensures { IfOk result (λ tuner. tuner ≡ record { book = book.now; yield_units = powers.now.yield_units }) }
     {
         let parts = Parts::make(alloc, book, powers)?;
-        Ok(Tuner { book, parts })
+        Ok(Tuner {
+            book,
+            yield_units: powers.yield_units(),
+            parts,
+        })
     }
 
     /// Puts into a leaf, which has a price for each need date, the best over ranges of a given leaf, each of its steps, the leaf of
@@ -70,7 +77,15 @@ impl<'a> Tuner<'a> {
         ensures zeros { HasNoGreater self.old.yield_units self.old.book ranges.now (zeros_like self.old.book leaf.now) into.new }
         ensures bound { result ≡ bound_of self.old.yield_units self.old.book ranges.now into.new }
     {
-        self.parts.tune(self.book, ranges, leaf, start, basis, into)
+        // Ranges say here that their intervals are in order, as the given leaf has to know.
+        let _ = ranges.intervals();
+        let given = Given {
+            book: self.book,
+            yield_units: self.yield_units,
+            ranges,
+            leaf,
+        };
+        self.parts.tune(&given, start, basis, into)
     }
 
     /// Solves the linear program of the cost over ranges, from a basis and by twelve iterations at most, for
@@ -79,7 +94,8 @@ impl<'a> Tuner<'a> {
         requires { AllZip HasRoomFor self.old.book.lines ranges.now }
         ensures { self.new ≡ self.old }
     {
-        self.parts.solve(self.book, ranges, true, Some(basis));
+        let lines = self.book.line_count();
+        solve(&mut self.parts.simplex, lines, ranges, true, Some(basis));
     }
 
     /// How much of a line, counted from 0, the solution that was last found buys at par, in units of 2^-10 of a cent.

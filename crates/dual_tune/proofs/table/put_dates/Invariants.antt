@@ -9,5 +9,5 @@ invariant-loop-place l = record {
   columns : l.columns ≡ l.fn.columns;
   room : HasRoomForPayers l.payers l.dates;
   forms : (place : ℕ) (d : DateForms) (e : Payers) → place < l.place
-      → AreDateForms l.fn.columns.yield_units l.book l.leaf place (get_or l.payers place e).lines.items (get_or l.dates place d);
+      → AreDateForms l.fn.columns.yield_units l.fn.columns.book l.leaf place (get_or l.payers place e).lines.items (get_or l.dates place d);
 }

@@ -11,9 +11,9 @@ invariant-loop-line l = record {
   table : l.self.table ≡ l.fn.self.table;
   points : l.self.points ≡ l.fn.self.points;
   trial : l.self.trial ≡ l.fn.self.trial;
-  payers : l.self.payers.items ≡ l.fn.self.payers.items;
-  places : length l.self.leasts.items ≡ length l.book.lines;
+  places : length l.self.leasts.items ≡ length l.given.book.now.lines;
   small : All (λ least. unsigned_abs least.least ≤ 71 * 10 ^ 33) l.self.leasts.items;
   leasts : (line : ℕ) (d : Line) (e : Interval) (f : LineLeast) → line < l.line
-      → (get_or l.self.leasts.items line f).least ≡ least_within l.fn.self.columns.yield_units l.book l.leaf (get_or l.book.lines line d) (get_or l.ranges line e);
+      → (get_or l.self.leasts.items line f).least
+      ≡ least_within l.given.yield_units.0 l.given.book.now l.given.leaf.now (get_or l.given.book.now.lines line d) (get_or l.given.ranges.now line e);
 }

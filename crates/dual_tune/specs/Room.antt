@@ -1,0 +1,13 @@
+-- That intervals have room for their lines has one proof at most, as a fact must that a value holds.
+use Rattle.std.specs.Prelude.{List, [], ◌∷◌}
+use Rattle.std.specs.List.{AllZip}
+use Rattle.std.specs.Coded.{×_prop, Unit-prop, le_prop}
+use Rattle.offer_book.specs.declared.line.Line.{Line}
+use Rattle.dual_bound.specs.Ranges.{HasRoomFor}
+use Rattle.dual_bound.specs.declared.ranges.Interval.{Interval}
+
+pub room-prop : (lines : List Line) (ranges : List Interval) → IsProp (AllZip HasRoomFor lines ranges)
+room-prop [] [] = Unit-prop
+room-prop [] (interval ∷ ranges) = λ h k. absurd h
+room-prop (line ∷ lines) [] = λ h k. absurd h
+room-prop (line ∷ lines) (interval ∷ ranges) = ×_prop le_prop (room-prop lines ranges)

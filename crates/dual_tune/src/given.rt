@@ -1,0 +1,27 @@
+//! The given leaf.
+ghost use Rattle.std.specs.Prelude.{All, length, ◌≤◌};
+ghost use Rattle.std.specs.List.{AllZip};
+ghost use Rattle.dual_bound.specs.Ranges.{HasRoomFor};
+ghost use Rattle.dual_bound.specs.Tree.{IsLeaf};
+ghost use Rattle.dual_tune.specs.Room.{room-prop};
+
+use dual_bound::{Leaf, Ranges};
+use escrow_units::YieldUnits;
+use offer_book::Book;
+
+/// The leaf of a node over the node's ranges, of a book, at the yield of its limit. Each interval is in order and one of its line, and
+/// the leaf has a price for each need date.
+#[derive(Drop)]
+pub(crate) struct Given<'g> {
+    /// The book.
+    pub book: &'g Book,
+    /// The yield at which the limit discounts.
+    pub yield_units: YieldUnits,
+    /// The ranges of the node.
+    pub ranges: &'g Ranges,
+    /// The leaf.
+    pub leaf: &'g Leaf,
+    ghost ordered: { All (λ interval. interval.low ≤ interval.high) ranges.now },
+    ghost room: { AllZip HasRoomFor book.now.lines ranges.now } by { room-prop book.now.lines ranges.now },
+    ghost well_formed: { IsLeaf (length book.now.needs) leaf.now },
+}
