@@ -9,22 +9,21 @@ use Rattle.std.proofs.lemmas.List.Elements.{All-cons}
 use Rattle.std.proofs.lemmas.List.Sums.{sum_by-cons}
 use Rattle.escrow_units.specs.Flows.{total}
 use Rattle.escrow_units.specs.declared.security.Flow.{Flow}
-use Rattle.offer_book.specs.Book.{BookContents}
 use Rattle.offer_book.specs.declared.coefficients.TheConstants.{COEFFICIENT_SCALE}
 use Rattle.offer_book.specs.declared.line.Line.{Line}
 use Rattle.dual_bound.specs.LeafBound.{bound_of, least_within, priced_needs, signed_sum}
 use Rattle.dual_bound.specs.declared.prices.TheConstants.{PRICE_SCALE}
 use Rattle.dual_bound.specs.declared.ranges.Interval.{Interval}
 use Rattle.dual_bound.specs.declared.tree.Leaf.{Leaf}
-use Rattle.dual_bound.proofs.BoundSizes.{bound-more}
+use Rattle.dual_bound.proofs.BoundSizes.{bound-more, room-length}
 use Rattle.dual_bound.proofs.TableauFacts.{some-line}
 use Rattle.dual_bound.specs.Tree.{IsLeaf, with_price}
-use Rattle.dual_tune.specs.Payers.{ArePayers}
 use Rattle.dual_tune.specs.Steps.{IsBetter, IsImproved, price_after, price_before, price_beside, with_weight}
-use Rattle.dual_tune.specs.Sweep.{AreReached, bound_at, lines_worth, stepped}
+use Rattle.dual_tune.specs.Sweep.{AreReached, IsStepOf, bound_at, lines_worth, stepped}
 use Rattle.dual_tune.specs.declared.given.Given.{Given}
 use Rattle.dual_tune.specs.declared.steps.Side.{Side}
 use Rattle.dual_tune.specs.declared.steps.Side.TheVariants as side
+use Rattle.dual_tune.specs.declared.sweep.PriceStep.{PriceStep}
 use Rattle.dual_tune.specs.declared.sweep.Step.{Step}
 use Rattle.dual_tune.specs.declared.sweep.Step.TheVariants as step
 use Rattle.dual_tune.proofs.AsideFacts.{least-aside, set-length}
@@ -88,26 +87,36 @@ bound-changed given place price d needs lines few needs_is lines_is =
 no-units : Interval
 no-units = record { low = 0; high = 0 }
 
--- what the first so many lines add more at one weighing than at another
-abbrev pub grown : (Line × Interval → ℤ) → (Line × Interval → ℤ) → List (Line × Interval) → ℕ → ℤ
-grown f g parts k = signed_sum f (take k parts) -ℤ signed_sum g (take k parts)
+-- what the first so many lines add more after a price step
+abbrev pub grown : Given → PriceStep → ℕ → ℤ
+grown given step k =
+    let weighed = λ (leaf : Leaf). signed_sum (λ p. least_within given.yield_units.0 given.book.now leaf p.0 p.1) (take k (zip given.book.now.lines given.ranges.now)) in
+    weighed (with_price given.leaf.now step.place step.price) -ℤ weighed given.leaf.now
+
+-- the next line
+grown-next : (given : Given) (step : PriceStep) (line : ℕ) (change own : ℤ) (d : Line) (e : Interval) → line < length given.book.now.lines → change ≡ grown given step line
+    → own ≡ least_within given.yield_units.0 given.book.now (with_price given.leaf.now step.place step.price) (get_or given.book.now.lines line d) (get_or given.ranges.now line e)
+    -ℤ least_within given.yield_units.0 given.book.now given.leaf.now (get_or given.book.now.lines line d) (get_or given.ranges.now line e)
+    → change +ℤ own ≡ grown given step (line + 1)
+grown-next given step line change own d e few so_far own_is =
+    let lines = given.book.now.lines in
+    let ranges = given.ranges.now in
+    let same = room-length lines ranges given.room in
+    change-more (λ p. least_within given.yield_units.0 given.book.now (with_price given.leaf.now step.place step.price) p.0 p.1) (λ p. least_within given.yield_units.0 given.book.now given.leaf.now p.0 p.1)
+    change own lines ranges line (get_or lines line d) (get_or ranges line e) few same (get_or_default lines line d (get_or lines line d) few)
+    (get_or_default ranges line e (get_or ranges line e) (omega (arith, few, same))) so_far own_is
 
 -- lines that don't pay for the need add what they added
-pub grown-aside : (n : ℕ) (book : BookContents) (ranges : List Interval) (leaf : Leaf) (place price : ℕ) (payers : List ℕ) (from gap to : ℕ) (change : ℤ)
-    → length leaf.prices ≡ length book.needs → length book.lines ≡ length ranges → ArePayers book (length book.lines) place payers
-    → to ≡ from + gap → to ≤ length book.lines → ((line : ℕ) → from ≤ line → line < to → Contains payers line → ⊥)
-    → change ≡ grown (λ p. least_within n book (with_price leaf place price) p.0 p.1) (λ p. least_within n book leaf p.0 p.1) (zip book.lines ranges) from
-    → change ≡ grown (λ p. least_within n book (with_price leaf place price) p.0 p.1) (λ p. least_within n book leaf p.0 p.1) (zip book.lines ranges) to
-grown-aside n book ranges leaf place price payers from zero to change prices same are at few none so_far =
-    subst (λ k. change ≡ grown (λ p. least_within n book (with_price leaf place price) p.0 p.1) (λ p. least_within n book leaf p.0 p.1) (zip book.lines ranges) k) (omega arith) so_far
-grown-aside n book ranges leaf place price payers from (suc gap) to change prices same are at few none so_far =
-    let line = get_or book.lines from some-line in
-    let interval = get_or ranges from no-units in
-    let aside = are.others from some-line (omega arith) (none from (omega arith) (omega arith)) in
-    let more = change-more (λ p. least_within n book (with_price leaf place price) p.0 p.1) (λ p. least_within n book leaf p.0 p.1) change (pos 0) book.lines ranges from line interval
-    (omega arith) same (get_or_default book.lines from some-line line (omega arith)) (get_or_default ranges from no-units interval (omega arith)) so_far
-    (nothing (least_within n book (with_price leaf place price) line interval) (least_within n book leaf line interval) (least-aside n book leaf place price line interval prices aside)) in
-    grown-aside n book ranges leaf place price payers (from + 1) gap to change prices same are (omega arith) few (λ k ge lt. none k (omega arith) lt) (unchanged change ∙ more)
+pub grown-aside : (given : Given) (step : PriceStep) (from gap to : ℕ) (change : ℤ) → IsStepOf given step → to ≡ from + gap → to ≤ length given.book.now.lines
+    → ((line : ℕ) → from ≤ line → line < to → Contains step.lines.now line → ⊥) → change ≡ grown given step from → change ≡ grown given step to
+grown-aside given step from zero to change is at few none so_far = subst (λ k. change ≡ grown given step k) (omega arith) so_far
+grown-aside given step from (suc gap) to change is at few none so_far =
+    let line = get_or given.book.now.lines from some-line in
+    let interval = get_or given.ranges.now from no-units in
+    let aside = is.payers.others from some-line (omega arith) (none from (omega arith) (omega arith)) in
+    let own = least-aside given.yield_units.0 given.book.now given.leaf.now step.place step.price line interval given.well_formed.every_date aside in
+    let more = grown-next given step from change (pos 0) some-line no-units (omega arith) so_far (nothing _ _ own) in
+    grown-aside given step (from + 1) gap to change is (omega arith) few (λ k ge lt. none k (omega arith) lt) (unchanged change ∙ more)
   where
     nothing : (a b : ℤ) → a ≡ b → pos 0 ≡ a -ℤ b
     nothing a b e = omega (arith, ints)
@@ -116,16 +125,13 @@ grown-aside n book ranges leaf place price payers from (suc gap) to change price
     unchanged a = omega (arith, ints)
 
 -- the next line that pays
-pub grown-more : (n : ℕ) (book : BookContents) (ranges : List Interval) (leaf : Leaf) (place price : ℕ) (payers : List ℕ) (from line : ℕ) (change own : ℤ) (d : Line) (e : Interval)
-    → length leaf.prices ≡ length book.needs → length book.lines ≡ length ranges → ArePayers book (length book.lines) place payers
-    → from ≤ line → line < length book.lines → ((k : ℕ) → from ≤ k → k < line → Contains payers k → ⊥)
-    → change ≡ grown (λ p. least_within n book (with_price leaf place price) p.0 p.1) (λ p. least_within n book leaf p.0 p.1) (zip book.lines ranges) from
-    → own ≡ least_within n book (with_price leaf place price) (get_or book.lines line d) (get_or ranges line e) -ℤ least_within n book leaf (get_or book.lines line d) (get_or ranges line e)
-    → change +ℤ own ≡ grown (λ p. least_within n book (with_price leaf place price) p.0 p.1) (λ p. least_within n book leaf p.0 p.1) (zip book.lines ranges) (line + 1)
-grown-more n book ranges leaf place price payers from line change own d e prices same are to few none so_far own_is =
-    change-more (λ p. least_within n book (with_price leaf place price) p.0 p.1) (λ p. least_within n book leaf p.0 p.1) change own book.lines ranges line (get_or book.lines line d) (get_or ranges line e)
-    few same (get_or_default book.lines line d (get_or book.lines line d) few) (get_or_default ranges line e (get_or ranges line e) (omega (arith, few, same)))
-    (grown-aside n book ranges leaf place price payers from (line - from) line change prices same are (omega arith) (omega arith) none so_far) own_is
+pub grown-more : (given : Given) (step : PriceStep) (from line : ℕ) (change own : ℤ) (d : Line) (e : Interval) → IsStepOf given step → from ≤ line → line < length given.book.now.lines
+    → ((k : ℕ) → from ≤ k → k < line → Contains step.lines.now k → ⊥) → change ≡ grown given step from
+    → own ≡ least_within given.yield_units.0 given.book.now (with_price given.leaf.now step.place step.price) (get_or given.book.now.lines line d) (get_or given.ranges.now line e)
+    -ℤ least_within given.yield_units.0 given.book.now given.leaf.now (get_or given.book.now.lines line d) (get_or given.ranges.now line e)
+    → change +ℤ own ≡ grown given step (line + 1)
+grown-more given step from line change own d e is to few none so_far own_is =
+    grown-next given step line change own d e few (grown-aside given step from (line - from) line change is (omega arith) (omega arith) none so_far) own_is
 
 -- no line pays between the last one that was looked at and the next one
 pub none-between : (payers : List ℕ) (index from line : ℕ) → AllPairs (λ earlier later. earlier < later) payers → index < length payers

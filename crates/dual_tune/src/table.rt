@@ -3,9 +3,10 @@ ghost use Rattle.std.specs.Prelude.{All, ◌≡◌, ◌*◌, ◌<◌, ◌≤◌,
 ghost use Rattle.dual_bound.specs.LeafBound.{priced_needs as priced_needs_of};
 ghost use Rattle.dual_bound.specs.Tree.{IsLeaf, with_price};
 ghost use Rattle.dual_tune.specs.Payers.{ArePayersByDate};
-ghost use Rattle.dual_tune.specs.Steps.{price_beside as price_beside_of, with_weight};
-ghost use Rattle.dual_tune.specs.Table.{AreDateForms, AreFormsOf, AreLineForms, AreStepForms, AreWeightForms, HasRoomForLines, HasRoomForPayers, HasTableRoom, HasWeightRoom, IsTable, forms_beside, weight_forms as weight_forms_of};
+ghost use Rattle.dual_tune.specs.Steps.{mu_of_weight, price_beside as price_beside_of, with_weight};
+ghost use Rattle.dual_tune.specs.Table.{AreDateForms, AreFormsOf, AreLineForms, AreStepForms, HasRoomForLines, HasRoomForPayers, HasTableRoom, HasWeightRoom, IsTable, forms_beside, weight_forms as weight_forms_of};
 ghost use Rattle.dual_tune.specs.declared.payers.Payers.{Payers as PayersOf};
+ghost use Rattle.dual_tune.specs.declared.steps.Weight.{Weight as WeightOf};
 ghost use Rattle.dual_tune.specs.declared.table.DateForms.{DateForms as DateFormsOf};
 
 use crate::payers::{Payers, payers_by_date};
@@ -208,7 +209,9 @@ impl LineForms {
         requires room { HasWeightRoom lines self.old }
         ensures columns { columns.new ≡ record { book = columns.old.book; yield_units = columns.old.yield_units; leaf = leaf.old } }
         ensures leaf { leaf.new ≡ leaf.old }
-        ensures forms { AreWeightForms columns.old.yield_units columns.old.book leaf.old self.new }
+        ensures room { HasWeightRoom lines self.new }
+        ensures given { AreLineForms columns.old.yield_units columns.old.book leaf.old self.new.given.items }
+        ensures weights { (weight : WeightOf) → AreLineForms columns.old.yield_units columns.old.book (with_weight leaf.old (mu_of_weight weight)) (weight_forms_of self.new weight) }
     {
         let own = leaf.mu;
         let nothing = mu_of(Weight::Nothing);

@@ -1,6 +1,6 @@
 use mir.Syntax.{w128}
 use mir.Val.{to_z}
-use Rattle.std.proofs.Common.{◌≡◌, ◌∙◌, ◌<◌, ◌≤◌, ◌+◌, ◌-◌, length, get_or, ap, arith, pos, ◌+ℤ◌, ◌-ℤ◌}
+use Rattle.std.proofs.Common.{◌∙◌, ◌<◌, ◌≤◌, ◌+◌, ◌-◌, length, get_or, ap, arith, pos, ◌+ℤ◌, ◌-ℤ◌, List}
 use Rattle.std.proofs.lemmas.Int.{ints}
 use Rattle.std.proofs.lemmas.List.{take_all}
 use Rattle.std.proofs.lemmas.Slice.Zip.{length-zip}
@@ -9,6 +9,7 @@ use Rattle.offer_book.specs.declared.line.Line.{Line}
 use Rattle.dual_bound.specs.LeafBound.{least_within, signed_sum}
 use Rattle.dual_bound.specs.Tree.{with_price}
 use Rattle.dual_bound.specs.declared.ranges.Interval.{Interval}
+use Rattle.dual_bound.specs.declared.tree.Leaf.{Leaf}
 use Rattle.dual_bound.proofs.BoundSizes.{lines-few, room-length}
 use Rattle.dual_bound.proofs.Signed.{read-again}
 use Rattle.dual_bound.proofs.TableauFacts.{some-line}
@@ -32,10 +33,7 @@ change-more-requires-clause-before c =
 pub loop-payer-preserved : goal.loop-payer-preserved
 loop-payer-preserved c =
     let given = c.args.given.now in
-    let n = given.yield_units.0 in
-    let book = given.book.now in
-    let lines = book.lines in
-    let ranges = given.ranges.now in
+    let lines = given.book.now.lines in
     let step = c.args.step.now in
     let stepped = with_price given.leaf.now step.place step.price in
     let none : Interval = record { low = 0; high = 0 } in
@@ -46,22 +44,18 @@ loop-payer-preserved c =
     let payers = c.requires.step.payers in
     let reach : from ≤ line = c.loop-payer.invariant.5 index (omega arith) c.loop-payer-test.true in
     let few : line < length lines = payers.there index 0 c.loop-payer-test.true in
-    let same : length lines ≡ length ranges = room-length lines ranges given.room in
-    let most = lines-few book.days lines c.requires.limits.lines in
+    let most = lines-few given.book.now.days lines c.requires.limits.lines in
     let own = read-again c.change-more.result (omega (arith, c.change-more.ensures.size)) in
     let whole = read-again _ (omega (arith, ints, own, most, c.loop-payer.invariant.1, c.loop-payer.invariant.3, c.change-more.ensures.size)) in
     let value = whole ∙ ap (λ z. to_z w128 c.loop-payer.more-bits +ℤ z) own in
     let kept = ap (λ k. (get_or c.args.leasts.now k least).least) c.from.ensures ∙ c.requires.leasts.value line some-line none least few in
-    let added = read-again c.line_least-least.result (omega (arith, c.line_least-least.ensures.size))
-    ∙ c.line_least-least.ensures.value some-line none stepped (step-form given c.args.columns.now.leaf step index (record { slope = pos 0; slack = 0 }) c.requires.step c.requires.priced c.loop-payer-test.true) in
-    let term : c.change-more.result ≡ least_within n book stepped (get_or lines line some-line) (get_or ranges line none)
-    -ℤ least_within n book given.leaf.now (get_or lines line some-line) (get_or ranges line none) =
-    c.change-more.ensures.value ∙ (λ i. added i -ℤ kept i) in (
+    let is = step-form given c.args.columns.now.leaf step index (record { slope = pos 0; slack = 0 }) c.requires.step c.requires.priced c.loop-payer-test.true in
+    let added = read-again c.line_least-least.result (omega (arith, c.line_least-least.ensures.size)) ∙ c.line_least-least.ensures.value some-line none stepped is in (
       line + 1,
       omega (arith, few),
-      value ∙ grown-more n book ranges given.leaf.now step.place step.price step.lines.now from line (to_z w128 c.loop-payer.more-bits) c.change-more.result some-line none
-          given.well_formed.every_date same payers reach few (λ k ge lt. none-between step.lines.now index from k payers.rising c.loop-payer-test.true c.loop-payer.invariant.4 ge lt)
-          c.loop-payer.invariant.2 term,
+      value ∙ grown-more given step from line (to_z w128 c.loop-payer.more-bits) c.change-more.result some-line none c.requires.step reach few
+          (λ k ge lt. none-between step.lines.now index from k payers.rising c.loop-payer-test.true c.loop-payer.invariant.4 ge lt) c.loop-payer.invariant.2
+          (c.change-more.ensures.value ∙ (λ i. added i -ℤ kept i)),
       omega (arith, ints, value, reach, c.loop-payer.invariant.3, c.change-more.ensures.size),
       up-to step.lines.now index payers.rising c.loop-payer-test.true,
       behind step.lines.now index payers.rising,
@@ -72,18 +66,14 @@ returns-clause-value c =
     let given = c.args.given.now in
     let n = given.yield_units.0 in
     let book = given.book.now in
-    let lines = book.lines in
     let ranges = given.ranges.now in
     let step = c.args.step.now in
     let from = c.loop-payer.invariant.0 in
-    let f = λ (p : Line × Interval). least_within n book (with_price given.leaf.now step.place step.price) p.0 p.1 in
-    let g = λ (p : Line × Interval). least_within n book given.leaf.now p.0 p.1 in
-    let same : length lines ≡ length ranges = room-length lines ranges given.room in
-    let all = take_all (length lines) (zip lines ranges) (omega (arith, length-zip lines ranges, same)) in
-    grown-aside n book ranges given.leaf.now step.place step.price step.lines.now from (length lines - from) (length lines) (to_z w128 c.loop-payer.more-bits)
-    given.well_formed.every_date same c.requires.step.payers (omega (arith, c.loop-payer.invariant.1)) (omega arith)
+    let all = take_all (length book.lines) (zip book.lines ranges) (omega (arith, length-zip book.lines ranges, room-length book.lines ranges given.room)) in
+    let worth = λ (leaf : Leaf) (parts : List (Line × Interval)). signed_sum (λ p. least_within n book leaf p.0 p.1) parts in
+    grown-aside given step from (length book.lines - from) (length book.lines) (to_z w128 c.loop-payer.more-bits) c.requires.step (omega (arith, c.loop-payer.invariant.1)) (omega arith)
     (λ line ge lt. none-behind step.lines.now c.loop-payer.payer from line c.loop-payer-test.false c.loop-payer.invariant.4 ge) c.loop-payer.invariant.2
-    ∙ (λ i. signed_sum f (all i) -ℤ signed_sum g (all i))
+    ∙ (λ i. worth (with_price given.leaf.now step.place step.price) (all i) -ℤ worth given.leaf.now (all i))
 
 pub returns-clause-size : goal.returns-clause-size
 returns-clause-size c =
