@@ -1,5 +1,5 @@
 -- The cheapest plan that a search starts with.
-use Rattle.std.proofs.Common.{◌≡◌, ℕ, ◌≤◌, List, Ok, Err, Some, None, true, false, sym, subst, inl, inr, arith}
+use Rattle.std.proofs.Common.{◌≡◌, ℕ, ◌≤◌, List, Ok, Err, Some, None, false, sym, subst, inl, inr, arith}
 use Rattle.std.specs.Prelude.{IfOk, MatchOption, Option, Result}
 use Rattle.backward_build.specs.BackwardPlan.{backward_plan}
 use Rattle.backward_build.specs.declared.backward.BuildEnd.{BuildEnd}

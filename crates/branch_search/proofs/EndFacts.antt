@@ -1,9 +1,6 @@
 -- How a search starts and ends: the tree of the root alone, and what a tree comes to once it has ended.
-use Rattle.std.proofs.Common.{◌≡◌, ◌∙◌, ◌⊎◌, inl, inr, ℕ, zero, suc, ◌+◌, ◌-◌, ◌^◌, ◌<◌, ◌≤◌, ℤ, pos, ◌-ℤ◌, ◌≤ℤ◌, true, false, List, [], ◌∷◌, length, refl, sym, ap, subst, arith, Option, Some, None, unsigned_abs}
-use Rattle.std.specs.List.{All}
-use Rattle.std.proofs.lemmas.Bool.{cases_lt}
+use Rattle.std.proofs.Common.{◌≡◌, ℕ, zero, suc, ◌-◌, ◌^◌, ◌<◌, ℤ, pos, ◌≤ℤ◌, List, [], ◌∷◌, refl, sym, subst, arith, Option, Some, None, unsigned_abs}
 use Rattle.std.proofs.lemmas.Int.{ints}
-use Rattle.std.proofs.lemmas.List.{get_or_past}
 use Rattle.std.proofs.lemmas.List.Elements.{All-get_or}
 use Rattle.case_file.specs.Case.{CaseContents}
 use Rattle.dual_bound.proofs.BoundSizes.{bound-small}
@@ -11,18 +8,15 @@ use Rattle.dual_bound.proofs.RangeFacts.{tight-ordered, tight-room}
 use Rattle.dual_bound.specs.Ranges.{AreTight, root_of}
 use Rattle.dual_bound.specs.declared.ranges.Interval.{Interval}
 use Rattle.dual_bound.specs.declared.tree.TreeNode.{TreeNode}
-use Rattle.escrow_check.specs.Acceptance.{bears_out}
 use Rattle.node_pool.specs.Pool.{IsOneTree, SplitsAreWhole, state_at}
-use Rattle.node_pool.specs.Way.{IsStep, IsWay, Step, ranges_at}
+use Rattle.node_pool.specs.Way.{IsWay, Step, ranges_at}
 use Rattle.node_pool.specs.declared.node.NodeId.{NodeId}
 use Rattle.node_pool.specs.declared.node.State.{State}
 use Rattle.node_pool.specs.declared.node.State.TheVariants as state
 use Rattle.offer_book.specs.Book.{IsBook}
-use Rattle.search_tree.proofs.SpentFacts.{bound-of}
 use Rattle.search_tree.proofs.Ways.{some-way}
 use Rattle.search_tree.specs.Growing.{HasGrown, IsAt, IsNodeAt, IsPriced, IsStuck, no_node, node_of}
 use Rattle.search_tree.specs.Laws.{IsClosedTree, IsFull}
-use Rattle.search_tree.specs.Shows.{IsBoundOf}
 use Rattle.search_tree.specs.Tree.{AreNodesOf, IsDrained, TreeContents, new_tree, open_node}
 use Rattle.search_tree.specs.declared.node.Priced.{Priced}
 use Rattle.search_tree.specs.declared.node.SearchNode.{SearchNode}

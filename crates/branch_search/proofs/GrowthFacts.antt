@@ -1,5 +1,5 @@
 -- What is known at the nodes of a tree while it grows, and once it has ended.
-use Rattle.std.proofs.Common.{◌≡◌, ◌∙◌, ◌⊎◌, inl, inr, ℕ, ◌+◌, ◌-◌, ◌*◌, ◌^◌, ◌<◌, ◌≤◌, ℤ, pos, ◌≤ℤ◌, Bool, true, false, List, [], ◌∷◌, ◌++◌, length, set, refl, sym, ap, subst, arith, Option, Some, None, unsigned_abs, cond}
+use Rattle.std.proofs.Common.{◌≡◌, ◌∙◌, inl, inr, ℕ, ◌+◌, ◌-◌, ◌^◌, ◌<◌, ◌≤◌, ℤ, ◌≤ℤ◌, Bool, true, false, List, [], ◌∷◌, ◌++◌, length, set, refl, sym, ap, subst, arith, Option, unsigned_abs, cond}
 use Rattle.std.specs.List.{All, count_by}
 use Rattle.std.proofs.lemmas.Bool.{cases_lt}
 use Rattle.std.proofs.lemmas.Int.{ints}
@@ -13,8 +13,7 @@ use Rattle.dual_bound.proofs.RangeLaws.{root_is_tight, sides_are_tight}
 use Rattle.dual_bound.specs.LeafBound.{bound_of}
 use Rattle.dual_bound.specs.Ranges.{AreTight, is_proper, narrowed}
 use Rattle.dual_bound.specs.declared.ranges.Interval.{Interval}
-use Rattle.halving_tree.specs.Base.{base_leaf}
-use Rattle.halving_tree.specs.Halving.{IsHalved, is_end}
+use Rattle.halving_tree.specs.Halving.{IsHalved}
 use Rattle.node_pool.proofs.PoolFacts.{count-set, one_if}
 use Rattle.node_pool.proofs.WayFacts.{ways-tight}
 use Rattle.node_pool.specs.Pool.{IsInHand, IsLeast, IsOneTree, NoneInHand, NoneWaits, SplitsAreWhole, is_waiting, state_at, with_state}
@@ -30,7 +29,7 @@ use Rattle.search_tree.proofs.Rising.{bound-rises}
 use Rattle.search_tree.proofs.SpentFacts.{goes-on}
 use Rattle.search_tree.proofs.Ways.{some-way}
 use Rattle.search_tree.specs.Best.{CoversBackward, IsNoDearer}
-use Rattle.search_tree.specs.Growing.{GoesOn, HasGrown, IsAt, IsClosedBy, IsGrown, IsHeld, IsKept, IsNodeAt, IsPopped, IsPriced, IsSplitNode, IsStuck, IsTried, no_node, node_of, obeys}
+use Rattle.search_tree.specs.Growing.{GoesOn, HasGrown, IsAt, IsClosedBy, IsGrown, IsHeld, IsNodeAt, IsPopped, IsPriced, IsTried, no_node, node_of, obeys}
 use Rattle.search_tree.specs.Tree.{HaveOwnNumbers, IsDrained, IsDrainedNode, TreeContents, closed_tree, open_node, split_tree, waiting_tree}
 use Rattle.search_tree.specs.declared.node.Closing.{Closing}
 use Rattle.search_tree.specs.declared.node.Closing.TheVariants as closing

@@ -5,6 +5,7 @@ pub mod FoundFacts
 mod GapFacts
 mod GrowthFacts
 mod NoneFacts
+mod OutcomeFacts
 mod PartFacts
 pub mod PlanBuys
 mod ResultFacts

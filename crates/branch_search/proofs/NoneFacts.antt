@@ -1,5 +1,5 @@
 -- A tree that shows that there is no rival, and the halving tree of plain cases.
-use Rattle.std.proofs.Common.{◌≡◌, ◌∙◌, ◌⊎◌, inl, inr, ℕ, ◌+◌, ◌-◌, ◌*◌, ◌<◌, ◌≤◌, ℤ, pos, ◌-ℤ◌, ◌*ℤ◌, ◌≤ℤ◌, ◌<ℤ◌, Bool, true, false, ◌||◌, if◌then◌else◌, List, [], ◌∷◌, length, replicate, refl, sym, ap, subst, arith, Option, Some, None, Result, Ok, Err}
+use Rattle.std.proofs.Common.{◌≡◌, ◌∙◌, inl, inr, ℕ, ◌-◌, ◌*◌, ◌≤◌, ℤ, pos, ◌-ℤ◌, ◌*ℤ◌, ◌<ℤ◌, Bool, true, false, ◌||◌, if◌then◌else◌, List, [], ◌∷◌, length, replicate, refl, sym, ap, subst, arith, Some, None, Result, Ok, Err}
 use Rattle.std.specs.Prelude.{IfErr, unwrap_or}
 use Rattle.std.specs.List.{All}
 use Rattle.std.proofs.lemmas.Bool.{cases_lt}
@@ -18,14 +18,13 @@ use Rattle.dual_bound.specs.declared.prices.TheConstants.{PRICE_SCALE}
 use Rattle.dual_bound.specs.declared.ranges.Interval.{Interval}
 use Rattle.dual_bound.specs.declared.tree.Leaf.{Leaf}
 use Rattle.dual_bound.specs.declared.tree.TreeNode.{TreeNode}
-use Rattle.dual_bound.specs.declared.tree.TreeNode.TheVariants as node
-use Rattle.escrow_check.specs.Acceptance.{Claim, bears_out, is_closed_point, is_weak, low_ends, placed_nodes}
+use Rattle.escrow_check.specs.Acceptance.{Claim, bears_out, placed_nodes}
 use Rattle.escrow_units.specs.declared.limits.TheConstants.{GREATEST_YIELD}
 use Rattle.halving_tree.specs.Base.{base_leaf}
-use Rattle.halving_tree.specs.Halving.{End, HasMoreNodes, IsUpperPart, Split as Halved, Splits, backward_claim, claim_within, is_borne_out, is_end, is_unreached, node_count}
+use Rattle.halving_tree.specs.Halving.{End, IsUpperPart, Split as Halved, Splits, claim_within, is_borne_out, is_end, is_unreached, node_count}
 use Rattle.node_pool.specs.Tree.{Tree}
 use Rattle.offer_book.specs.Book.{IsBook}
-use Rattle.offer_book.specs.Portfolio.{Meets, cost}
+use Rattle.offer_book.specs.Portfolio.{cost}
 use Rattle.offer_book.specs.declared.coefficients.TheConstants.{COEFFICIENT_SCALE}
 use Rattle.plain_case.proofs.GapFacts.{plain_gap_holds}
 use Rattle.search_tree.proofs.EndFacts.{IsWritten, all-at, ends-end, ends_of, written}
@@ -36,7 +35,7 @@ use Rattle.search_tree.proofs.Shape.{all-placed}
 use Rattle.search_tree.specs.Growing.{IsClosedBy, no_node, node_of, obeys}
 use Rattle.halving_tree.specs.declared.rule.SplitRule.{SplitRule}
 use Rattle.branch_search.specs.Plain.{IsPlainWithin, PlainAreSettled}
-use Rattle.branch_search.specs.Search.{EndsOf, IsNoDearerThanBackward, IsNoneFound, OfBackward}
+use Rattle.branch_search.specs.Search.{EndsOf, IsNoDearerThanBackward, IsNoneFound}
 use Rattle.branch_search.specs.declared.found.Found.{Found}
 use Rattle.branch_search.specs.declared.found.SearchEnd.{SearchEnd}
 use Rattle.search_tree.specs.Shows.{IsNoPlan}

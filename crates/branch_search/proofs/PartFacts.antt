@@ -1,10 +1,9 @@
 -- What a search finds at the node in hand, and how the best plan goes on.
-use Rattle.std.proofs.Common.{◌≡◌, ◌∙◌, ◌⊎◌, inl, inr, ℕ, zero, suc, ◌-◌, ◌<◌, ◌≤◌, ℤ, pos, ◌≤ℤ◌, Bool, true, false, ◌&&◌, ◌||◌, List, [], ◌∷◌, length, set, get_or, refl, sym, ap, subst, arith, Option, Some, None, Result, Ok, Err}
+use Rattle.std.proofs.Common.{◌≡◌, ◌∙◌, inl, inr, ℕ, zero, suc, ◌-◌, ◌<◌, ◌≤◌, ℤ, pos, ◌≤ℤ◌, Bool, true, false, ◌&&◌, ◌||◌, List, [], ◌∷◌, length, set, get_or, refl, sym, ap, subst, arith, Option, Some, None, Result, Ok, Err}
 use Rattle.std.specs.Prelude.{IfOk, MatchOption, OnOk, int_le, int_lt, option_map}
 use Rattle.std.proofs.lemmas.Bool.{cases_lt}
 use Rattle.std.proofs.lemmas.Int.{ints}
 use Rattle.std.proofs.lemmas.List.{get_or_default}
-use Rattle.backward_build.specs.BackwardPlan.{backward_plan}
 use Rattle.case_file.specs.Case.{CaseContents}
 use Rattle.cash_table.specs.First.{first_short_of}
 use Rattle.cash_table.proofs.DayFacts.{first_short_is}
@@ -18,7 +17,7 @@ use Rattle.dual_bound.specs.declared.ranges.Interval.{Interval}
 use Rattle.dual_bound.specs.declared.tree.Leaf.{Leaf}
 use Rattle.dual_tune.specs.Steps.{HasNoGreater, IsImproved, zeros_like}
 use Rattle.dual_tune.specs.Tuner.{TunerContents}
-use Rattle.escrow_check.specs.Acceptance.{costs_enough, is_closed_point, low_ends}
+use Rattle.escrow_check.specs.Acceptance.{costs_enough, low_ends}
 use Rattle.halving_tree.specs.Base.{base_leaf, reach_leaf}
 use Rattle.halving_tree.specs.Halving.{high_ends, is_short_by, is_unreached}
 use Rattle.offer_book.specs.Book.{BookContents, IsBook}
@@ -30,7 +29,7 @@ use Rattle.search_tree.proofs.ZeroFacts.{zeros-some}
 use Rattle.search_tree.specs.Best.{CoversBackward, IsAtMost, IsNoDearer}
 use Rattle.search_tree.specs.Growing.{IsLostPoint, IsPriced}
 use Rattle.branch_search.specs.Parts.{IsCounted}
-use Rattle.branch_search.specs.Search.{CostsNoLess, IsNoDearerThanBackward, OfBackward}
+use Rattle.branch_search.specs.Search.{IsNoDearerThanBackward}
 
 -- ---- what a node's leaf is
 tuned-improved : (case : CaseContents) (tuner : TunerContents) (base leaf : Leaf) (ranges : List Interval) → tuner ≡ record { book = case.book; yield_units = case.limit - 1 } → base ≡ base_leaf case.book

@@ -1,44 +1,29 @@
 -- What a search comes to, from its tree.
-use Rattle.std.proofs.Common.{◌≡◌, ◌≢◌, ◌∙◌, ◌⊎◌, inl, inr, ℕ, zero, suc, ◌+◌, ◌-◌, ◌*◌, ◌^◌, ◌<◌, ◌≤◌, ℤ, pos, ◌-ℤ◌, ◌*ℤ◌, ◌≤ℤ◌, ◌<ℤ◌, Bool, true, false, not, ◌&&◌, ◌||◌, if◌then◌else◌, List, [], ◌∷◌, ◌++◌, length, map, get_or, refl, sym, ap, subst, arith, Option, Some, None}
-use Rattle.std.specs.Prelude.{IsTrue, int_lt, option_map}
+use Rattle.std.proofs.Common.{◌≡◌, ◌∙◌, ◌⊎◌, inl, inr, ℕ, ◌-◌, ◌<◌, ◌≤◌, ℤ, pos, ◌-ℤ◌, Bool, true, false, ◌&&◌, ◌||◌, List, length, refl, sym, ap, subst, arith, Some}
 use Rattle.std.specs.List.{All}
 use Rattle.std.proofs.lemmas.Bool.{cases_lt}
 use Rattle.std.proofs.lemmas.Int.{ints}
 use Rattle.std.proofs.lemmas.List.{get_or_past}
-use Rattle.std.proofs.lemmas.List.Elements.{All-nil}
-use Rattle.bound_certificate.specs.Certificate.{IsWellFormed}
 use Rattle.case_file.specs.Case.{CaseContents}
-use Rattle.cash_table.specs.Points.{is_excluded, is_within_limit}
-use Rattle.dual_bound.specs.Ranges.{is_single, root_of}
-use Rattle.dual_bound.specs.Tree.{AreTrees}
+use Rattle.cash_table.specs.Points.{is_excluded}
+use Rattle.dual_bound.specs.Ranges.{is_single}
 use Rattle.dual_bound.specs.declared.ranges.Interval.{Interval}
-use Rattle.dual_bound.specs.declared.tree.Leaf.{Leaf}
 use Rattle.dual_bound.specs.declared.tree.TreeNode.{TreeNode}
-use Rattle.dual_bound.specs.declared.tree.TreeNode.TheVariants as node
-use Rattle.dual_bound.specs.LeafBound.{bound_of}
-use Rattle.escrow_check.specs.Acceptance.{Claim, bears_out, claim_of, costs_enough, is_closed_leaf, is_closed_point, is_weak, low_ends, placed_nodes}
-use Rattle.escrow_check.specs.Reasons.{IsProper, IsSoundTree, IsUnopposed}
+use Rattle.escrow_check.specs.Acceptance.{Claim, bears_out, claim_of, costs_enough, is_closed_point, is_weak, low_ends, placed_nodes}
 use Rattle.escrow_units.specs.declared.limits.TheConstants.{AMOUNT_LIMIT}
-use Rattle.node_pool.specs.Pool.{IsOneTree, SplitsAreWhole, state_at}
-use Rattle.node_pool.specs.Tree.{AreEnded, IsEnded, IsTreeOf, Tree}
-use Rattle.node_pool.specs.Way.{IsWay, Step, ranges_at}
-use Rattle.node_pool.specs.declared.node.State.{State}
-use Rattle.node_pool.specs.declared.node.State.TheVariants as state
-use Rattle.offer_book.specs.Book.{IsBook}
-use Rattle.offer_book.specs.Portfolio.{IsPermitted, Meets, cost}
+use Rattle.node_pool.specs.Tree.{Tree}
+use Rattle.offer_book.specs.Portfolio.{cost}
 use Rattle.search_tree.proofs.ClosedFacts.{borne-node, gap-allowed, node-bears}
 use Rattle.search_tree.proofs.EndFacts.{IsWritten, written}
 use Rattle.search_tree.proofs.LawFacts.{closed_trees_show}
 use Rattle.search_tree.specs.Laws.{IsClosedTree, ShowsClaim}
 use Rattle.branch_search.proofs.PlanBuys.{plan-again, plan-bought, plan-buys_well}
-use Rattle.search_tree.specs.Growing.{HasGrown, IsAt, IsBought, IsClosedBy, IsGrown, IsKept, IsNodeAt, IsPriced, IsSplitNode, claim_of_best, no_node, node_of, obeys}
+use Rattle.search_tree.specs.Growing.{IsBought, no_node, node_of, obeys}
 use Rattle.halving_tree.specs.declared.rule.SplitRule.{SplitRule}
-use Rattle.branch_search.specs.Purchases.{certificate_of, certificate_of_none}
+use Rattle.branch_search.specs.Purchases.{certificate_of}
 use Rattle.cash_table.specs.Reach.{IsInReach}
 use Rattle.branch_search.specs.Search.{CostsNoLess, IsFound, IsFoundBy, IsNoDearerThanBackward, OfBackward}
-use Rattle.search_tree.specs.Shows.{HoldsBound, IsNoPlan, IsRaised}
-use Rattle.search_tree.specs.Tree.{IsBorneBy, IsLeastGap, IsNeededFor, SomeNeeds, TreeContents, end_by, end_node}
-use Rattle.search_tree.specs.declared.node.Closing.{Closing}
+use Rattle.search_tree.specs.Tree.{IsLeastGap, SomeNeeds, TreeContents}
 use Rattle.search_tree.specs.declared.node.Closing.TheVariants as closing
 use Rattle.search_tree.specs.declared.node.SearchNode.{SearchNode}
 

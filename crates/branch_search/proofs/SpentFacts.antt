@@ -1,5 +1,5 @@
 -- What trees come to whose budgets are spent.
-use Rattle.std.proofs.Common.{◌≡◌, ◌∙◌, ◌⊎◌, inl, inr, ℕ, ◌+◌, ◌-◌, ◌<◌, ◌≤◌, ℤ, pos, ◌-ℤ◌, ◌*ℤ◌, ◌≤ℤ◌, ◌<ℤ◌, Bool, true, false, not, ◌&&◌, ◌||◌, if◌then◌else◌, List, length, refl, sym, ap, subst, arith, Option, Some, None}
+use Rattle.std.proofs.Common.{◌≡◌, ◌∙◌, ◌⊎◌, inl, inr, ℕ, ◌+◌, ◌-◌, ◌<◌, ◌≤◌, ℤ, pos, ◌-ℤ◌, ◌≤ℤ◌, Bool, true, false, not, ◌&&◌, ◌||◌, if◌then◌else◌, List, length, refl, sym, ap, subst, arith, Option, Some, None}
 use Rattle.std.specs.Prelude.{IfSome, MatchOption, int_lt, option_map}
 use Rattle.std.specs.List.{All}
 use Rattle.std.proofs.lemmas.Int.{ints}
@@ -10,10 +10,9 @@ use Rattle.cash_table.specs.Reach.{IsInReach}
 use Rattle.dual_bound.specs.LeafBound.{bound_of}
 use Rattle.dual_bound.specs.Ranges.{is_single}
 use Rattle.dual_bound.specs.declared.ranges.Interval.{Interval}
-use Rattle.dual_bound.specs.declared.tree.Leaf.{Leaf}
 use Rattle.dual_bound.specs.declared.tree.TreeNode.{TreeNode}
 use Rattle.dual_bound.specs.declared.tree.TreeNode.TheVariants as node
-use Rattle.escrow_check.specs.Acceptance.{Claim, bears_out, claim_of, costs_enough, is_closed_leaf, is_closed_point, is_weak, low_ends, placed_nodes}
+use Rattle.escrow_check.specs.Acceptance.{Claim, bears_out, claim_of, costs_enough, is_weak, low_ends, placed_nodes}
 use Rattle.escrow_units.specs.declared.limits.TheConstants.{AMOUNT_LIMIT}
 use Rattle.halving_tree.specs.Halving.{HasMoreNodes}
 use Rattle.halving_tree.specs.declared.rule.SplitRule.{SplitRule}
@@ -23,12 +22,12 @@ use Rattle.offer_book.specs.Portfolio.{cost}
 use Rattle.search_tree.proofs.LawFacts.{full_trees_show}
 use Rattle.search_tree.specs.Growing.{IsBought, IsHalvingSplit, obeys}
 use Rattle.search_tree.specs.Laws.{IsFull, ShowsBound}
-use Rattle.search_tree.specs.Shows.{HoldsBound, IsBoundOf}
+use Rattle.search_tree.specs.Shows.{IsBoundOf}
 use Rattle.search_tree.specs.Tree.{AreNodesOf, TreeContents}
 use Rattle.branch_search.proofs.PlanBuys.{plan-again, plan-bought, plan-buys_well}
 use Rattle.branch_search.specs.Purchases.{certificate_of}
 use Rattle.branch_search.specs.Runs.{IsSpentRun}
-use Rattle.branch_search.specs.declared.runs.Shown.{Shown}
+use Rattle.branch_search.specs.declared.growing.Shown.{Shown}
 use Rattle.branch_search.specs.Search.{CostsNoLess, IsFound, IsFoundBy, IsNoDearerThanBackward, IsOverBound, IsShown, IsSpent, OfBackward}
 
 -- ---- one tree

@@ -1,5 +1,5 @@
 -- The node that is taken, before and after it is tried.
-use Rattle.std.proofs.Common.{◌≡◌, ◌∙◌, ℕ, ℤ, List, sym, ap, subst, Option}
+use Rattle.std.proofs.Common.{◌≡◌, ℕ, List, sym, subst}
 use Rattle.case_file.specs.Case.{CaseContents}
 use Rattle.dual_bound.specs.declared.ranges.Interval.{Interval}
 use Rattle.halving_tree.specs.declared.rule.SplitRule.{SplitRule}

@@ -1,5 +1,5 @@
 -- What a search holds. It is this project's own.
-use Rattle.std.specs.Prelude.{◌≡◌, ℕ, ◌-◌, ◌≤◌, true, List, length, Option, Some, None, option_map, IfSome}
+use Rattle.std.specs.Prelude.{◌≡◌, ℕ, ◌-◌, true, List, length, Option, option_map, IfSome}
 use Rattle.case_file.specs.Case.{CaseContents}
 use Rattle.cash_table.specs.Points.{is_within_limit}
 use Rattle.dual_bound.specs.Ranges.{AreTight}
@@ -7,14 +7,13 @@ use Rattle.dual_bound.specs.Tree.{IsLeaf}
 use Rattle.dual_bound.specs.declared.ranges.Interval.{Interval}
 use Rattle.dual_bound.specs.declared.tree.Leaf.{Leaf}
 use Rattle.dual_tune.specs.Tuner.{TunerContents}
-use Rattle.escrow_units.specs.declared.limits.TheConstants.{AMOUNT_LIMIT, GREATEST_YIELD}
 use Rattle.halving_tree.specs.Base.{base_leaf}
-use Rattle.offer_book.specs.Book.{BookContents}
 use Rattle.offer_book.specs.Portfolio.{Meets, cost}
 use Rattle.plan_finder.specs.Dive.{SearchContents as FinderContents}
 use Rattle.search_tree.specs.Best.{IsAtMost}
 use Rattle.search_tree.specs.Growing.{IsBought}
-use Rattle.branch_search.specs.declared.best.Best.{Best}
+use Rattle.branch_search.specs.Search.{IsSearchable}
+use Rattle.branch_search.specs.declared.found.Best.{Best}
 
 pub record SearchContents : Type 0 where
   pub case : CaseContents
@@ -25,19 +24,17 @@ pub record SearchContents : Type 0 where
 abbrev pub best_cents : Option Best → Option ℕ
 best_cents best = option_map (λ own. own.cost.0) best
 
--- the parts of a search are for one book and limit
-pub record AreParts (book : BookContents) (limit allowance : ℕ) (tuner : TunerContents) (base reach : Leaf) (ranges : List Interval) (plan : List ℕ) (best : Option Best) (finder : FinderContents) : Type 0 where
-  pub limit_from : 1 ≤ limit
-  pub limit_to : limit ≤ GREATEST_YIELD
-  pub allowed : allowance ≤ AMOUNT_LIMIT
-  pub tuned : tuner ≡ record { book = book; yield_units = limit - 1 }
-  pub based : base ≡ base_leaf book
-  pub base_is : IsLeaf (length book.needs) base
-  pub reaches : length reach.prices ≡ length book.needs
-  pub lined : length plan ≡ length book.lines
-  pub tight : AreTight book.lines ranges
-  pub bought : IfSome best (λ own. IsBought limit book own.plan own.cost.0)
-  pub finds : finder ≡ record { book = book; limit = limit }
+-- the parts of a search are for one case
+pub record AreParts (case : CaseContents) (tuner : TunerContents) (base reach : Leaf) (ranges : List Interval) (plan : List ℕ) (best : Option Best) (finder : FinderContents) : Type 0 where
+  pub limits : IsSearchable case
+  pub tuned : tuner ≡ record { book = case.book; yield_units = case.limit - 1 }
+  pub based : base ≡ base_leaf case.book
+  pub base_is : IsLeaf (length case.book.needs) base
+  pub reaches : length reach.prices ≡ length case.book.needs
+  pub lined : length plan ≡ length case.book.lines
+  pub tight : AreTight case.book.lines ranges
+  pub bought : IfSome best (λ own. IsBought case.limit case.book own.plan own.cost.0)
+  pub finds : finder ≡ record { book = case.book; limit = case.limit }
 
 -- a search goes on with the same case and ranges
 pub record AreSameBut (before after : SearchContents) : Type 0 where

@@ -1,5 +1,5 @@
 -- The plans that a search starts with. This is this project's own.
-use Rattle.std.specs.Prelude.{◌≡◌, ◌⊎◌, ℕ, ◌≤◌, false, true, List, Ok}
+use Rattle.std.specs.Prelude.{◌≡◌, ◌⊎◌, ℕ, false, true, List, Ok}
 use Rattle.backward_build.specs.BackwardPlan.{backward_plan}
 use Rattle.cash_table.specs.Points.{is_within_limit}
 use Rattle.offer_book.specs.Book.{BookContents}

@@ -1,6 +1,6 @@
 -- How the runs of a search end: in each a tree grows from the root by one rule, until it is closed or its budget is spent. This is
 -- this project's own.
-use Rattle.std.specs.Prelude.{◌≡◌, ℕ, ◌+◌, ◌<◌, ◌≤◌, List, Option, Some}
+use Rattle.std.specs.Prelude.{◌≡◌, ℕ, ◌+◌, ◌<◌, ◌≤◌, Option, Some}
 use Rattle.case_file.specs.Case.{CaseContents}
 use Rattle.halving_tree.specs.Halving.{HasMoreNodes}
 use Rattle.halving_tree.specs.declared.rule.SplitRule.{SplitRule}
@@ -9,9 +9,9 @@ use Rattle.search_tree.specs.Best.{IsNoDearer}
 use Rattle.branch_search.specs.Search.{IsFound, IsFoundBy, IsNoneFound, IsShown}
 use Rattle.branch_search.specs.declared.found.SearchEnd.{SearchEnd}
 use Rattle.branch_search.specs.declared.found.SearchEnd.TheVariants as ended
-use Rattle.branch_search.specs.declared.runs.RunEnd.{RunEnd}
-use Rattle.branch_search.specs.declared.runs.RunEnd.TheVariants as run
-use Rattle.branch_search.specs.declared.runs.Shown.{Shown}
+use Rattle.branch_search.specs.declared.growing.RunEnd.{RunEnd}
+use Rattle.branch_search.specs.declared.growing.RunEnd.TheVariants as run
+use Rattle.branch_search.specs.declared.growing.Shown.{Shown}
 
 -- what a run's tree shows whose budget is spent, towards a best plan of so many cents: that costs more by more than the allowance; and
 -- where the rule is that of the halving tree, that has more nodes than the budget

@@ -1,9 +1,10 @@
 -- What a search comes to: a portfolio with a tree that shows how much cheaper others can be; a tree that shows that there is no rival;
 -- or, where its budget is spent, a tree and the bound that it shows. The search is this project's own.
-use Rattle.std.specs.Prelude.{◌≡◌, ℕ, ◌+◌, ◌<◌, ◌≤◌, false, true, List, All, length, Option, Ok, Some, None, IfSome, MatchOption}
+use Rattle.std.specs.Prelude.{◌≡◌, ℕ, ◌+◌, ◌<◌, ◌≤◌, false, true, List, All, length, Option, Result, Err, Ok, Some, None, IfSome, MatchOption}
 use Rattle.backward_build.specs.BackwardPlan.{backward_plan}
 use Rattle.backward_build.specs.Trim.{HasNoMore, IsTrimmed}
 use Rattle.bound_certificate.specs.Certificate.{IsNode, IsWellFormed}
+use Rattle.bound_certificate.specs.declared.limits.TheConstants.{MOST_NODES}
 use Rattle.case_file.specs.Case.{CaseContents}
 use Rattle.cash_table.specs.First.{first_short_of}
 use Rattle.cash_table.specs.Points.{is_within_limit}
@@ -13,12 +14,14 @@ use Rattle.dual_bound.specs.Tree.{AreTrees}
 use Rattle.dual_bound.specs.declared.tree.TreeNode.{TreeNode}
 use Rattle.escrow_check.specs.Acceptance.{placed_nodes}
 use Rattle.escrow_check.specs.Reasons.{IsSoundTree, IsUnopposed}
+use Rattle.escrow_units.specs.declared.limits.TheConstants.{AMOUNT_LIMIT, GREATEST_YIELD}
 use Rattle.halving_tree.specs.Halving.{HasMoreNodes}
 use Rattle.offer_book.specs.Book.{BookContents}
 use Rattle.offer_book.specs.Portfolio.{IsPermitted, Meets, cost}
 use Rattle.offer_book.specs.Rival.{IsRival}
 use Rattle.search_tree.specs.Shows.{AreStepsAtMost, HoldsBound, IsNeededSplit, IsNoPlan, IsRaised}
 use Rattle.branch_search.specs.Purchases.{certificate_of, certificate_of_none}
+use Rattle.branch_search.specs.declared.found.Found.{Found}
 use Rattle.branch_search.specs.declared.found.SearchEnd.{SearchEnd}
 use Rattle.branch_search.specs.declared.found.SearchEnd.TheVariants as ended
 use Rattle.branch_search.specs.declared.found.Spent.{Spent}
@@ -26,6 +29,14 @@ use Rattle.branch_search.specs.declared.found.Spent.{Spent}
 -- the case that a search is of
 abbrev pub searched : BookContents → ℕ → ℕ → ℕ → CaseContents
 searched book limit allowance budget = record { book = book; limit = limit; allowance = allowance; budget = budget }
+
+-- the cases that are searched: the limit is above 0, and all is within what an issue may say
+pub record IsSearchable (case : CaseContents) : Type 0 where
+  pub limit_from : 1 ≤ case.limit
+  pub limit_to : case.limit ≤ GREATEST_YIELD
+  pub allowed : case.allowance ≤ AMOUNT_LIMIT
+  pub budget_from : 1 ≤ case.budget
+  pub budget_to : case.budget ≤ MOST_NODES
 
 -- ---- the backward plan and the one that it is trimmed to
 -- a plan to which another is trimmed: it costs no more, and no line of it can go down alone
@@ -122,3 +133,8 @@ EndsOf case (ended.Short day) = (first_short_of case.book (plan_of_most case.boo
 EndsOf case (ended.NoneWithinYield nodes) = IsNoneFound case nodes
 EndsOf case (ended.BudgetSpent spent) = IsSpent case spent
 EndsOf case ended.NoMemory = Unit {0}
+
+-- what a search of a case answers: a portfolio, as it is found, or its end
+abbrev pub IsOutcome : CaseContents → Result Found SearchEnd → Type 0
+IsOutcome case (Ok found) = IsFound case found.plan found.tree found.gap × IsFoundBy case found.plan found.tree
+IsOutcome case (Err ended) = EndsOf case ended

@@ -5,12 +5,11 @@ ghost use Rattle.backward_build.specs.BackwardPlan.{backward_plan};
 ghost use Rattle.backward_build.specs.declared.backward.BuildEnd.{BuildEnd as BuildFault};
 ghost use Rattle.offer_book.specs.Portfolio.{IsPermitted, cost as cost_of};
 ghost use Rattle.plan_finder.specs.Proposal.{IsProposal};
-ghost use Rattle.branch_search.specs.Plans.{HasNone, IsBest, IsBuilt};
+ghost use Rattle.branch_search.specs.Plans.{AreBeyond, HasNone, IsBest, IsBuilt, IsTaken};
 
 use crate::hint::Hint;
-use crate::taken::taken;
 use backward_build::{BuildEnd, build, trim};
-use cash_table::{Plan, cost};
+use cash_table::{Plan, cost, within_limit};
 use escrow_desk::NoMemory;
 use escrow_units::{Cents, GREATEST_YIELD, YieldUnits};
 use offer_book::Book;
@@ -31,6 +30,27 @@ fn backward(alloc: Global, book: &Book) -> Result<Option<Plan>, NoMemory>
         Err(BuildEnd::NoOwnOffer(_)) => Ok(None),
         Err(BuildEnd::OverCap(_)) => Ok(None),
     }
+}
+
+// The trimmed plan where it is within the limit, and else the built one where that is.
+fn taken(
+    alloc: Global,
+    book: &Book,
+    limit: YieldUnits,
+    built: Plan,
+    trimmed: Plan,
+) -> Result<Option<Plan>, NoMemory>
+    requires built { IsPermitted book.now built }
+    requires trimmed { IsPermitted book.now trimmed }
+    ensures { IfOk result (λ plan. MatchOption plan (AreBeyond limit.0 book.now built trimmed) (IsTaken limit.0 book.now built trimmed)) }
+{
+    if within_limit(alloc, book, &trimmed, limit)? {
+        return Ok(Some(trimmed));
+    }
+    if within_limit(alloc, book, &built, limit)? {
+        return Ok(Some(built));
+    }
+    Ok(None)
 }
 
 // The backward plan, trimmed where the trimmed one is within the limit; None where neither is, or where there is none.

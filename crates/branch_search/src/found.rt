@@ -1,12 +1,24 @@
-//! What a search comes to.
+//! What a search comes to, its certificate, and laws of both.
+ghost use Rattle.std.specs.Prelude.{◌≡◌, length, IfOk};
+ghost use Rattle.branch_search.specs.Accepted.{FoundAreAccepted, NoneFoundAreAccepted};
+ghost use Rattle.branch_search.specs.Plain.{PlainAreSettled};
+ghost use Rattle.branch_search.specs.Purchases.{certificate_of, purchases_of as purchases_of_plan};
 
-use crate::purchases::purchases_of;
-use bound_certificate::{Certificate, Nodes};
+use bound_certificate::{Buy, Buys, Certificate, Nodes};
 use cash_table::Plan;
 use escrow_desk::NoMemory;
 use escrow_units::{Cents, Day};
 use offer_book::Book;
 use std::alloc::{AllocError, Global};
+
+/// A plan that is permitted, meets the needs and is within the limit.
+#[derive(Drop)]
+pub(crate) struct Best {
+    /// The units of each line.
+    pub plan: Plan,
+    /// What it costs, opening cash included, in cents.
+    pub cost: Cents,
+}
 
 /// A portfolio, and a tree that shows that no rival costs less by more than a gap.
 #[derive(Drop)]
@@ -20,9 +32,6 @@ pub struct Found {
 }
 
 impl Found {
-    ghost use Rattle.std.specs.Prelude.{◌≡◌, length, IfOk};
-    ghost use Rattle.branch_search.specs.Purchases.{certificate_of};
-
     /// The certificate of what was found for a book.
     ///
     /// # Errors
@@ -86,3 +95,33 @@ impl From<AllocError> for SearchEnd {
         SearchEnd::NoMemory
     }
 }
+
+/// The purchases of a portfolio of a book: the lines of which some units are bought, in order.
+///
+/// # Errors
+///
+/// Where memory ran out.
+pub fn purchases_of(alloc: Global, book: &Book, plan: &Plan) -> Result<Buys, NoMemory>
+    requires { length plan.now ≡ length book.now.lines }
+    ensures { IfOk result (λ buys. buys ≡ purchases_of_plan plan.now) }
+{
+    let mut buys = Vec::new(alloc);
+    for line in 0..book.line_count() {
+        let units = plan.get(line);
+        if units > 0 {
+            buys.push(Buy { line, units })?;
+        }
+    }
+    Ok(Buys::new(buys))
+}
+
+/// `check` accepts the certificate of what is found, with its portfolio; and that of a tree which shows that there is no rival.
+pub fn found_laws()
+    ensures accepted { FoundAreAccepted }
+    ensures none { NoneFoundAreAccepted }
+{}
+
+/// A plain case, whose issue allows at least its gap, is settled at the root: no search of it ends for any cause but want of memory.
+pub fn settled_laws()
+    ensures settled { PlainAreSettled }
+{}

@@ -4,10 +4,14 @@ ghost use Rattle.std.specs.Prelude.{All, ◌≡◌, ◌⊎◌, ℕ, length, ◌*
 ghost use Rattle.escrow_check.specs.Acceptance.{bears_out};
 ghost use Rattle.search_tree.specs.Tree.{IsBorneBy, IsLeastGap, IsNeededFor};
 
-use crate::best::COST_SCALE;
+use dual_bound::PRICE_SCALE;
 use escrow_units::{AMOUNT_LIMIT, Cents};
 use node_pool::NodeId;
+use offer_book::COEFFICIENT_SCALE;
 use search_tree::{Closing, SearchNode, SearchTree};
+
+// A cent of cost, as a bound weighs it.
+const COST_SCALE: i128 = COEFFICIENT_SCALE as i128 * PRICE_SCALE as i128;
 
 /// The least gap, in cents, with which a bound bears out a cost: what the cost is above the bound, in whole cents.
 pub(crate) fn least_gap(bound: i128, cost: Cents) -> u64

@@ -1,5 +1,5 @@
-//! How the tree of a search grows.
-ghost use Rattle.std.specs.Prelude.{◌≡◌, ◌≤◌, ◌<◌, ◌+◌, ◌-◌, ◌≤ℤ◌, true, false, length, ℕ, None, IfOk, IfSome, IsTrue, OnOk};
+//! How the trees of a search grow: in each run one grows from the root by one rule.
+ghost use Rattle.std.specs.Prelude.{◌≡◌, ◌≤◌, ◌<◌, ◌+◌, ◌-◌, ◌≤ℤ◌, ◌⊎◌, true, false, length, ℕ, None, IfOk, IfSome, IsTrue, OnOk};
 ghost use Rattle.dual_bound.specs.LeafBound.{bound_of};
 ghost use Rattle.dual_bound.specs.Ranges.{is_proper, is_single, narrowed};
 ghost use Rattle.dual_bound.specs.Tree.{IsLeaf};
@@ -8,13 +8,49 @@ ghost use Rattle.branch_search.specs.Parts.{AreSameBut, best_cents};
 ghost use Rattle.search_tree.specs.Best.{CoversBackward, IsNoDearer};
 ghost use Rattle.branch_search.specs.Growth.{IsGrowth, IsSide, IsTakenTo, left_to_do};
 
+use crate::found::Found;
 use crate::parts::Search;
+use bound_certificate::Nodes;
 use dual_bound::Leaf;
 use escrow_desk::NoMemory;
+use escrow_units::Cents;
 use halving_tree::{Split, SplitRule};
 use node_pool::NodeId;
 use search_tree::{Closing, Priced, SearchTree};
 use std::alloc::Global;
+
+/// What a run's tree shows whose budget is spent.
+#[derive(Drop)]
+pub(crate) struct Shown {
+    /// The tree, in preorder.
+    pub tree: Nodes,
+    /// The greatest number that the tree bears out, in cents.
+    pub bound: Cents,
+}
+
+/// How a run ends.
+#[derive(Drop)]
+pub(crate) enum RunEnd {
+    /// Its tree is closed, and there is a plan.
+    Found(Found),
+    /// Its tree is closed, and shows that there is no rival.
+    NoRival(Nodes),
+    /// Its budget is spent.
+    Spent(Shown),
+}
+
+/// Of two, the one whose bound is greater; the first where they are equal.
+pub(crate) fn greater(first: Shown, second: Shown) -> Shown
+    ensures one { (result ≡ first) ⊎ (result ≡ second) }
+    ensures first { first.bound.0 ≤ result.bound.0 }
+    ensures second { second.bound.0 ≤ result.bound.0 }
+{
+    if second.bound.0 <= first.bound.0 {
+        first
+    } else {
+        second
+    }
+}
 
 /// How the growth of a tree ends.
 #[derive(Clone, Copy, Debug, PartialEq, Eq)]

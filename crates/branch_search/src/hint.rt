@@ -1,10 +1,10 @@
 //! What a search hands on to the next one.
 
-ghost use Rattle.std.specs.Prelude.{◌≡◌, length, IfErr, IfOk, IfSome};
+ghost use Rattle.std.specs.Prelude.{◌≡◌, length, IfOk, IfSome};
 ghost use Rattle.case_file.specs.Case.{CaseContents};
 ghost use Rattle.offer_book.specs.Portfolio.{IsPermitted};
 ghost use Rattle.plan_finder.specs.Proposal.{IsProposal};
-ghost use Rattle.branch_search.specs.Search.{EndsOf, IsFound};
+ghost use Rattle.branch_search.specs.Search.{IsOutcome};
 
 use crate::found::{Found, SearchEnd};
 use cash_table::{Plan, cost, first_short, first_unpermitted, within_limit};
@@ -52,8 +52,7 @@ fn plan_of(alloc: Global, book: &Book, units: &[u64]) -> Result<Plan, NoMemory>
 
 // The best plan that a search found, if it found one.
 pub(crate) fn best_of(ended: &Result<Found, SearchEnd>) -> Option<&Plan>
-    ensures { (case : CaseContents) → IfOk ended.now (λ found. IsFound case found.plan found.tree found.gap) → IfErr ended.now (EndsOf case)
-        → IfSome result (λ plan. IsPermitted case.book plan.now) }
+    ensures { (case : CaseContents) → IsOutcome case ended.now → IfSome result (λ plan. IsPermitted case.book plan.now) }
 {
     match ended {
         Ok(found) => Some(&found.plan),

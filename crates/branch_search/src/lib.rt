@@ -4,25 +4,17 @@
 //! several steps don't stand beside one another.
 #![tactic(auto)]
 
-mod best;
 mod cheapest;
-mod ends;
 mod found;
 mod gaps;
 mod growing;
 mod hint;
-mod laws;
 mod parts;
 mod pointing;
-mod purchases;
-mod runs;
 mod searching;
-mod taken;
 #[cfg(test)]
 mod tests;
 
-pub use found::{Found, SearchEnd, Spent};
+pub use found::{Found, SearchEnd, Spent, found_laws, purchases_of, settled_laws};
 pub use hint::Hint;
-pub use laws::{found_laws, settled_laws};
-pub use purchases::purchases_of;
 pub use searching::{search, search_from};

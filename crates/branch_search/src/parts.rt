@@ -6,13 +6,13 @@ ghost use Rattle.dual_bound.specs.Ranges.{AreTight, is_single};
 ghost use Rattle.dual_bound.specs.Tree.{IsLeaf};
 ghost use Rattle.escrow_check.specs.Acceptance.{bears_out, low_ends};
 ghost use Rattle.halving_tree.specs.Base.{reach_leaf};
-ghost use Rattle.halving_tree.specs.Halving.{is_unreached};
+ghost use Rattle.halving_tree.specs.Halving.{high_ends, is_unreached};
+ghost use Rattle.offer_book.specs.Portfolio.{IsPermitted};
 ghost use Rattle.search_tree.specs.Growing.{IsBought, IsLostPoint, IsPriced, IsTried, claim_of_best};
 ghost use Rattle.branch_search.specs.Parts.{AreSameBut, IsCounted, best_cents};
 ghost use Rattle.search_tree.specs.Best.{IsAtMost, IsNoDearer};
 
-use crate::best::Best;
-use crate::ends::{put_high_ends, put_low_ends};
+use crate::found::Best;
 use crate::gaps::least_gap;
 use cash_table::{Plan, cost, first_short, within_limit};
 use dual_bound::{Leaf, Ranges};
@@ -68,7 +68,31 @@ impl<'a> Model for Search<'a> {
 
     ghost view = { λ s. record { case = searched s.book.now s.limit.0 s.allowance.0 s.budget; ranges = s.ranges; best = s.best } };
 
-    ghost invariant = { λ s. AreParts s.book.now s.limit.0 s.allowance.0 s.tuner s.base s.reach s.ranges s.plan s.best s.finder };
+    ghost invariant = { λ s. AreParts (searched s.book.now s.limit.0 s.allowance.0 s.budget) s.tuner s.base s.reach s.ranges s.plan s.best s.finder };
+}
+
+// Makes of a portfolio that of the high ends of ranges. It takes no memory.
+fn put_high_ends(book: &Book, ranges: &Ranges, plan: &mut Plan)
+    requires tight { AreTight book.now.lines ranges.now }
+    requires plan { length plan.old ≡ length book.now.lines }
+    ensures value { plan.new ≡ high_ends ranges.now }
+    ensures permitted { IsPermitted book.now plan.new }
+{
+    for line in 0..book.line_count() {
+        plan.put(line, ranges.high(line));
+    }
+}
+
+// Makes of a portfolio that of the low ends of ranges. It takes no memory.
+fn put_low_ends(book: &Book, ranges: &Ranges, plan: &mut Plan)
+    requires tight { AreTight book.now.lines ranges.now }
+    requires plan { length plan.old ≡ length book.now.lines }
+    ensures value { plan.new ≡ low_ends ranges.now }
+    ensures permitted { IsPermitted book.now plan.new }
+{
+    for line in 0..book.line_count() {
+        plan.put(line, ranges.low(line));
+    }
 }
 
 // Where the linear program of a node stands, where it is known.

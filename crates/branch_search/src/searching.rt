@@ -9,16 +9,15 @@ ghost use Rattle.search_tree.specs.Best.{IsNoDearer};
 ghost use Rattle.search_tree.specs.Growing.{obeys};
 ghost use Rattle.branch_search.specs.Parts.{AreSameBut, best_cents};
 ghost use Rattle.branch_search.specs.Runs.{IsNoLessThan, IsRunEnd, IsSpentRun};
-ghost use Rattle.branch_search.specs.Search.{EndsOf, IsFound, IsFoundBy, IsNoDearerThanBackward, IsShown, searched};
+ghost use Rattle.branch_search.specs.Search.{EndsOf, IsFound, IsFoundBy, IsNoDearerThanBackward, IsOutcome, IsSearchable, IsShown, searched};
 
-use crate::best::Best;
 use crate::cheapest::cheapest;
-use crate::found::{Found, SearchEnd, Spent};
+use crate::found::{Best, Found, SearchEnd, Spent};
 use crate::gaps::{greatest_cost, tree_gap};
-use crate::growing::Growth;
+use crate::growing::{Growth, RunEnd, Shown, greater};
 use crate::hint::{Hint, best_of};
 use crate::parts::Search;
-use crate::runs::{RunEnd, Shown, greater};
+use bound_certificate::MOST_NODES;
 use cash_table::{Plan, cost, out_of_reach};
 use dual_bound::{Leaf, Ranges};
 use dual_tune::Tuner;
@@ -66,9 +65,7 @@ impl<'a> Search<'a> {
         allowance: Cents,
         budget: u32,
     ) -> Result<Search<'a>, NoMemory>
-        requires limit_from { 1 ≤ limit.0 }
-        requires limit_to { limit.0 ≤ GREATEST_YIELD }
-        requires allowance { allowance.0 ≤ AMOUNT_LIMIT }
+        requires { IsSearchable (searched book.now limit.0 allowance.0 budget) }
         ensures { IfOk result (λ search. search ≡ record { case = searched book.now limit.0 allowance.0 budget; ranges = root_of book.now.lines; best = None }) }
     {
         // A book keeps its limits.
@@ -123,7 +120,6 @@ impl<'a> Search<'a> {
         requires backward { IsNoDearerThanBackward self.old.case.limit self.old.case.book (best_cents self.old.best) }
         requires reach { IsInReach self.old.case.book }
         requires capacity { tree.now.pool.capacity ≡ self.old.case.budget }
-        requires budget { self.old.case.budget ≤ 10_000 }
         ensures case { OnOk result (self.new.case ≡ self.old.case) }
         ensures ended { IfOk result (IsRunEnd self.old.case rule (best_cents self.old.best) (best_cents self.new.best)) }
     {
@@ -177,8 +173,6 @@ impl<'a> Search<'a> {
         requires tree { IsBegun self.old.case tree.old }
         requires backward { IsNoDearerThanBackward self.old.case.limit self.old.case.book (best_cents self.old.best) }
         requires reach { IsInReach self.old.case.book }
-        requires budget_from { 1 ≤ self.old.case.budget }
-        requires budget_to { self.old.case.budget ≤ 10_000 }
         ensures case { OnOk result (self.new.case ≡ self.old.case) }
         ensures capacity { OnOk result (tree.new.pool.capacity ≡ self.old.case.budget) }
         ensures ended { IfOk result (IsRunEnd self.old.case rule (best_cents self.old.best) (best_cents self.new.best)) }
@@ -216,10 +210,7 @@ impl<'a> Search<'a> {
         requires second { IsSpentRun self.old.case SplitRule.Halving (best_cents self.old.best) second }
         requires backward { IsNoDearerThanBackward self.old.case.limit self.old.case.book (best_cents self.old.best) }
         requires reach { IsInReach self.old.case.book }
-        requires budget { self.old.case.budget ≤ 10_000 }
-        ensures found { IfOk result (λ found. IsFound self.old.case found.plan found.tree found.gap) }
-        ensures found_by { IfOk result (λ found. IsFoundBy self.old.case found.plan found.tree) }
-        ensures ended { IfErr result (EndsOf self.old.case) }
+        ensures outcome { IsOutcome self.old.case result }
         ensures greater { IfErr result (IsNoLessThan first.bound.0 second.bound.0) }
     {
         // A book keeps its limits.
@@ -275,11 +266,7 @@ impl<'a> Search<'a> {
         requires first { IsShown self.old.case first.tree first.bound.0 }
         requires backward { IsNoDearerThanBackward self.old.case.limit self.old.case.book (best_cents self.old.best) }
         requires reach { IsInReach self.old.case.book }
-        requires budget_from { 1 ≤ self.old.case.budget }
-        requires budget_to { self.old.case.budget ≤ 10_000 }
-        ensures found { IfOk result (λ found. IsFound self.old.case found.plan found.tree found.gap) }
-        ensures found_by { IfOk result (λ found. IsFoundBy self.old.case found.plan found.tree) }
-        ensures ended { IfErr result (EndsOf self.old.case) }
+        ensures { IsOutcome self.old.case result }
     {
         self.find_cheaper(alloc, first.bound)?;
         self.start_again(alloc, tree)?;
@@ -295,11 +282,7 @@ impl<'a> Search<'a> {
         requires ranges { self.old.ranges ≡ root_of self.old.case.book.lines }
         requires none { self.old.best ≡ None }
         requires reach { IsInReach self.old.case.book }
-        requires budget_from { 1 ≤ self.old.case.budget }
-        requires budget_to { self.old.case.budget ≤ 10_000 }
-        ensures found { IfOk result (λ found. IsFound self.old.case found.plan found.tree found.gap) }
-        ensures found_by { IfOk result (λ found. IsFoundBy self.old.case found.plan found.tree) }
-        ensures ended { IfErr result (EndsOf self.old.case) }
+        ensures { IsOutcome self.old.case result }
     {
         // A book keeps its limits.
         prove!(self.book.line_count() > 0);
@@ -318,11 +301,7 @@ impl<'a> Search<'a> {
         requires ranges { self.old.ranges ≡ root_of self.old.case.book.lines }
         requires none { self.old.best ≡ None }
         requires reach { IsInReach self.old.case.book }
-        requires budget_from { 1 ≤ self.old.case.budget }
-        requires budget_to { self.old.case.budget ≤ 10_000 }
-        ensures found { IfOk result (λ found. IsFound self.old.case found.plan found.tree found.gap) }
-        ensures found_by { IfOk result (λ found. IsFoundBy self.old.case found.plan found.tree) }
-        ensures ended { IfErr result (EndsOf self.old.case) }
+        ensures { IsOutcome self.old.case result }
     {
         let book = self.book;
         let ended = self.run(alloc, hint);
@@ -358,7 +337,7 @@ pub fn search(
     requires limit_to { limit.0 ≤ GREATEST_YIELD }
     requires allowance { allowance.0 ≤ AMOUNT_LIMIT }
     requires budget_from { 1 ≤ budget }
-    requires budget_to { budget ≤ 10_000 }
+    requires budget_to { budget ≤ MOST_NODES }
     ensures found { IfOk result (λ found. IsFound (searched book.now limit.0 allowance.0 budget) found.plan found.tree found.gap) }
     ensures found_by { IfOk result (λ found. IsFoundBy (searched book.now limit.0 allowance.0 budget) found.plan found.tree) }
     ensures ended { IfErr result (EndsOf (searched book.now limit.0 allowance.0 budget)) }
@@ -386,7 +365,7 @@ pub fn search_from(
     requires limit_to { limit.0 ≤ GREATEST_YIELD }
     requires allowance { allowance.0 ≤ AMOUNT_LIMIT }
     requires budget_from { 1 ≤ budget }
-    requires budget_to { budget ≤ 10_000 }
+    requires budget_to { budget ≤ MOST_NODES }
     ensures found { IfOk result (λ found. IsFound (searched book.now limit.0 allowance.0 budget) found.plan found.tree found.gap) }
     ensures found_by { IfOk result (λ found. IsFoundBy (searched book.now limit.0 allowance.0 budget) found.plan found.tree) }
     ensures ended { IfErr result (EndsOf (searched book.now limit.0 allowance.0 budget)) }

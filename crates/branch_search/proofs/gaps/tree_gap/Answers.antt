@@ -1,5 +1,4 @@
-use Rattle.std.proofs.Common.{◌≡◌, ◌⊎◌, ap, subst}
-use Rattle.search_tree.specs.Growing.{node_of}
+use Rattle.std.proofs.Common.{◌≡◌, ◌⊎◌, subst}
 use Rattle.search_tree.specs.Tree.{IsBorneBy, IsNeededFor}
 use Rattle.search_tree.specs.declared.node.SearchNode.{SearchNode}
 use Rattle.branch_search.proofs.GapFacts.{gap-grown}

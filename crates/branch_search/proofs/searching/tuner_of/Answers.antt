@@ -1,4 +1,4 @@
-use Rattle.std.proofs.Common.{◌≡◌, ◌-◌, ℕ, ap, subst}
+use Rattle.std.proofs.Common.{◌≡◌, ℕ, ap, subst}
 use Rattle.std.specs.Prelude.{IfOk}
 use Rattle.fixed_powers.specs.DiscountPowers.{PowerTable}
 use Rattle.branch_search.proofs.searching.tuner_of.Goals as goal

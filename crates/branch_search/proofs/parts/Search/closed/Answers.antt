@@ -1,7 +1,8 @@
-use Rattle.std.proofs.Common.{◌≡◌, ◌∙◌, ◌*◌, ◌^◌, ◌≤◌, ℕ, length, sym, ap, subst, arith, Option, Some, None}
+use Rattle.std.proofs.Common.{◌≡◌, ◌∙◌, ◌≤◌, ℕ, length, sym, ap, subst, arith, Option, Some, None}
 use Rattle.std.specs.Prelude.{IfSome}
 use Rattle.cash_table.proofs.CostFacts.{cost_at_most}
 use Rattle.escrow_units.specs.declared.limits.TheConstants.{AMOUNT_LIMIT}
+use Rattle.bound_certificate.specs.declared.limits.TheConstants.{MOST_NODES}
 use Rattle.offer_book.specs.Book.{IsBook}
 use Rattle.search_tree.specs.Growing.{IsBought, obeys}
 use Rattle.search_tree.specs.Laws.{IsClosedTree}
@@ -12,7 +13,7 @@ use Rattle.branch_search.proofs.NoneFacts.{none-is}
 use Rattle.branch_search.proofs.ResultFacts.{found-by, found-closed}
 use Rattle.branch_search.specs.Parts.{SearchContents, best_cents}
 use Rattle.branch_search.specs.Search.{IsNoDearerThanBackward}
-use Rattle.branch_search.specs.declared.best.Best.{Best}
+use Rattle.branch_search.specs.declared.found.Best.{Best}
 use Rattle.branch_search.proofs.parts.Search.closed.Goals as goal
 
 pub nodes-requires-clause-own : goal.nodes-requires-clause-own
@@ -35,7 +36,7 @@ returns-in_default-clause-ended c =
     subst (λ (b : Option ℕ). IsClosedTree now.case (obeys now.case rule) b popped tree c.in_ok-nodes.nodes) cents
     (closed-is now.case (obeys now.case rule) (best_cents now.best) tree c.in_ok-nodes.nodes limits c.count.ensures.one c.count.ensures.whole c.requires.tree written) in
     none-is now.case rule popped tree c.in_ok-nodes.nodes is c.requires.reach
-    (omega (arith, c.count.ensures.value, c.count.ensures.few, c.requires.capacity, c.requires.budget))
+    (omega (arith, c.count.ensures.value, c.count.ensures.few, c.requires.capacity, subst (λ (s : SearchContents). s.case.budget ≤ MOST_NODES) c.self.view_is c.self.invariant.limits.budget_to))
     (omega (arith, c.count.ensures.value, c.count.ensures.few, c.requires.capacity))
     (subst (IsNoDearerThanBackward now.case.limit now.case.book) cents c.requires.backward)
 
@@ -70,9 +71,9 @@ returns-clause-ended c =
     (closed-is now.case (obeys now.case rule) (best_cents now.best) tree c.in_ok-nodes.nodes limits c.count.ensures.one c.count.ensures.whole c.requires.tree written) in
     let least : IsLeastGap tree.nodes (length tree.nodes) best.cost.0 c.tree_gap-gap.result = record { borne = c.tree_gap-gap.ensures.borne; least = c.tree_gap-gap.ensures.least } in (
       found-closed now.case rule best.plan best.cost.0 c.tree_gap-gap.result popped tree c.in_ok-nodes.nodes is
-          (subst (λ (s : SearchContents). s.case.allowance ≤ AMOUNT_LIMIT) c.self.view_is c.self.invariant.allowed)
+          (subst (λ (s : SearchContents). s.case.allowance ≤ AMOUNT_LIMIT) c.self.view_is c.self.invariant.limits.allowed)
           (subst (λ (s : SearchContents). IsBought s.case.limit s.case.book best.plan best.cost.0) c.self.view_is own)
-          (omega (arith, c.count.ensures.value, c.count.ensures.few, c.requires.capacity, c.requires.budget)) least,
+          (omega (arith, c.count.ensures.value, c.count.ensures.few, c.requires.capacity, subst (λ (s : SearchContents). s.case.budget ≤ MOST_NODES) c.self.view_is c.self.invariant.limits.budget_to)) least,
       found-by now.case rule best.plan best.cost.0 c.tree_gap-gap.result popped tree c.in_ok-nodes.nodes is c.requires.reach
           (subst (λ (s : SearchContents). IsBought s.case.limit s.case.book best.plan best.cost.0) c.self.view_is own)
           (omega (arith, c.count.ensures.value, c.count.ensures.few, c.requires.capacity)) least

@@ -14,4 +14,4 @@ returns-then-single-clause-tried c =
     let counted : IsCounted own (low_ends c.self.inside.ranges) (best_cents c.take_plan.new.self.best) =
     subst (λ (s : SearchContents). IsCounted s.case (low_ends s.ranges) (best_cents c.take_plan.new.self.best)) (sym c.self.view_is) c.in_ok-take_plan.ensures.taken in
     subst (λ (s : SearchContents). IsLostPoint s.case (best_cents c.take_plan.new.self.best) s.ranges) (c.self.view_is ∙ c.unreached.ensures.search)
-    (point-lost own c.self.inside.ranges (best_cents c.take_plan.new.self.best) c.line_count.ensures.limits c.self.invariant.limit_from c.self.invariant.limit_to single counted)
+    (point-lost own c.self.inside.ranges (best_cents c.take_plan.new.self.best) c.line_count.ensures.limits c.self.invariant.limits.limit_from c.self.invariant.limits.limit_to single counted)

@@ -1,7 +1,6 @@
 use mir.Syntax.{w128}
 use Rattle.std.proofs.Common.{◌≡◌, ◌∙◌, ◌^◌, ◌<◌, ◌+◌, ℤ, true, false, length, sym, ap, subst, arith, to_z, of_z, unsigned_abs}
 use Rattle.std.proofs.lemmas.Int.{ints, to_z-of_z}
-use Rattle.case_file.specs.Case.{CaseContents}
 use Rattle.dual_bound.specs.Ranges.{AreTight, is_proper}
 use Rattle.dual_bound.specs.Tree.{IsLeaf}
 use Rattle.halving_tree.specs.Halving.{IsHalved}

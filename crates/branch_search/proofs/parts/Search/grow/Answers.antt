@@ -1,4 +1,4 @@
-use Rattle.std.proofs.Common.{◌≡◌, ◌∙◌, sym, ap, subst, Option}
+use Rattle.std.proofs.Common.{◌∙◌, sym, ap, subst, Option}
 use Rattle.case_file.specs.Case.{CaseContents}
 use Rattle.node_pool.specs.Pool.{IsInHand, with_state}
 use Rattle.node_pool.specs.declared.node.State.TheVariants as state

@@ -1,5 +1,5 @@
 use mir.Syntax.{w128}
-use Rattle.std.proofs.Common.{◌≡◌, ◌*◌, ◌^◌, ◌≤◌, ℤ, Option, Some, sym, subst, arith, to_z, of_z}
+use Rattle.std.proofs.Common.{◌≡◌, ℤ, Option, Some, sym, subst, arith, to_z, of_z}
 use Rattle.std.proofs.lemmas.Int.{ints, to_z-of_z}
 use Rattle.std.specs.Prelude.{IfSome, nat_le}
 use Rattle.cash_table.proofs.CostFacts.{cost_at_most}
@@ -8,7 +8,7 @@ use Rattle.search_tree.specs.Growing.{IsBought, claim_of_best}
 use Rattle.branch_search.proofs.GapFacts.{gap-decides}
 use Rattle.branch_search.specs.Parts.{SearchContents, best_cents}
 use Rattle.branch_search.specs.Search.{searched}
-use Rattle.branch_search.specs.declared.best.Best.{Best}
+use Rattle.branch_search.specs.declared.found.Best.{Best}
 use Rattle.branch_search.proofs.parts.Search.is_borne.Goals as goal
 
 pub least_gap-requires-clause-cost : goal.least_gap-requires-clause-cost

@@ -1,7 +1,6 @@
-use Rattle.std.proofs.Common.{◌≡◌, ◌∙◌, ◌<◌, List, length, slice_set, sym, ap, subst, arith}
+use Rattle.std.proofs.Common.{◌≡◌, ◌∙◌, ◌<◌, length, slice_set, sym, ap, subst, arith}
 use Rattle.dual_bound.proofs.RangeFacts.{tight-length}
 use Rattle.dual_bound.specs.Ranges.{AreTight}
-use Rattle.dual_bound.specs.declared.ranges.Interval.{Interval}
 use Rattle.branch_search.proofs.PartFacts.{get_at, restored}
 use Rattle.branch_search.specs.Parts.{SearchContents}
 use Rattle.branch_search.proofs.parts.Search.price_side.Goals as goal
@@ -29,9 +28,7 @@ invariant_of-self-2 c =
     restored c.self.inside.book.now.lines c.self.inside.ranges c.self-2.inside.ranges c.restore.new.self c.args.split.line c.args.split.at c.args.right c.self.invariant.tight few
     (ap (λ (s : SearchContents). s.ranges) kept ∙ c.narrow.ensures.value) (c.restore.ensures ∙ (λ i. slice_set c.self-2.inside.ranges c.args.split.line (get_at (c.intervals.ensures.value i) (c.from-line.ensures i)))) in
     record {
-      limit_from = c.self-2.invariant.limit_from;
-      limit_to = c.self-2.invariant.limit_to;
-      allowed = c.self-2.invariant.allowed;
+      limits = c.self-2.invariant.limits;
       tuned = c.self-2.invariant.tuned;
       based = c.self-2.invariant.based;
       base_is = c.self-2.invariant.base_is;

@@ -13,7 +13,7 @@ use Rattle.branch_search.proofs.PartFacts.{dearer-kept}
 use Rattle.branch_search.specs.Parts.{SearchContents, best_cents}
 use Rattle.branch_search.specs.Runs.{IsRunEnd}
 use Rattle.branch_search.specs.Search.{IsNoDearerThanBackward}
-use Rattle.branch_search.specs.declared.runs.RunEnd.{RunEnd}
+use Rattle.branch_search.specs.declared.growing.RunEnd.{RunEnd}
 use Rattle.branch_search.proofs.parts.Search.run.Goals as goal
 
 pub find_plan-requires-clause-bound : goal.find_plan-requires-clause-bound

@@ -6,8 +6,8 @@ use Rattle.branch_search.specs.Growth.{IsBegun}
 use Rattle.branch_search.specs.Parts.{best_cents}
 use Rattle.branch_search.specs.Runs.{IsRunEnd}
 use Rattle.branch_search.specs.Search.{IsNoDearerThanBackward}
-use Rattle.branch_search.specs.declared.best.Best.{Best}
-use Rattle.branch_search.specs.declared.runs.RunEnd.{RunEnd}
+use Rattle.branch_search.specs.declared.found.Best.{Best}
+use Rattle.branch_search.specs.declared.growing.RunEnd.{RunEnd}
 use Rattle.branch_search.proofs.parts.Search.run_again.Goals as goal
 
 pub start_again-requires : goal.start_again-requires

@@ -1,4 +1,4 @@
-use Rattle.std.proofs.Common.{◌≡◌, ◌∙◌, ℕ, length, sym, ap, subst, None}
+use Rattle.std.proofs.Common.{◌∙◌, length, sym, ap, subst, None}
 use Rattle.std.proofs.lemmas.List.{length-replicate}
 use Rattle.dual_bound.proofs.RangeLaws.{root_is_tight}
 use Rattle.dual_bound.specs.Ranges.{AreTight}
@@ -10,9 +10,7 @@ pub invariant_of-result : goal.invariant_of-result
 invariant_of-result c =
     let book : BookContents = c.args.book.now in
     record {
-      limit_from = c.requires.limit_from;
-      limit_to = c.requires.limit_to;
-      allowed = c.requires.allowance;
+      limits = c.requires;
       tuned = c.in_ok-tuner.ensures;
       based = c.in_ok-base.ensures.value;
       base_is = c.in_ok-base.ensures.leaf;

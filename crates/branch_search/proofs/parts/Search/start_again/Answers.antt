@@ -1,5 +1,4 @@
-use Rattle.std.proofs.Common.{◌≡◌, ◌∙◌, List, length, sym, ap, subst}
-use Rattle.search_tree.specs.Tree.{new_tree}
+use Rattle.std.proofs.Common.{sym, subst}
 use Rattle.dual_bound.proofs.RangeFacts.{tight-length}
 use Rattle.dual_bound.proofs.RangeLaws.{root_is_tight}
 use Rattle.dual_bound.specs.Ranges.{AreTight}
@@ -10,9 +9,7 @@ reset-requires c = sym (tight-length c.self.inside.book.now.lines c.self.inside.
 
 pub invariant_of-self : goal.invariant_of-self
 invariant_of-self c = record {
-  limit_from = c.self.invariant.limit_from;
-  limit_to = c.self.invariant.limit_to;
-  allowed = c.self.invariant.allowed;
+  limits = c.self.invariant.limits;
   tuned = c.self.invariant.tuned;
   based = c.self.invariant.based;
   base_is = c.self.invariant.base_is;

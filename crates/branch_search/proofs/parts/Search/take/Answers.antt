@@ -1,5 +1,5 @@
 use mir.Syntax.{w128}
-use Rattle.std.proofs.Common.{◌≡◌, ◌∙◌, ◌^◌, ◌<◌, ℤ, List, length, sym, ap, subst, arith, to_z, of_z, unsigned_abs, Option}
+use Rattle.std.proofs.Common.{◌≡◌, ◌∙◌, ◌^◌, ◌<◌, ℤ, List, sym, ap, subst, arith, to_z, of_z, unsigned_abs, Option}
 use Rattle.std.proofs.lemmas.Int.{ints, to_z-of_z}
 use Rattle.case_file.specs.Case.{CaseContents}
 use Rattle.dual_bound.proofs.RangeFacts.{tight-length}
@@ -17,8 +17,7 @@ use Rattle.branch_search.proofs.TakeFacts.{held-after, held-before}
 use Rattle.branch_search.specs.Growth.{IsTakenTo, left_to_do}
 use Rattle.branch_search.specs.Parts.{AreSameBut, SearchContents, best_cents}
 use Rattle.branch_search.specs.Search.{searched}
-use Rattle.branch_search.specs.declared.best.Best.{Best}
-use Rattle.branch_search.specs.declared.growing.Growth.{Growth}
+use Rattle.branch_search.specs.declared.found.Best.{Best}
 use Rattle.branch_search.proofs.parts.Search.take.Goals as goal
 
 pub ranges_of-requires-clause-way : goal.ranges_of-requires-clause-way

@@ -1,5 +1,4 @@
-use Rattle.std.proofs.Common.{◌≡◌, ◌∙◌, false, Some, sym, ap, subst}
-use Rattle.cash_table.specs.First.{first_short_of}
+use Rattle.std.proofs.Common.{◌≡◌, ◌∙◌, false, sym, subst}
 use Rattle.halving_tree.specs.Halving.{is_unreached}
 use Rattle.offer_book.specs.Portfolio.{Meets}
 use Rattle.plan_finder.specs.Dive.{SearchContents as FinderContents}

@@ -1,5 +1,5 @@
 use Rattle.branch_search.proofs.NoneFacts.{plain_settled}
-use Rattle.branch_search.proofs.laws.settled_laws.Goals as goal
+use Rattle.branch_search.proofs.found.settled_laws.Goals as goal
 
 pub returns : goal.returns
 returns c = record { settled = plain_settled }
