@@ -19,8 +19,7 @@ use fixed_powers::{ONE, Powers};
 use offer_book::Book;
 use std::alloc::Global;
 
-/// A plan, and all that it comes to. A line's units are changed by [`Account::put`] alone, which reads that line and the need
-/// dates, and no other line. Its tables stand on the heap, so that an account is moved in little room on the stack.
+/// A plan, and all that it comes to. Its tables stand on the heap, so that an account is moved in little room on the stack.
 #[derive(Drop)]
 pub(crate) struct Account {
     /// The units of each line.
@@ -61,8 +60,8 @@ pub(crate) fn paid(book: &Book, purchase: &Purchase) -> [u64; MOST_NEED_DATES]
     paid_by(book.needs(), purchase.payments.as_slice())
 }
 
-// Takes off what a line paid before by each date, and adds what it pays now.
-fn exchange(received: &mut [u64], before: &[u64], after: &[u64], dates: usize)
+/// Takes off what a line paid before by each date, and adds what it pays now.
+pub(crate) fn exchange(received: &mut [u64], before: &[u64], after: &[u64], dates: usize)
     requires received { dates ≤ length received.old }
     requires before { dates ≤ length before.now }
     requires after { dates ≤ length after.now }
@@ -122,117 +121,5 @@ impl Account {
             cost: Cents(0),
             worth: 0,
         })
-    }
-
-    /// The units of a line, counted from 0.
-    pub(crate) fn units(&self, line: u16) -> u64
-        requires { line < length self.now.plan }
-        ensures { result ≡ slice_index self.now.plan line }
-    {
-        self.plan.get(line)
-    }
-
-    /// What the plan's units of a line cost and pay.
-    pub(crate) fn held(&self, book: &Book, line: u16) -> &Purchase
-        requires account { (n : ℕ) × IsAccount n book.now self.now }
-        requires line { line < length book.now.lines }
-        ensures { total result.now.payments.items ≤ 2 * 10 ^ 13 }
-    {
-        &self.held[usize::from(line)]
-    }
-
-    /// What units of a line would cost and pay.
-    pub(crate) fn purchase(&self, book: &Book, line: u16, units: u64) -> Purchase
-        requires account { (n : ℕ) × IsAccount n book.now self.now }
-        requires line { line < length book.now.lines }
-        requires units { (d : Line) → units ≤ (slice_index_or book.now.lines line d).most }
-        ensures value { (n : ℕ) (d : Line) → IsAccount n book.now self.now → IsPurchase n book.now.days (slice_index_or book.now.lines line d) units result }
-        ensures little { total result.payments.items ≤ 2 * 10 ^ 13 }
-    {
-        self.terms[usize::from(line)].purchase(book.line(line), units)
-    }
-
-    /// Changes the units of a line, and with them all that the plan comes to.
-    pub(crate) fn put(&mut self, book: &Book, line: u16, units: u64)
-        requires account { (n : ℕ) × IsAccount n book.now self.old }
-        requires line { line < length book.now.lines }
-        requires permitted { (d : Line) → IsPermittedUnits (slice_index_or book.now.lines line d) units }
-        ensures plan { self.new.plan ≡ slice_set self.old.plan line units }
-        ensures account { (n : ℕ) → IsAccount n book.now self.old → IsAccount n book.now self.new }
-    {
-        let place = usize::from(line);
-        let after = self.purchase(book, line, units);
-        let before = &self.held[place];
-        exchange(
-            &mut *self.received,
-            &paid(book, before),
-            &paid(book, &after),
-            usize::from(book.need_count()),
-        );
-        self.cost = Cents(self.cost.0 - before.cost.0 + after.cost.0);
-        self.worth = self.worth - before.worth + after.worth;
-        self.held[place] = after;
-        self.plan.put(line, units);
-    }
-
-    /// Changes the units of a line where they are others.
-    pub(crate) fn change(&mut self, book: &Book, line: u16, units: u64)
-        requires account { (n : ℕ) × IsAccount n book.now self.old }
-        requires line { line < length book.now.lines }
-        requires permitted { (d : Line) → IsPermittedUnits (slice_index_or book.now.lines line d) units }
-        ensures plan { self.new.plan ≡ slice_set self.old.plan line units }
-        ensures account { (n : ℕ) → IsAccount n book.now self.old → IsAccount n book.now self.new }
-    {
-        if self.units(line) == units {
-            return;
-        }
-        self.put(book, line, units);
-    }
-
-    /// By how much the plan is short up to a need date, counted from 0, in cents.
-    pub(crate) fn short_by(&self, place: u16) -> u64
-        requires place { place < MOST_NEED_DATES }
-        requires short { slice_index self.now.received.value place < slice_index self.now.needed.value place }
-        ensures { result ≡ slice_index self.now.needed.value place - slice_index self.now.received.value place }
-    {
-        self.needed[usize::from(place)] - self.received[usize::from(place)]
-    }
-
-    /// What a line has to pay up to each need date, in cents, so that nothing is short.
-    pub(crate) fn due(&self, book: &Book, line: u16) -> [u64; MOST_NEED_DATES]
-        requires account { (n : ℕ) × IsAccount n book.now self.now }
-        requires line { line < length book.now.lines }
-        ensures { (d : Line) → AreDue book.now.needs (payments book.now self.now.plan) (line_payments book.now.days (slice_index_or book.now.lines line d) (slice_index self.now.plan line)) result }
-    {
-        let mut due = paid(book, &self.held[usize::from(line)]);
-        for place in 0..usize::from(book.need_count()) {
-            due[place] = self.needed[place].saturating_sub(self.received[place] - due[place]);
-        }
-        due
-    }
-
-    /// The place of the first need date on which the plan is short, counted from 0.
-    pub(crate) fn first_short(&self, book: &Book) -> Option<u16>
-        requires account { (n : ℕ) × IsAccount n book.now self.now }
-        ensures none { IfNone result (Meets book.now self.now.plan) }
-        ensures some { IfSome result (λ place. (place < length book.now.needs) × (slice_index self.now.received.value place < slice_index self.now.needed.value place)) }
-    {
-        for place in 0..book.need_count() {
-            if self.received[usize::from(place)] < self.needed[usize::from(place)] {
-                return Some(place);
-            }
-        }
-        None
-    }
-
-    /// Whether the plan's securities are worth more at the yield of the account's powers than they cost, by more than a part in 10^8
-    /// of that. A yield that is higher by a unit of 10^-10 makes less of a difference in forty years.
-    pub(crate) fn is_dearer(&self, book: &Book) -> bool
-        requires account { (n : ℕ) × IsAccount n book.now self.now }
-        ensures { (n : ℕ) → IsAccount n book.now self.now
-            → IsTrue result ↔ (one * (security_cost book.now self.now.plan + security_cost book.now self.now.plan / 10 ^ 8) < low_value book.now n self.now.plan) }
-    {
-        let security_cost = u128::from(self.cost.0 - self.plan.get(0));
-        u128::from(ONE) * (security_cost + security_cost / 100_000_000) < self.worth
     }
 }

@@ -20,6 +20,7 @@ use fixed_powers::Powers;
 use offer_book::{Book, Line};
 use price_lp::{Basis, Holding, Purpose, Simplex, SolveEnd};
 use std::alloc::Global;
+use std::marker::Model;
 
 // The most iterations of a solve from a basis near by.
 const WARM_ITERATIONS: u32 = 200;
@@ -47,11 +48,10 @@ enum Turn {
     Last,
 }
 
-/// The linear program of a dive over the lines of a book, and what is fixed of it.
+/// The linear program of a dive over the lines of a book, and what is fixed of it. Contracts see the book.
 #[derive(Drop)]
 pub(crate) struct Diver<'a> {
-    /// The book.
-    pub book: &'a Book,
+    book: &'a Book,
     // The linear program, on the heap: so a diver is moved in little room on the stack.
     simplex: Box<Simplex<'a>>,
     // The basis before a line is fixed.
@@ -64,8 +64,18 @@ pub(crate) struct Diver<'a> {
     order: Vec<Ranked>,
     // How much work it was to fix lines, in units of the program's work, up to the type's end.
     fixing: u64,
-    ghost each_line: { length fixed.items ≡ length book.now.lines },
-    ghost ordered: { AreLinesOf book.now order.items },
+}
+
+impl<'a> Model for Diver<'a> {
+    ghost use Rattle.std.specs.Prelude.{◌≡◌, length};
+    ghost use Rattle.offer_book.specs.Book.{BookContents};
+    ghost use Rattle.plan_finder.specs.Dive.{AreLinesOf};
+
+    ghost Value = { BookContents };
+
+    ghost view = { λ d. d.book.now };
+
+    ghost invariant = { λ d. (length d.fixed.items ≡ length d.book.now.lines) × AreLinesOf d.book.now d.order.items };
 }
 
 // The turn of a line that isn't fixed, by the amount of it, in units of 2^-10 of a cent.
@@ -105,7 +115,7 @@ impl<'a> Diver<'a> {
     ) -> Result<Diver<'a>, NoMemory>
         requires powers { IsLowTable powers.now }
         requires order { AreLinesOf book.now order.items }
-        ensures { IfOk result (λ diver. diver.book.now ≡ book.now) }
+        ensures { IfOk result (λ diver. diver ≡ book.now) }
     {
         let mut simplex = Box::new(alloc, Simplex::make(alloc, book, powers)?)?;
         simplex.aim(Purpose::Plan, true);
@@ -132,14 +142,14 @@ impl<'a> Diver<'a> {
 
     // Whether a line can be fixed next.
     fn is_open(&self, line: u16) -> bool
-        requires { line < length self.now.fixed.items }
+        requires { line < length self.now.lines }
     {
         self.simplex.is_basic(line) && self.fixed[usize::from(line)].is_none()
     }
 
     // The open line that comes first in the order that a number draws.
     fn next_drawn(&self, number: u32) -> Option<u16>
-        ensures { IfSome result (λ line. line < length self.now.book.now.lines) }
+        ensures { IfSome result (λ line. line < length self.now.lines) }
     {
         let mut next = None;
         let mut first = None;
@@ -158,7 +168,7 @@ impl<'a> Diver<'a> {
 
     // The first open line of the first turn in which there is one, those that pay last first.
     fn next_in_turn(&self) -> Option<u16>
-        ensures { IfSome result (λ line. line < length self.now.book.now.lines) }
+        ensures { IfSome result (λ line. line < length self.now.lines) }
     {
         let mut next = None;
         let mut soonest = None;
@@ -177,7 +187,7 @@ impl<'a> Diver<'a> {
 
     // The line that is fixed next.
     fn next_line(&self, sequence: Sequence) -> Option<u16>
-        ensures { IfSome result (λ line. line < length self.now.book.now.lines) }
+        ensures { IfSome result (λ line. line < length self.now.lines) }
     {
         match sequence {
             Sequence::Coarse => self.next_in_turn(),
@@ -187,10 +197,10 @@ impl<'a> Diver<'a> {
 
     // Fixes a line at a number of units, with what they cost and pay exactly.
     fn fix(&mut self, ledger: &Ledger, line: u16, units: u64)
-        requires ledger { ledger.now.book ≡ self.old.book.now }
-        requires line { line < length self.old.book.now.lines }
-        requires permitted { (d : Line) → IsPermittedUnits (slice_index_or self.old.book.now.lines line d) units }
-        ensures { self.new.book ≡ self.old.book }
+        requires ledger { ledger.now.book ≡ self.old }
+        requires line { line < length self.old.lines }
+        requires permitted { (d : Line) → IsPermittedUnits (slice_index_or self.old.lines line d) units }
+        ensures { self.new ≡ self.old }
     {
         if self.fixed[usize::from(line)] == Some(units) {
             return;
@@ -210,7 +220,7 @@ impl<'a> Diver<'a> {
 
     // Solves one linear program more, and gives its objective: the greatest number where there is no solution.
     fn solve(&mut self, iterations: u32) -> i128
-        ensures { self.new.book ≡ self.old.book }
+        ensures { self.new ≡ self.old }
     {
         match self.simplex.solve(iterations, None) {
             SolveEnd::Stopped => i128::MAX,
@@ -220,11 +230,11 @@ impl<'a> Diver<'a> {
 
     // Fixes a line at the better of two numbers of units, by the objective of the program.
     fn choose(&mut self, ledger: &Ledger, line: u16, choice: Neighbours)
-        requires ledger { ledger.now.book ≡ self.old.book.now }
-        requires line { line < length self.old.book.now.lines }
-        requires below { (d : Line) → IsPermittedUnits (slice_index_or self.old.book.now.lines line d) choice.below }
-        requires above { (d : Line) → IsPermittedUnits (slice_index_or self.old.book.now.lines line d) choice.above }
-        ensures { self.new.book ≡ self.old.book }
+        requires ledger { ledger.now.book ≡ self.old }
+        requires line { line < length self.old.lines }
+        requires below { (d : Line) → IsPermittedUnits (slice_index_or self.old.lines line d) choice.below }
+        requires above { (d : Line) → IsPermittedUnits (slice_index_or self.old.lines line d) choice.above }
+        ensures { self.new ≡ self.old }
     {
         self.simplex.save(&mut self.start);
         self.fix(ledger, line, choice.below);
@@ -242,18 +252,18 @@ impl<'a> Diver<'a> {
 
     // The permitted numbers of units next to the amount of a line.
     fn neighbours(&self, line: u16) -> Neighbours
-        requires line { line < length self.now.book.now.lines }
-        ensures below { (d : Line) → IsPermittedUnits (slice_index_or self.now.book.now.lines line d) result.below }
-        ensures above { (d : Line) → IsPermittedUnits (slice_index_or self.now.book.now.lines line d) result.above }
+        requires line { line < length self.now.lines }
+        ensures below { (d : Line) → IsPermittedUnits (slice_index_or self.now.lines line d) result.below }
+        ensures above { (d : Line) → IsPermittedUnits (slice_index_or self.now.lines line d) result.above }
     {
         next_to(self.book.line(line), self.simplex.amount(line))
     }
 
     // Fixes a line at a permitted number of units next to its amount: at the one below where the work is spent.
     fn decide(&mut self, ledger: &Ledger, line: u16, most_work: u64)
-        requires ledger { ledger.now.book ≡ self.old.book.now }
-        requires line { line < length self.old.book.now.lines }
-        ensures { self.new.book ≡ self.old.book }
+        requires ledger { ledger.now.book ≡ self.old }
+        requires line { line < length self.old.lines }
+        ensures { self.new ≡ self.old }
     {
         let choice = self.neighbours(line);
         if most_work <= self.work() {
@@ -269,8 +279,8 @@ impl<'a> Diver<'a> {
     /// Fixes one open line after the other until none is left: at most every line once. Once so much work is spent, no program is
     /// solved any more.
     pub(crate) fn descend(&mut self, ledger: &Ledger, sequence: Sequence, most_work: u64)
-        requires ledger { ledger.now.book ≡ self.old.book.now }
-        ensures { self.new.book ≡ self.old.book }
+        requires ledger { ledger.now.book ≡ self.old }
+        ensures { self.new ≡ self.old }
     {
         for _turn in 0..self.book.line_count() {
             match self.next_line(sequence) {
@@ -282,8 +292,8 @@ impl<'a> Diver<'a> {
 
     // Gives a line a range. It isn't fixed any longer.
     fn set_range(&mut self, line: u16, interval: Interval)
-        requires line { line < length self.old.book.now.lines }
-        ensures { self.new.book ≡ self.old.book }
+        requires line { line < length self.old.lines }
+        ensures { self.new ≡ self.old }
     {
         self.simplex.set_range(line, interval);
         self.fixed[usize::from(line)] = None;
@@ -291,8 +301,8 @@ impl<'a> Diver<'a> {
 
     // Frees a line: its range is every number of its units.
     fn free(&mut self, line: u16)
-        requires line { line < length self.old.book.now.lines }
-        ensures { self.new.book ≡ self.old.book }
+        requires line { line < length self.old.lines }
+        ensures { self.new ≡ self.old }
     {
         let whole = Interval {
             low: 0,
@@ -303,7 +313,7 @@ impl<'a> Diver<'a> {
 
     // Solves the program from the start, and gives its objective.
     fn solve_anew(&mut self) -> i128
-        ensures { self.new.book ≡ self.old.book }
+        ensures { self.new ≡ self.old }
     {
         self.simplex.start_greedily();
         self.solve(COLD_ITERATIONS)
@@ -311,7 +321,7 @@ impl<'a> Diver<'a> {
 
     // Solves the program from a basis; where that has to stop, from the start.
     fn solve_from(&mut self, basis: &Basis)
-        ensures { self.new.book ≡ self.old.book }
+        ensures { self.new ≡ self.old }
     {
         self.simplex.start_from(basis);
         if self.simplex.solve(COLD_ITERATIONS, None) == SolveEnd::Stopped {
@@ -321,7 +331,7 @@ impl<'a> Diver<'a> {
 
     /// Solves the program of all lines from the start, and gives its objective.
     pub(crate) fn start_whole(&mut self) -> i128
-        ensures { self.new.book ≡ self.old.book }
+        ensures { self.new ≡ self.old }
     {
         for line in 0..self.book.line_count() {
             self.free(line);
@@ -331,8 +341,8 @@ impl<'a> Diver<'a> {
 
     /// Solves the program in which each line has a range, from a basis where one is given, and else from the start.
     pub(crate) fn start_within(&mut self, ranges: &Ranges, basis: Option<&Basis>)
-        requires ranges { length ranges.now ≡ length self.old.book.now.lines }
-        ensures { self.new.book ≡ self.old.book }
+        requires ranges { length ranges.now ≡ length self.old.lines }
+        ensures { self.new ≡ self.old }
     {
         let intervals = ranges.intervals();
         for line in 0..self.book.line_count() {
@@ -349,10 +359,10 @@ impl<'a> Diver<'a> {
     /// Solves the program from the start in which only some lines are free, and all others are fixed at a plan's units; it gives
     /// its objective.
     pub(crate) fn start_near(&mut self, ledger: &Ledger, plan: &Plan, free: &[bool]) -> i128
-        requires ledger { ledger.now.book ≡ self.old.book.now }
-        requires plan { IsPermitted self.old.book.now plan.now }
-        requires free { length free.now ≡ length self.old.book.now.lines }
-        ensures { self.new.book ≡ self.old.book }
+        requires ledger { ledger.now.book ≡ self.old }
+        requires plan { IsPermitted self.old plan.now }
+        requires free { length free.now ≡ length self.old.lines }
+        ensures { self.new ≡ self.old }
     {
         for line in 0..self.book.line_count() {
             if free[usize::from(line)] {
@@ -366,8 +376,8 @@ impl<'a> Diver<'a> {
 
     // The units at which a line stands after a dive.
     fn units(&self, line: u16) -> u64
-        requires line { line < length self.now.book.now.lines }
-        ensures { (d : Line) → IsPermittedUnits (slice_index_or self.now.book.now.lines line d) result }
+        requires line { line < length self.now.lines }
+        ensures { (d : Line) → IsPermittedUnits (slice_index_or self.now.lines line d) result }
     {
         match self.fixed[usize::from(line)] {
             Some(units) => permitted_below(self.book.line(line), units),
@@ -377,7 +387,7 @@ impl<'a> Diver<'a> {
 
     /// Gives the ledger the plan at which a dive ended.
     pub(crate) fn surface(&self, ledger: &mut Ledger)
-        requires { ledger.old.book ≡ self.now.book.now }
+        requires { ledger.old.book ≡ self.now }
         ensures { ledger.new.book ≡ ledger.old.book }
     {
         for line in 0..self.book.line_count() {

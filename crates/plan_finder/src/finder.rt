@@ -49,7 +49,7 @@ impl<'a> Model for Finder<'a> {
     ghost view = { λ f. record { book = f.book.now; limit = f.limit.0 } };
 
     ghost invariant = { λ f. (f.ledger.book ≡ f.book.now)
-        × (f.diver.book.now ≡ f.book.now)
+        × (f.diver ≡ f.book.now)
         × All (λ order. AreLinesOf f.book.now order.items) f.orders.items
         × (length f.ends.items ≡ length f.book.now.lines) };
 }

@@ -7,12 +7,12 @@ ghost use Rattle.offer_book.specs.declared.line.Line.{Line};
 ghost use Rattle.cash_table.specs.Points.{low_value};
 ghost use Rattle.plan_finder.specs.Ledger.{AreDue, IsPurchase};
 
-use crate::account::Account;
+use crate::account::{Account, exchange, paid};
 use crate::terms::Purchase;
 use cash_table::Plan;
 use escrow_desk::NoMemory;
 use escrow_units::{Cents, Day, MOST_NEED_DATES, YieldUnits};
-use fixed_powers::Powers;
+use fixed_powers::{ONE, Powers};
 use offer_book::Book;
 use std::alloc::Global;
 use std::marker::Model;
@@ -95,7 +95,7 @@ impl<'a> Ledger<'a> {
         requires { line < length self.now.book.lines }
         ensures { result ≡ slice_index self.now.plan line }
     {
-        self.account.units(line)
+        self.account.plan.get(line)
     }
 
     /// What the plan's units of a line cost and pay.
@@ -103,7 +103,7 @@ impl<'a> Ledger<'a> {
         requires { line < length self.now.book.lines }
         ensures { total result.now.payments.items ≤ 2 * 10 ^ 13 }
     {
-        self.account.held(self.book, line)
+        &self.account.held[usize::from(line)]
     }
 
     /// What units of a line would cost and pay.
@@ -113,7 +113,28 @@ impl<'a> Ledger<'a> {
         ensures value { (d : Line) → IsPurchase self.now.yield_units self.now.book.days (slice_index_or self.now.book.lines line d) units result }
         ensures little { total result.payments.items ≤ 2 * 10 ^ 13 }
     {
-        self.account.purchase(self.book, line, units)
+        self.account.terms[usize::from(line)].purchase(self.book.line(line), units)
+    }
+
+    // Puts other units of a line in the place of those that the plan has.
+    fn exchange(&mut self, line: u16, units: u64)
+        requires line { line < length self.old.book.lines }
+        requires permitted { (d : Line) → IsPermittedUnits (slice_index_or self.old.book.lines line d) units }
+        ensures { self.new ≡ record { book = self.old.book; yield_units = self.old.yield_units; plan = slice_set self.old.plan line units } }
+    {
+        let after = self.purchase(line, units);
+        let account = &mut self.account;
+        let before = &account.held[usize::from(line)];
+        exchange(
+            &mut *account.received,
+            &paid(self.book, before),
+            &paid(self.book, &after),
+            usize::from(self.book.need_count()),
+        );
+        account.cost = Cents(account.cost.0 - before.cost.0 + after.cost.0);
+        account.worth = account.worth - before.worth + after.worth;
+        account.held[usize::from(line)] = after;
+        account.plan.put(line, units);
     }
 
     /// Changes the units of a line, and with them all that the plan comes to.
@@ -123,7 +144,9 @@ impl<'a> Ledger<'a> {
         requires permitted { (d : Line) → IsPermittedUnits (slice_index_or self.old.book.lines line d) units }
         ensures { self.new ≡ record { book = self.old.book; yield_units = self.old.yield_units; plan = slice_set self.old.plan line units } }
     {
-        self.account.change(self.book, line, units);
+        if self.units(line) != units {
+            self.exchange(line, units);
+        }
     }
 
     /// Changes the plan to another one: the lines alone are read whose units are others, and the need dates for each.
@@ -143,7 +166,26 @@ impl<'a> Ledger<'a> {
         ensures value { (d : Line) → AreDue self.now.book.needs (payments self.now.book self.now.plan)
             (line_payments self.now.book.days (slice_index_or self.now.book.lines line d) (slice_index self.now.plan line)) result }
     {
-        self.account.due(self.book, line)
+        let account = &self.account;
+        let mut due = paid(self.book, &account.held[usize::from(line)]);
+        for place in 0..usize::from(self.book.need_count()) {
+            due[place] = account.needed[place].saturating_sub(account.received[place] - due[place]);
+        }
+        due
+    }
+
+    // The place of the first need date on which the plan is short, counted from 0.
+    fn first_short(&self) -> Option<u16>
+        ensures none { IfNone result (Meets self.now.book self.now.plan) }
+        ensures some { IfSome result (λ place. (place < length self.now.book.needs) × (¬ Meets self.now.book self.now.plan)) }
+    {
+        let account = &self.account;
+        for place in 0..self.book.need_count() {
+            if account.received[usize::from(place)] < account.needed[usize::from(place)] {
+                return Some(place);
+            }
+        }
+        None
     }
 
     /// What is short on the first need date on which the plan is short; None where it meets the needs.
@@ -151,10 +193,12 @@ impl<'a> Ledger<'a> {
         ensures none { IfNone result (Meets self.now.book self.now.plan) }
         ensures some { IfSome result (λ lack. ¬ Meets self.now.book self.now.plan) }
     {
-        let place = self.account.first_short(self.book)?;
+        let place = self.first_short()?;
+        let at = usize::from(place);
+        let short = self.account.needed[at].saturating_sub(self.account.received[at]);
         Some(Shortage {
             day: self.book.need(place).day,
-            cents: self.account.short_by(place),
+            cents: short,
         })
     }
 
@@ -164,6 +208,7 @@ impl<'a> Ledger<'a> {
         ensures { IsTrue result ↔ (one * (security_cost self.now.book self.now.plan + security_cost self.now.book self.now.plan / 10 ^ 8)
             < low_value self.now.book self.now.yield_units self.now.plan) }
     {
-        self.account.is_dearer(self.book)
+        let security_cost = u128::from(self.account.cost.0 - self.account.plan.get(0));
+        u128::from(ONE) * (security_cost + security_cost / 100_000_000) < self.account.worth
     }
 }

@@ -1,8 +1,9 @@
 //! Parts of the lines that are free in a dive near a plan.
-ghost use Rattle.std.specs.Prelude.{◌≡◌, ◌<◌, ◌≤◌, All, length};
+ghost use Rattle.std.specs.Prelude.{◌≡◌, ◌+◌, ◌<◌, ◌≤◌, All, length};
 
 use crate::draw::Draw;
 use cash_table::Plan;
+use escrow_units::{MOST_LINES, MOST_NEED_DATES};
 
 // Frees no line.
 fn free_none(free: &mut [bool]) {
@@ -46,7 +47,7 @@ fn free_drawn(free: &mut [bool], draw: &mut Draw, lines: &[u16], count: u64)
 // Frees about one in so many of the lines that a plan buys.
 fn free_bought(free: &mut [bool], draw: &mut Draw, plan: &Plan, among: u64)
     requires plan { length plan.now ≡ length free.old }
-    requires few { length free.old ≤ 257 }
+    requires few { length free.old ≤ MOST_LINES + 1 }
     requires among { 0 < among }
 {
     for line in 0..free.len() {
@@ -79,7 +80,7 @@ pub(crate) fn free_most(free: &mut [bool], draw: &mut Draw, lines: &[u16])
 fn free_one_window(free: &mut [bool], draw: &mut Draw, ends: &[u16], dates: u64)
     requires ends { length ends.now ≡ length free.old }
     requires dates { 0 < dates }
-    requires few { dates ≤ 480 }
+    requires few { dates ≤ MOST_NEED_DATES }
 {
     let length = (dates * (1 + draw.below(6)) / 20).max(2);
     free_window(free, ends, draw.below(dates), length);
@@ -107,12 +108,12 @@ pub(crate) fn free_part(
 )
     requires some { 0 < length lines.now }
     requires there { All (λ line. line < length free.old) lines.now }
-    requires few { length lines.now ≤ 257 }
-    requires few_lines { length free.old ≤ 257 }
+    requires few { length lines.now ≤ MOST_LINES + 1 }
+    requires few_lines { length free.old ≤ MOST_LINES + 1 }
     requires ends { length ends.now ≡ length free.old }
     requires plan { length plan.now ≡ length free.old }
     requires dates { 0 < dates }
-    requires few_dates { dates ≤ 480 }
+    requires few_dates { dates ≤ MOST_NEED_DATES }
 {
     free_none(free);
     let choice = draw.below(4);
