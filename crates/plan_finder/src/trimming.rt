@@ -8,7 +8,7 @@ ghost use Rattle.backward_build.specs.Spare.{ArePaid};
 use crate::account::paid;
 use crate::ledger::Ledger;
 use crate::order::Ranked;
-use backward_build::covers;
+use backward_build::{covers, least_passing};
 use escrow_units::MOST_NEED_DATES;
 
 // A line of a plan, and what it has to pay up to each need date, in cents.
@@ -81,17 +81,11 @@ fn fewest_within(ledger: &Ledger, duty: &Duty, bracket: Bracket) -> u64
     ensures most { result ≤ bracket.high }
     ensures enough { (d : Line) → Cover ledger.now.book.needs duty.now.due (line_payments ledger.now.book.days (slice_index_or ledger.now.book.lines duty.now.line d) result) }
 {
-    let mut low = bracket.low;
-    let mut high = bracket.high;
-    while low < high {
-        let middle = low + (high - low) / 2;
-        if suffices(ledger, duty, middle) {
-            high = middle;
-        } else {
-            low = middle + 1;
-        }
-    }
-    high
+    least_passing(
+        bracket.low,
+        bracket.high,
+        |units| suffices(ledger, duty, units),
+    )
 }
 
 // The fewest permitted units of a line that suffice, of which some do.

@@ -1,10 +1,14 @@
-use Rattle.std.proofs.Common.{arith}
+use Rattle.std.proofs.Common.{get_or, inl, inr, refl, sym, subst}
+use Rattle.offer_book.specs.Portfolio.{line_payments}
+use Rattle.backward_build.specs.Spare.{Cover}
 use Rattle.plan_finder.proofs.trimming.fewest_within.Goals as goal
 
-pub loop-low-preserved-then-suffices : goal.loop-low-preserved-then-suffices
-loop-low-preserved-then-suffices c = record {
-  least = c.loop-low.invariant.least;
-  ordered = omega arith;
-  most = omega (arith, c.loop-low.invariant.most, c.loop-low.invariant.ordered);
-  enough = λ d. (c.suffices.ensures d).0 c.if-suffices.true;
-}
+pub returns-clause-enough : goal.returns-clause-enough
+returns-clause-enough c =
+    λ d.
+    let book = c.args.ledger.now.book in
+    let line = get_or book.lines c.args.duty.now.line d in
+    elim c.least_passing.ensures.passes [
+      | inl last ↦ subst (λ units. Cover book.needs c.args.duty.now.due (line_payments book.days line units)) (sym last) (c.requires.enough d)
+      | inr passes ↦ (passes d).0 refl
+    ]
