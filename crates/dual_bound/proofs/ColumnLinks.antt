@@ -20,7 +20,7 @@ use Rattle.payment_schedule.specs.Schedule.{flow_by, half_year_accrual}
 use Rattle.offer_book.specs.declared.line.LineKind.TheVariants.{Cash, Market, Security}
 use Rattle.payment_schedule.specs.declared.schedule.ScheduledPayment.{ScheduledPayment}
 use Rattle.dual_bound.specs.Columns.{IsColumn, IsOther, IsPlace, column_form, column_paid, column_reduced, is_other, is_regular, kind_power, other_forms, paying, pays_at, signed_worth, worth_at, worth_between, worth_on, worth_together}
-use Rattle.dual_bound.specs.LeafBound.{cost_worth, form_of, least_side, limit_price, limit_weight, paid_worth, price_on, reduced_cost, signed_sum}
+use Rattle.dual_bound.specs.LeafBound.{cost_worth, form_of, least_side, limit_price, limit_multiplier, paid_worth, price_on, reduced_cost, signed_sum}
 use Rattle.dual_bound.specs.declared.column.Column.{Column}
 use Rattle.dual_bound.specs.declared.column.OtherPayment.{OtherPayment}
 use Rattle.dual_bound.specs.declared.tree.Leaf.{Leaf}
@@ -32,7 +32,7 @@ use Rattle.dual_bound.proofs.Signed.{mul-comm, neg-mul, pos-mul, signed_sum-diff
 use Rattle.dual_bound.proofs.Sizes.{pay_slack, pays_slope}
 
 -- ---- what a cent is worth on the day at a place
-limited : (n : ℕ) (settle : ℤ) (leaf : Leaf) (kind : LineKind) (day : ℤ) → leaf.mu * kind_power n settle kind day / one ≡ limit_price n settle (limit_weight leaf kind) day
+limited : (n : ℕ) (settle : ℤ) (leaf : Leaf) (kind : LineKind) (day : ℤ) → leaf.mu * kind_power n settle kind day / one ≡ limit_price n settle (limit_multiplier leaf kind) day
 limited n settle leaf Cash day = omega arith
 limited n settle leaf (Security slgs) day = refl
 limited n settle leaf (Market note) day = refl
@@ -43,7 +43,7 @@ none = record { above = 0; below = 0 }
 placed : (n : ℕ) (book : BookContents) (leaf : Leaf) (kind : LineKind) (days : List PricedDay) (payment : ScheduledPayment) (place : ℕ) → length leaf.prices ≡ length book.needs
     → IsPlace n book kind days payment place
     → worth_at (map (worth_on leaf) days) place
-    ≡ worth_between (price_on book.needs leaf.prices payment.day) (limit_price n book.days.settle (limit_weight leaf kind) payment.day)
+    ≡ worth_between (price_on book.needs leaf.prices payment.day) (limit_price n book.days.settle (limit_multiplier leaf kind) payment.day)
 placed n book leaf kind days payment place same at =
     let d : PricedDay = record { need = 0; power = 0 } in
     let limit = ap (λ power. leaf.mu * power / one) (at.priced d).power ∙ limited n book.days.settle leaf kind payment.day in
@@ -151,7 +151,7 @@ half-year p e = by (p.accrual.parts == 1) (p.accrual.year == 2) p.principal refl
 -- ---- a column's payments
 worth-is : (n : ℕ) (book : BookContents) (leaf : Leaf) (kind : LineKind) (days : List PricedDay) (worths : List Worth) (p : ScheduledPayment) (place : ℕ)
     → length leaf.prices ≡ length book.needs → worths ≡ map (worth_on leaf) days → IsPlace n book kind days p place
-    → worth_at worths place ≡ worth_between (price_on book.needs leaf.prices p.day) (limit_price n book.days.settle (limit_weight leaf kind) p.day)
+    → worth_at worths place ≡ worth_between (price_on book.needs leaf.prices p.day) (limit_price n book.days.settle (limit_multiplier leaf kind) p.day)
 worth-is n book leaf kind days worths p place same is at = ap (λ ws. worth_at ws place) is ∙ placed n book leaf kind days p place same at
 
 -- so it is worth what the definition says
@@ -160,7 +160,7 @@ worth-signed : (n : ℕ) (book : BookContents) (leaf : Leaf) (kind : LineKind) (
     → paid_worth n book leaf kind p.day ≡ signed_worth (worth_at worths place)
 worth-signed n book leaf kind days worths p place same is at =
     sym (ap signed_worth (worth-is n book leaf kind days worths p place same is at)
-    ∙ signed-between (price_on book.needs leaf.prices p.day) (limit_price n book.days.settle (limit_weight leaf kind) p.day))
+    ∙ signed-between (price_on book.needs leaf.prices p.day) (limit_price n book.days.settle (limit_multiplier leaf kind) p.day))
 
 slope-shared : (n : ℕ) (book : BookContents) (leaf : Leaf) (line : Line) (days : List PricedDay) (worths : List Worth) (column : Column)
     → length leaf.prices ≡ length book.needs → worths ≡ map (worth_on leaf) days → IsColumn n book days line column
@@ -201,7 +201,7 @@ slope-shared n book leaf line days worths column same is h =
     regular p k test at =
         let half = half-year p test in
         let price = price_on book.needs leaf.prices p.day in
-        let limit = limit_price n book.days.settle (limit_weight leaf line.kind) p.day in
+        let limit = limit_price n book.days.settle (limit_multiplier leaf line.kind) p.day in
         let worth = worth-is n book leaf line.kind days worths p k same is at in
         let low : (pay_by (kind_rate line.kind) line.step p).low ≡ column.regular.low =
         (λ i. interest_low line.step (kind_rate line.kind) (half.accrual i) + COEFFICIENT_SCALE * (if half.principal i then line.step else 0)) ∙ ap (λ (c : PayCoefficients). c.low) (sym h.regular) in
@@ -249,7 +249,7 @@ slack-shared n book leaf line days worths column same is h =
         ≡ column.regular.slack * ((worth_at worths k).above + (worth_at worths k).below)
     regular p k test at =
         let price = price_on book.needs leaf.prices p.day in
-        let limit = limit_price n book.days.settle (limit_weight leaf line.kind) p.day in
+        let limit = limit_price n book.days.settle (limit_multiplier leaf line.kind) p.day in
         let worth = worth-is n book leaf line.kind days worths p k same is at in
         let size = abs-split price limit ∙ (λ i. (sym worth i).above + (sym worth i).below) in
         let slack : (pay_by (kind_rate line.kind) line.step p).slack ≡ column.regular.slack = ap (λ (c : PayCoefficients). c.slack) (sym h.regular) in

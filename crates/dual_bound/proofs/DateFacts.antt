@@ -94,7 +94,7 @@ listed-change dates old new days lists place d h old_long new_long there changed
       listed = λ e. h.listed place d e there (omega (arith, within, old_long));
     }
 
--- where the weight of the limit stays, a day is priced at another leaf already, or is listed
+-- where the multiplier of the limit stays, a day is priced at another leaf already, or is listed
 pub priced-or-listed : (dates : ℕ) (old new : Leaf) (days : List PricedDay) (lists : List DateDays) (worths : List Worth) → AreDateDays dates days lists → length old.prices ≡ dates
     → length new.prices ≡ dates → old.mu ≡ new.mu → worths ≡ map (worth_on old) days → (place : ℕ) → place < length days
     → IsPriced new days worths place ⊎ IsListedChange old.prices new.prices lists place

@@ -31,7 +31,7 @@ use Rattle.payment_schedule.specs.declared.schedule.ScheduledPayment.{ScheduledP
 use Rattle.offer_book.specs.Schedule.{kind_rate, kind_schedule, schedule_of}
 use Rattle.offer_book.proofs.LineFacts.{cash-at_most, rate-low, schedule-few, security-at_most}
 use Rattle.offer_book.proofs.ScheduleFacts.{schedule-short}
-use Rattle.dual_bound.specs.LeafBound.{cost_weight, cost_worth, least_side, limit_price, limit_weight, paid_worth, price_on, signed_sum}
+use Rattle.dual_bound.specs.LeafBound.{cost_weight, cost_worth, least_side, limit_price, limit_multiplier, paid_worth, price_on, signed_sum}
 use Rattle.dual_bound.specs.Tree.{IsLeaf}
 use Rattle.dual_bound.specs.declared.prices.TheConstants.{PRICE_SCALE}
 use Rattle.dual_bound.specs.declared.tree.Leaf.{Leaf}
@@ -49,10 +49,10 @@ price_on-small (need ∷ needs) (price ∷ prices) day small =
     at true rest = All-head (λ (p : ℕ). p ≤ 2 * PRICE_SCALE) price prices small
     at false rest = rest
 
-pub limit_weight-small : (leaf : Leaf) (kind : LineKind) → leaf.mu ≤ PRICE_SCALE → limit_weight leaf kind ≤ PRICE_SCALE
-limit_weight-small leaf Cash small = omega arith
-limit_weight-small leaf (Security slgs) small = small
-limit_weight-small leaf (Market note) small = small
+pub limit_multiplier-small : (leaf : Leaf) (kind : LineKind) → leaf.mu ≤ PRICE_SCALE → limit_multiplier leaf kind ≤ PRICE_SCALE
+limit_multiplier-small leaf Cash small = omega arith
+limit_multiplier-small leaf (Security slgs) small = small
+limit_multiplier-small leaf (Market note) small = small
 
 pub cost_weight-small : (leaf : Leaf) → cost_weight leaf ≤ PRICE_SCALE
 cost_weight-small leaf = at leaf.whole
@@ -75,13 +75,13 @@ abs-difference a b most first second = omega (arith, ints)
 -- what a cent is worth is at most 2, and what it costs counts at most 1
 pub paid_worth-light : (n : ℕ) (book : BookContents) (leaf : Leaf) (kind : LineKind) → IsLeaf (length book.needs) leaf → (day : ℤ) → unsigned_abs (paid_worth n book leaf kind day) ≤ 2 * PRICE_SCALE
 paid_worth-light n book leaf kind well day =
-    abs-difference (price_on book.needs leaf.prices day) (limit_price n book.days.settle (limit_weight leaf kind) day) (2 * PRICE_SCALE)
+    abs-difference (price_on book.needs leaf.prices day) (limit_price n book.days.settle (limit_multiplier leaf kind) day) (2 * PRICE_SCALE)
     (price_on-small book.needs leaf.prices day well.range)
-    (omega (arith, limit_price-small n book.days.settle (limit_weight leaf kind) day (limit_weight-small leaf kind well.limit)))
+    (omega (arith, limit_price-small n book.days.settle (limit_multiplier leaf kind) day (limit_multiplier-small leaf kind well.limit)))
 
 pub cost_worth-light : (leaf : Leaf) (kind : LineKind) → leaf.mu ≤ PRICE_SCALE → unsigned_abs (cost_worth leaf kind) ≤ PRICE_SCALE
 cost_worth-light leaf kind small =
-    abs-difference (cost_weight leaf) (limit_weight leaf kind) PRICE_SCALE (cost_weight-small leaf) (limit_weight-small leaf kind small)
+    abs-difference (cost_weight leaf) (limit_multiplier leaf kind) PRICE_SCALE (cost_weight-small leaf) (limit_multiplier-small leaf kind small)
 
 pub abs-sum : (a b : ℤ) → unsigned_abs (a +ℤ b) ≤ unsigned_abs a + unsigned_abs b
 abs-sum a b = omega (arith, ints)

@@ -25,7 +25,7 @@ use Rattle.offer_book.specs.declared.line.Line.{Line}
 use Rattle.offer_book.specs.declared.line.LineKind.{LineKind}
 use Rattle.offer_book.specs.declared.line.LineKind.TheVariants.{Cash, Market, Security}
 use Rattle.dual_bound.specs.Duality.{BoundsAll, BoundsRivals, CostsAtLeast}
-use Rattle.dual_bound.specs.LeafBound.{bound_of, cost_weight, least_within, limit_price, limit_weight, price_on, priced_needs, reduced_cost, signed_sum}
+use Rattle.dual_bound.specs.LeafBound.{bound_of, cost_weight, least_within, limit_price, limit_multiplier, price_on, priced_needs, reduced_cost, signed_sum}
 use Rattle.dual_bound.specs.Ranges.{IsWithin}
 use Rattle.dual_bound.specs.Tree.{IsLeaf}
 use Rattle.dual_bound.specs.declared.ranges.Interval.{Interval}
@@ -45,7 +45,7 @@ sum-flat_map amount flows (x ∷ xs) =
 -- ---- what a line adds, as a difference
 -- what the limit takes from the payments of a line
 abbrev limited : ℕ → BookContents → Leaf → Line × ℕ → ℕ
-limited n book leaf p = sum_by (at_rate (limit_price n book.days.settle (limit_weight leaf p.0.kind))) (line_payments book.days p.0 p.1)
+limited n book leaf p = sum_by (at_rate (limit_price n book.days.settle (limit_multiplier leaf p.0.kind))) (line_payments book.days p.0 p.1)
 
 abbrev priced : BookContents → Leaf → Line × ℕ → ℕ
 priced book leaf p = paid_at book.needs leaf.prices (line_payments book.days p.0 p.1)
@@ -57,7 +57,7 @@ abbrev charged : ℕ → BookContents → Leaf → Line × ℕ → ℕ
 charged n book leaf p = cost_weight leaf * pair_cost p + limited n book leaf p
 
 abbrev credited : BookContents → Leaf → Line × ℕ → ℕ
-credited book leaf p = limit_weight leaf p.0.kind * pair_cost p + priced book leaf p
+credited book leaf p = limit_multiplier leaf p.0.kind * pair_cost p + priced book leaf p
 
 difference-mul : (a b c : ℕ) → (pos a -ℤ pos b) *ℤ pos c ≡ pos (a * c) -ℤ pos (b * c)
 difference-mul a b c = add-mul (pos a) (neg_ℤ (pos b)) (pos c) ∙ (λ i. pos-mul a c i +ℤ (neg-mul (pos b) (pos c) ∙ ap (λ z. neg_ℤ z) (pos-mul b c)) i)
@@ -80,10 +80,10 @@ reduced-parts : (n : ℕ) (book : BookContents) (leaf : Leaf) (p : Line × ℕ)
     → reduced_cost n book leaf p.0 p.1 ≡ pos COEFFICIENT_SCALE *ℤ (pos (charged n book leaf p) -ℤ pos (credited book leaf p))
 unfolding reduced_cost
 reduced-parts n book leaf p =
-    let own = difference-mul (cost_weight leaf) (limit_weight leaf p.0.kind) (pair_cost p) in
-    let paid = worth-parts (price_on book.needs leaf.prices) (limit_price n book.days.settle (limit_weight leaf p.0.kind)) (line_payments book.days p.0 p.1) in
+    let own = difference-mul (cost_weight leaf) (limit_multiplier leaf p.0.kind) (pair_cost p) in
+    let paid = worth-parts (price_on book.needs leaf.prices) (limit_price n book.days.settle (limit_multiplier leaf p.0.kind)) (line_payments book.days p.0 p.1) in
     ap (λ z. pos COEFFICIENT_SCALE *ℤ z)
-    (joined (cost_weight leaf * pair_cost p) (limit_weight leaf p.0.kind * pair_cost p) (priced book leaf p) (limited n book leaf p) _ _ own paid)
+    (joined (cost_weight leaf * pair_cost p) (limit_multiplier leaf p.0.kind * pair_cost p) (priced book leaf p) (limited n book leaf p) _ _ own paid)
   where
     joined : (a b c d : ℕ) (x y : ℤ) → x ≡ pos a -ℤ pos b → y ≡ pos c -ℤ pos d → x -ℤ y ≡ pos (a + d) -ℤ pos (b + c)
     joined a b c d x y own paid = omega (arith, ints)
@@ -135,7 +135,7 @@ charged-sum n book leaf (p ∷ pairs) =
 
 -- the credits of all lines
 limit_credit : Leaf → Line × ℕ → ℕ
-limit_credit leaf p = limit_weight leaf p.0.kind * pair_cost p
+limit_credit leaf p = limit_multiplier leaf p.0.kind * pair_cost p
 
 credited-sum : (book : BookContents) (leaf : Leaf) (pairs : List (Line × ℕ))
     → sum_by (credited book leaf) pairs ≡ sum_by (limit_credit leaf) pairs + sum_by (priced book leaf) pairs
@@ -187,10 +187,10 @@ flows-free n settle weight (flow ∷ flows) none =
     let nothing : at_rate (limit_price n settle weight) flow ≡ 0 = rw (price-none n settle weight flow.day none) (omega arith) in
     omega (arith, sum_by-cons (at_rate (limit_price n settle weight)) flow flows, nothing, flows-free n settle weight flows none)
 
-limited-free : (n : ℕ) (book : BookContents) (leaf : Leaf) (line : Line) (units : ℕ) → limit_weight leaf line.kind ≡ 0 → limited n book leaf (line, units) ≡ 0
-limited-free n book leaf line units none = flows-free n book.days.settle (limit_weight leaf line.kind) (line_payments book.days line units) none
+limited-free : (n : ℕ) (book : BookContents) (leaf : Leaf) (line : Line) (units : ℕ) → limit_multiplier leaf line.kind ≡ 0 → limited n book leaf (line, units) ≡ 0
+limited-free n book leaf line units none = flows-free n book.days.settle (limit_multiplier leaf line.kind) (line_payments book.days line units) none
 
-weightless : (leaf : Leaf) (kind : LineKind) → leaf.mu ≡ 0 → limit_weight leaf kind ≡ 0
+weightless : (leaf : Leaf) (kind : LineKind) → leaf.mu ≡ 0 → limit_multiplier leaf kind ≡ 0
 weightless leaf Cash none = refl
 weightless leaf (Security slgs) none = none
 weightless leaf (Market note) none = none
@@ -231,11 +231,11 @@ value-by_day n settle (flow ∷ flows) =
       value-by_day n settle flows,
     )
 
--- securities alone have the limit's weight
-cash-weight : (leaf : Leaf) (line : Line) → IsCashLine line → limit_weight leaf line.kind ≡ 0
-cash-weight leaf line cash = ap (limit_weight leaf) cash.kind
+-- securities alone have the limit's multiplier
+cash-weight : (leaf : Leaf) (line : Line) → IsCashLine line → limit_multiplier leaf line.kind ≡ 0
+cash-weight leaf line cash = ap (limit_multiplier leaf) cash.kind
 
-security-weight : (days : PaymentDays) (leaf : Leaf) (kind : LineKind) → IsSecurity days kind → limit_weight leaf kind ≡ leaf.mu
+security-weight : (days : PaymentDays) (leaf : Leaf) (kind : LineKind) → IsSecurity days kind → limit_multiplier leaf kind ≡ leaf.mu
 security-weight days leaf Cash security = absurd security
 security-weight days leaf (Security slgs) security = refl
 security-weight days leaf (Market note) security = refl

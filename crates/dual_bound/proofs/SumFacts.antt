@@ -183,7 +183,7 @@ sums-small worths stops sums s light there k lt = small k lt
         let here = s.summed (suc k) (omega (arith, lt, s.every)) Start in
         omega (arith, ap (λ (w : Worth). w.above + w.below) here, one-more (worth_at sums k) (get_or stops (suc k) Start) (there (suc k) Start (omega (arith, lt, s.every))), small k (omega (arith, lt)))
 
--- where the weight of the limit and a day's price stay, the sum at its stop is what it was
+-- where the multiplier of the limit and a day's price stay, the sum at its stop is what it was
 after-same : (dates : ℕ) (old new : Leaf) (days : List PricedDay) (before : Worth) (stop : Stop) → old.mu ≡ new.mu → IsStopWithin (length days) stop
     → get_or old.prices (stop_day dates days stop).need 0 ≡ get_or new.prices (stop_day dates days stop).need 0
     → sum_after (map (worth_on old) days) before stop ≡ sum_after (map (worth_on new) days) before stop

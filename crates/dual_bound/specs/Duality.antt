@@ -22,7 +22,7 @@ BoundsRivals =
     → (rival : List ℕ) → IsRival limit book rival → IsWithin ranges rival
     → CostsAtLeast (bound_of (limit - 1) book ranges leaf) book leaf rival
 
--- without a weight of the limit, no permitted portfolio within the ranges that meets the needs costs less, whatever its yield
+-- without a multiplier of the limit, no permitted portfolio within the ranges that meets the needs costs less, whatever its yield
 abbrev pub BoundsAll : Type 0
 BoundsAll =
     (n : ℕ) (book : BookContents) (ranges : List Interval) (leaf : Leaf) → IsBook book → IsLeaf (length book.needs) leaf → leaf.mu ≡ 0

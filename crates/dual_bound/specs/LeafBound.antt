@@ -39,11 +39,11 @@ priced_needs needs prices = sum_by (λ p. p.0.cents.0 * p.1) (zip needs prices)
 abbrev pub cost_weight : Leaf → ℕ
 cost_weight leaf = if leaf.whole then PRICE_SCALE else 0
 
--- the weight of the yield limit, which binds securities alone
-abbrev pub limit_weight : Leaf → LineKind → ℕ
-limit_weight leaf Cash = 0
-limit_weight leaf (Security slgs) = leaf.mu
-limit_weight leaf (Market note) = leaf.mu
+-- the multiplier of the yield limit, which binds securities alone
+abbrev pub limit_multiplier : Leaf → LineKind → ℕ
+limit_multiplier leaf Cash = 0
+limit_multiplier leaf (Security slgs) = leaf.mu
+limit_multiplier leaf (Market note) = leaf.mu
 
 -- what the limit takes from a cent that is paid on a day: its weight, discounted at a yield, rounded down
 abbrev pub limit_price : ℕ → ℤ → ℕ → ℤ → ℕ
@@ -51,12 +51,12 @@ limit_price n settle weight day = weight * low n (index360_of settle day) / one
 
 -- what a cent that a line costs counts: the limit credits it
 abbrev pub cost_worth : Leaf → LineKind → ℤ
-cost_worth leaf kind = pos (cost_weight leaf) -ℤ pos (limit_weight leaf kind)
+cost_worth leaf kind = pos (cost_weight leaf) -ℤ pos (limit_multiplier leaf kind)
 
 -- what a cent that a line pays on a day is worth: its price, less what the limit takes
 abbrev pub paid_worth : ℕ → BookContents → Leaf → LineKind → ℤ → ℤ
 paid_worth n book leaf kind day =
-    pos (price_on book.needs leaf.prices day) -ℤ pos (limit_price n book.days.settle (limit_weight leaf kind) day)
+    pos (price_on book.needs leaf.prices day) -ℤ pos (limit_price n book.days.settle (limit_multiplier leaf kind) day)
 
 -- the reduced cost of units of a line, scaled: what they cost less what their payments are worth, exactly
 unfoldable pub reduced_cost : ℕ → BookContents → Leaf → Line → ℕ → ℤ

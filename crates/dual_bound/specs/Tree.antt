@@ -5,7 +5,7 @@ use Rattle.dual_bound.specs.declared.tree.Leaf.{Leaf}
 use Rattle.dual_bound.specs.declared.tree.TreeNode.{TreeNode}
 use Rattle.dual_bound.specs.declared.tree.TreeNode.TheVariants as node
 
--- weights of a leaf: one price for each need date, from 0 to 2, that never rises with time, and a weight of the limit from 0 to 1
+-- weights of a leaf: one price for each need date, from 0 to 2, that never rises with time, and a multiplier of the limit from 0 to 1
 pub record IsLeaf (dates : ℕ) (leaf : Leaf) : Type 0 where
   pub limit : leaf.mu ≤ PRICE_SCALE
   pub every_date : length leaf.prices ≡ dates

@@ -55,7 +55,7 @@ impl<'a> Columns<'a> {
     }
 
     /// Prices the columns at a leaf that keeps its limits, with one price for each need date: each payment day once, and
-    /// nothing where its prices and the weight of the limit are those of the leaf before.
+    /// nothing where its prices and the multiplier of the limit are those of the leaf before.
     pub fn price(&mut self, leaf: &Leaf)
         requires { IsLeaf (length self.old.book.needs) leaf.now }
         ensures { self.new ≡ record { book = self.old.book; yield_units = self.old.yield_units; leaf = leaf.now } }

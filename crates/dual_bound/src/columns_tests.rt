@@ -70,7 +70,7 @@ fn sample(rt: &impl Abort, alloc: Global) -> Result<Book, Fail> {
     Ok(Book::make(settle, needs, lines, ClosedDays::none(alloc)))
 }
 
-// A leaf without a weight of the limit.
+// A leaf without a multiplier of the limit.
 fn leaf(alloc: Global, whole: bool, price: u64) -> Result<Leaf, Fail>
     requires { price ≤ 2 * PRICE_SCALE }
     ensures { IfOk result (IsLeaf 1) }

@@ -6,7 +6,7 @@ ghost use Rattle.escrow_units.specs.Flows.{Rise, total};
 ghost use Rattle.escrow_units.specs.SlgsTerms.{IsSettlement};
 ghost use Rattle.fixed_powers.specs.DiscountPowers.{IsLowTable, PowerTable};
 ghost use Rattle.offer_book.specs.Book.{BookContents, IsBook, IsLine};
-ghost use Rattle.dual_bound.specs.LeafBound.{bound_of, cost_weight as cost_weight_of, cost_worth as cost_worth_of, form_of, least_within, limit_price as limit_price_of, limit_weight as limit_weight_of, paid_worth as paid_worth_of, priced_needs as priced_needs_of, price_on as price_on_date, reduced_cost as reduced_cost_of};
+ghost use Rattle.dual_bound.specs.LeafBound.{bound_of, cost_weight as cost_weight_of, cost_worth as cost_worth_of, form_of, least_within, limit_price as limit_price_of, limit_multiplier as limit_multiplier_of, paid_worth as paid_worth_of, priced_needs as priced_needs_of, price_on as price_on_date, reduced_cost as reduced_cost_of};
 ghost use Rattle.dual_bound.specs.Ranges.{HasRoomFor};
 ghost use Rattle.dual_bound.specs.Tree.{IsLeaf};
 
@@ -38,9 +38,9 @@ pub(crate) fn cost_weight(leaf: &Leaf) -> u64
     if leaf.whole { PRICE_SCALE } else { 0 }
 }
 
-/// The weight of the limit on a line of some kind.
-pub(crate) fn limit_weight(leaf: &Leaf, kind: LineKind) -> u64
-    ensures { result ≡ limit_weight_of leaf.now kind }
+/// The multiplier of the limit on a line of some kind.
+pub(crate) fn limit_multiplier(leaf: &Leaf, kind: LineKind) -> u64
+    ensures { result ≡ limit_multiplier_of leaf.now kind }
 {
     match kind {
         LineKind::Cash => 0,
@@ -54,7 +54,7 @@ pub(crate) fn cost_worth(leaf: &Leaf, kind: LineKind) -> i128
     ensures value { result ≡ cost_worth_of leaf.now kind }
     ensures light { unsigned_abs result ≤ PRICE_SCALE }
 {
-    i128::from(cost_weight(leaf)) - i128::from(limit_weight(leaf, kind))
+    i128::from(cost_weight(leaf)) - i128::from(limit_multiplier(leaf, kind))
 }
 
 // What the limit takes from a cent that is paid on a day, by the powers of a yield.
@@ -79,7 +79,7 @@ fn paid_worth(book: &Book, powers: &Powers, leaf: &Leaf, kind: LineKind, day: Da
     ensures light { unsigned_abs result ≤ 2 * PRICE_SCALE }
 {
     let price = price_on(book.needs(), leaf.prices.as_slice(), day);
-    let limit = limit_price(book.settle(), powers, limit_weight(leaf, kind), day);
+    let limit = limit_price(book.settle(), powers, limit_multiplier(leaf, kind), day);
     i128::from(price) - i128::from(limit)
 }
 

@@ -154,7 +154,7 @@ impl Tableau {
         self.leaf.prices.copy(&leaf.prices);
     }
 
-    // Prices the days of those need dates whose prices change at another leaf, with the weight of the limit as it is.
+    // Prices the days of those need dates whose prices change at another leaf, with the multiplier of the limit as it is.
     fn price_changes(&mut self, book: &Book, leaf: &Leaf)
         requires leaf { IsLeaf (length book.now.needs) leaf.now }
         requires limit { self.old.leaf.mu ≡ leaf.now.mu }
@@ -182,7 +182,7 @@ impl Tableau {
         self.leaf.prices.copy(&leaf.prices);
     }
 
-    /// Prices the days at a leaf: nothing where its prices and the weight of the limit are those of the leaf before, and where
+    /// Prices the days at a leaf: nothing where its prices and the multiplier of the limit are those of the leaf before, and where
     /// the weight is and only some prices differ, the days of those need dates.
     pub(crate) fn price(&mut self, book: &Book, leaf: &Leaf)
         requires leaf { IsLeaf (length book.now.needs) leaf.now }

@@ -11,14 +11,14 @@ use std::alloc::Global;
 pub struct Leaf {
     /// Whether the cost counts, with the weight `PRICE_SCALE`. Where it doesn't, the bound is on needs that can't be met.
     pub whole: bool,
-    /// The weight of the yield limit, at most `PRICE_SCALE`.
+    /// The multiplier of the yield limit, at most `PRICE_SCALE`.
     pub mu: u64,
     /// The price of a cent on each need date.
     pub prices: Prices,
 }
 
 impl Leaf {
-    /// A leaf without weight of the limit, whose prices are 0: one for each of so many need dates.
+    /// A leaf without multiplier of the limit, whose prices are 0: one for each of so many need dates.
     ///
     /// # Errors
     ///

@@ -15,7 +15,7 @@ use Rattle.offer_book.specs.declared.line.Line.{Line}
 use Rattle.offer_book.specs.declared.line.LineKind.{LineKind}
 use Rattle.payment_schedule.specs.Schedule.{flow_by}
 use Rattle.offer_book.specs.declared.line.LineKind.TheVariants.{Cash, Market, Security}
-use Rattle.dual_bound.specs.LeafBound.{cost_weight, cost_worth, form_at, form_of, least_side, least_within, limit_price, limit_weight, paid_worth, price_on, reduced_cost, signed_sum}
+use Rattle.dual_bound.specs.LeafBound.{cost_weight, cost_worth, form_at, form_of, least_side, least_within, limit_price, limit_multiplier, paid_worth, price_on, reduced_cost, signed_sum}
 use Rattle.dual_bound.specs.declared.ranges.Interval.{Interval}
 use Rattle.dual_bound.specs.declared.tree.Leaf.{Leaf}
 use Rattle.dual_bound.specs.Tree.{with_price}
@@ -40,7 +40,7 @@ price-elsewhere : (needs : List Flow) (prices : List ℕ) (place price : ℕ) (d
 price-elsewhere needs prices place price day same e =
     sym (e.2 (set prices place price) (set-length prices place price ∙ same)) ∙ (set-other prices place e.0 price e.1 ∙ e.2 prices same)
 
-weight-same : (leaf : Leaf) (place price : ℕ) (kind : LineKind) → limit_weight (with_price leaf place price) kind ≡ limit_weight leaf kind
+weight-same : (leaf : Leaf) (place price : ℕ) (kind : LineKind) → limit_multiplier (with_price leaf place price) kind ≡ limit_multiplier leaf kind
 weight-same leaf place price Cash = refl
 weight-same leaf place price (Security slgs) = refl
 weight-same leaf place price (Market note) = refl

@@ -18,7 +18,7 @@ use Rattle.dual_bound.specs.declared.tree.Leaf.{Leaf}
 use Rattle.dual_bound.proofs.BoundSizes.{bound-more, room-length}
 use Rattle.dual_bound.proofs.TableauFacts.{some-line}
 use Rattle.dual_bound.specs.Tree.{IsLeaf, with_price}
-use Rattle.dual_tune.specs.Steps.{IsBetter, IsImproved, price_after, price_before, price_beside, with_weight}
+use Rattle.dual_tune.specs.Steps.{IsBetter, IsImproved, price_after, price_before, price_beside, with_multiplier}
 use Rattle.dual_tune.specs.Sweep.{AreReached, IsStepOf, bound_at, lines_worth, stepped}
 use Rattle.dual_tune.specs.declared.given.Given.{Given}
 use Rattle.dual_tune.specs.declared.steps.Side.{Side}
@@ -261,8 +261,8 @@ pub leaf-beside : (dates : ℕ) (leaf : Leaf) (place : ℕ) (side : Side) → Is
 leaf-beside dates leaf place side.Before well few = leaf-before dates leaf place well few
 leaf-beside dates leaf place side.After well few = leaf-after dates leaf place well few
 
--- a leaf with a weight of the limit that is tried keeps its limits
-pub leaf-weighed : (dates : ℕ) (leaf : Leaf) (mu : ℕ) → IsLeaf dates leaf → mu ≤ PRICE_SCALE → IsLeaf dates (with_weight leaf mu)
+-- a leaf with a multiplier of the limit that is tried keeps its limits
+pub leaf-weighed : (dates : ℕ) (leaf : Leaf) (mu : ℕ) → IsLeaf dates leaf → mu ≤ PRICE_SCALE → IsLeaf dates (with_multiplier leaf mu)
 leaf-weighed dates leaf mu well small = record { limit = small; every_date = well.every_date; range = well.range; falling = well.falling }
 
 -- what is reached stays reached by more
@@ -292,4 +292,4 @@ same-items (x ∷ xs) (y ∷ ys) same h = λ i. h 0 (omega arith) i ∷ same-ite
 pub step-whole : (leaf : Leaf) (step : Step) → (stepped leaf step).whole ≡ leaf.whole
 step-whole leaf step.Nothing = refl
 step-whole leaf (step.Price place price) = refl
-step-whole leaf (step.Weight mu) = refl
+step-whole leaf (step.Multiplier mu) = refl

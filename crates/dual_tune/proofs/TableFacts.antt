@@ -28,8 +28,8 @@ use Rattle.dual_tune.specs.declared.given.Given.{Given}
 use Rattle.dual_tune.specs.declared.sweep.PriceStep.{PriceStep}
 use Rattle.dual_tune.specs.declared.steps.Side.{Side}
 use Rattle.dual_tune.specs.declared.steps.Side.TheVariants as side
-use Rattle.dual_tune.specs.declared.steps.Weight.{Weight}
-use Rattle.dual_tune.specs.declared.steps.Weight.TheVariants as weight
+use Rattle.dual_tune.specs.declared.steps.Multiplier.{Multiplier}
+use Rattle.dual_tune.specs.declared.steps.Multiplier.TheVariants as multiplier
 
 -- no units add nothing
 worth-none : (weight : ℤ → ℤ) (flows : List Flow) → All (λ flow. flow.cents.0 ≡ 0) flows → signed_sum (λ (flow : Flow). weight flow.day *ℤ pos flow.cents.0) flows ≡ pos 0
@@ -139,11 +139,11 @@ pub some-item : {A : Type 0} (xs : List A) (place : ℕ) → place < length xs �
 some-item [] place few = absurd (omega arith)
 some-item (x ∷ xs) place few = x
 
--- by each weight, and by each side
-pub each-weight : (P : Weight → Type 0) → P weight.Nothing → P weight.Half → P weight.Whole → (w : Weight) → P w
-each-weight P nothing half whole weight.Nothing = nothing
-each-weight P nothing half whole weight.Half = half
-each-weight P nothing half whole weight.Whole = whole
+-- by each multiplier, and by each side
+pub each-multiplier : (P : Multiplier → Type 0) → P multiplier.Nothing → P multiplier.Half → P multiplier.Whole → (w : Multiplier) → P w
+each-multiplier P nothing half whole multiplier.Nothing = nothing
+each-multiplier P nothing half whole multiplier.Half = half
+each-multiplier P nothing half whole multiplier.Whole = whole
 
 pub each-side : (P : Side → Type 0) → P side.Before → P side.After → (s : Side) → P s
 each-side P before after side.Before = before

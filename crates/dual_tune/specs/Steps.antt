@@ -8,8 +8,8 @@ use Rattle.dual_bound.specs.declared.ranges.Interval.{Interval}
 use Rattle.dual_bound.specs.declared.tree.Leaf.{Leaf}
 use Rattle.dual_tune.specs.declared.steps.Side.{Side}
 use Rattle.dual_tune.specs.declared.steps.Side.TheVariants as side
-use Rattle.dual_tune.specs.declared.steps.Weight.{Weight}
-use Rattle.dual_tune.specs.declared.steps.Weight.TheVariants as weight
+use Rattle.dual_tune.specs.declared.steps.Multiplier.{Multiplier}
+use Rattle.dual_tune.specs.declared.steps.Multiplier.TheVariants as multiplier
 
 -- the price before that of a place: 2 before the first
 abbrev pub price_before : List ℕ → ℕ → ℕ
@@ -25,19 +25,19 @@ abbrev pub price_beside : List ℕ → ℕ → Side → ℕ
 price_beside prices place side.Before = price_before prices place
 price_beside prices place side.After = price_after prices place
 
--- a leaf with another weight of the limit
-abbrev pub with_weight : Leaf → ℕ → Leaf
-with_weight leaf mu = record { whole = leaf.whole; mu = mu; prices = leaf.prices }
+-- a leaf with another multiplier of the limit
+abbrev pub with_multiplier : Leaf → ℕ → Leaf
+with_multiplier leaf mu = record { whole = leaf.whole; mu = mu; prices = leaf.prices }
 
--- a weight that is tried, in units of 1 / PRICE_SCALE
-abbrev pub mu_of_weight : Weight → ℕ
-mu_of_weight weight.Nothing = 0
-mu_of_weight weight.Half = PRICE_SCALE / 2
-mu_of_weight weight.Whole = PRICE_SCALE
+-- a multiplier that is tried, in units of 1 / PRICE_SCALE
+abbrev pub mu_of_multiplier : Multiplier → ℕ
+mu_of_multiplier multiplier.Nothing = 0
+mu_of_multiplier multiplier.Half = PRICE_SCALE / 2
+mu_of_multiplier multiplier.Whole = PRICE_SCALE
 
--- the weights that are tried: 0, a half and 1
-abbrev pub IsTriedWeight : ℕ → Type 0
-IsTriedWeight mu = (mu ≡ 0) ⊎ (mu ≡ PRICE_SCALE / 2) ⊎ (mu ≡ PRICE_SCALE)
+-- the multipliers that are tried: 0, a half and 1
+abbrev pub IsTriedMultiplier : ℕ → Type 0
+IsTriedMultiplier mu = (mu ≡ 0) ⊎ (mu ≡ PRICE_SCALE / 2) ⊎ (mu ≡ PRICE_SCALE)
 
 -- one price becomes the one before it or the one after it
 abbrev pub IsPriceStep : Leaf → Leaf → Type 0
@@ -45,13 +45,13 @@ IsPriceStep leaf step =
     (place : ℕ) × (place < length leaf.prices)
     × ((step ≡ with_price leaf place (price_before leaf.prices place)) ⊎ (step ≡ with_price leaf place (price_after leaf.prices place)))
 
--- the weight of the limit becomes one that is tried
-abbrev pub IsWeightStep : Leaf → Leaf → Type 0
-IsWeightStep leaf step = (mu : ℕ) × IsTriedWeight mu × (step ≡ with_weight leaf mu)
+-- the multiplier of the limit becomes one that is tried
+abbrev pub IsMultiplierStep : Leaf → Leaf → Type 0
+IsMultiplierStep leaf step = (mu : ℕ) × IsTriedMultiplier mu × (step ≡ with_multiplier leaf mu)
 
 -- a step of a leaf
 abbrev pub IsStep : Leaf → Leaf → Type 0
-IsStep leaf step = IsPriceStep leaf step ⊎ IsWeightStep leaf step
+IsStep leaf step = IsPriceStep leaf step ⊎ IsMultiplierStep leaf step
 
 -- a leaf is improved over ranges, at the yield n: it keeps its limits and whether its cost counts, and its bound is below that of
 -- neither the leaf nor any of its steps
@@ -61,7 +61,7 @@ pub record IsImproved (n : ℕ) (book : BookContents) (ranges : List Interval) (
   pub given : bound_of n book ranges leaf ≤ℤ bound_of n book ranges improved
   pub steps : (step : Leaf) → IsStep leaf step → bound_of n book ranges step ≤ℤ bound_of n book ranges improved
 
--- a leaf whose prices are 0, without a weight of the limit, that weighs the cost as another does
+-- a leaf whose prices are 0, without a multiplier of the limit, that weighs the cost as another does
 abbrev pub zeros_like : BookContents → Leaf → Leaf
 zeros_like book leaf = record { whole = leaf.whole; mu = 0; prices = replicate (length book.needs) 0 }
 

@@ -11,7 +11,7 @@ use Rattle.dual_bound.specs.declared.form.Form.{Form}
 use Rattle.dual_bound.specs.declared.ranges.Interval.{Interval}
 use Rattle.dual_bound.specs.declared.tree.Leaf.{Leaf}
 use Rattle.dual_tune.specs.Payers.{ArePayers}
-use Rattle.dual_tune.specs.Steps.{price_after, price_before, with_weight}
+use Rattle.dual_tune.specs.Steps.{price_after, price_before, with_multiplier}
 use Rattle.dual_tune.specs.Table.{AreFormsOf, IsTable}
 use Rattle.dual_tune.specs.declared.given.Given.{Given}
 use Rattle.dual_tune.specs.declared.sweep.Best.{Best}
@@ -92,13 +92,13 @@ pub record IsSweepOf (given : Given) (sweep : Sweep) : Type 0 where
 abbrev pub stepped : Leaf → Step → Leaf
 stepped leaf step.Nothing = leaf
 stepped leaf (step.Price place price) = with_price leaf place price
-stepped leaf (step.Weight mu) = with_weight leaf mu
+stepped leaf (step.Multiplier mu) = with_multiplier leaf mu
 
 -- a step's place is one of so many
 abbrev pub IsPlaced : ℕ → Step → Type 0
 IsPlaced dates step.Nothing = Unit {0}
 IsPlaced dates (step.Price place price) = place < dates
-IsPlaced dates (step.Weight mu) = Unit {0}
+IsPlaced dates (step.Multiplier mu) = Unit {0}
 
 -- the best step so far, with its bound
 pub record IsBest (given : Given) (best : Best) : Type 0 where

@@ -9,12 +9,12 @@ use Rattle.dual_bound.specs.Tree.{IsLeaf, with_price}
 use Rattle.dual_bound.specs.declared.form.Form.{Form}
 use Rattle.dual_bound.specs.declared.tree.Leaf.{Leaf}
 use Rattle.dual_tune.specs.Payers.{ArePayersByDate}
-use Rattle.dual_tune.specs.Steps.{mu_of_weight, price_beside, with_weight}
+use Rattle.dual_tune.specs.Steps.{mu_of_multiplier, price_beside, with_multiplier}
 use Rattle.dual_tune.specs.declared.payers.Payers.{Payers}
 use Rattle.dual_tune.specs.declared.steps.Side.{Side}
 use Rattle.dual_tune.specs.declared.steps.Side.TheVariants as side
-use Rattle.dual_tune.specs.declared.steps.Weight.{Weight}
-use Rattle.dual_tune.specs.declared.steps.Weight.TheVariants as weight
+use Rattle.dual_tune.specs.declared.steps.Multiplier.{Multiplier}
+use Rattle.dual_tune.specs.declared.steps.Multiplier.TheVariants as multiplier
 use Rattle.dual_tune.specs.declared.table.DateForms.{DateForms}
 use Rattle.dual_tune.specs.declared.table.LineForms.{LineForms}
 use Rattle.dual_tune.specs.declared.table.Table.{Table}
@@ -34,22 +34,22 @@ abbrev pub forms_beside : DateForms → Side → List Form
 forms_beside date side.Before = date.before.items
 forms_beside date side.After = date.after.items
 
--- the forms of lines with a weight of the limit that is tried
-abbrev pub weight_forms : LineForms → Weight → List Form
-weight_forms forms weight.Nothing = forms.free.items
-weight_forms forms weight.Half = forms.half.items
-weight_forms forms weight.Whole = forms.whole.items
+-- the forms of lines with a multiplier of the limit that is tried
+abbrev pub multiplier_forms : LineForms → Multiplier → List Form
+multiplier_forms forms multiplier.Nothing = forms.free.items
+multiplier_forms forms multiplier.Half = forms.half.items
+multiplier_forms forms multiplier.Whole = forms.whole.items
 
--- there is a place for so many lines' forms, at the leaf and with each weight
-pub record HasWeightRoom (lines : ℕ) (forms : LineForms) : Type 0 where
+-- there is a place for so many lines' forms, at the leaf and with each multiplier
+pub record HasMultiplierRoom (lines : ℕ) (forms : LineForms) : Type 0 where
   pub given : length forms.given.items ≡ lines
-  pub weights : (weight : Weight) → length (weight_forms forms weight) ≡ lines
+  pub multipliers : (multiplier : Multiplier) → length (multiplier_forms forms multiplier) ≡ lines
 
--- forms are those of each line at a leaf, and with each weight that is tried
-pub record AreWeightForms (n : ℕ) (book : BookContents) (leaf : Leaf) (forms : LineForms) : Type 0 where
-  pub room : HasWeightRoom (length book.lines) forms
+-- forms are those of each line at a leaf, and with each multiplier that is tried
+pub record AreMultiplierForms (n : ℕ) (book : BookContents) (leaf : Leaf) (forms : LineForms) : Type 0 where
+  pub room : HasMultiplierRoom (length book.lines) forms
   pub given : AreLineForms n book leaf forms.given.items
-  pub weights : (weight : Weight) → AreLineForms n book (with_weight leaf (mu_of_weight weight)) (weight_forms forms weight)
+  pub multipliers : (multiplier : Multiplier) → AreLineForms n book (with_multiplier leaf (mu_of_multiplier multiplier)) (multiplier_forms forms multiplier)
 
 -- there is a place for as many forms on each side of a date as it has payers
 abbrev pub HasRoomForLines : List ℕ → DateForms → Type 0
@@ -75,15 +75,15 @@ pub record HasTableRoom (book : BookContents) (table : Table) : Type 0 where
   pub own : table.book.now ≡ book
   pub payers : ArePayersByDate book (length book.lines) table.payers.items
   pub prices : length table.leaf.prices ≡ length book.needs
-  pub lines : HasWeightRoom (length book.lines) table.lines
+  pub lines : HasMultiplierRoom (length book.lines) table.lines
   pub dates : length table.dates.items ≡ length book.needs
   pub steps : HasRoomForPayers table.payers.items table.dates.items
 
--- a table is that of its leaf, at the yield n: it has the form of each line at the leaf and with each weight that is tried, and the
+-- a table is that of its leaf, at the yield n: it has the form of each line at the leaf and with each multiplier that is tried, and the
 -- forms of those that pay for a need date at the price steps there
 pub record IsTable (n : ℕ) (book : BookContents) (table : Table) : Type 0 where
   pub room : HasTableRoom book table
   pub leaf : IsLeaf (length book.needs) table.leaf
   pub needs : table.needs ≡ pos (COEFFICIENT_SCALE * priced_needs book.needs table.leaf.prices)
-  pub lines : AreWeightForms n book table.leaf table.lines
+  pub lines : AreMultiplierForms n book table.leaf table.lines
   pub steps : AreStepForms n book table.leaf table.payers.items table.dates.items

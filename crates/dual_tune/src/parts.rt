@@ -29,7 +29,7 @@ pub(crate) struct Parts<'a> {
     pub simplex: Box<Simplex<'a>>,
     /// The leaf that it proposes.
     pub proposal: Leaf,
-    /// The leaf of prices of 0, without a weight of the limit.
+    /// The leaf of prices of 0, without a multiplier of the limit.
     pub zeros: Leaf,
 }
 
@@ -41,7 +41,7 @@ fn take_step(step: Step, leaf: &mut Leaf)
     match step {
         Step::Nothing => {}
         Step::Price { place, price } => leaf.prices.put(place, price),
-        Step::Weight(mu) => leaf.mu = mu,
+        Step::Multiplier(mu) => leaf.mu = mu,
     }
 }
 

@@ -1,6 +1,6 @@
 //! The steps of a leaf.
 ghost use Rattle.std.specs.Prelude.{◌≡◌, ◌<◌, ◌≤◌, ◌*◌, length, slice_index, slice_index_or};
-ghost use Rattle.dual_tune.specs.Steps.{price_after as price_after_of, price_before as price_before_of, mu_of_weight, price_beside as price_beside_of};
+ghost use Rattle.dual_tune.specs.Steps.{price_after as price_after_of, price_before as price_before_of, mu_of_multiplier, price_beside as price_beside_of};
 
 use dual_bound::PRICE_SCALE;
 
@@ -13,9 +13,9 @@ pub(crate) enum Side {
     After,
 }
 
-/// A weight of the limit that is tried.
+/// A multiplier of the limit that is tried.
 #[derive(Clone, Copy)]
-pub(crate) enum Weight {
+pub(crate) enum Multiplier {
     /// 0.
     Nothing,
     /// A half.
@@ -24,15 +24,15 @@ pub(crate) enum Weight {
     Whole,
 }
 
-/// A weight of the limit, in units of 1 / [`PRICE_SCALE`].
-pub(crate) fn mu_of(weight: Weight) -> u64
-    ensures value { result ≡ mu_of_weight weight }
+/// A multiplier of the limit, in units of 1 / [`PRICE_SCALE`].
+pub(crate) fn mu_of(multiplier: Multiplier) -> u64
+    ensures value { result ≡ mu_of_multiplier multiplier }
     ensures limit { result ≤ PRICE_SCALE }
 {
-    match weight {
-        Weight::Nothing => 0,
-        Weight::Half => PRICE_SCALE / 2,
-        Weight::Whole => PRICE_SCALE,
+    match multiplier {
+        Multiplier::Nothing => 0,
+        Multiplier::Half => PRICE_SCALE / 2,
+        Multiplier::Whole => PRICE_SCALE,
     }
 }
 

@@ -7,12 +7,12 @@ ghost use Rattle.dual_bound.specs.LeafBound.{least_within, priced_needs};
 ghost use Rattle.dual_bound.specs.Tree.{IsLeaf, with_price};
 ghost use Rattle.dual_bound.specs.declared.ranges.Interval.{Interval as IntervalOf};
 ghost use Rattle.dual_bound.specs.declared.tree.Leaf.{Leaf as LeafOf};
-ghost use Rattle.dual_tune.specs.Steps.{IsStep, IsTriedWeight, mu_of_weight, price_beside as price_beside_of, with_weight};
+ghost use Rattle.dual_tune.specs.Steps.{IsStep, IsTriedMultiplier, mu_of_multiplier, price_beside as price_beside_of, with_multiplier};
 ghost use Rattle.dual_tune.specs.Sweep.{AreColumnsOf, AreLeasts, AreReached, IsBest, IsFormAt, IsPoint, IsPricedFor, IsReached, IsReadyFor, IsStepOf, IsSweep, IsSweepOf, bound_at, lines_worth};
 ghost use Rattle.dual_tune.specs.Table.{AreLineForms};
 
 use crate::given::Given;
-use crate::steps::{Side, Weight, mu_of, price_beside};
+use crate::steps::{Multiplier, Side, mu_of, price_beside};
 use crate::table::Table;
 use dual_bound::{Columns, Form, Leaf, PRICE_SCALE, Ranges};
 use escrow_desk::NoMemory;
@@ -40,8 +40,8 @@ pub(crate) enum Step {
         /// Its price.
         price: u64,
     },
-    /// The weight of the yield limit.
-    Weight(u64),
+    /// The multiplier of the yield limit.
+    Multiplier(u64),
 }
 
 /// A step, and the bound of the leaf after it.
@@ -79,7 +79,7 @@ pub(crate) struct Sweep<'a> {
     pub leasts: Vec<LineLeast>,
     /// The bound of the given leaf, scaled.
     pub bound: i128,
-    /// The given leaf, to be given another weight of the limit.
+    /// The given leaf, to be given another multiplier of the limit.
     pub trial: Leaf,
 }
 
@@ -358,51 +358,51 @@ impl<'a> Sweep<'a> {
         best
     }
 
-    // The bound of the given leaf with another weight of the limit.
-    fn bound_of_weight(&mut self, given: &Given, weight: Weight) -> i128
+    // The bound of the given leaf with another multiplier of the limit.
+    fn bound_of_multiplier(&mut self, given: &Given, multiplier: Multiplier) -> i128
         requires { IsReadyFor given.now self.old }
         ensures ready { IsReadyFor given.now self.new }
-        ensures value { result ≡ bound_at given.now (with_weight given.now.leaf.now (mu_of_weight weight)) }
+        ensures value { result ≡ bound_at given.now (with_multiplier given.now.leaf.now (mu_of_multiplier multiplier)) }
     {
         let own = self.trial.mu;
-        self.trial.mu = mu_of(weight);
+        self.trial.mu = mu_of(multiplier);
         price_for(&mut self.columns, self.points, given, &self.trial);
         let bound = bound_by(
             &self.columns,
             given,
             &self.trial,
             self.table.needs,
-            self.table.lines.weight_forms(weight),
+            self.table.lines.multiplier_forms(multiplier),
         );
         self.trial.mu = own;
         bound
     }
 
-    // The better of a step and what comes of another weight of the limit.
-    fn try_weight(&mut self, given: &Given, best: Best, weight: Weight) -> Best
+    // The better of a step and what comes of another multiplier of the limit.
+    fn try_multiplier(&mut self, given: &Given, best: Best, multiplier: Multiplier) -> Best
         requires ready { IsReadyFor given.now self.old }
         requires best { IsBest given.now best }
         ensures ready { IsReadyFor given.now self.new }
         ensures best { IsBest given.now result }
         ensures better { best.bound ≤ℤ result.bound }
-        ensures tried { IsReached given.now result.bound (with_weight given.now.leaf.now (mu_of_weight weight)) }
+        ensures tried { IsReached given.now result.bound (with_multiplier given.now.leaf.now (mu_of_multiplier multiplier)) }
     {
-        let reached = self.bound_of_weight(given, weight);
-        better(best, Step::Weight(mu_of(weight)), reached)
+        let reached = self.bound_of_multiplier(given, multiplier);
+        better(best, Step::Multiplier(mu_of(multiplier)), reached)
     }
 
-    // The best of a step and each weight of the limit that is tried.
-    fn try_weights(&mut self, given: &Given, best: Best) -> Best
+    // The best of a step and each multiplier of the limit that is tried.
+    fn try_multipliers(&mut self, given: &Given, best: Best) -> Best
         requires ready { IsReadyFor given.now self.old }
         requires best { IsBest given.now best }
         ensures ready { IsReadyFor given.now self.new }
         ensures best { IsBest given.now result }
         ensures better { best.bound ≤ℤ result.bound }
-        ensures tried { (mu : ℕ) → IsTriedWeight mu → IsReached given.now result.bound (with_weight given.now.leaf.now mu) }
+        ensures tried { (mu : ℕ) → IsTriedMultiplier mu → IsReached given.now result.bound (with_multiplier given.now.leaf.now mu) }
     {
-        let best = self.try_weight(given, best, Weight::Nothing);
-        let best = self.try_weight(given, best, Weight::Half);
-        self.try_weight(given, best, Weight::Whole)
+        let best = self.try_multiplier(given, best, Multiplier::Nothing);
+        let best = self.try_multiplier(given, best, Multiplier::Half);
+        self.try_multiplier(given, best, Multiplier::Whole)
     }
 
     // Keeps what each line adds at least at a leaf whose table stands.
@@ -468,6 +468,6 @@ impl<'a> Sweep<'a> {
             bound: self.bound,
         };
         let best = self.try_places(given, first);
-        self.try_weights(given, best)
+        self.try_multipliers(given, best)
     }
 }

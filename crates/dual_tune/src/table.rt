@@ -3,30 +3,30 @@ ghost use Rattle.std.specs.Prelude.{All, ◌≡◌, ◌*◌, ◌<◌, ◌≤◌,
 ghost use Rattle.dual_bound.specs.LeafBound.{priced_needs as priced_needs_of};
 ghost use Rattle.dual_bound.specs.Tree.{IsLeaf, with_price};
 ghost use Rattle.dual_tune.specs.Payers.{ArePayersByDate};
-ghost use Rattle.dual_tune.specs.Steps.{mu_of_weight, price_beside as price_beside_of, with_weight};
-ghost use Rattle.dual_tune.specs.Table.{AreDateForms, AreFormsOf, AreLineForms, AreStepForms, HasRoomForLines, HasRoomForPayers, HasTableRoom, HasWeightRoom, IsTable, forms_beside, weight_forms as weight_forms_of};
+ghost use Rattle.dual_tune.specs.Steps.{mu_of_multiplier, price_beside as price_beside_of, with_multiplier};
+ghost use Rattle.dual_tune.specs.Table.{AreDateForms, AreFormsOf, AreLineForms, AreStepForms, HasRoomForLines, HasRoomForPayers, HasTableRoom, HasMultiplierRoom, IsTable, forms_beside, multiplier_forms as multiplier_forms_of};
 ghost use Rattle.dual_tune.specs.declared.payers.Payers.{Payers as PayersOf};
-ghost use Rattle.dual_tune.specs.declared.steps.Weight.{Weight as WeightOf};
+ghost use Rattle.dual_tune.specs.declared.steps.Multiplier.{Multiplier as MultiplierOf};
 ghost use Rattle.dual_tune.specs.declared.table.DateForms.{DateForms as DateFormsOf};
 
 use crate::payers::{Payers, payers_by_date};
-use crate::steps::{Side, Weight, mu_of, price_beside};
+use crate::steps::{Multiplier, Side, mu_of, price_beside};
 use crate::sweep::copy_leaf;
 use dual_bound::{Columns, Form, Leaf, PRICE_SCALE, priced_needs};
 use escrow_desk::NoMemory;
 use offer_book::{Book, COEFFICIENT_SCALE};
 use std::alloc::Global;
 
-/// The form of each line at a leaf, and with each weight of the limit that is tried.
+/// The form of each line at a leaf, and with each multiplier of the limit that is tried.
 #[derive(Drop)]
 pub(crate) struct LineForms {
     /// At the leaf.
     pub given: Vec<Form>,
-    /// Where the limit has no weight.
+    /// Where the limit has no multiplier.
     pub free: Vec<Form>,
-    /// Where it has a weight of a half.
+    /// Where it has a multiplier of a half.
     pub half: Vec<Form>,
-    /// Where it has a weight of 1.
+    /// Where it has a multiplier of 1.
     pub whole: Vec<Form>,
 }
 
@@ -110,15 +110,15 @@ fn put_forms(columns: &Columns, lines: &[u16], forms: &mut [Form])
     }
 }
 
-// Gives the limit another weight in a leaf, prices the leaf, and puts the form of each line.
-fn put_weight(columns: &mut Columns, lines: u16, leaf: &mut Leaf, mu: u64, forms: &mut [Form])
+// Gives the limit another multiplier in a leaf, prices the leaf, and puts the form of each line.
+fn put_multiplier(columns: &mut Columns, lines: u16, leaf: &mut Leaf, mu: u64, forms: &mut [Form])
     requires lines { lines ≡ length columns.old.book.lines }
     requires leaf { IsLeaf (length columns.old.book.needs) leaf.old }
     requires mu { mu ≤ PRICE_SCALE }
     requires room { length forms.old ≡ lines }
-    ensures columns { columns.new ≡ record { book = columns.old.book; yield_units = columns.old.yield_units; leaf = with_weight leaf.old mu } }
-    ensures leaf { leaf.new ≡ with_weight leaf.old mu }
-    ensures forms { AreLineForms columns.old.yield_units columns.old.book (with_weight leaf.old mu) forms.new }
+    ensures columns { columns.new ≡ record { book = columns.old.book; yield_units = columns.old.yield_units; leaf = with_multiplier leaf.old mu } }
+    ensures leaf { leaf.new ≡ with_multiplier leaf.old mu }
+    ensures forms { AreLineForms columns.old.yield_units columns.old.book (with_multiplier leaf.old mu) forms.new }
 {
     leaf.mu = mu;
     columns.price(leaf);
@@ -191,7 +191,7 @@ fn put_dates(
 impl LineForms {
     // Room for the forms of so many lines.
     fn make(alloc: Global, lines: u16) -> Result<LineForms, NoMemory>
-        ensures { IfOk result (HasWeightRoom lines) }
+        ensures { IfOk result (HasMultiplierRoom lines) }
     {
         let count = usize::from(lines);
         Ok(LineForms {
@@ -206,31 +206,31 @@ impl LineForms {
     fn put(&mut self, columns: &mut Columns, lines: u16, leaf: &mut Leaf)
         requires lines { lines ≡ length columns.old.book.lines }
         requires leaf { IsLeaf (length columns.old.book.needs) leaf.old }
-        requires room { HasWeightRoom lines self.old }
+        requires room { HasMultiplierRoom lines self.old }
         ensures columns { columns.new ≡ record { book = columns.old.book; yield_units = columns.old.yield_units; leaf = leaf.old } }
         ensures leaf { leaf.new ≡ leaf.old }
-        ensures room { HasWeightRoom lines self.new }
+        ensures room { HasMultiplierRoom lines self.new }
         ensures given { AreLineForms columns.old.yield_units columns.old.book leaf.old self.new.given.items }
-        ensures weights { (weight : WeightOf) → AreLineForms columns.old.yield_units columns.old.book (with_weight leaf.old (mu_of_weight weight)) (weight_forms_of self.new weight) }
+        ensures multipliers { (multiplier : MultiplierOf) → AreLineForms columns.old.yield_units columns.old.book (with_multiplier leaf.old (mu_of_multiplier multiplier)) (multiplier_forms_of self.new multiplier) }
     {
         let own = leaf.mu;
-        let nothing = mu_of(Weight::Nothing);
-        let half = mu_of(Weight::Half);
-        let whole = mu_of(Weight::Whole);
-        put_weight(columns, lines, leaf, nothing, &mut self.free);
-        put_weight(columns, lines, leaf, half, &mut self.half);
-        put_weight(columns, lines, leaf, whole, &mut self.whole);
-        put_weight(columns, lines, leaf, own, &mut self.given);
+        let nothing = mu_of(Multiplier::Nothing);
+        let half = mu_of(Multiplier::Half);
+        let whole = mu_of(Multiplier::Whole);
+        put_multiplier(columns, lines, leaf, nothing, &mut self.free);
+        put_multiplier(columns, lines, leaf, half, &mut self.half);
+        put_multiplier(columns, lines, leaf, whole, &mut self.whole);
+        put_multiplier(columns, lines, leaf, own, &mut self.given);
     }
 
-    /// Each line's form with a weight of the limit that is tried.
-    pub(crate) fn weight_forms(&self, weight: Weight) -> &[Form]
-        ensures { result.now ≡ weight_forms_of self.now weight }
+    /// Each line's form with a multiplier of the limit that is tried.
+    pub(crate) fn multiplier_forms(&self, multiplier: Multiplier) -> &[Form]
+        ensures { result.now ≡ multiplier_forms_of self.now multiplier }
     {
-        match weight {
-            Weight::Nothing => self.free.as_slice(),
-            Weight::Half => self.half.as_slice(),
-            Weight::Whole => self.whole.as_slice(),
+        match multiplier {
+            Multiplier::Nothing => self.free.as_slice(),
+            Multiplier::Half => self.half.as_slice(),
+            Multiplier::Whole => self.whole.as_slice(),
         }
     }
 }

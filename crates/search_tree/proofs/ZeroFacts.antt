@@ -9,7 +9,7 @@ use Rattle.std.proofs.lemmas.List.Elements.{All-head, All-tail}
 use Rattle.std.proofs.lemmas.List.Sums.{sum_by-cons}
 use Rattle.std.proofs.lemmas.Nat.{le-div}
 use Rattle.dual_bound.proofs.Soundness.{all-lines}
-use Rattle.dual_bound.specs.LeafBound.{bound_of, cost_worth, form_at, form_of, least_side, least_within, limit_price, limit_weight, paid_worth, price_on, reduced_cost, signed_sum}
+use Rattle.dual_bound.specs.LeafBound.{bound_of, cost_worth, form_at, form_of, least_side, least_within, limit_price, limit_multiplier, paid_worth, price_on, reduced_cost, signed_sum}
 use Rattle.dual_bound.specs.Ranges.{AreTight, IsTight}
 use Rattle.dual_bound.specs.declared.prices.TheConstants.{PRICE_SCALE}
 use Rattle.dual_bound.specs.declared.form.Form.{Form}
@@ -42,14 +42,14 @@ price-zero (need ∷ needs) (suc count) day = by (int_le day need.day) (price_on
 limit-zero : (n : ℕ) (settle : ℤ) (weight : ℕ) (day : ℤ) → weight ≡ 0 → limit_price n settle weight day ≡ 0
 limit-zero n settle weight day none = rw none (omega arith)
 
-weight-zero : (count : ℕ) (kind : LineKind) → limit_weight (zeros count) kind ≡ 0
+weight-zero : (count : ℕ) (kind : LineKind) → limit_multiplier (zeros count) kind ≡ 0
 weight-zero count Cash = refl
 weight-zero count (Security slgs) = refl
 weight-zero count (Market note) = refl
 
 worth-zero : (n : ℕ) (book : BookContents) (count : ℕ) (kind : LineKind) (day : ℤ) → paid_worth n book (zeros count) kind day ≡ pos 0
 worth-zero n book count kind day =
-    (λ i. pos (price-zero book.needs count day i) -ℤ pos (limit-zero n book.days.settle (limit_weight (zeros count) kind) day (weight-zero count kind) i))
+    (λ i. pos (price-zero book.needs count day i) -ℤ pos (limit-zero n book.days.settle (limit_multiplier (zeros count) kind) day (weight-zero count kind) i))
 
 cost-worth : (count : ℕ) (kind : LineKind) → cost_worth (zeros count) kind ≡ pos PRICE_SCALE
 cost-worth count kind = ap (λ (w : ℕ). pos PRICE_SCALE -ℤ pos w) (weight-zero count kind)

@@ -9,7 +9,7 @@ pub returns-clause-value : goal.returns-clause-value
 returns-clause-value c =
     (omega (arith, ints))
     ∙ (λ i. pos (price_on (c.needs.ensures.value i) (c.as_slice.ensures i) c.args.day)
-    -ℤ pos (limit_price c.args.powers.now.yield_units (c.settle.ensures i) (c.limit_weight.ensures i) c.args.day))
+    -ℤ pos (limit_price c.args.powers.now.yield_units (c.settle.ensures i) (c.limit_multiplier.ensures i) c.args.day))
 
 pub returns-clause-light : goal.returns-clause-light
 returns-clause-light c =

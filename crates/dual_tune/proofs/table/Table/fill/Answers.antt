@@ -9,7 +9,7 @@ use Rattle.dual_bound.specs.LeafBound.{priced_needs}
 use Rattle.dual_bound.specs.Columns.{ColumnsContents}
 use Rattle.dual_bound.specs.Tree.{IsLeaf}
 use Rattle.dual_bound.specs.declared.tree.Leaf.{Leaf}
-use Rattle.dual_tune.specs.Table.{AreStepForms, AreWeightForms, HasRoomForPayers, HasWeightRoom}
+use Rattle.dual_tune.specs.Table.{AreStepForms, AreMultiplierForms, HasRoomForPayers, HasMultiplierRoom}
 use Rattle.dual_tune.specs.declared.payers.Payers.{Payers}
 use Rattle.dual_tune.proofs.table.Table.fill.Goals as goal
 
@@ -24,7 +24,7 @@ returns-clause-table c =
     let long : length put_dates ≡ dates.len = omega (arith, c.put_dates.auto.dates, ap length c.deref_mut.ensures.value, dates.ok.0) in
     let items : put_dates ≡ (with_items dates put_dates).items = sym (with_items_is dates put_dates long) in
     let leaf_is = c.put.ensures.leaf ∙ c.copy_leaf.ensures in
-    let lines : HasWeightRoom (length book.lines) c.put.new.self = subst (λ m. HasWeightRoom m c.put.new.self) (c.line_count.ensures.value ∙ ap (λ (b : BookContents). length b.lines) room.own) c.put.ensures.room in
+    let lines : HasMultiplierRoom (length book.lines) c.put.new.self = subst (λ m. HasMultiplierRoom m c.put.new.self) (c.line_count.ensures.value ∙ ap (λ (b : BookContents). length b.lines) room.own) c.put.ensures.room in
     record {
       room = record {
         own = room.own;
@@ -37,7 +37,7 @@ returns-clause-table c =
       leaf = subst (IsLeaf (length book.needs)) (sym leaf_is) c.requires.leaf;
       needs = to_z-of_z w128 c.needs_worth-self.result (record { sfits = c.needs_worth-self.type_inv }) ∙ c.needs_worth-self.ensures
           ∙ (λ i. pos (COEFFICIENT_SCALE * priced_needs (room.own i).needs (sym leaf_is i).prices));
-      lines = subst (λ (l : Leaf). AreWeightForms n book l c.put.new.self) (sym c.put.ensures.leaf) (record { room = lines; given = c.put.ensures.given; weights = c.put.ensures.weights });
+      lines = subst (λ (l : Leaf). AreMultiplierForms n book l c.put.new.self) (sym c.put.ensures.leaf) (record { room = lines; given = c.put.ensures.given; multipliers = c.put.ensures.multipliers });
       steps = subst (AreStepForms n book c.put.new.leaf payers) items
           (subst (λ (l : Leaf). AreStepForms n book l payers put_dates) (sym leaf_is)
           (subst (λ (p : List Payers). AreStepForms n book c.args.leaf.now p put_dates) c.as_slice.ensures.value
