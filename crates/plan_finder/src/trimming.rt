@@ -81,11 +81,12 @@ fn fewest_within(ledger: &Ledger, duty: &Duty, bracket: Bracket) -> u64
     ensures most { result ≤ bracket.high }
     ensures enough { (d : Line) → Cover ledger.now.book.needs duty.now.due (line_payments ledger.now.book.days (slice_index_or ledger.now.book.lines duty.now.line d) result) }
 {
-    least_passing(
-        bracket.low,
-        bracket.high,
-        |units| suffices(ledger, duty, units),
-    )
+    let passes = |units: u64| -> bool
+        requires line { duty.now.line < length ledger.now.book.lines }
+        requires most { (d : Line) → units ≤ (slice_index_or ledger.now.book.lines duty.now.line d).most }
+        ensures { (d : Line) → IsTrue result ↔ Cover ledger.entry.now.book.needs duty.entry.now.due (line_payments ledger.entry.now.book.days (slice_index_or ledger.entry.now.book.lines duty.entry.now.line d) units) }
+    { suffices(ledger, duty, units) };
+    least_passing(bracket.low, bracket.high, passes)
 }
 
 // The fewest permitted units of a line that suffice, of which some do.
