@@ -6,7 +6,7 @@ ghost use Rattle.rate_cap.specs.Halving.{middle_of, next_of};
 ghost use Rattle.rate_cap.specs.Search.{IsBest, IsCapUpTo, IsNext, IsSearch, IsSettled, SearchesEndAtHundredths, SearchesEndAtZero, tells};
 
 use arrayvec::ArrayVec;
-use escrow_units::Rate;
+use escrow_units::{GREATEST_RATE, Rate};
 use std::marker::Model;
 
 // The most caps that are told: the top, 0, and twelve middles, since 30 percent has 3,000 hundredths, which is less than 2^12.
@@ -40,8 +40,8 @@ impl Model for CapSearch {
 
 // The middle of two caps, rounded down to a hundredth; none where they are one hundredth apart.
 fn middle_of_caps(low: Rate, high: Rate) -> Option<Rate>
-    requires low { low.0 ≤ 30_000 }
-    requires high { high.0 ≤ 30_000 }
+    requires low { low.0 ≤ GREATEST_RATE }
+    requires high { high.0 ≤ GREATEST_RATE }
     ensures { result ≡ middle_of low high }
 {
     if high.0 <= low.0 + HUNDREDTH {
@@ -52,8 +52,8 @@ fn middle_of_caps(low: Rate, high: Rate) -> Option<Rate>
 
 // The cap that is asked next, by the top, the last found and the last not found.
 fn next_cap(top: Rate, low: Option<Rate>, high: Option<Rate>) -> Option<Rate>
-    requires low { IfSome low (λ low. low.0 ≤ 30_000) }
-    requires high { IfSome high (λ high. high.0 ≤ 30_000) }
+    requires low { IfSome low (λ low. low.0 ≤ GREATEST_RATE) }
+    requires high { IfSome high (λ high. high.0 ≤ GREATEST_RATE) }
     ensures { result ≡ next_of top low high }
 {
     match (low, high) {
