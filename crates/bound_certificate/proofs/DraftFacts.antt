@@ -92,7 +92,7 @@ pub record Stands (dates : ℕ) (d : Due) (cert : Certificate) (lines : List Lin
   pub draft : IsDraft dates d cert
   pub lines_are : draft_lines d cert ≡ lines
 
-some_left : (left : ℕ) → (left == 0) ≡ false → 1 ≤ left
+pub some_left : (left : ℕ) → (left == 0) ≡ false → 1 ≤ left
 some_left zero h = absurd (cc)
 some_left (suc left) h = omega arith
 
@@ -220,19 +220,19 @@ node_stands dates left trees next cert said some begun is closes =
     stands_as dates (nodes_due (left - 1) next) after (node_lines (left - 1) after) (node_lines left cert ++ text.Node said ∷ []) (node-lines left cert said some)
     (nodes-stand dates (left - 1) next after (node_begun dates left trees next cert said some begun is closes))
 
-split_closes : (trees line at : ℕ) (more : List TreeNode) → 1 ≤ trees → AreTrees (trees + 1) more → AreTrees trees (node.Split line at ∷ more)
+pub split_closes : (trees line at : ℕ) (more : List TreeNode) → 1 ≤ trees → AreTrees (trees + 1) more → AreTrees trees (node.Split line at ∷ more)
 split_closes zero line at more some are = absurd (omega arith)
 split_closes (suc others) line at more some are =
     let P : ℕ → Type 0 = λ k. AreTrees k more in
     let same : suc others + 1 ≡ suc (suc others) = omega arith in subst P same are
 
-point_closes : (trees : ℕ) (more : List TreeNode) → 1 ≤ trees → AreTrees (trees - 1) more → AreTrees trees (node.Point ∷ more)
+pub point_closes : (trees : ℕ) (more : List TreeNode) → 1 ≤ trees → AreTrees (trees - 1) more → AreTrees trees (node.Point ∷ more)
 point_closes zero more some are = absurd (omega arith)
 point_closes (suc others) more some are =
     let P : ℕ → Type 0 = λ k. AreTrees k more in
     let same : suc others - 1 ≡ others = omega arith in subst P same are
 
-leaf_closes : (trees : ℕ) (leaf : Leaf) (more : List TreeNode) → 1 ≤ trees → AreTrees (trees - 1) more → AreTrees trees (node.Closed leaf ∷ more)
+pub leaf_closes : (trees : ℕ) (leaf : Leaf) (more : List TreeNode) → 1 ≤ trees → AreTrees (trees - 1) more → AreTrees trees (node.Closed leaf ∷ more)
 leaf_closes zero leaf more some are = absurd (omega arith)
 leaf_closes (suc others) leaf more some are =
     let P : ℕ → Type 0 = λ k. AreTrees k more in
@@ -347,7 +347,7 @@ lines-fold cert =
     ∙ ap (λ (c : Certificate). with_lines c (text.End ∷ [])) (nodes-fold cert.nodes (record bought { gap = cert.gap }))
 
 -- the lines of a well-formed certificate follow one another
-not_none : (left : ℕ) → (suc left == 0) ≡ false
+pub not_none : (left : ℕ) → (suc left == 0) ≡ false
 not_none left = grind arith
 
 some_nodes_due : (left trees : ℕ) → due.Node (suc left) trees ≡ nodes_due (suc left) trees
@@ -396,10 +396,10 @@ Rises earlier later = earlier.line < later.line
 abbrev pub From : ℕ → Buy → Type 0
 From least buy = least ≤ buy.line
 
-rises_tail : (buy : Buy) (buys : List Buy) → AllPairs Rises (buy ∷ buys) → AllPairs Rises buys
+pub rises_tail : (buy : Buy) (buys : List Buy) → AllPairs Rises (buy ∷ buys) → AllPairs Rises buys
 rises_tail buy buys h i j d before inside = h (suc i) (suc j) d (omega arith) (omega arith)
 
-rises_head : (buy : Buy) (buys : List Buy) → AllPairs Rises (buy ∷ buys) → All (From (buy.line + 1)) buys
+pub rises_head : (buy : Buy) (buys : List Buy) → AllPairs Rises (buy ∷ buys) → All (From (buy.line + 1)) buys
 rises_head buy buys h i d inside = let here : buy.line < (get_or buys i d).line = h 0 (suc i) d (omega arith) (omega arith) in omega (arith, here)
 
 buys-follow : (dates : ℕ) (buys : List Buy) (least : ℕ) (rest : List Line) → All IsBuy buys → AllPairs Rises buys → All (From least) buys →
@@ -413,7 +413,7 @@ buys-follow dates (buy ∷ buys) least rest all rises low follows =
     let R : Due → Type 0 = λ d. Follows dates d (text.Purchase buy ∷ (map text.Purchase buys ++ rest)) in
     subst R (some_buys_due (length buys) least) ((All-head IsBuy buy buys all, All-head (From least) buy buys low), subst P fewer later)
 
-from_zero : (buys : List Buy) → All (From 0) buys
+pub from_zero : (buys : List Buy) → All (From 0) buys
 from_zero buys i d inside = omega arith
 
 portfolio-follows : (dates gap : ℕ) (buys : Option (List Buy)) (rest : List Line) → IsPortfolio buys gap → Follows dates due.Count rest →

@@ -66,7 +66,7 @@ pub record Good (dates : ℕ) (d : Due) (bytes : List ℕ) : Type 0 where
   pub read : line_numbers d n others ≡ Some numbers
   pub order : are_disordered d n numbers ≡ false
 
-equal_by : (m n : ℕ) → (m == n) ≡ true → m ≡ n
+pub equal_by : (m n : ℕ) → (m == n) ≡ true → m ≡ n
 equal_by m n h = grind (arith, h)
 
 numbers_good : (dates : ℕ) (d : Due) (bytes : List ℕ) (n : Name) (others : List (List ℕ)) → words_of bytes ≡ word_of n ∷ others →
@@ -129,7 +129,7 @@ row_of dates d bytes good plain =
       order = good.order;
     }
 
-in_range : (least most number : ℕ) → is_in (record { least = least; most = most }) number ≡ true → (least ≤ number) × (number ≤ most)
+pub in_range : (least most number : ℕ) → is_in (record { least = least; most = most }) number ≡ true → (least ≤ number) × (number ≤ most)
 in_range least most number h = (grind (arith, h), grind (arith, h))
 
 buy_found : (dates left least : ℕ) (bytes numbers : List ℕ) → bytes ≡ row name.Buy numbers → AreInRange (due.Buy left least) name.Buy 1 numbers → 1 + length numbers ≡ 3 →

@@ -17,3 +17,16 @@ pub mod WordFacts
 pub mod SayFacts
 pub mod StepFacts
 pub mod PriceFacts
+pub mod CutFacts
+pub mod PackedRowFacts
+pub mod ReadRowFacts
+pub mod PackedLineFacts
+pub mod PackedSaidFacts
+pub mod PackedFits
+pub mod PackedLineFits
+pub mod PackedFollows
+pub mod PackedTextFacts
+pub mod PackedReadFacts
+pub mod PackedWriteFacts
+pub mod PackFacts
+pub mod PackedOfFacts

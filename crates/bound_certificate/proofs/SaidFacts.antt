@@ -122,13 +122,13 @@ not_feed byte h e = absurd (omega (arith, h.0, e))
 decimal_line : (n : ℕ) → n ≤ GREATEST_GAP → IsOneLine (decimal n)
 decimal_line n limit i d h = not_feed _ (decimal-digits n limit i d h)
 
-numbers_line : (numbers : List ℕ) → AreWritten numbers → IsOneLine (spaced_numbers numbers)
+pub numbers_line : (numbers : List ℕ) → AreWritten numbers → IsOneLine (spaced_numbers numbers)
 numbers_line [] few = All-nil NotFeed
 numbers_line (number ∷ numbers) few =
     All-cons NotFeed 32 (decimal number ++ spaced_numbers numbers) (λ e. absurd (omega (arith, e)))
     (All-append NotFeed (decimal number) (spaced_numbers numbers) (decimal_line number few.0) (numbers_line numbers few.1))
 
-line_by : (word : List ℕ) → list_all (λ byte. not (byte == 10)) word ≡ true → IsOneLine word
+pub line_by : (word : List ℕ) → list_all (λ byte. not (byte == 10)) word ≡ true → IsOneLine word
 line_by [] h = All-nil NotFeed
 line_by (byte ∷ word) h =
     let both : (not (byte == 10) ≡ true) × (list_all (λ b. not (b == 10)) word ≡ true) = and_parts _ _ h in
@@ -185,7 +185,7 @@ row-shows dates d n numbers title is =
     }
 
 -- the words of names have no space, but the first line's
-word_by : (word : List ℕ) → list_all (λ byte. not (is_space byte)) word ≡ true → IsWord word
+pub word_by : (word : List ℕ) → list_all (λ byte. not (is_space byte)) word ≡ true → IsWord word
 word_by [] h = All-nil (λ byte. is_space byte ≡ false)
 word_by (byte ∷ word) h =
     let both : (not (is_space byte) ≡ true) × (list_all (λ b. not (is_space b)) word ≡ true) = and_parts _ _ h in
@@ -198,7 +198,7 @@ pub record Shows (dates : ℕ) (d : Due) (line : Line) : Type 0 where
   pub leaf : HasLeaf line (line_leaf d (body line))
   pub one : IsOneLine (body line)
 
-within : (least most number : ℕ) → least ≤ number → number ≤ most → is_in (record { least = least; most = most }) number ≡ true
+pub within : (least most number : ℕ) → least ≤ number → number ≤ most → is_in (record { least = least; most = most }) number ≡ true
 within least most number low high = grind (arith, low, high)
 
 -- prices at their places
@@ -270,11 +270,11 @@ pub weight_within : (whole : Bool) → is_in (record { least = 0; most = 1 }) (i
 weight_within true = refl
 weight_within false = refl
 
-weight_written : (whole : Bool) → (if whole then 1 else 0) ≤ GREATEST_GAP
+pub weight_written : (whole : Bool) → (if whole then 1 else 0) ≤ GREATEST_GAP
 weight_written true = omega arith
 weight_written false = omega arith
 
-weight_read : (whole : Bool) → ((if whole then 1 else 0) == 1) ≡ whole
+pub weight_read : (whole : Bool) → ((if whole then 1 else 0) == 1) ≡ whole
 weight_read true = refl
 weight_read false = refl
 

@@ -164,7 +164,7 @@ no_line : (dates : ℕ) (d : Due) (line : Line) → is_over d ≡ true → Fits 
 no_line dates due.Nothing line over fits = fits
 no_line dates d line over fits = absurd (cc)
 
-head_same : (x y : List ℕ) (xs ys : List (List ℕ)) → x ∷ xs ≡ y ∷ ys → (x ≡ y) × (xs ≡ ys)
+pub head_same : (x y : List ℕ) (xs ys : List (List ℕ)) → x ∷ xs ≡ y ∷ ys → (x ≡ y) × (xs ≡ ys)
 head_same x y xs ys h = (cc, cc)
 
 pub lines-same : (dates : ℕ) (lines others : List Line) (d : Due) → Follows dates d lines → Follows dates d others →

@@ -8,3 +8,9 @@ pub mod Grammar
 pub mod Faults
 pub mod Draft
 pub mod Step
+pub mod Packed
+pub mod PackedText
+pub mod Row
+pub mod PackedGrammar
+pub mod PackedDraft
+pub mod PackedLaws

@@ -55,8 +55,8 @@ impl Buys {
         self.buys
     }
 
-    // One more.
-    fn push(&mut self, buy: Buy) -> Result<(), NoMemory>
+    /// One more.
+    pub(crate) fn push(&mut self, buy: Buy) -> Result<(), NoMemory>
         ensures { OnOk result (self.new ≡ self.old ++ buy ∷ []) }
     {
         self.buys.push(buy)?;

@@ -127,8 +127,8 @@ pub(crate) struct Range {
 }
 
 impl Range {
-    // The numbers from one to another.
-    fn new(least: u64, most: u64) -> Range
+    /// The numbers from one to another.
+    pub(crate) fn new(least: u64, most: u64) -> Range
         ensures { result ≡ from_to least most }
     {
         Range { least, most }

@@ -1,5 +1,6 @@
 //! What the reader of certificates is, and what their texts are.
 ghost use Rattle.bound_certificate.specs.Laws.{CertificatesHaveOneText, EveryCutIsTheSame, FaultsAreOfLines, FaultsAreTheFirst, FaultsStay, ItemsAreOfLines, LeavesAreOfLines, LinesFollow, TextsAreOfOne, TextsHaveNoFault, TextsSayTheirCertificate};
+ghost use Rattle.bound_certificate.specs.PackedLaws.{PackedTextsAreOfOne, PackedTextsHaveNoFault};
 
 /// What the reader of certificates is. However the bytes are cut into pieces, the same comes of them, and a fault stays. The line
 /// feed of a line shows the fault that the line's words have, and no other. A line without one says what its words say; behind a
@@ -23,4 +24,11 @@ pub fn text_laws()
     ensures one { TextsAreOfOne }
     ensures text { CertificatesHaveOneText }
     ensures said { TextsSayTheirCertificate }
+{}
+
+/// What the texts of packed certificates are. A text has no fault exactly where it is that of a well-formed packed certificate, and it
+/// is that of one alone. So what was written is read as it was.
+pub fn packed_text_laws()
+    ensures exact { PackedTextsHaveNoFault }
+    ensures one { PackedTextsAreOfOne }
 {}

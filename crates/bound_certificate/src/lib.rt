@@ -2,24 +2,41 @@
 #![tactic(auto)]
 
 mod certificate;
+mod cut;
 mod due;
 mod fault;
 mod item;
 mod laws;
 mod limits;
+mod packed;
+mod packed_line;
+mod packed_read;
+#[cfg(test)]
+mod packed_tests;
+mod packed_write;
+mod packing;
 mod read;
 mod reader;
 mod reading;
+mod row;
 mod scan;
 #[cfg(test)]
 mod tests;
+mod unpacked;
 mod write;
 
 pub use certificate::{Buy, Buys, Certificate, Nodes};
 pub use fault::{CertError, CertFault, FaultKind};
 pub use item::{Fed, Item};
-pub use laws::{reader_laws, text_laws};
-pub use limits::{GREATEST_GAP, GREATEST_UNITS, MOST_BUYS, MOST_DATES, MOST_NODES};
+pub use laws::{packed_text_laws, reader_laws, text_laws};
+pub use limits::{
+    GREATEST_GAP, GREATEST_UNITS, MOST_BUYS, MOST_DATES, MOST_NODES, MOST_PACKED_BUYS, MOST_VECTORS,
+};
+pub use packed::{Change, Changes, Packed, PackedNode, PackedNodes, Vectors};
+pub use packed_read::read_packed;
+pub use packed_write::write_packed;
+pub use packing::pack;
 pub use read::read_cert;
 pub use reader::CertReader;
+pub use unpacked::unpack;
 pub use write::write_cert;

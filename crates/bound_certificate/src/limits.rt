@@ -15,5 +15,14 @@ pub const MOST_NODES: u64 = 10_000;
 /// The most need dates, for each of which a leaf has a price.
 pub const MOST_DATES: u16 = 480;
 
+/// The most purchases of a packed certificate.
+pub const MOST_PACKED_BUYS: u64 = 513;
+
+/// The most vectors of a packed certificate.
+pub const MOST_VECTORS: u64 = 64;
+
+/// The most numbers of a line of a packed certificate: a leaf's three, and two for each need date.
+pub(crate) const MOST_NUMBERS: usize = 963;
+
 /// One word more than a line may have.
 pub(crate) const MOST_WORDS: u16 = 484;

@@ -45,7 +45,7 @@ impl Word {
     }
 
     // The word with one more byte, at a place of its line from 0.
-    fn longer(self, due: Due, place: u16, byte: u8) -> Word
+    pub(crate) fn longer(self, due: Due, place: u16, byte: u8) -> Word
         ensures { result ≡ longer_of due place self byte }
     {
         match self {
@@ -67,7 +67,7 @@ impl Word {
     }
 
     // The number that it is.
-    fn number(self) -> Option<u64>
+    pub(crate) fn number(self) -> Option<u64>
         ensures { result ≡ number_of self }
     {
         match self {
@@ -192,7 +192,7 @@ fn first_digits(piece: &[u8]) -> Option<Digits>
 }
 
 // The digits of the number at the front of a piece, behind which more of them may stand where it isn't 0.
-fn first_number(piece: &[u8]) -> Option<Digits>
+pub(crate) fn first_number(piece: &[u8]) -> Option<Digits>
     ensures { IfSome result (IsFirstNumber piece.now) }
 {
     match first_digits(piece) {

@@ -11,8 +11,8 @@ use escrow_desk::NoMemory;
 use itoa::Buffer;
 use std::alloc::Global;
 
-// Adds a space and a number.
-fn push_number(text: &mut Vec<u8>, number: u64) -> Result<(), NoMemory>
+/// Adds a space and a number.
+pub(crate) fn push_number(text: &mut Vec<u8>, number: u64) -> Result<(), NoMemory>
     ensures { OnOk result (text.new.items ≡ text.old.items ++ 32 ∷ decimal number) }
 {
     let mut digits = Buffer::new();
@@ -21,8 +21,8 @@ fn push_number(text: &mut Vec<u8>, number: u64) -> Result<(), NoMemory>
     Ok(())
 }
 
-// Adds numbers, with a space before each.
-fn push_numbers(text: &mut Vec<u8>, numbers: &[u64]) -> Result<(), NoMemory>
+/// Adds numbers, with a space before each.
+pub(crate) fn push_numbers(text: &mut Vec<u8>, numbers: &[u64]) -> Result<(), NoMemory>
     ensures { OnOk result (text.new.items ≡ text.old.items ++ spaced_numbers numbers.now) }
 {
     for number in numbers {
@@ -31,8 +31,8 @@ fn push_numbers(text: &mut Vec<u8>, numbers: &[u64]) -> Result<(), NoMemory>
     Ok(())
 }
 
-// Adds a line of a word and numbers.
-fn push_line(text: &mut Vec<u8>, word: &[u8], numbers: &[u64]) -> Result<(), NoMemory>
+/// Adds a line of a word and numbers.
+pub(crate) fn push_line(text: &mut Vec<u8>, word: &[u8], numbers: &[u64]) -> Result<(), NoMemory>
     ensures { OnOk result (text.new.items ≡ text.old.items ++ numbered word.now numbers.now) }
 {
     text.extend_from_slice(word)?;
@@ -51,8 +51,8 @@ fn push_buys(text: &mut Vec<u8>, buys: &[Buy]) -> Result<(), NoMemory>
     Ok(())
 }
 
-// Adds the lines of a portfolio.
-fn push_portfolio(text: &mut Vec<u8>, buys: Option<&Buys>) -> Result<(), NoMemory>
+/// Adds the lines of a portfolio.
+pub(crate) fn push_portfolio(text: &mut Vec<u8>, buys: Option<&Buys>) -> Result<(), NoMemory>
     ensures { OnOk result (text.new.items ≡ text.old.items ++ flat_map line_text (portfolio_lines (option_map (λ b. b.now) buys.entry))) }
 {
     let Some(buys) = buys else {

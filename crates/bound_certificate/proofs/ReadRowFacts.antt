@@ -1,0 +1,92 @@
+-- What the code finds of a line of a word and numbers.
+use Rattle.std.proofs.Common.{◌≡◌, ◌∙◌, ℕ, ◌+◌, ◌*◌, ◌≤◌, Bool, true, false, ◌&&◌, not, nat_eq, if◌then◌else◌, List, ◌∷◌, length, count_by, refl, sym, ap, arith, Option, Some, None, Result, Ok, Err, MatchResult}
+use denote.Ref.{Bor}
+use lib.Pointwise.{pointwise, bytes_decides}
+use Rattle.std.proofs.lemmas.List.Splits.{length-slice_split}
+use Rattle.bound_certificate.specs.declared.fault.FaultKind.{FaultKind}
+use Rattle.bound_certificate.specs.declared.fault.FaultKind.TheVariants as kind
+use Rattle.bound_certificate.specs.declared.row.Row.{Row}
+use Rattle.bound_certificate.specs.declared.row.Row.TheVariants as row
+use Rattle.bound_certificate.specs.declared.limits.TheConstants.{MOST_DATES, MOST_NUMBERS}
+use Rattle.bound_certificate.specs.Grammar.{is_space, words_of}
+use Rattle.bound_certificate.specs.Row.{numbers_by, numbers_or, parts_behind, row_fits, row_range, row_said, row_word, row_words}
+
+-- a line begins with a row's word
+pub record Begins (r : Row) (line first : List ℕ) (rest : Option (Bor (List ℕ))) : Type 0 where
+  pub words : words_of line ≡ first ∷ parts_behind 32 rest
+  pub named : first ≡ row_word r
+
+pub spaces : (r : Row) (line first : List ℕ) (rest : Option (Bor (List ℕ))) → Begins r line first rest → length (parts_behind 32 rest) ≡ count_by is_space line
+spaces r line first rest begins =
+    let count : 1 + length (parts_behind 32 rest) ≡ count_by is_space line + 1 = omega (arith, sym (ap length begins.words), length-slice_split is_space line) in omega (arith, count)
+
+pub named-row : (dates vectors : ℕ) (r : Row) (may : Bool) (line first : List ℕ) (rest : Option (Bor (List ℕ))) → Begins r line first rest →
+    row_said dates vectors r may line
+    ≡ (if not (may && row_fits dates r (count_by is_space line)) then Err kind.Count else numbers_or (numbers_by (row_range dates vectors r) 1 (parts_behind 32 rest)))
+named-row dates vectors r may line first rest begins =
+    let others : List (List ℕ) = parts_behind 32 rest in
+    let named : pointwise nat_eq (row_word r) first ≡ true = (bytes_decides (row_word r) first).1 (sym begins.named) in
+    ap (λ (ws : List (List ℕ)). row_words dates vectors r may ws) begins.words
+    ∙ ap (λ (b : Bool). if not b then Err kind.Header else if not (may && row_fits dates r (length others)) then Err kind.Count
+    else numbers_or (numbers_by (row_range dates vectors r) 1 others)) named
+    ∙ ap (λ (k : ℕ). if not (may && row_fits dates r k) then Err kind.Count else numbers_or (numbers_by (row_range dates vectors r) 1 others))
+    (spaces r line first rest begins)
+
+no_may : (b c : Bool) → b ≡ false → (b && c) ≡ false
+no_may true c h = absurd (cc)
+no_may false c h = refl
+
+no_fit : (b c : Bool) → c ≡ false → (b && c) ≡ false
+no_fit true c h = h
+no_fit false c h = refl
+
+count_by_test : (dates vectors : ℕ) (r : Row) (may : Bool) (line first : List ℕ) (rest : Option (Bor (List ℕ))) → Begins r line first rest →
+    (may && row_fits dates r (count_by is_space line)) ≡ false → row_said dates vectors r may line ≡ Err kind.Count
+count_by_test dates vectors r may line first rest begins h =
+    named-row dates vectors r may line first rest begins
+    ∙ ap (λ (b : Bool). if not b then Err kind.Count else numbers_or (numbers_by (row_range dates vectors r) 1 (parts_behind 32 rest))) h
+
+pub closed-row : (dates vectors : ℕ) (r : Row) (may : Bool) (line first : List ℕ) (rest : Option (Bor (List ℕ))) → Begins r line first rest → may ≡ false →
+    row_said dates vectors r may line ≡ Err kind.Count
+closed-row dates vectors r may line first rest begins h = count_by_test dates vectors r may line first rest begins (no_may may (row_fits dates r (count_by is_space line)) h)
+
+pub unfit-row : (dates vectors : ℕ) (r : Row) (may : Bool) (line first : List ℕ) (rest : Option (Bor (List ℕ))) → Begins r line first rest →
+    row_fits dates r (count_by is_space line) ≡ false → row_said dates vectors r may line ≡ Err kind.Count
+unfit-row dates vectors r may line first rest begins h = count_by_test dates vectors r may line first rest begins (no_fit may (row_fits dates r (count_by is_space line)) h)
+
+pub fit-row : (dates vectors : ℕ) (r : Row) (may : Bool) (line first : List ℕ) (rest : Option (Bor (List ℕ))) → Begins r line first rest → may ≡ true →
+    row_fits dates r (count_by is_space line) ≡ true → row_said dates vectors r may line ≡ numbers_or (numbers_by (row_range dates vectors r) 1 (parts_behind 32 rest))
+fit-row dates vectors r may line first rest begins allowed fits =
+    named-row dates vectors r may line first rest begins
+    ∙ ap (λ (b : Bool). if not (b && row_fits dates r (count_by is_space line)) then Err kind.Count else numbers_or (numbers_by (row_range dates vectors r) 1 (parts_behind 32 rest))) allowed
+    ∙ ap (λ (b : Bool). if not b then Err kind.Count else numbers_or (numbers_by (row_range dates vectors r) 1 (parts_behind 32 rest))) fits
+
+-- a line has at most so many numbers
+pub few-numbers : (dates count : ℕ) (r : Row) → dates ≤ MOST_DATES → row_fits dates r count ≡ true → count ≤ MOST_NUMBERS
+few-numbers dates count row.Portfolio few fits = let same : count ≡ 1 = grind (arith, fits) in omega (arith, same)
+few-numbers dates count (row.Buy least) few fits = let same : count ≡ 2 = grind (arith, fits) in omega (arith, same)
+few-numbers dates count (row.Gap most) few fits = let same : count ≡ 1 = grind (arith, fits) in omega (arith, same)
+few-numbers dates count row.Vectors few fits = let same : count ≡ 1 = grind (arith, fits) in omega (arith, same)
+few-numbers dates count row.Vector few fits = let same : count ≡ dates = grind (arith, fits) in omega (arith, same, few)
+few-numbers dates count row.Nodes few fits = let same : count ≡ 1 = grind (arith, fits) in omega (arith, same)
+few-numbers dates count row.Split few fits = let same : count ≡ 2 = grind (arith, fits) in omega (arith, same)
+few-numbers dates count row.Point few fits = let same : count ≡ 0 = grind (arith, fits) in omega (arith, same)
+few-numbers dates count row.Leaf few fits = let same : count ≤ 3 + 2 * dates = grind (arith, fits) in omega (arith, same, few)
+few-numbers dates count row.End few fits = let same : count ≡ 0 = grind (arith, fits) in omega (arith, same)
+
+-- the answer of the numbers is the line's
+pub numbers-answer : {T : Type 0} (said : Result (List ℕ) FaultKind) (o : Option (List ℕ)) (numbers : List ℕ) (result : Result T FaultKind) → said ≡ numbers_or o →
+    MatchResult result (λ _. o ≡ Some numbers) (λ found. (found ≡ kind.Number) × (o ≡ None)) →
+    MatchResult result (λ _. said ≡ Ok numbers) (λ found. said ≡ Err found)
+numbers-answer said o numbers (Ok t) same h = same ∙ ap numbers_or h
+numbers-answer said o numbers (Err found) same h = same ∙ ap numbers_or h.1 ∙ ap (λ (f : FaultKind). Err f) (sym h.0)
+
+-- a comparison that found no difference
+same_by : (b ne : Bool) → ne ≡ not b → ne ≡ false → b ≡ true
+same_by true ne e h = refl
+same_by false ne e h = absurd (cc)
+
+pub begun-row : (r : Row) (line first word : List ℕ) (rest : Option (Bor (List ℕ))) (ne : Bool) → words_of line ≡ first ∷ parts_behind 32 rest → word ≡ row_word r →
+    ne ≡ not (pointwise nat_eq first word) → ne ≡ false → Begins r line first rest
+begun-row r line first word rest ne words written compared equal =
+    record { words = words; named = (bytes_decides first word).0 (same_by _ ne compared equal) ∙ written }

@@ -1,0 +1,8 @@
+use Rattle.bound_certificate.proofs.PackedTextFacts.{text-found, text-good, text-one}
+use Rattle.bound_certificate.proofs.laws.packed_text_laws.Goals as goal
+
+pub returns-clause-exact : goal.returns-clause-exact
+returns-clause-exact c dates bytes short = (λ none. text-found dates bytes none, λ some. text-good dates some.0 bytes short some.1)
+
+pub returns-clause-one : goal.returns-clause-one
+returns-clause-one c = text-one

@@ -1,0 +1,97 @@
+-- A line of a word and numbers, by its words: the numbers that it says, or why it isn't one. The grammar is this project's own.
+use Rattle.std.specs.Prelude.{◌≡◌, ℕ, ◌+◌, ◌*◌, ◌%◌, Bool, true, ◌==◌, ◌&&◌, not, nat_eq, nat_le, if◌then◌else◌, List, [], ◌∷◌, length, Option, Some, None, option_and_then, option_map, Result, Ok, Err, codes}
+use Rattle.std.specs.List.{slice_split}
+use lib.Pointwise.{pointwise}
+use denote.Ref.{Bor}
+use Rattle.dual_bound.specs.declared.prices.TheConstants.{PRICE_SCALE}
+use Rattle.bound_certificate.specs.declared.due.Range.{Range}
+use Rattle.bound_certificate.specs.declared.row.Row.{Row}
+use Rattle.bound_certificate.specs.declared.row.Row.TheVariants as row
+use Rattle.bound_certificate.specs.declared.fault.FaultKind.{FaultKind}
+use Rattle.bound_certificate.specs.declared.fault.FaultKind.TheVariants as kind
+use Rattle.bound_certificate.specs.declared.limits.TheConstants.{GREATEST_UNITS, MOST_NODES, MOST_PACKED_BUYS, MOST_VECTORS}
+use Rattle.bound_certificate.specs.Due.{from_to, is_in}
+use Rattle.bound_certificate.specs.Grammar.{number_in, words_of}
+
+-- how the first word of a line is written
+abbrev pub row_word : Row → List ℕ
+row_word row.Portfolio = codes "portfolio"
+row_word (row.Buy least) = codes "buy"
+row_word (row.Gap most) = codes "gap"
+row_word row.Vectors = codes "vectors"
+row_word row.Vector = codes "v"
+row_word row.Nodes = codes "nodes"
+row_word row.Split = codes "s"
+row_word row.Point = codes "p"
+row_word row.Leaf = codes "l"
+row_word row.End = codes "end"
+
+-- the range of the number at a place of a leaf, from 1: whether the cost counts, the weight of the limit, the vector, and by turns
+-- the place of a change and its price
+abbrev pub leaf_range : ℕ → ℕ → ℕ → Range
+leaf_range dates vectors place =
+    if place == 1 then from_to 0 1 else if place == 2 then from_to 0 PRICE_SCALE else if place == 3 then from_to 1 vectors
+    else if place % 2 == 0 then from_to 1 dates else from_to 0 (2 * PRICE_SCALE)
+
+-- the range of the number at a place of a line, from 1 behind the line's first word
+abbrev pub row_range : ℕ → ℕ → Row → ℕ → Range
+row_range dates vectors row.Portfolio place = from_to 0 MOST_PACKED_BUYS
+row_range dates vectors (row.Buy least) place = if place == 1 then from_to 0 65_535 else from_to 1 GREATEST_UNITS
+row_range dates vectors (row.Gap most) place = from_to 0 most
+row_range dates vectors row.Vectors place = from_to 0 MOST_VECTORS
+row_range dates vectors row.Vector place = from_to 0 (2 * PRICE_SCALE)
+row_range dates vectors row.Nodes place = from_to 1 MOST_NODES
+row_range dates vectors row.Split place = if place == 1 then from_to 0 65_535 else from_to 0 GREATEST_UNITS
+row_range dates vectors row.Point place = from_to 0 0
+row_range dates vectors row.Leaf place = leaf_range dates vectors place
+row_range dates vectors row.End place = from_to 0 0
+
+-- whether so many numbers make a line: a vector has one for each need date, a leaf three and then two for each change
+abbrev pub row_fits : ℕ → Row → ℕ → Bool
+row_fits dates row.Portfolio count = count == 1
+row_fits dates (row.Buy least) count = count == 2
+row_fits dates (row.Gap most) count = count == 1
+row_fits dates row.Vectors count = count == 1
+row_fits dates row.Vector count = count == dates
+row_fits dates row.Nodes count = count == 1
+row_fits dates row.Split count = count == 2
+row_fits dates row.Point count = count == 0
+row_fits dates row.Leaf count = nat_le 3 count && nat_le count (3 + 2 * dates) && (count % 2 == 1)
+row_fits dates row.End count = count == 0
+
+-- the numbers of their ranges that words are, from a place on
+abbrev pub numbers_by : (ℕ → Range) → ℕ → List (List ℕ) → Option (List ℕ)
+numbers_by range place [] = Some []
+numbers_by range place (word ∷ words) =
+    option_and_then (λ number. option_map (λ numbers. number ∷ numbers) (numbers_by range (place + 1) words)) (number_in (range place) word)
+
+abbrev pub numbers_or : Option (List ℕ) → Result (List ℕ) FaultKind
+numbers_or None = Err kind.Number
+numbers_or (Some numbers) = Ok numbers
+
+-- the numbers that a line says, or the first of `Header`, `Count` and `Number` that stands; where no line of its name may stand any more
+-- it is `Count`
+abbrev pub row_words : ℕ → ℕ → Row → Bool → List (List ℕ) → Result (List ℕ) FaultKind
+row_words dates vectors r may [] = Err kind.Header
+row_words dates vectors r may (first ∷ others) =
+    if not (pointwise nat_eq (row_word r) first) then Err kind.Header
+    else if not (may && row_fits dates r (length others)) then Err kind.Count
+    else numbers_or (numbers_by (row_range dates vectors r) 1 others)
+
+abbrev pub row_said : ℕ → ℕ → Row → Bool → List ℕ → Result (List ℕ) FaultKind
+row_said dates vectors r may line = row_words dates vectors r may (words_of line)
+
+-- the parts of bytes behind a cut
+abbrev pub parts_behind : ℕ → Option (Bor (List ℕ)) → List (List ℕ)
+parts_behind mark None = []
+parts_behind mark (Some rest) = slice_split (λ byte. byte == mark) rest.now
+
+-- numbers of the ranges of their places, from a place on
+abbrev pub InRanges : (ℕ → Range) → ℕ → List ℕ → Type 0
+InRanges range place [] = Unit {0}
+InRanges range place (number ∷ numbers) = (is_in (range place) number ≡ true) × InRanges range (place + 1) numbers
+
+-- the numbers of a line that has no fault but perhaps one of order
+pub record AreRowNumbers (dates vectors : ℕ) (r : Row) (numbers : List ℕ) : Type 0 where
+  pub fits : row_fits dates r (length numbers) ≡ true
+  pub ranges : InRanges (row_range dates vectors r) 1 numbers
