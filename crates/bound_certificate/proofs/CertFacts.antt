@@ -25,26 +25,14 @@ use Rattle.bound_certificate.specs.Laws.{BeginsLine, ShowsFault}
 use Rattle.bound_certificate.specs.Reading.{EndsLine, EndsNoLine, Feeds, after_bytes, fault_at, finished, new_leaf, new_reading, said}
 use Rattle.bound_certificate.specs.Text.{IsTextOf, Line, line_text, lines_of}
 use Rattle.bound_certificate.specs.Text as text
-use Rattle.bound_certificate.proofs.DraftFacts.{IsDraft, IsWhole, Stands, draft-step, draft_lines, ends, with_line}
-use Rattle.bound_certificate.proofs.FirstFacts.{Begins, Goes, begins-line, finished-fault, first-is-found, goes-on, new-begins, over-bytes, unended}
+use Rattle.bound_certificate.specs.Lines.{AtLine, Begins, draft_lines, IsDraft, IsOneLine, NotFeed}
+use Rattle.bound_certificate.proofs.DraftFacts.{IsWhole, Stands, draft-step, ends, with_line}
+use Rattle.bound_certificate.proofs.FirstFacts.{Goes, begins-line, finished-fault, first-is-found, goes-on, new-begins, over-bytes, unended}
 use Rattle.bound_certificate.proofs.FoundFacts.{Found, line-found}
 use Rattle.bound_certificate.proofs.LawFacts.{faults-are-of-lines, items-are-of-lines, leaves-are-of-lines}
 use Rattle.bound_certificate.proofs.ReadingFacts.{after_bytes-append, after_bytes-fault, after_bytes-none}
 use Rattle.bound_certificate.proofs.TextFacts.{text-good}
-use Rattle.bound_certificate.proofs.SaidFacts.{HasLeaf, IsOneLine, NotFeed, Shows, body-text, fits-shows, item_of_line}
-
--- the whole lines of the bytes so far gave the certificate so far, and the rest is the part of a line
-pub record AtLine (dates : ℕ) (front : List ℕ) (cert : Certificate) (reading : Reading) : Type 0 where
-  pub start : Reading
-  pub leaf : Leaf
-  pub part : List ℕ
-  pub begins : Begins start leaf
-  pub dates_are : length leaf.prices ≡ dates
-  pub came : reading ≡ after_bytes start part
-  pub one : IsOneLine part
-  pub over : is_over start.due ≡ true → part ≡ []
-  pub draft : IsDraft dates start.due cert
-  pub bytes : front ≡ flat_map line_text (draft_lines start.due cert) ++ part
+use Rattle.bound_certificate.proofs.SaidFacts.{HasLeaf, Shows, body-text, fits-shows, item_of_line}
 
 pub at-start : (dates : ℕ) → dates ≤ MOST_DATES → AtLine dates [] no_lines (new_reading (new_leaf dates))
 at-start dates few = record {

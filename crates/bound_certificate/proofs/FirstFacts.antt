@@ -19,16 +19,10 @@ use Rattle.bound_certificate.specs.Grammar.{line_fault, line_item}
 use Rattle.bound_certificate.specs.Laws.{BeginsLine, GoesOn, ShowsFault}
 use Rattle.bound_certificate.specs.Reading.{after_bytes, end_answer, failed, fault_at, finished, finished_by, new_leaf, new_reading}
 use Rattle.bound_certificate.specs.Scan as line
+use Rattle.bound_certificate.specs.Lines.{Begins, IsOneLine, NotFeed}
 use Rattle.bound_certificate.proofs.LawFacts.{faults-are-of-lines, lines-follow, within-line}
 use Rattle.bound_certificate.proofs.ReadingFacts.{after_byte-over, after_bytes-append, after_bytes-fault, after_bytes-none, after_bytes-one}
-use Rattle.bound_certificate.proofs.SaidFacts.{IsOneLine, NotFeed}
 use Rattle.bound_certificate.proofs.TextFacts.{over-rest, over-whole, rest-due, some-lines, whole-due}
-
--- a line begins, or nothing is due any more
-pub record Begins (reading : Reading) (leaf : Leaf) : Type 0 where
-  pub scan : reading.scan ≡ line.new_scan leaf
-  pub going : reading.fault ≡ None
-  pub dates : length leaf.prices ≤ MOST_DATES
 
 pub begins-line : (reading : Reading) (leaf : Leaf) → Begins reading leaf → is_over reading.due ≡ false → BeginsLine reading leaf
 begins-line reading leaf begins more = record { scan = begins.scan; going = begins.going; more = more; dates = begins.dates }

@@ -20,11 +20,12 @@ use Rattle.bound_certificate.specs.PackedGrammar.{are_rising, changes_of, leaf_s
 use Rattle.bound_certificate.specs.PackedText.{change_numbers, packed_text}
 use Rattle.bound_certificate.specs.Row.{InRanges, row_fits, row_range, row_said, row_word}
 use Rattle.bound_certificate.specs.Text.{spaced_numbers}
+use Rattle.bound_certificate.specs.Lines.{IsOneLine}
 use Rattle.bound_certificate.proofs.FoundFacts.{equal_by, in_range}
 use Rattle.bound_certificate.proofs.PackedRowFacts.{IsRowOf, row-found, row-one, row-shows}
 use Rattle.bound_certificate.proofs.PackedSaidFacts.{InChange, are-changes, change-count, changed-length, changed-range, changes-back, changes-in, changes-ranges, changes-written, few-changes, in-changes, numbers-back, other-changes, others-found, others-read, places-rising, rising-places}
 use Rattle.bound_certificate.proofs.RowFacts.{AreWritten}
-use Rattle.bound_certificate.proofs.SaidFacts.{IsOneLine, IsPrice, falling-order, order-falling, prices-written, weight-found, weight_read, weight_within, weight_written, within}
+use Rattle.bound_certificate.proofs.SaidFacts.{IsPrice, falling-order, order-falling, prices-written, weight-found, weight_read, weight_within, weight_written, within}
 
 -- the word and the numbers of a line
 abbrev pub word_of_line : PackedLine → List ℕ

@@ -18,10 +18,11 @@ use Rattle.bound_certificate.specs.Packed.{IsPackedNode, IsVector}
 use Rattle.bound_certificate.specs.PackedGrammar.{begins_with, line_said, node_row, row_line}
 use Rattle.bound_certificate.specs.Row.{row_word}
 use Rattle.bound_certificate.specs.Text.{spaced_numbers}
+use Rattle.bound_certificate.specs.Lines.{IsOneLine}
 use Rattle.bound_certificate.proofs.PackedFits.{FoundLine, IsLineOf, RowSays, ShowsLine, body, numbers_of_line, row-line-found, row-line-shows, row-shows-line}
 use Rattle.bound_certificate.proofs.PackedRowFacts.{row-word}
 use Rattle.bound_certificate.proofs.RowFacts.{AreWritten, IsDigit, decimal-digits, row-words}
-use Rattle.bound_certificate.proofs.SaidFacts.{IsOneLine, line_by}
+use Rattle.bound_certificate.proofs.SaidFacts.{line_by}
 use Rattle.std.proofs.lemmas.List.{append-nil}
 use Rattle.std.proofs.lemmas.List.Elements.{All-head}
 

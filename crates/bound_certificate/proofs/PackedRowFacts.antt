@@ -12,8 +12,9 @@ use Rattle.bound_certificate.specs.declared.row.Row.TheVariants as row
 use Rattle.bound_certificate.specs.Grammar.{number_in, words_of}
 use Rattle.bound_certificate.specs.Row.{AreRowNumbers, InRanges, numbers_by, numbers_or, row_fits, row_range, row_said, row_word, row_words}
 use Rattle.bound_certificate.specs.Text.{spaced_numbers}
+use Rattle.bound_certificate.specs.Lines.{IsOneLine, NotFeed}
 use Rattle.bound_certificate.proofs.RowFacts.{AreWritten, IsNumber, IsWord, number-found, number-read, row-words, words-row}
-use Rattle.bound_certificate.proofs.SaidFacts.{IsOneLine, NotFeed, line_by, numbers_line, word_by}
+use Rattle.bound_certificate.proofs.SaidFacts.{line_by, numbers_line, word_by}
 
 -- the numbers that words are
 pub record AreNumbersBy (range : ℕ → Range) (place : ℕ) (words : List (List ℕ)) (numbers : List ℕ) : Type 0 where

@@ -23,6 +23,7 @@ use Rattle.bound_certificate.specs.Due.{is_closed_early, is_in, is_title, is_unc
 use Rattle.bound_certificate.specs.Grammar.{are_disordered, is_name, is_space, later_fault, leaf_of, line_fault, line_item, line_leaf, line_numbers, name_in, named_fault, named_item, numbers_fault, numbers_in, numbers_item, rises, said_by, words_fault, words_item, words_numbers, words_of}
 use Rattle.bound_certificate.specs.Text.{Line, line_text, numbered, spaced_numbers}
 use Rattle.bound_certificate.specs.Text as text
+use Rattle.bound_certificate.specs.Lines.{IsOneLine, NotFeed}
 use Rattle.bound_certificate.proofs.RowFacts.{AreInRange, AreWritten, IsDigit, IsWord, decimal-digits, numbers-read, row-words}
 
 -- what a line says, as an item
@@ -108,13 +109,6 @@ pub record IsRow (dates : ℕ) (d : Due) (n : Name) (numbers : List ℕ) : Type 
   pub small : AreWritten numbers
   pub read : line_numbers d n (map decimal numbers) ≡ Some numbers
   pub order : are_disordered d n numbers ≡ false
-
--- bytes without a line feed
-abbrev pub NotFeed : ℕ → Type 0
-NotFeed byte = byte ≢ 10
-
-abbrev pub IsOneLine : List ℕ → Type 0
-IsOneLine bytes = All NotFeed bytes
 
 not_feed : (byte : ℕ) → IsDigit byte → NotFeed byte
 not_feed byte h e = absurd (omega (arith, h.0, e))

@@ -22,12 +22,13 @@ use Rattle.bound_certificate.specs.Reading.{EndsLine, EndsNoLine, Feeds, after_b
 use Rattle.bound_certificate.specs.Step.{IsSuited, due_after}
 use Rattle.bound_certificate.specs.Text.{Line}
 use Rattle.bound_certificate.specs.Text as text
-use Rattle.bound_certificate.proofs.CertFacts.{AtLine, no_fault, none_over, not_over}
-use Rattle.bound_certificate.proofs.FirstFacts.{Begins, Goes, begins-line, goes-on, inside-line}
+use Rattle.bound_certificate.specs.Lines.{AtLine, Begins, IsOneLine, NotFeed}
+use Rattle.bound_certificate.proofs.CertFacts.{no_fault, none_over, not_over}
+use Rattle.bound_certificate.proofs.FirstFacts.{Goes, begins-line, goes-on, inside-line}
 use Rattle.bound_certificate.proofs.FoundFacts.{Found, line-found}
 use Rattle.bound_certificate.proofs.LawFacts.{faults-are-of-lines, items-are-of-lines, leaves-are-of-lines}
 use Rattle.bound_certificate.proofs.ReadingFacts.{after_bytes-append, after_bytes-none}
-use Rattle.bound_certificate.proofs.SaidFacts.{Fits, HasLeaf, IsOneLine, NotFeed, Shows, fits-shows, item_of_line}
+use Rattle.bound_certificate.proofs.SaidFacts.{Fits, HasLeaf, Shows, fits-shows, item_of_line}
 
 -- what a line says suits what was due, and tells what is due now
 pub record Steps (dates : ℕ) (d : Due) (told : Item) (new : Reading) : Type 0 where

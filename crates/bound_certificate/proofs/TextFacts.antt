@@ -15,9 +15,10 @@ use Rattle.bound_certificate.specs.Due.{is_over, next_due}
 use Rattle.bound_certificate.specs.Faults.{first_fault, is_feed, lines_in, on_line, rest_fault, text_fault, whole_fault}
 use Rattle.bound_certificate.specs.Grammar.{line_fault, line_item}
 use Rattle.bound_certificate.specs.Text.{IsTextOf, Line, line_text, lines_of}
+use Rattle.bound_certificate.specs.Lines.{IsOneLine, NotFeed}
 use Rattle.bound_certificate.proofs.DraftFacts.{Follows, IsWhole, lines-fold, lines-follow, lines-whole, with_lines}
 use Rattle.bound_certificate.proofs.FoundFacts.{Found, line-found}
-use Rattle.bound_certificate.proofs.SaidFacts.{Fits, IsOneLine, NotFeed, Shows, body, body-text, fits-shows, item_of_line, one-line}
+use Rattle.bound_certificate.proofs.SaidFacts.{Fits, Shows, body, body-text, fits-shows, item_of_line, one-line}
 
 -- the first fault of lines after a line
 pub fault-cons : (dates number : ℕ) (d : Due) (line : List ℕ) (lines : List (List ℕ)) → 0 < length lines →

@@ -20,8 +20,8 @@ use Rattle.bound_certificate.specs.declared.item.Item.{Item}
 use Rattle.bound_certificate.specs.declared.item.Item.TheVariants as item
 use Rattle.bound_certificate.specs.declared.limits.TheConstants.{MOST_DATES, MOST_NODES}
 use Rattle.bound_certificate.specs.declared.reading.Reading.{Reading}
-use Rattle.bound_certificate.proofs.CertFacts.{AtLine, at-end, at-more, end-is-first, started}
-use Rattle.bound_certificate.proofs.DraftFacts.{IsDraft}
+use Rattle.bound_certificate.specs.Lines.{AtLine, IsDraft}
+use Rattle.bound_certificate.proofs.CertFacts.{at-end, at-more, end-is-first, started}
 use Rattle.bound_certificate.proofs.ReadingFacts.{after_bytes-append, after_bytes-fault, after_bytes-none}
 use Rattle.bound_certificate.proofs.StepFacts.{IsDone, Steps, at-due, at-step, done-is-over}
 use Rattle.case_file.specs.Case.{CaseContents}

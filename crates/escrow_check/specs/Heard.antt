@@ -1,10 +1,10 @@
 -- What a checker has heard of a certificate's text.
 use Rattle.std.specs.Prelude.{◌≡◌, ℕ, Bool, true, false, List, length, None}
-use Rattle.bound_certificate.proofs.CertFacts.{AtLine}
 use Rattle.bound_certificate.specs.Reading.{after_bytes, new_leaf, new_reading}
 use Rattle.bound_certificate.specs.declared.certificate.Certificate.{Certificate}
 use Rattle.bound_certificate.specs.declared.due.Due.{Due}
 use Rattle.bound_certificate.specs.declared.due.Due.TheVariants as due
+use Rattle.bound_certificate.specs.Lines.{AtLine}
 use Rattle.case_file.specs.Case.{CaseContents}
 use Rattle.escrow_check.specs.Knows.{Knows}
 use Rattle.escrow_check.specs.declared.hearing.Hearing.{Hearing}

@@ -1,6 +1,6 @@
 use Rattle.std.proofs.Common.{◌≡◌, List, ℕ, ◌++◌, length}
 use Rattle.bound_certificate.specs.Reading.{after_bytes, new_leaf, new_reading}
-use Rattle.bound_certificate.proofs.CertFacts.{AtLine}
+use Rattle.bound_certificate.specs.Lines.{AtLine}
 use Rattle.bound_certificate.proofs.read.read_cert.Given as goal
 
 abbrev pub invariant-loop-rest : goal.invariant-loop-rest
