@@ -64,6 +64,6 @@ first_prices book (suc dates) = option_and_then (with_next_price book) (first_pr
 abbrev pub bootstrapped_prices : BookContents → Option (List ℕ)
 bootstrapped_prices book = first_prices book (length book.needs)
 
--- the leaf of a price curve: the cost counts, and the limit has no weight
+-- the leaf of a price curve: the cost counts, and the limit has no multiplier
 abbrev pub leaf_of_prices : List ℕ → Leaf
 leaf_of_prices prices = record { whole = true; mu = 0; prices = prices }

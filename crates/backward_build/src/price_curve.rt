@@ -100,7 +100,7 @@ fn next_price(book: &Book, place: u16, prices: &[u64]) -> Option<u64>
     }
 }
 
-/// The leaf of the bootstrapped prices: the cost counts, the limit has no weight, and the price of each need date in order is the
+/// The leaf of the bootstrapped prices: the cost counts, the limit has no multiplier, and the price of each need date in order is the
 /// greatest at which one unit of its own offer is worth no more than it costs.
 ///
 /// None exactly where a need date has no own offer, or where a price is below 0, above 1 or above the one before.

@@ -59,7 +59,7 @@ abbrev pub most_gap : Due → ℕ
 most_gap (due.Gap most) = most
 most_gap other = 0
 
--- the range of the number at a place of a leaf: `rho`, the weight of the limit, and prices
+-- the range of the number at a place of a leaf: `rho`, the multiplier of the limit, and prices
 abbrev pub weight_range : ℕ → Range
 weight_range place = if place == 1 then from_to 0 1 else if place == 2 then from_to 0 PRICE_SCALE else from_to 0 (2 * PRICE_SCALE)
 

@@ -123,7 +123,7 @@ words_item d (first ∷ others) = named_item d (name_in d first) others
 abbrev pub line_item : Due → List ℕ → Item
 line_item d line = if is_title d then item.Header else words_item d (words_of line)
 
--- the leaf that numbers say: whether the cost counts, the weight of the limit, and prices
+-- the leaf that numbers say: whether the cost counts, the multiplier of the limit, and prices
 abbrev pub leaf_of : List ℕ → Leaf
 leaf_of numbers = record { whole = slice_index numbers 0 == 1; mu = slice_index numbers 1; prices = drop 2 numbers }
 

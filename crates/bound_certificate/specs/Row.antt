@@ -26,7 +26,7 @@ row_word row.Point = codes "p"
 row_word row.Leaf = codes "l"
 row_word row.End = codes "end"
 
--- the range of the number at a place of a leaf, from 1: whether the cost counts, the weight of the limit, the vector, and by turns
+-- the range of the number at a place of a leaf, from 1: whether the cost counts, the multiplier of the limit, the vector, and by turns
 -- the place of a change and its price
 abbrev pub leaf_range : ℕ → ℕ → ℕ → Range
 leaf_range dates vectors place =

@@ -70,7 +70,7 @@ pub enum PackedNode {
     Closed {
         /// Whether the cost counts.
         whole: bool,
-        /// The weight of the yield limit, at most `PRICE_SCALE`.
+        /// The multiplier of the yield limit, at most `PRICE_SCALE`.
         mu: u64,
         /// The vector, counted from 1.
         vector: u16,

@@ -224,7 +224,7 @@ fn rises_changed(alloc: Global, vector: &[u64], changes: &[Change]) -> Result<bo
     Ok(rises(prices.as_slice()))
 }
 
-// A leaf of a vector: whether the cost counts, the weight of the limit and the number of the vector, and changes.
+// A leaf of a vector: whether the cost counts, the multiplier of the limit and the number of the vector, and changes.
 fn leaf(
     alloc: Global,
     vector: &[u64],

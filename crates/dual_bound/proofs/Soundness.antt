@@ -1,4 +1,4 @@
--- Weak duality: a portfolio that meets the needs, within the limit or where the limit has no weight, costs at least the bound.
+-- Weak duality: a portfolio that meets the needs, within the limit or where the limit has no multiplier, costs at least the bound.
 use Rattle.std.proofs.Common.{◌≡◌, ◌∙◌, ℕ, ◌+◌, ◌-◌, ◌*◌, ◌≤◌, List, [], ◌∷◌, length, drop, refl, sym, ap, arith, ℤ, pos, ◌+ℤ◌, ◌-ℤ◌, ◌*ℤ◌, neg_ℤ, ◌≤ℤ◌, All, inl, inr}
 use Rattle.std.proofs.lemmas.Bool.{cases_lt}
 use Rattle.std.proofs.lemmas.Int.{ints}

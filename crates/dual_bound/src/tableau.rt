@@ -183,7 +183,7 @@ impl Tableau {
     }
 
     /// Prices the days at a leaf: nothing where its prices and the multiplier of the limit are those of the leaf before, and where
-    /// the weight is and only some prices differ, the days of those need dates.
+    /// the multiplier is and only some prices differ, the days of those need dates.
     pub(crate) fn price(&mut self, book: &Book, leaf: &Leaf)
         requires leaf { IsLeaf (length book.now.needs) leaf.now }
         requires tableau { IsTableau book.now self.old }

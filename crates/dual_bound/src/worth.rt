@@ -74,7 +74,7 @@ fn worth_between(price: u64, limit: u64) -> Worth
     }
 }
 
-// What the limit takes from a cent, by its weight and a power: nothing without a product where it has no weight.
+// What the limit takes from a cent, by its multiplier and a power: nothing without a product where that is 0.
 fn limit_part(weight: u64, power: u64) -> u64
     requires weight { weight ≤ PRICE_SCALE }
     requires power { power ≤ one }

@@ -255,8 +255,8 @@ pub(crate) fn copy_leaf(dates: u16, from: &Leaf, into: &mut Leaf)
 }
 
 impl<'a> Sweep<'a> {
-    /// What is kept to price the steps of leaves of a book, by powers of the low side. It isn't inlined: its locals would stand on the stack
-    /// while the linear program is made.
+    /// What is kept to price the steps of leaves of a book, by powers of the low side. It isn't inlined: its locals would stand on the
+    /// stack while the linear program is made.
     ///
     /// # Errors
     ///

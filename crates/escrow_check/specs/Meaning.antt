@@ -51,7 +51,7 @@ NoRivalSaves limit gap book plan = (rival : List ℕ) → IsRival limit book riv
 abbrev pub NoneSaves : ℕ → BookContents → List ℕ → Type 0
 NoneSaves gap book plan = (other : List ℕ) → IsPermitted book other → Meets book other → cost book plan ≤ cost book other + gap
 
--- a tree bears out its claim by prices alone: it has no point, and no leaf gives the limit a weight
+-- a tree bears out its claim by prices alone: it has no point, and no leaf gives the limit a multiplier
 abbrev pub IsPriced : TreeNode → Type 0
 IsPriced (node.Split line at) = Unit {0}
 IsPriced node.Point = ⊥

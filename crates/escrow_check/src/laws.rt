@@ -5,7 +5,7 @@ ghost use Rattle.escrow_check.specs.Meaning.{YesIsRight, YesNoneIsRight};
 
 /// What a yes means. With a portfolio: it is what the certificate buys; each purchase is offered and permitted; its cash balance
 /// is negative on no date; its exact yield lies in its interval and within the limit; no rival costs less by more than the gap,
-/// which the issue allows; and where the tree has no point and gives the limit no weight, no permitted portfolio that meets the
+/// which the issue allows; and where the tree has no point and gives the limit no multiplier, no permitted portfolio that meets the
 /// needs does, whatever its yield. Without a portfolio no rival exists.
 pub fn verdict_laws()
     ensures yes { YesIsRight }
