@@ -2,7 +2,7 @@
 ghost use Rattle.std.specs.Prelude.{◌≡◌, IfOk};
 ghost use Rattle.dual_bound.specs.Ranges.{AreTight};
 
-use crate::{Finder, find};
+use crate::{Finder, YieldLimit, find};
 use case_file::{Case, read_case};
 use dual_bound::{Ranges, range_laws};
 use escrow_desk::FILE_LIMIT;
