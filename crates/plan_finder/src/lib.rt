@@ -16,7 +16,6 @@ mod draw;
 mod finder;
 mod finding;
 mod ledger;
-mod limit;
 mod mend;
 mod neighbours;
 mod order;
@@ -27,7 +26,6 @@ mod trimming;
 
 pub use finder::Finder;
 pub use finding::{Proposal, find};
-pub use limit::YieldLimit;
 pub use neighbours::{Neighbours, next_to};
 
 #[cfg(test)]

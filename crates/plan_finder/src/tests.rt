@@ -2,7 +2,7 @@
 ghost use Rattle.std.specs.Prelude.{◌≡◌, IfOk};
 ghost use Rattle.dual_bound.specs.Ranges.{AreTight};
 
-use crate::{Finder, YieldLimit, find};
+use crate::{Finder, find};
 use case_file::{Case, read_case};
 use dual_bound::{Ranges, range_laws};
 use escrow_desk::FILE_LIMIT;
@@ -36,8 +36,7 @@ fn case_of(rt: &impl Abort, alloc: Global, row: &Row) -> Result<Case, Fail> {
 fn found_cost(rt: &impl Abort, alloc: Global, row: &Row) -> Result<Option<u64>, Fail> {
     let case = case_of(rt, alloc, row)?;
     assert!(rt; 1 <= row.limit && row.limit <= GREATEST_YIELD);
-    let limit = YieldLimit::make(alloc, YieldUnits(row.limit))?;
-    match find(alloc, &case.book, &limit, 40, Cents(0))? {
+    match find(alloc, &case.book, YieldUnits(row.limit), 40, Cents(0))? {
         Some(proposal) => Ok(Some(proposal.cost.0)),
         None => Ok(None),
     }
@@ -137,8 +136,7 @@ fn dives_go_by_their_ranges(rt: HostRuntime) -> Result<(), Fail> {
     ];
     let case = case_of(&rt, rt.alloc(), &row)?;
     let basis = Basis::with_room(rt.alloc(), case.book.line_count(), case.book.need_count())?;
-    let limit = YieldLimit::make(rt.alloc(), YieldUnits(row.limit))?;
-    let mut finder = Finder::make(rt.alloc(), &case.book, &limit)?;
+    let mut finder = Finder::make(rt.alloc(), &case.book, YieldUnits(row.limit))?;
     for dive in &dives {
         let ranges = ranges_of(&rt, rt.alloc(), &case.book, dive.most)?;
         let start = if dive.warm { Some(&basis) } else { None };
