@@ -22,5 +22,4 @@ pub use bisection::least_passing;
 pub use laws::{offer_laws, plan_laws, price_laws};
 pub use offers::own_offer;
 pub use price_curve::bootstrap;
-pub use spare::{covers, run_up};
 pub use trimming::trim;

@@ -3,30 +3,15 @@
 //! Amounts are kept in a list with a place for each need date.
 
 ghost use Rattle.std.specs.Prelude.{◌≡◌, ℕ, ◌+◌, ◌-◌, ◌^◌, ◌<◌, ◌≤◌, ◌↔◌, IsTrue, length, slice_index, slice_index_or, take};
-ghost use Rattle.std.specs.List.{sum};
 ghost use Rattle.escrow_units.specs.Flows.{total};
 ghost use Rattle.escrow_units.specs.declared.security.Flow.{Flow};
 ghost use Rattle.offer_book.specs.Portfolio.{IsPermitted, Meets, line_payments, payments};
 ghost use Rattle.offer_book.specs.declared.line.Line.{Line};
 ghost use Rattle.backward_build.specs.Spare.{ArePaid, AreSpare, Cover};
 
-use cash_table::{Plan, add_receipts, receipts};
+use cash_table::{Plan, add_receipts, covers, receipts, run_up};
 use escrow_units::{Flow, MOST_NEED_DATES};
 use offer_book::Book;
-
-/// Puts in the place of each of the first amounts, one for each need date, the sum of the amounts up to it. There is a place for
-/// each date, and all amounts together are less than 2^64.
-pub fn run_up(amounts: &mut [u64], dates: usize)
-    requires places { dates ≤ length amounts.old }
-    requires small { sum amounts.old < 2 ^ 64 }
-    ensures { (k : ℕ) → k < dates → slice_index amounts.new k ≡ sum (take (k + 1) amounts.old) }
-{
-    let mut total = 0;
-    for place in 0..dates {
-        total += amounts[place];
-        amounts[place] = total;
-    }
-}
 
 // Takes off what is needed up to each need date.
 fn take_needs(amounts: &mut [u64], needs: &[Flow])
@@ -81,21 +66,6 @@ pub(crate) fn take_spare(paid: &mut [u64], spare: &[u64])
     for place in 0..paid.len() {
         paid[place] = paid[place].saturating_sub(spare[place]);
     }
-}
-
-/// Whether each of the first amounts, one for each need date, is at least what is due there. There is a place for each date in
-/// both lists.
-pub fn covers(paid: &[u64], due: &[u64], dates: usize) -> bool
-    requires paid { dates ≤ length paid.now }
-    requires due { dates ≤ length due.now }
-    ensures { IsTrue result ↔ ((k : ℕ) → k < dates → slice_index due.now k ≤ slice_index paid.now k) }
-{
-    for place in 0..dates {
-        if paid[place] < due[place] {
-            return false;
-        }
-    }
-    true
 }
 
 /// Whether units of a line pay what is due by each need date.

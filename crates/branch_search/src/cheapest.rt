@@ -11,9 +11,9 @@ use crate::hint::Hint;
 use backward_build::{BuildEnd, build, trim};
 use cash_table::{Plan, cost, within_limit};
 use escrow_desk::NoMemory;
-use escrow_units::{Cents, GREATEST_YIELD, YieldUnits};
+use escrow_units::{Cents, YieldUnits};
 use offer_book::Book;
-use plan_finder::{Proposal, find};
+use plan_finder::{Proposal, YieldLimit, find};
 use std::alloc::Global;
 
 // How much work the search for a plan is at most, in sweeps: each goes once through all columns of the linear program.
@@ -115,16 +115,14 @@ fn cheaper(book: &Book, plan: Option<Plan>, proposed: Option<Proposal>) -> Optio
 pub(crate) fn cheapest(
     alloc: Global,
     book: &Book,
-    limit: YieldUnits,
+    limit: &YieldLimit,
     target: Cents,
     hint: &Hint,
 ) -> Result<Option<Plan>, NoMemory>
-    requires limit_from { 1 ≤ limit.0 }
-    requires limit_to { limit.0 ≤ GREATEST_YIELD }
-    ensures { IfOk result (λ plan. MatchOption plan (HasNone limit.0 book.now) (IsBest limit.0 book.now)) }
+    ensures { IfOk result (λ plan. MatchOption plan (HasNone limit.now book.now) (IsBest limit.now book.now)) }
 {
-    let built = backward_within(alloc, book, limit)?;
-    let hinted = hint.proposal(alloc, book, limit)?;
+    let built = backward_within(alloc, book, limit.units())?;
+    let hinted = hint.proposal(alloc, book, limit.units())?;
     let plan = cheaper(book, built, hinted);
     if is_cheap(book, plan.as_ref(), target) {
         return Ok(plan);

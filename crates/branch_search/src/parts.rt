@@ -18,11 +18,11 @@ use cash_table::{Plan, cost, first_short, within_limit};
 use dual_bound::{Leaf, Ranges};
 use dual_tune::Tuner;
 use escrow_desk::NoMemory;
-use escrow_units::{Cents, Day, YieldUnits};
+use escrow_units::{Cents, Day};
 use halving_tree::{SplitRule, put_reach};
 use node_pool::NodeId;
 use offer_book::Book;
-use plan_finder::Finder;
+use plan_finder::{Finder, YieldLimit};
 use price_lp::Basis;
 use search_tree::{Closing, Priced};
 use std::alloc::Global;
@@ -34,7 +34,7 @@ pub(crate) struct Search<'a> {
     /// The book of the case.
     pub book: &'a Book,
     /// The limit on the yield.
-    pub limit: YieldUnits,
+    pub limit: YieldLimit,
     /// By how much a rival may cost less, in cents.
     pub allowance: Cents,
     /// The most nodes.
@@ -66,9 +66,9 @@ impl<'a> Model for Search<'a> {
 
     ghost Value = { SearchContents };
 
-    ghost view = { λ s. record { case = searched s.book.now s.limit.0 s.allowance.0 s.budget; ranges = s.ranges; best = s.best } };
+    ghost view = { λ s. record { case = searched s.book.now s.limit s.allowance.0 s.budget; ranges = s.ranges; best = s.best } };
 
-    ghost invariant = { λ s. AreParts (searched s.book.now s.limit.0 s.allowance.0 s.budget) s.tuner s.base s.reach s.ranges s.plan s.best s.finder };
+    ghost invariant = { λ s. AreParts (searched s.book.now s.limit s.allowance.0 s.budget) s.tuner s.base s.reach s.ranges s.plan s.best s.finder };
 }
 
 // Makes of a portfolio that of the high ends of ranges. It takes no memory.
@@ -214,7 +214,7 @@ impl<'a> Search<'a> {
     {
         put_low_ends(self.book, &self.ranges, &mut self.plan);
         if first_short(self.book, &self.plan).is_some()
-            || !within_limit(alloc, self.book, &self.plan, self.limit)?
+            || !within_limit(alloc, self.book, &self.plan, self.limit.units())?
         {
             return Ok(());
         }

@@ -22,11 +22,10 @@ use cash_table::{Plan, cost, out_of_reach};
 use dual_bound::{Leaf, Ranges};
 use dual_tune::Tuner;
 use escrow_desk::NoMemory;
-use escrow_units::{AMOUNT_LIMIT, Cents, Day, GREATEST_INDEX, GREATEST_YIELD, YieldUnits};
-use fixed_powers::{Powers, Side};
+use escrow_units::{AMOUNT_LIMIT, Cents, Day, GREATEST_YIELD, YieldUnits};
 use halving_tree::{SplitRule, base_leaf};
 use offer_book::Book;
-use plan_finder::{Finder, find};
+use plan_finder::{Finder, YieldLimit, find};
 use search_tree::SearchTree;
 use std::alloc::Global;
 
@@ -46,13 +45,10 @@ fn day_out_of_reach(book: &Book) -> Option<Day>
 
 // What prices leaves one unit below a limit.
 #[inline(never)]
-fn tuner_of<'a>(alloc: Global, book: &'a Book, limit: YieldUnits) -> Result<Tuner<'a>, NoMemory>
-    requires limit_from { 1 ≤ limit.0 }
-    requires limit_to { limit.0 ≤ GREATEST_YIELD }
-    ensures { IfOk result (λ tuner. tuner ≡ record { book = book.now; yield_units = limit.0 - 1 }) }
+fn tuner_of<'a>(alloc: Global, book: &'a Book, limit: &YieldLimit) -> Result<Tuner<'a>, NoMemory>
+    ensures { IfOk result (λ tuner. tuner ≡ record { book = book.now; yield_units = limit.now - 1 }) }
 {
-    let powers = Powers::make(alloc, YieldUnits(limit.0 - 1), Side::Low, GREATEST_INDEX)?;
-    Tuner::make(alloc, book, &powers)
+    Tuner::make(alloc, book, limit.powers())
 }
 
 impl<'a> Search<'a> {
@@ -74,8 +70,9 @@ impl<'a> Search<'a> {
         let reach = Leaf::of_zeros(alloc, false, book.need_count())?;
         let ranges = Ranges::root(alloc, book)?;
         let plan = Plan::zero(alloc, book)?;
-        let finder = Finder::make(alloc, book, limit)?;
-        let tuner = tuner_of(alloc, book, limit)?;
+        let limit = YieldLimit::make(alloc, limit)?;
+        let finder = Finder::make(alloc, book, &limit)?;
+        let tuner = tuner_of(alloc, book, &limit)?;
         Ok(Search {
             book,
             limit,
@@ -102,7 +99,7 @@ impl<'a> Search<'a> {
         ensures backward { OnOk result (IsNoDearerThanBackward self.old.case.limit self.old.case.book (best_cents self.new.best)) }
     {
         let target = greatest_cost(bound, Cents(0));
-        if let Some(plan) = cheapest(alloc, self.book, self.limit, target, hint)? {
+        if let Some(plan) = cheapest(alloc, self.book, &self.limit, target, hint)? {
             let cost = cost(self.book, &plan);
             self.best = Some(Best { plan, cost });
         }
@@ -246,7 +243,7 @@ impl<'a> Search<'a> {
         ensures no_dearer { OnOk result (IsNoDearer (best_cents self.old.best) (best_cents self.new.best)) }
     {
         let effort = SWEEPS_A_NODE.saturating_mul(self.budget);
-        if let Some(found) = find(alloc, self.book, self.limit, effort, bound)? {
+        if let Some(found) = find(alloc, self.book, &self.limit, effort, bound)? {
             self.offer(Best {
                 plan: found.plan,
                 cost: found.cost,

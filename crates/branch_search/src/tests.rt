@@ -60,10 +60,7 @@ fn case_of(rt: &impl Abort, alloc: Global, row: &Row) -> Result<Case, Fail>
     ensures { IfOk result (λ case. HasTerms (case_view case)) }
 {
     assert!(rt; row.issue.len() as u64 <= FILE_LIMIT && row.rates.len() as u64 <= FILE_LIMIT);
-    match read_case(alloc, row.issue, row.rates, b"") {
-        Ok(case) => Ok(case),
-        Err(_) => Err(Fail::new("no case")),
-    }
+    Ok(read_case(alloc, row.issue, row.rates, b"")?)
 }
 
 // What is found is as expected, and `check` accepts its certificate.

@@ -12,9 +12,7 @@ fn a_case(rt: HostRuntime) -> Result<(), Fail> {
     let issue =
         b"settle,2025-01-15\ncash,20.00\nneed,2027-01-15,5000.00\nrestricted,4.00\nallowance,500.00\nbudget,7\n";
     let rates = b"terms,1000,100\noffer,2027-01-15,0.00,,10000\n";
-    let Ok(case) = read_case(rt.alloc(), issue, rates, b"") else {
-        return Err(Fail::new("no case"));
-    };
+    let case = read_case(rt.alloc(), issue, rates, b"")?;
     assert_eq!(&rt; case.book.settle(), Day::new(20_103));
     assert_eq!(&rt; case.book.need_count(), 1);
     assert_eq!(&rt; case.book.need(0).cents, Cents(500_000));
@@ -33,9 +31,7 @@ fn a_case(rt: HostRuntime) -> Result<(), Fail> {
 fn a_case_of_a_note(rt: HostRuntime) -> Result<(), Fail> {
     let issue = b"settle,2025-01-15\nneed,2025-07-15,102000.00\nrestricted,4.00\nallowance,0.01\n";
     let prices = b"terms,1000,1000\nnote,2025-07-15,4.000,100,200000\n";
-    let Ok(case) = read_case(rt.alloc(), issue, b"", prices) else {
-        return Err(Fail::new("no case"));
-    };
+    let case = read_case(rt.alloc(), issue, b"", prices)?;
     assert_eq!(&rt; case.book.line_count(), 2);
     assert_eq!(&rt; case.book.line(1).most, 200);
     assert_eq!(&rt; case.book.line_cost(1, 100), Cents(10_000_000));

@@ -9,6 +9,7 @@ mod laws;
 mod plan;
 mod points;
 mod reach;
+mod running;
 mod security_flows;
 mod standing;
 mod yields;
@@ -23,6 +24,7 @@ pub use laws::{
 pub use plan::{Plan, first_unpermitted};
 pub use points::point_excluded;
 pub use reach::out_of_reach;
+pub use running::{covers, run_up};
 pub use security_flows::flows;
 pub use standing::{Standing, plan_standing};
 pub use yields::{plan_yield, within_limit};

@@ -32,10 +32,7 @@ fn case_of(alloc: Global, issue: &[u8], rates: &[u8]) -> Result<Case, Fail> {
     if issue.len() as u64 > FILE_LIMIT || rates.len() as u64 > FILE_LIMIT {
         return Err(Fail::new("too long"));
     }
-    match read_case(alloc, issue, rates, b"") {
-        Ok(case) => Ok(case),
-        Err(_) => Err(Fail::new("no case")),
-    }
+    Ok(read_case(alloc, issue, rates, b"")?)
 }
 
 fn powers_of(alloc: Global, limit: u64) -> Result<Powers, Fail>

@@ -44,10 +44,7 @@ fn case_of(rt: &impl Abort, alloc: Global, inputs: &Inputs<'_>) -> Result<Case, 
             && inputs.rates.len() as u64 <= FILE_LIMIT
             && inputs.prices.len() as u64 <= FILE_LIMIT
     );
-    match read_case(alloc, inputs.issue, inputs.rates, inputs.prices) {
-        Ok(case) => Ok(case),
-        Err(_) => Err(Fail::new("no case")),
-    }
+    Ok(read_case(alloc, inputs.issue, inputs.rates, inputs.prices)?)
 }
 
 // The ranges at the end of a way from the root.

@@ -188,9 +188,7 @@ const RATES: &[u8] = b"terms,1000,100\noffer,2025-04-15,0.00,,10000\n";
 
 // The case of the files beside holdings.
 fn kept_case(rt: &impl Abort, alloc: Global, text: &[u8]) -> Result<Case, Fail> {
-    let Ok(case) = read_case(alloc, ISSUE, RATES, b"") else {
-        return Err(Fail::new("no case"));
-    };
+    let case = read_case(alloc, ISSUE, RATES, b"")?;
     let held = holdings(rt, alloc, text)?;
     Ok(held_case(alloc, &case, held.as_slice())?)
 }

@@ -2,7 +2,7 @@
 use Rattle.std.specs.Prelude.{ℕ, ◌==◌, ◌||◌, ◌&&◌, Bool, true, false, nat_lt, nat_le, int_lt, int_le, if◌then◌else◌, List, [], ◌∷◌, ◌++◌, length, is_some, unwrap_or, Option, Some, None, Result, Ok, Err, codes, ℤ}
 use Rattle.std.specs.List.{list_any}
 use Rattle.std.specs.Ordering.{int_eq}
-use Rattle.escrow_units.specs.declared.limits.TheConstants.{AMOUNT_LIMIT}
+use Rattle.escrow_units.specs.declared.limits.TheConstants.{AMOUNT_LIMIT, MOST_NEED_DATES}
 use Rattle.escrow_desk.specs.declared.refusal.FileKind.TheVariants as file
 use Rattle.escrow_desk.specs.declared.refusal.Refusal.{Refusal}
 use Rattle.escrow_desk.specs.declared.refusal.RefusalKind.{RefusalKind}
@@ -234,7 +234,7 @@ is_within_limit_of issue = nat_le (needs_total issue) AMOUNT_LIMIT && nat_le (to
 abbrev pub within_limits_of : Issue → Result Issue RefusalKind
 within_limits_of issue =
     if is_within_limit_of issue
-    then (if nat_lt 480 (need_dates issue) || nat_lt 1000 (length issue.closed.days) then Err kind.TooManyDates else Ok issue)
+    then (if nat_lt MOST_NEED_DATES (need_dates issue) || nat_lt 1000 (length issue.closed.days) then Err kind.TooManyDates else Ok issue)
     else Err kind.NeedsTooLarge
 
 -- what all the rows give, or a refusal of the whole file

@@ -13,7 +13,7 @@ use crate::limits::{limited_bonds, limited_sum};
 use crate::row::first_settle;
 use crate::schedule::needs;
 use escrow_desk::{CaseError, FileKind, NoMemory, RefusalKind, Rows};
-use escrow_units::{AMOUNT_LIMIT, Cents, ClosedDays, Day};
+use escrow_units::{AMOUNT_LIMIT, Cents, ClosedDays, Day, MOST_NEED_DATES};
 use row_fields::{Row, RowFault, at_row, row_answer};
 use std::alloc::Global;
 
@@ -103,7 +103,7 @@ fn within_limits(alloc: Global, issue: Issue) -> Result<Issue, RowFault>
     ensures issue { RowAnswers result (within_limits_of issue) }
     ensures same { IfOk result (λ answer. answer ≡ issue) }
     ensures needs { OnOk result (HasNeeds issue) }
-    ensures dates { OnOk result (need_dates issue ≤ 480) }
+    ensures dates { OnOk result (need_dates issue ≤ MOST_NEED_DATES) }
     ensures closed { OnOk result (length issue.closed.days ≤ 1000) }
     ensures pays { OnOk result (total issue.pays ≤ AMOUNT_LIMIT) }
 {
@@ -111,7 +111,7 @@ fn within_limits(alloc: Global, issue: Issue) -> Result<Issue, RowFault>
         return Err(RowFault::Refused(RefusalKind::NeedsTooLarge));
     }
     let dates = needs(alloc, &issue)?;
-    if dates.len() > 480 || issue.closed.days().len() > 1000 {
+    if dates.len() > MOST_NEED_DATES || issue.closed.days().len() > 1000 {
         return Err(RowFault::Refused(RefusalKind::TooManyDates));
     }
     Ok(issue)

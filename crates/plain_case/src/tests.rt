@@ -18,10 +18,7 @@ const RATES: &[u8] =
     b"terms,1000,1\nrate,2025-02-14,2026-01-15,4.00\noffer,2025-07-15,max,,10000000\noffer,2026-01-15,max,,10000000\n";
 
 fn case_of(alloc: Global) -> Result<Case, Fail> {
-    match read_case(alloc, ISSUE, RATES, b"") {
-        Ok(case) => Ok(case),
-        Err(_) => Err(Fail::new("no case")),
-    }
+    Ok(read_case(alloc, ISSUE, RATES, b"")?)
 }
 
 // What the backward plan buys of two lines.

@@ -11,8 +11,7 @@ ghost use Rattle.plan_finder.specs.Ledger.{AreDue, AreHeld, AreTerms, IsAccount,
 ghost use Rattle.plan_finder.specs.declared.terms.Purchase.{Purchase};
 
 use crate::terms::{LineTerms, Purchase};
-use backward_build::run_up;
-use cash_table::{Plan, add_receipts};
+use cash_table::{Plan, add_receipts, run_up};
 use escrow_desk::NoMemory;
 use escrow_units::{Cents, Flow, MOST_NEED_DATES};
 use fixed_powers::{ONE, Powers};

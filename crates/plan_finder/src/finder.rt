@@ -10,12 +10,12 @@ use crate::best::{Exactness, finish, offer};
 use crate::dive::{Diver, PAYMENT_WORK, Sequence};
 use crate::finding::Proposal;
 use crate::ledger::Ledger;
+use crate::limit::YieldLimit;
 use crate::order::{By, Ranked, ends_of, order};
 use cash_table::Plan;
 use dual_bound::Ranges;
 use escrow_desk::NoMemory;
-use escrow_units::{GREATEST_INDEX, GREATEST_YIELD, YieldUnits};
-use fixed_powers::{Powers, Side};
+use escrow_units::YieldUnits;
 use offer_book::Book;
 use price_lp::Basis;
 use std::alloc::Global;
@@ -74,31 +74,25 @@ fn orders_of(alloc: Global, book: &Book, ends: &[u16]) -> Result<Vec<Vec<Ranked>
 }
 
 impl<'a> Finder<'a> {
-    /// What dives for plans of a book within a limit, in units of 10^-10, from 1 to 3,000,000,000.
-    ///
-    /// Present values are taken one unit below the limit and rounded down: what is worth at most its cost there is within the
-    /// limit.
+    /// What dives for plans of a book within a limit.
     ///
     /// # Errors
     ///
     /// Where memory ran out.
     #[inline(never)]
-    pub fn make(alloc: Global, book: &'a Book, limit: YieldUnits) -> Result<Finder<'a>, NoMemory>
-        requires limit_from { 1 ≤ limit.0 }
-        requires limit_to { limit.0 ≤ GREATEST_YIELD }
-        ensures { IfOk result (λ finder. finder ≡ record { book = book.now; limit = limit.0 }) }
+    pub fn make(alloc: Global, book: &'a Book, limit: &YieldLimit) -> Result<Finder<'a>, NoMemory>
+        ensures { IfOk result (λ finder. finder ≡ record { book = book.now; limit = limit.now }) }
     {
-        let below = YieldUnits(limit.0 - 1);
-        let powers = Powers::make(alloc, below, Side::Low, GREATEST_INDEX)?;
-        let ledger = Ledger::make(alloc, book, &powers)?;
+        let powers = limit.powers();
+        let ledger = Ledger::make(alloc, book, powers)?;
         let ends = ends_of(alloc, &ledger)?;
         let earliest = order(alloc, book, ends.as_slice(), By::EarliestFirst)?;
         Ok(Finder {
             alloc,
             book,
-            limit,
+            limit: limit.units(),
             ledger,
-            diver: Diver::make(alloc, book, &powers, earliest)?,
+            diver: Diver::make(alloc, book, powers, earliest)?,
             orders: orders_of(alloc, book, ends.as_slice())?,
             ends,
             finishing: 0,

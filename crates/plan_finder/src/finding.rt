@@ -1,13 +1,14 @@
 //! Finding a plan.
-ghost use Rattle.std.specs.Prelude.{◌≡◌, ◌≤◌, IfOk, IfSome};
+ghost use Rattle.std.specs.Prelude.{◌≡◌, IfOk, IfSome};
 ghost use Rattle.plan_finder.specs.Proposal.{IsProposal};
 
 use crate::again::dive_again;
 use crate::dive::Sequence;
+use crate::limit::YieldLimit;
 use crate::search::{Search, Task};
 use cash_table::Plan;
 use escrow_desk::NoMemory;
-use escrow_units::{Cents, GREATEST_YIELD, YieldUnits};
+use escrow_units::Cents;
 use offer_book::Book;
 use std::alloc::Global;
 
@@ -49,9 +50,8 @@ fn look(search: &mut Search) -> Result<(), NoMemory>
     Ok(())
 }
 
-/// Looks for a cheap plan that is permitted, meets the needs and is within the limit, in units of 10^-10, from 1 to
-/// 3,000,000,000. It goes on until so much work is done as the effort says, or a plan costs at most the target, in cents: the least
-/// cost that is possible.
+/// Looks for a cheap plan that is permitted, meets the needs and is within the limit. It goes on until so much work is done as the
+/// effort says, or a plan costs at most the target, in cents: the least cost that is possible.
 ///
 /// The effort is in sweeps: as much work as to go once through each column of the linear program. It is the same on every machine,
 /// and so the same input gives the same plan. Once it is spent, a dive that has begun ends without another program, and its plan is
@@ -65,13 +65,11 @@ fn look(search: &mut Search) -> Result<(), NoMemory>
 pub fn find(
     alloc: Global,
     book: &Book,
-    limit: YieldUnits,
+    limit: &YieldLimit,
     effort: u32,
     target: Cents,
 ) -> Result<Option<Proposal>, NoMemory>
-    requires limit_from { 1 ≤ limit.0 }
-    requires limit_to { limit.0 ≤ GREATEST_YIELD }
-    ensures { IfOk result (λ proposal. IfSome proposal (IsProposal limit.0 book.now)) }
+    ensures { IfOk result (λ proposal. IfSome proposal (IsProposal limit.now book.now)) }
 {
     let task = Task {
         alloc,

@@ -16,6 +16,7 @@ mod draw;
 mod finder;
 mod finding;
 mod ledger;
+mod limit;
 mod mend;
 mod neighbours;
 mod order;
@@ -26,6 +27,7 @@ mod trimming;
 
 pub use finder::Finder;
 pub use finding::{Proposal, find};
+pub use limit::YieldLimit;
 pub use neighbours::{Neighbours, next_to};
 
 #[cfg(test)]

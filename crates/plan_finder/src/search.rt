@@ -8,9 +8,10 @@ use crate::dive::Sequence;
 use crate::draw::Draw;
 use crate::finder::Finder;
 use crate::finding::Proposal;
+use crate::limit::YieldLimit;
 use crate::parts::{free_most, free_part};
 use escrow_desk::NoMemory;
-use escrow_units::{Cents, GREATEST_YIELD, YieldUnits};
+use escrow_units::Cents;
 use offer_book::Book;
 use std::alloc::Global;
 use std::marker::Model;
@@ -22,8 +23,8 @@ pub(crate) struct Task<'a> {
     pub alloc: Global,
     /// The book.
     pub book: &'a Book,
-    /// The limit on the yield, in units of 10^-10.
-    pub limit: YieldUnits,
+    /// The limit on the yield.
+    pub limit: &'a YieldLimit,
     /// The cost below which no plan is possible, in cents.
     pub target: Cents,
     /// How much work may be done in all, in sweeps.
@@ -54,15 +55,15 @@ impl<'a> Model for Search<'a> {
 
     ghost Value = { SearchContents };
 
-    ghost view = { λ s. record { book = s.task.book.now; limit = s.task.limit.0 } };
+    ghost view = { λ s. record { book = s.task.book.now; limit = s.task.limit.now } };
 
     ghost invariant = { λ s. (s.finder.book ≡ s.task.book.now)
-        × (s.finder.limit ≡ s.task.limit.0)
+        × (s.finder.limit ≡ s.task.limit.now)
         × All (λ line. line < length s.task.book.now.lines) s.lines.items
         × (length s.lines.items ≤ length s.task.book.now.lines)
         × (length s.free.items ≡ length s.task.book.now.lines)
-        × IfSome s.near (IsProposal s.task.limit.0 s.task.book.now)
-        × IfSome s.best (IsProposal s.task.limit.0 s.task.book.now) };
+        × IfSome s.near (IsProposal s.task.limit.now s.task.book.now)
+        × IfSome s.best (IsProposal s.task.limit.now s.task.book.now) };
 }
 
 // From what number draws start.
@@ -99,11 +100,11 @@ fn lines_on_offer(alloc: Global, book: &Book) -> Result<Vec<u16>, NoMemory>
 fn copied(
     alloc: Global,
     book: &Book,
-    limit: YieldUnits,
+    limit: &YieldLimit,
     proposal: &Option<Proposal>,
 ) -> Result<Option<Proposal>, NoMemory>
-    requires { IfSome proposal.now (IsProposal limit.0 book.now) }
-    ensures { IfOk result (λ copied. IfSome copied (IsProposal limit.0 book.now)) }
+    requires { IfSome proposal.now (IsProposal limit.now book.now) }
+    ensures { IfOk result (λ copied. IfSome copied (IsProposal limit.now book.now)) }
 {
     match proposal {
         Some(proposal) => Ok(Some(Proposal {
@@ -115,15 +116,13 @@ fn copied(
 }
 
 impl<'a> Search<'a> {
-    /// What a search of a task works with. Its limit is from 1 to 3,000,000,000.
+    /// What a search of a task works with.
     ///
     /// # Errors
     ///
     /// Where memory ran out.
     pub(crate) fn make(task: Task<'a>) -> Result<Search<'a>, NoMemory>
-        requires limit_from { 1 ≤ task.limit.0 }
-        requires limit_to { task.limit.0 ≤ GREATEST_YIELD }
-        ensures { IfOk result (λ search. search ≡ record { book = task.entry.book.now; limit = task.entry.limit.0 }) }
+        ensures { IfOk result (λ search. search ≡ record { book = task.entry.book.now; limit = task.entry.limit.now }) }
     {
         let alloc = task.alloc;
         let book = task.book;

@@ -2,7 +2,7 @@
 ghost use Rattle.std.specs.Prelude.{◌≡◌, IfOk};
 ghost use Rattle.dual_bound.specs.Ranges.{AreTight};
 
-use crate::{Finder, find};
+use crate::{Finder, YieldLimit, find};
 use case_file::{Case, read_case};
 use dual_bound::{Ranges, range_laws};
 use escrow_desk::FILE_LIMIT;
@@ -27,16 +27,14 @@ const ISSUE: &[u8] =
 
 fn case_of(rt: &impl Abort, alloc: Global, row: &Row) -> Result<Case, Fail> {
     assert!(rt; row.issue.len() as u64 <= FILE_LIMIT && row.rates.len() as u64 <= FILE_LIMIT);
-    match read_case(alloc, row.issue, row.rates, b"") {
-        Ok(case) => Ok(case),
-        Err(_) => Err(Fail::new("no case")),
-    }
+    Ok(read_case(alloc, row.issue, row.rates, b"")?)
 }
 
 fn found_cost(rt: &impl Abort, alloc: Global, row: &Row) -> Result<Option<u64>, Fail> {
     let case = case_of(rt, alloc, row)?;
     assert!(rt; 1 <= row.limit && row.limit <= GREATEST_YIELD);
-    match find(alloc, &case.book, YieldUnits(row.limit), 40, Cents(0))? {
+    let limit = YieldLimit::make(alloc, YieldUnits(row.limit))?;
+    match find(alloc, &case.book, &limit, 40, Cents(0))? {
         Some(proposal) => Ok(Some(proposal.cost.0)),
         None => Ok(None),
     }
@@ -136,7 +134,8 @@ fn dives_go_by_their_ranges(rt: HostRuntime) -> Result<(), Fail> {
     ];
     let case = case_of(&rt, rt.alloc(), &row)?;
     let basis = Basis::with_room(rt.alloc(), case.book.line_count(), case.book.need_count())?;
-    let mut finder = Finder::make(rt.alloc(), &case.book, YieldUnits(row.limit))?;
+    let limit = YieldLimit::make(rt.alloc(), YieldUnits(row.limit))?;
+    let mut finder = Finder::make(rt.alloc(), &case.book, &limit)?;
     for dive in &dives {
         let ranges = ranges_of(&rt, rt.alloc(), &case.book, dive.most)?;
         let start = if dive.warm { Some(&basis) } else { None };

@@ -8,7 +8,8 @@ ghost use Rattle.backward_build.specs.Spare.{ArePaid};
 use crate::account::paid;
 use crate::ledger::Ledger;
 use crate::order::Ranked;
-use backward_build::{covers, least_passing};
+use backward_build::least_passing;
+use cash_table::covers;
 use escrow_units::MOST_NEED_DATES;
 
 // A line of a plan, and what it has to pay up to each need date, in cents.

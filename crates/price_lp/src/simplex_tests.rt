@@ -21,10 +21,7 @@ const RATES: &[u8] =
 
 // Opening cash, and for each need date two lines, of 4 and of 3 percent.
 fn case_of(alloc: Global) -> Result<Case, Fail> {
-    match read_case(alloc, ISSUE, RATES, b"") {
-        Ok(case) => Ok(case),
-        Err(_) => Err(Fail::new("no case")),
-    }
+    Ok(read_case(alloc, ISSUE, RATES, b"")?)
 }
 
 fn simplex_of<'a>(alloc: Global, case: &'a Case) -> Result<Simplex<'a>, Fail>

@@ -21,10 +21,7 @@ fn read(alloc: Global, issue: &[u8], rates: &[u8], prices: &[u8]) -> Result<Case
     if issue.len() > 200 || rates.len() > 200 || prices.len() > 200 {
         return Err(Fail::new("a long file"));
     }
-    let Ok(case) = read_case(alloc, issue, rates, prices) else {
-        return Err(Fail::new("no case"));
-    };
-    Ok(case)
+    Ok(read_case(alloc, issue, rates, prices)?)
 }
 
 // An issue in which 2025-07-15 is closed, as are weekends.

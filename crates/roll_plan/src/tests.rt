@@ -24,10 +24,7 @@ const NOTE: &[u8] = b"terms,1000,1000\nnote,2025-07-15,4.000,100,200000\n";
 // The case of a row.
 fn case_of(rt: &impl Abort, alloc: Global, row: &Row) -> Result<Case, Fail> {
     assert!(rt; row.issue.len() as u64 <= FILE_LIMIT && row.rates.len() as u64 <= FILE_LIMIT);
-    match read_case(alloc, row.issue, row.rates, NOTE) {
-        Ok(case) => Ok(case),
-        Err(_) => Err(Fail::new("no case")),
-    }
+    Ok(read_case(alloc, row.issue, row.rates, NOTE)?)
 }
 
 // A hundred notes.

@@ -166,10 +166,7 @@ fn case_of(alloc: Global, row: &Row) -> Result<Case, Fail>
     requires prices { length row.now.prices.now ≤ FILE_LIMIT }
     ensures { IfOk result (λ case. IsKept (rows_of row.now.issue.now) (rows_of row.now.rates.now) (rows_of row.now.prices.now) (case_view case)) }
 {
-    match read_case(alloc, row.issue, row.rates, row.prices) {
-        Ok(case) => Ok(case),
-        Err(_) => Err(Fail::new("no case")),
-    }
+    Ok(read_case(alloc, row.issue, row.rates, row.prices)?)
 }
 
 // The portfolio of these units.

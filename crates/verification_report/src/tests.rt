@@ -30,10 +30,7 @@ fn case_of(rt: &impl Abort, alloc: Global, row: &Row) -> Result<Case, Fail> {
             && row.rates.len() as u64 <= FILE_LIMIT
             && row.prices.len() as u64 <= FILE_LIMIT
     );
-    match read_case(alloc, row.issue, row.rates, row.prices) {
-        Ok(case) => Ok(case),
-        Err(_) => Err(Fail::new("no case")),
-    }
+    Ok(read_case(alloc, row.issue, row.rates, row.prices)?)
 }
 
 // The portfolio of these units.

@@ -1,6 +1,6 @@
 use Rattle.std.proofs.Common.{◌≡◌, ℕ, ◌+◌, ◌<◌, ◌≤◌, get_or, take}
 use Rattle.std.specs.List.{sum}
-use Rattle.backward_build.proofs.spare.run_up.Given as goal
+use Rattle.cash_table.proofs.running.run_up.Given as goal
 
 abbrev pub invariant-loop-place : goal.invariant-loop-place
 invariant-loop-place l = record {
