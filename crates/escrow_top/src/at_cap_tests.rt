@@ -2,7 +2,7 @@
 
 use crate::Status;
 use crate::failing_tests::try_failing_calls;
-use crate::tests::{FIRST, FIRST_TEXT, Files, NO_RIVAL, USAGE, outcome_of};
+use crate::test_runs::{FIRST, FIRST_TEXT, Files, NO_RIVAL, USAGE, outcome_of};
 use std::test::Fail;
 
 // What `check-cap` answers at a cap to four files.

@@ -2,7 +2,7 @@
 
 use crate::Status;
 use crate::failing_tests::try_failing_writes;
-use crate::tests::{FIRST, Files, outcome_of};
+use crate::test_runs::{FIRST, Files, outcome_of};
 use std::test::Fail;
 
 const CAP: [&str; 5] = ["cap", "i", "r", "p", "c"];

@@ -1,7 +1,7 @@
 //! Runs of which one call of the desk fails.
 
 use crate::Status;
-use crate::tests::{CHECK, FIRST, Files, outcome_of};
+use crate::test_runs::{CHECK, FIRST, Files, outcome_of};
 use std::alloc::Global;
 use std::process::Abort;
 use std::test::Fail;

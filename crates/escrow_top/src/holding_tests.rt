@@ -2,11 +2,10 @@
 
 use crate::Status;
 use crate::failing_tests::{try_failing_calls, try_failing_writes};
-use crate::tests::{FIRST, FIRST_TEXT, Files, NO_RIVAL, Row, outcome_of, try_words};
+use crate::test_runs::{
+    CHECK_HELD, FIRST, FIRST_TEXT, Files, NO_RIVAL, Row, outcome_of, try_words,
+};
 use std::test::Fail;
-
-// The words of `check-held`.
-const CHECK_HELD: [&str; 6] = ["check-held", "i", "r", "p", "h", "c"];
 
 // The words of `structure-held`.
 const STRUCTURE_HELD: [&str; 6] = ["structure-held", "i", "r", "p", "h", "c"];

@@ -40,10 +40,14 @@ mod limit_tests;
 #[cfg(test)]
 mod make_tests;
 #[cfg(test)]
+mod refusal_tests;
+#[cfg(test)]
 mod rolling_tests;
 #[cfg(test)]
 mod savings_tests;
 #[cfg(test)]
 mod structure_tests;
+#[cfg(test)]
+mod test_runs;
 #[cfg(test)]
 mod tests;

@@ -1,6 +1,6 @@
 //! Whole runs of `make` over a desk in memory.
 
-use crate::tests::{FIRST, Files, Outcome, USAGE, outcome_of};
+use crate::test_runs::{FIRST, Files, Outcome, USAGE, outcome_of};
 use crate::{Status, run};
 use case_maker::{Made, make};
 use std::alloc::Global;

@@ -2,7 +2,7 @@
 
 use crate::Status;
 use crate::failing_tests::try_failing_calls;
-use crate::tests::{FIRST, Files, NO_RIVAL, NOTE, Row, try_words};
+use crate::test_runs::{FIRST, Files, NOTE, Row, try_without_portfolio, try_words};
 use std::test::Fail;
 
 // The words of `roll`.
@@ -47,29 +47,9 @@ fn what_is_rolled(rt: HostRuntime) -> Result<(), Fail> {
             status: Status::Done,
             said: b"yield 0.00000000 0.00000000\nrolled yield 0.00000000 0.00000000\n",
         },
-        Row {
-            files: NO_RIVAL,
-            status: Status::Done,
-            said: b"yes none\n",
-        },
-        Row {
-            files: Files {
-                cert: b"escrow-certificate 1\nportfolio 1\nbuy 1 9\ngap 0\nnodes 1\nl 1 0 1000000000000\nend\n",
-                ..FIRST
-            },
-            status: Status::No,
-            said: b"no NotPermitted 1\n",
-        },
-        Row {
-            files: Files {
-                rates: b"terms,1000,x\n",
-                ..EARLY
-            },
-            status: Status::Refused,
-            said: b"refused rates row 1 BadNumber\n",
-        },
     ];
-    try_words(&rt, rt.alloc(), &ROLL, &rows)
+    try_words(&rt, rt.alloc(), &ROLL, &rows)?;
+    try_without_portfolio(&rt, rt.alloc(), &ROLL)
 }
 
 #[test]

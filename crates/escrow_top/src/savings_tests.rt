@@ -2,7 +2,7 @@
 
 use crate::Status;
 use crate::failing_tests::try_failing_calls;
-use crate::tests::{FIRST, Files, NO_RIVAL, NOTE, Row, try_words};
+use crate::test_runs::{FIRST, Files, NOTE, Row, try_without_portfolio, try_words};
 use std::test::Fail;
 
 // The words of `savings`.
@@ -34,29 +34,9 @@ fn what_is_saved(rt: HostRuntime) -> Result<(), Fail> {
             status: Status::Done,
             said: b"old 0.00 0.00\nnew none\nsaved none\nidle 49.26 49.27\n",
         },
-        Row {
-            files: NO_RIVAL,
-            status: Status::Done,
-            said: b"yes none\n",
-        },
-        Row {
-            files: Files {
-                cert: b"escrow-certificate 1\nportfolio 1\nbuy 1 9\ngap 0\nnodes 1\nl 1 0 1000000000000\nend\n",
-                ..FIRST
-            },
-            status: Status::No,
-            said: b"no NotPermitted 1\n",
-        },
-        Row {
-            files: Files {
-                rates: b"terms,1000,x\n",
-                ..FIRST
-            },
-            status: Status::Refused,
-            said: b"refused rates row 1 BadNumber\n",
-        },
     ];
-    try_words(&rt, rt.alloc(), &SAVINGS, &rows)
+    try_words(&rt, rt.alloc(), &SAVINGS, &rows)?;
+    try_without_portfolio(&rt, rt.alloc(), &SAVINGS)
 }
 
 #[test]

@@ -1,7 +1,7 @@
 //! Whole runs of `structure` over a desk in memory.
 
 use crate::failing_tests::try_failing_writes;
-use crate::tests::{CHECK, FIRST, Files, outcome_of};
+use crate::test_runs::{CHECK, FIRST, Files, outcome_of};
 use crate::{Status, run};
 use std::alloc::Global;
 use std::process::Abort;

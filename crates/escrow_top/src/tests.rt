@@ -1,44 +1,13 @@
 //! Whole runs of `check`, and of words that are no command, over a desk in memory.
 
-ghost use Rattle.std.specs.Prelude.{◌≡◌, IfOk, string_bytes};
-
-use crate::{Status, case_laws, run};
-use escrow_desk::{MemoryDesk, NamedBytes};
+use crate::test_runs::{
+    CHECK, FIRST, FIRST_TEXT, Files, NO_RIVAL, NOTE, Row, USAGE, outcome_of, try_words, with_issue,
+    with_rates,
+};
+use crate::{Status, case_laws};
 use std::alloc::Global;
 use std::process::Abort;
 use std::test::Fail;
-
-/// The bytes of the files.
-#[derive(Clone, Copy)]
-pub(crate) struct Files {
-    pub issue: &'static [u8],
-    pub rates: &'static [u8],
-    pub prices: &'static [u8],
-    pub held: &'static [u8],
-    pub cert: &'static [u8],
-}
-
-/// One need, one offer and one purchase that covers the need to the cent.
-pub(crate) const FIRST: Files = Files {
-    issue: b"settle,2025-01-15\nneed,2025-04-15,5000.00\nrestricted,4.00\n",
-    rates: b"terms,1000,100\noffer,2025-04-15,0.00,,10000\n",
-    prices: b"",
-    held: b"",
-    cert: b"escrow-certificate 1\nportfolio 1\nbuy 1 50\ngap 0\nnodes 1\nl 1 0 1000000000000\nend\n",
-};
-
-/// One need, and one offer that yields too much: a certificate that there is no rival.
-pub(crate) const NO_RIVAL: Files = Files {
-    issue: b"settle,2025-01-15\nneed,2025-07-15,1000.00\nrestricted,3.00\n",
-    rates: b"terms,1000,1000\nrate,2025-02-14,2026-01-15,4.00\noffer,2025-07-15,4.00,,2000\n",
-    prices: b"",
-    held: b"",
-    cert: b"escrow-certificate 1\nportfolio none\ngap 0\nnodes 1\nl 0 1000000000000 2000000000\nend\n",
-};
-
-/// What `check` says of the first files.
-pub(crate) const FIRST_TEXT: &[u8] =
-    b"yes\ncost 5000.00\nyield 0.00000000 0.00000000\nlimit 4.00100000\ngap 0.00\n";
 
 // Two needs and two offers.
 const SECOND: Files = Files {
@@ -49,80 +18,27 @@ const SECOND: Files = Files {
     cert: b"escrow-certificate 1\nportfolio 2\nbuy 1 40\nbuy 2 15\ngap 0\nnodes 1\nl 1 0 1000000000000 1000000000000\nend\n",
 };
 
-/// The words of `check`.
-pub(crate) const CHECK: [&str; 5] = ["check", "i", "r", "p", "c"];
+// A line that bears interest, of which one step less is a cent short, so that the bound of one leaf isn't enough.
+const SPLIT: Files = Files {
+    issue: b"settle,2025-01-15\nneed,2026-01-15,1041.03\nrestricted,5.00\n",
+    rates: b"terms,1000,1\nrate,2025-02-14,2026-01-15,4.00\noffer,2026-01-15,max,,10000\n",
+    prices: b"",
+    held: b"",
+    cert: b"escrow-certificate 1\nportfolio 1\nbuy 1 1001\ngap 0\nnodes 3\ns 1 1000\nl 0 0 1000000000000\nl 1 0 0\nend\n",
+};
 
-/// What is said to words that are no command.
-pub(crate) const USAGE: &[u8] =
-    b"usage: structure ISSUE RATES PRICES CERT | check ISSUE RATES PRICES CERT | make NUMBER ISSUE RATES PRICES \
-    | cap ISSUE RATES PRICES CERT | check-cap RATE ISSUE RATES PRICES CERT | roll ISSUE RATES PRICES CERT \
-    | structure-held ISSUE RATES PRICES HELD CERT | check-held ISSUE RATES PRICES HELD CERT \
-    | savings ISSUE RATES PRICES CERT\n";
+// Cash alone, of which a cent is needed: a point of no cash, which is short, of one cent, and of two, which is what is bought.
+const POINTS: Files = Files {
+    issue: b"settle,2025-01-15\ncash,0.02\nneed,2025-01-20,0.01\nrestricted,4.00\nallowance,0.01\n",
+    rates: b"",
+    prices: b"",
+    held: b"",
+    cert: b"escrow-certificate 1\nportfolio 1\nbuy 0 2\ngap 1\nnodes 5\ns 0 0\np\ns 0 1\np\np\nend\n",
+};
 
-/// A file of a name.
-pub(crate) fn named(alloc: Global, name: &str, bytes: &[u8]) -> Result<NamedBytes, Fail>
-    ensures { IfOk result (λ file. string_bytes file.name ≡ name.now) }
-{
-    let name = String::from_str(alloc, name)?;
-    let bytes = Vec::from_slice(alloc, bytes)?;
-    Ok(NamedBytes { name, bytes })
-}
-
-// A desk of the files, of which one call fails.
-fn desk_of(alloc: Global, files: &Files, failing: u64) -> Result<MemoryDesk, Fail> {
-    let issue = named(alloc, "i", files.issue)?;
-    let rates = named(alloc, "r", files.rates)?;
-    let prices = named(alloc, "p", files.prices)?;
-    let held = named(alloc, "h", files.held)?;
-    let cert = named(alloc, "c", files.cert)?;
-    let files = vec![in alloc; issue, rates, prices, held, cert]?;
-    Ok(MemoryDesk::make(alloc, files, vec![in alloc; failing]?))
-}
-
-/// How a run ended, and the desk that it left.
-#[derive(Drop)]
-pub(crate) struct Outcome {
-    pub status: Status,
-    pub desk: MemoryDesk,
-}
-
-/// Runs words over a desk of the files, of which one call fails.
-pub(crate) fn outcome_of(
-    alloc: Global,
-    words: &[&str],
-    files: &Files,
-    failing: u64,
-) -> Result<Outcome, Fail> {
-    let mut desk = desk_of(alloc, files, failing)?;
-    let mut list = Vec::new(alloc);
-    for word in words {
-        list.push(String::from_str(alloc, word)?)?;
-    }
-    let status = run(alloc, list.as_slice(), &mut desk);
-    Ok(Outcome { status, desk })
-}
-
-/// What is answered to the files.
-#[derive(Clone, Copy)]
-pub(crate) struct Row {
-    pub files: Files,
-    pub status: Status,
-    pub said: &'static [u8],
-}
-
-/// What words are answered over the files of each row.
-pub(crate) fn try_words(
-    rt: &impl Abort,
-    alloc: Global,
-    words: &[&str],
-    rows: &[Row],
-) -> Result<(), Fail> {
-    for (place, row) in rows.iter().enumerate() {
-        let ran = outcome_of(alloc, words, &row.files, u64::MAX)?;
-        assert_eq!(rt; ran.status, row.status, "row {place}");
-        assert_eq!(rt; ran.desk.said(), row.said, "row {place}");
-    }
-    Ok(())
+// The first files with another certificate.
+fn with_cert(cert: &'static [u8]) -> Files {
+    Files { cert, ..FIRST }
 }
 
 fn try_rows(rt: &impl Abort, alloc: Global, rows: &[Row]) -> Result<(), Fail> {
@@ -242,19 +158,6 @@ fn reasons_of_no(rt: HostRuntime) -> Result<(), Fail> {
     try_rows(&rt, rt.alloc(), &rows)
 }
 
-// The first files with another file of one kind.
-fn with_cert(cert: &'static [u8]) -> Files {
-    Files { cert, ..FIRST }
-}
-
-fn with_issue(issue: &'static [u8]) -> Files {
-    Files { issue, ..FIRST }
-}
-
-fn with_rates(rates: &'static [u8]) -> Files {
-    Files { rates, ..FIRST }
-}
-
 #[test]
 fn notes_and_bonds(rt: HostRuntime) -> Result<(), Fail> {
     let note = b"terms,1000,100\noffer,2027-01-15,0.00,,10000\n";
@@ -352,157 +255,6 @@ fn opening_cash_and_gaps(rt: HostRuntime) -> Result<(), Fail> {
 }
 
 #[test]
-fn refused_issues(rt: HostRuntime) -> Result<(), Fail> {
-    let rows: [(&'static [u8], &'static [u8]); 12] = [
-        (b"", b"refused issue row 1 Missing\n"),
-        (
-            b"settle,2025-01-15\nneed,2025-02-30,5.00\nrestricted,4.00\n",
-            b"refused issue row 2 BadDate\n",
-        ),
-        (
-            b"settle,2025-01-15\nneed,2025-04-15,5000.00\nrestricted,4.00\nrestricted,4.00\n",
-            b"refused issue row 4 Repeated\n",
-        ),
-        (
-            b"settle,2025-01-15\nneed,2025-04-15,5000.00\nrestricted,4.00\ncall,2025-01-15,100\n",
-            b"refused issue row 4 DateOrder\n",
-        ),
-        (
-            b"settle,2025-01-15\nneed,2025-04-15,x\nrestricted,4.00\n",
-            b"refused issue row 2 BadNumber\n",
-        ),
-        (
-            b"settle,2025-01-15\nneeds,2025-04-15,1.00\n",
-            b"refused issue row 2 UnknownRow\n",
-        ),
-        (
-            b"settle,2025-01-15\nneed,2025-04-15\n",
-            b"refused issue row 2 WrongFields\n",
-        ),
-        (
-            b"settle,2025-01-15\ncall,2026-01-15,9.99\n",
-            b"refused issue row 2 PriceRange\n",
-        ),
-        (b"settle,1999-12-31\n", b"refused issue row 1 OutOfRange\n"),
-        (
-            b"settle,2025-01-15\nsettle,2025-01-15\n",
-            b"refused issue row 2 Repeated\n",
-        ),
-        (b"settle,2025-01-15\n", b"refused issue row 0 Missing\n"),
-        (
-            b"settle,2025-01-15\nrestricted,4.00\nneed,2025-04-15,100000000000.00\nneed,2025-04-15,0.01\n",
-            b"refused issue row 0 NeedsTooLarge\n",
-        ),
-    ];
-    for (issue, said) in &rows {
-        let ran = outcome_of(rt.alloc(), &CHECK, &with_issue(issue), u64::MAX)?;
-        assert_eq!(rt; ran.status, Status::Refused);
-        assert_eq!(rt; ran.desk.said(), *said);
-    }
-    Ok(())
-}
-
-#[test]
-fn refused_rates(rt: HostRuntime) -> Result<(), Fail> {
-    let rows: [(&'static [u8], &'static [u8]); 16] = [
-        (
-            b"offer,2025-04-15,0.00,,10000\n",
-            b"refused rates row 1 Missing\n",
-        ),
-        (
-            b"terms,1000,100\nterms,1000,100\n",
-            b"refused rates row 2 Repeated\n",
-        ),
-        (
-            b"terms,1000,100\nbid,2025-04-15\n",
-            b"refused rates row 2 UnknownRow\n",
-        ),
-        (
-            b"terms,1000,100\noffer,2025-04-15,0.00,10000\n",
-            b"refused rates row 2 WrongFields\n",
-        ),
-        (b"terms,1000,x\n", b"refused rates row 1 BadNumber\n"),
-        (
-            b"terms,1000,100\noffer,2025-04-31,0.00,,10000\n",
-            b"refused rates row 2 BadDate\n",
-        ),
-        (
-            b"terms,1000,100\noffer,2025-04-15,0.00,,999\n",
-            b"refused rates row 2 OutOfRange\n",
-        ),
-        (
-            b"terms,1000,100\nrate,2025-04-15,2025-04-14,4.00\n",
-            b"refused rates row 2 DateOrder\n",
-        ),
-        (
-            b"terms,1000,100\nrate,2025-04-15,2025-05-15,4.00\nrate,2025-05-15,2025-06-15,4.00\n",
-            b"refused rates row 3 Overlap\n",
-        ),
-        (
-            b"terms,1000,100\noffer,2025-01-29,0.00,,10000\n",
-            b"refused rates row 2 TooShort\n",
-        ),
-        (
-            b"terms,1000,100\nrate,2025-01-15,2025-12-31,4.00\noffer,2025-02-13,4.00,,10000\n",
-            b"refused rates row 3 TooShort\n",
-        ),
-        (
-            b"terms,1000,100\noffer,2025-02-14,4.00,,10000\n",
-            b"refused rates row 2 NoRate\n",
-        ),
-        (
-            b"terms,1000,100\nrate,2025-01-15,2025-12-31,4.00\noffer,2025-02-14,4.01,,10000\n",
-            b"refused rates row 3 RateAboveTable\n",
-        ),
-        (
-            b"terms,1000,100\noffer,2065-01-16,0.00,,10000\n",
-            b"refused rates row 2 TooLongTerm\n",
-        ),
-        (
-            b"terms,1000,100\noffer,2025-04-15,0.00,2025-04-15,10000\n",
-            b"refused rates row 2 FirstDate\n",
-        ),
-        (
-            b"terms,1000,100\noffer,2025-01-29,0.00,,10000\nbid\n",
-            b"refused rates row 3 UnknownRow\n",
-        ),
-    ];
-    for (rates, said) in &rows {
-        let ran = outcome_of(rt.alloc(), &CHECK, &with_rates(rates), u64::MAX)?;
-        assert_eq!(rt; ran.status, Status::Refused);
-        assert_eq!(rt; ran.desk.said(), *said);
-    }
-    Ok(())
-}
-
-/// A note on offer, and the need that it pays.
-pub(crate) const NOTE: Files = Files {
-    issue: b"settle,2025-01-15\nneed,2025-07-15,102000.00\nrestricted,4.00\nallowance,0.01\n",
-    rates: b"",
-    prices: b"terms,1000,1000\nnote,2025-07-15,4.000,100,200000\n",
-    held: b"",
-    cert: b"escrow-certificate 1\nportfolio 1\nbuy 1 100\ngap 1\nnodes 1\nl 1 0 980392156862\nend\n",
-};
-
-// A line that bears interest, of which one step less is a cent short, so that the bound of one leaf isn't enough.
-const SPLIT: Files = Files {
-    issue: b"settle,2025-01-15\nneed,2026-01-15,1041.03\nrestricted,5.00\n",
-    rates: b"terms,1000,1\nrate,2025-02-14,2026-01-15,4.00\noffer,2026-01-15,max,,10000\n",
-    prices: b"",
-    held: b"",
-    cert: b"escrow-certificate 1\nportfolio 1\nbuy 1 1001\ngap 0\nnodes 3\ns 1 1000\nl 0 0 1000000000000\nl 1 0 0\nend\n",
-};
-
-// Cash alone, of which a cent is needed: a point of no cash, which is short, of one cent, and of two, which is what is bought.
-const POINTS: Files = Files {
-    issue: b"settle,2025-01-15\ncash,0.02\nneed,2025-01-20,0.01\nrestricted,4.00\nallowance,0.01\n",
-    rates: b"",
-    prices: b"",
-    held: b"",
-    cert: b"escrow-certificate 1\nportfolio 1\nbuy 0 2\ngap 1\nnodes 5\ns 0 0\np\ns 0 1\np\np\nend\n",
-};
-
-#[test]
 fn yields_and_trees(rt: HostRuntime) -> Result<(), Fail> {
     let computed =
         b"settle,2025-01-15\nneed,2025-07-15,102000.00\nprice,100000.00\npay,2025-07-15,102000.00\nallowance,0.01\n";
@@ -587,177 +339,6 @@ fn yields_and_trees(rt: HostRuntime) -> Result<(), Fail> {
         },
     ];
     try_rows(&rt, rt.alloc(), &rows)
-}
-
-#[test]
-fn refused_prices(rt: HostRuntime) -> Result<(), Fail> {
-    let faults: [(&[u8], &[u8], &[u8]); 5] = [
-        (
-            NOTE.issue,
-            b"note,2025-07-15,4.000,100,200000\n",
-            b"refused prices row 1 Missing\n",
-        ),
-        (
-            NOTE.issue,
-            b"terms,1000,1000\nnote,2025-01-15,4.000,100,200000\n",
-            b"refused prices row 2 Matured\n",
-        ),
-        (
-            b"settle,2025-05-30\nneed,2025-07-15,102000.00\nrestricted,4.00\n",
-            b"terms,1000,1000\nnote,2025-05-31,4.000,100,200000\n",
-            b"refused prices row 2 Matured\n",
-        ),
-        (
-            NOTE.issue,
-            b"terms,1000,1000\nnote,2025-07-15,4.000,9.99,200000\n",
-            b"refused prices row 2 PriceRange\n",
-        ),
-        (
-            NOTE.issue,
-            b"terms,1000,1000\nterms,1000,1000\n",
-            b"refused prices row 2 Repeated\n",
-        ),
-    ];
-    for (issue, prices, said) in &faults {
-        let files = Files {
-            issue,
-            prices,
-            ..NOTE
-        };
-        let ran = outcome_of(rt.alloc(), &CHECK, &files, u64::MAX)?;
-        assert_eq!(rt; ran.status, Status::Refused);
-        assert_eq!(rt; ran.desk.said(), *said);
-    }
-    Ok(())
-}
-
-// The order in which files that are at fault together are told: lengths, then the issue's rows, the rates' rows, the
-// prices' rows, the rules of the offers, the computed yield, and the certificate's text.
-#[test]
-fn order_of_refusals(rt: HostRuntime) -> Result<(), Fail> {
-    let faulty_prices = b"terms,1000,x\n";
-    let faulty_offer = b"terms,1000,100\noffer,2025-01-29,0.00,,10000\n";
-    let interest =
-        b"terms,1000,100\nrate,2025-01-15,2025-12-31,4.00\noffer,2025-02-14,4.00,,10000\n";
-    let negative = b"settle,2025-01-15\nprice,100000.00\npay,2025-07-15,99000.00\n";
-    let computed = b"settle,2025-01-15\nprice,100000.00\npay,2025-07-15,102000.00\n";
-    let rows = [
-        Row {
-            files: Files {
-                issue: b"settle,2025-01-15\nneed,x,1.00\n",
-                rates: b"offer\n",
-                prices: faulty_prices,
-                held: b"",
-                cert: b"",
-            },
-            status: Status::Refused,
-            said: b"refused issue row 2 BadDate\n",
-        },
-        Row {
-            files: Files {
-                rates: b"offer\n",
-                prices: faulty_prices,
-                ..FIRST
-            },
-            status: Status::Refused,
-            said: b"refused rates row 1 Missing\n",
-        },
-        Row {
-            files: Files {
-                rates: faulty_offer,
-                prices: faulty_prices,
-                ..FIRST
-            },
-            status: Status::Refused,
-            said: b"refused prices row 1 BadNumber\n",
-        },
-        Row {
-            files: Files {
-                issue: negative,
-                rates: faulty_offer,
-                prices: NOTE.prices,
-                ..FIRST
-            },
-            status: Status::Refused,
-            said: b"refused rates row 2 TooShort\n",
-        },
-        Row {
-            files: Files {
-                issue: negative,
-                rates: interest,
-                prices: NOTE.prices,
-                ..FIRST
-            },
-            status: Status::Refused,
-            said: b"refused issue row 2 OutOfRange\n",
-        },
-        Row {
-            files: Files {
-                issue: computed,
-                rates: interest,
-                prices: NOTE.prices,
-                held: b"",
-                cert: b"",
-            },
-            status: Status::No,
-            said: b"no Grammar 1 Truncated\n",
-        },
-    ];
-    try_rows(&rt, rt.alloc(), &rows)
-}
-
-// What `check` answers to the first issue with a rate file and a certificate of these bytes.
-fn try_bytes(
-    rt: &impl Abort,
-    alloc: Global,
-    rates: Vec<u8>,
-    cert: Vec<u8>,
-    said: &[u8],
-) -> Result<(), Fail> {
-    let issue = named(alloc, "i", FIRST.issue)?;
-    let name = String::from_str(alloc, "r")?;
-    let rates = NamedBytes { name, bytes: rates };
-    let prices = named(alloc, "p", FIRST.prices)?;
-    let name = String::from_str(alloc, "c")?;
-    let cert = NamedBytes { name, bytes: cert };
-    let files = vec![in alloc; issue, rates, prices, cert]?;
-    let mut desk = MemoryDesk::make(alloc, files, Vec::new(alloc));
-    let mut words = Vec::new(alloc);
-    for word in &CHECK {
-        words.push(String::from_str(alloc, word)?)?;
-    }
-    let status = run(alloc, words.as_slice(), &mut desk);
-    assert_eq!(rt; status, Status::Refused);
-    assert_eq!(rt; desk.said(), said);
-    Ok(())
-}
-
-#[test]
-fn limits_of_files(rt: HostRuntime) -> Result<(), Fail> {
-    let alloc = rt.alloc();
-    let long = vec![in alloc; b'\n'; 1_048_577]?;
-    try_bytes(
-        &rt,
-        alloc,
-        long,
-        Vec::new(alloc),
-        b"refused rates row 0 TooLong\n",
-    )?;
-    let mut many = Vec::from_slice(alloc, b"terms,1000,100\n")?;
-    for _ in 0..257 {
-        many.extend_from_slice(b"offer,2025-04-15,0.00,,10000\n")?;
-    }
-    try_bytes(
-        &rt,
-        alloc,
-        many,
-        Vec::new(alloc),
-        b"refused prices row 0 TooManyLines\n",
-    )?;
-    // The length of the certificate is told before the fault of its first line.
-    let rates = Vec::from_slice(alloc, FIRST.rates)?;
-    let cert = vec![in alloc; b'x'; 67_108_865]?;
-    try_bytes(&rt, alloc, rates, cert, b"refused cert row 0 TooLong\n")
 }
 
 #[test]
