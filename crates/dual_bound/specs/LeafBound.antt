@@ -47,7 +47,7 @@ limit_multiplier leaf (Market note) = leaf.mu
 
 -- what the limit takes from a cent that is paid on a day: its weight, discounted at a yield, rounded down
 abbrev pub limit_price : ℕ → ℤ → ℕ → ℤ → ℕ
-limit_price n settle weight day = weight * low n (index360_of settle day) / one
+limit_price n settle multiplier day = multiplier * low n (index360_of settle day) / one
 
 -- what a cent that a line costs counts: the limit credits it
 abbrev pub cost_worth : Leaf → LineKind → ℤ

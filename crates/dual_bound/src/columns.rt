@@ -54,8 +54,8 @@ impl<'a> Columns<'a> {
         Ok(Columns { book, tableau })
     }
 
-    /// Prices the columns at a leaf that keeps its limits, with one price for each need date: each payment day once, and
-    /// nothing where its prices and the multiplier of the limit are those of the leaf before.
+    /// Prices the columns at a leaf that keeps its limits, with one price for each need date: each payment day once. Where the
+    /// multiplier of the limit is that of the leaf before, and few prices differ, only the days of those dates are priced anew.
     pub fn price(&mut self, leaf: &Leaf)
         requires { IsLeaf (length self.old.book.needs) leaf.now }
         ensures { self.new ≡ record { book = self.old.book; yield_units = self.old.yield_units; leaf = leaf.now } }

@@ -58,15 +58,15 @@ pub(crate) fn cost_worth(leaf: &Leaf, kind: LineKind) -> i128
 }
 
 // What the limit takes from a cent that is paid on a day, by the powers of a yield.
-fn limit_price(settle: Day, powers: &Powers, weight: u64, day: Day) -> u64
+fn limit_price(settle: Day, powers: &Powers, multiplier: u64, day: Day) -> u64
     requires powers { IsLowTable powers.now }
-    requires weight { weight ≤ PRICE_SCALE }
+    requires multiplier { multiplier ≤ PRICE_SCALE }
     requires from { settle ≤ℤ day }
     requires to { day ≤ℤ years_after_of settle 40 }
-    ensures { result ≡ limit_price_of powers.now.yield_units settle weight day }
+    ensures { result ≡ limit_price_of powers.now.yield_units settle multiplier day }
 {
     let power = powers.power(index360(settle, day));
-    (u128::from(weight) * u128::from(power) / u128::from(ONE)) as u64
+    (u128::from(multiplier) * u128::from(power) / u128::from(ONE)) as u64
 }
 
 // What a cent that a line of some kind pays on a day is worth, in units of 1 / PRICE_SCALE.
