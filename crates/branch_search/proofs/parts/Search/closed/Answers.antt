@@ -42,8 +42,8 @@ returns-in_default-clause-ended c =
 
 pub tree_gap-gap-requires-clause-cost : goal.tree_gap-gap-requires-clause-cost
 tree_gap-gap-requires-clause-cost c =
-    let own : IsBought c.self.inside.limit.0 c.self.inside.book.now c.in-Some.best.plan c.in-Some.best.cost.0 =
-    subst (λ (b : Option Best). IfSome b (λ own. IsBought c.self.inside.limit.0 c.self.inside.book.now own.plan own.cost.0)) (sym c.take.ensures.value ∙ c.in-Some.is) c.self.invariant.bought in
+    let own : IsBought c.self.inside.limit c.self.inside.book.now c.in-Some.best.plan c.in-Some.best.cost.0 =
+    subst (λ (b : Option Best). IfSome b (λ own. IsBought c.self.inside.limit c.self.inside.book.now own.plan own.cost.0)) (sym c.take.ensures.value ∙ c.in-Some.is) c.self.invariant.bought in
     omega (arith, own.priced, cost_at_most c.self.inside.book.now c.in-Some.best.plan c.line_count.ensures.limits own.permitted)
 
 pub tree_gap-gap-requires-clause-bounds : goal.tree_gap-gap-requires-clause-bounds
@@ -64,8 +64,8 @@ returns-clause-ended c =
     let written : AreNodesOf now.case.book.needs tree c.in_ok-nodes.nodes = subst (λ (s : SearchContents). AreNodesOf s.case.book.needs tree c.in_ok-nodes.nodes) c.self.view_is c.in_ok-nodes.ensures in
     let some : c.self.inside.best ≡ Some best = sym c.take.ensures.value ∙ c.in-Some.is in
     let cents : best_cents now.best ≡ Some best.cost.0 = ap best_cents (sym (ap (λ (s : SearchContents). s.best) c.self.view_is) ∙ some) in
-    let own : IsBought c.self.inside.limit.0 c.self.inside.book.now best.plan best.cost.0 =
-    subst (λ (b : Option Best). IfSome b (λ own. IsBought c.self.inside.limit.0 c.self.inside.book.now own.plan own.cost.0)) some c.self.invariant.bought in
+    let own : IsBought c.self.inside.limit c.self.inside.book.now best.plan best.cost.0 =
+    subst (λ (b : Option Best). IfSome b (λ own. IsBought c.self.inside.limit c.self.inside.book.now own.plan own.cost.0)) some c.self.invariant.bought in
     let is : IsClosedTree now.case (obeys now.case rule) (Some best.cost.0) popped tree c.in_ok-nodes.nodes =
     subst (λ (b : Option ℕ). IsClosedTree now.case (obeys now.case rule) b popped tree c.in_ok-nodes.nodes) cents
     (closed-is now.case (obeys now.case rule) (best_cents now.best) tree c.in_ok-nodes.nodes limits c.count.ensures.one c.count.ensures.whole c.requires.tree written) in

@@ -9,7 +9,7 @@ use Rattle.branch_search.proofs.parts.Search.closed_by.Goals as goal
 
 pub returns-then-single-clause-tried : goal.returns-then-single-clause-tried
 returns-then-single-clause-tried c =
-    let own = searched c.self.inside.book.now c.self.inside.limit.0 c.self.inside.allowance.0 c.self.inside.budget in
+    let own = searched c.self.inside.book.now c.self.inside.limit c.self.inside.allowance.0 c.self.inside.budget in
     let single : is_single c.self.inside.ranges ≡ true = sym c.single.ensures ∙ c.if-single.true in
     let counted : IsCounted own (low_ends c.self.inside.ranges) (best_cents c.take_plan.new.self.best) =
     subst (λ (s : SearchContents). IsCounted s.case (low_ends s.ranges) (best_cents c.take_plan.new.self.best)) (sym c.self.view_is) c.in_ok-take_plan.ensures.taken in

@@ -13,14 +13,14 @@ use Rattle.branch_search.proofs.parts.Search.is_borne.Goals as goal
 
 pub least_gap-requires-clause-cost : goal.least_gap-requires-clause-cost
 least_gap-requires-clause-cost c =
-    let own : IsBought c.self.inside.limit.0 c.self.inside.book.now c.in-Some.best.plan c.in-Some.best.cost.0 =
-    subst (λ (b : Option Best). IfSome b (λ own. IsBought c.self.inside.limit.0 c.self.inside.book.now own.plan own.cost.0)) c.in-Some.is c.self.invariant.bought in
+    let own : IsBought c.self.inside.limit c.self.inside.book.now c.in-Some.best.plan c.in-Some.best.cost.0 =
+    subst (λ (b : Option Best). IfSome b (λ own. IsBought c.self.inside.limit c.self.inside.book.now own.plan own.cost.0)) c.in-Some.is c.self.invariant.bought in
     omega (arith, own.priced, cost_at_most c.self.inside.book.now c.in-Some.best.plan c.line_count.ensures.limits own.permitted)
 
 pub returns-in-Some : goal.returns-in-Some
 returns-in-Some c =
     let same : to_z w128 (of_z w128 c.args.bound) ≡ c.args.bound = to_z-of_z w128 c.args.bound (record { sfits = omega (arith, ints, c.requires) }) in
-    let own = searched c.self.inside.book.now c.self.inside.limit.0 c.self.inside.allowance.0 c.self.inside.budget in
+    let own = searched c.self.inside.book.now c.self.inside.limit c.self.inside.allowance.0 c.self.inside.budget in
     subst (λ (s : SearchContents). nat_le c.least_gap.result c.self.inside.allowance.0 ≡ bears_out c.args.bound (claim_of_best s.case (best_cents s.best))) c.self.view_is
     (subst (λ (b : Option Best). nat_le c.least_gap.result c.self.inside.allowance.0 ≡ bears_out c.args.bound (claim_of_best own (best_cents b))) (sym c.in-Some.is)
     (subst (λ (b : ℤ). nat_le c.least_gap.result c.self.inside.allowance.0 ≡ bears_out b (claim_of_best own (best_cents (Some c.in-Some.best)))) same

@@ -14,7 +14,7 @@ tune-bound-requires-clause-ranges c = rw c.self.invariant.tuned (tight-room c.se
 
 pub returns-clause-priced : goal.returns-clause-priced
 returns-clause-priced c =
-    let own : CaseContents = searched c.self.inside.book.now c.self.inside.limit.0 c.self.inside.allowance.0 c.self.inside.budget in
+    let own : CaseContents = searched c.self.inside.book.now c.self.inside.limit c.self.inside.allowance.0 c.self.inside.budget in
     let same : to_z w128 (of_z w128 c.tune-bound.result) ≡ c.tune-bound.result = to_z-of_z w128 c.tune-bound.result (record { sfits = omega (arith, ints, c.tune-bound.type_inv) }) in
     subst (λ (s : SearchContents). IsPriced s.case s.ranges (record { leaf = c.tune-bound.new.into; bound = to_z w128 (of_z w128 c.tune-bound.result) })) c.self.view_is
     (subst (λ (b : ℤ). IsPriced own c.self.inside.ranges (record { leaf = c.tune-bound.new.into; bound = b })) (sym same)

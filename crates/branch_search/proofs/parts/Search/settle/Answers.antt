@@ -26,8 +26,8 @@ returns-then-gap-self-clause-outcome c =
     let best = c.in-Some.best in
     let shown : IsShown now.case taken.tree taken.bound.0 = one-shown now.case c.args.first c.args.second taken c.greater-tree.ensures.one c.requires.first c.requires.second.shown in
     let some : c.self.inside.best ≡ Some best = sym c.take.ensures.value ∙ c.in-Some.is in
-    let inside : IsBought c.self.inside.limit.0 c.self.inside.book.now best.plan best.cost.0 =
-    subst (λ (b : Option Best). IfSome b (λ own. IsBought c.self.inside.limit.0 c.self.inside.book.now own.plan own.cost.0)) some c.self.invariant.bought in
+    let inside : IsBought c.self.inside.limit c.self.inside.book.now best.plan best.cost.0 =
+    subst (λ (b : Option Best). IfSome b (λ own. IsBought c.self.inside.limit c.self.inside.book.now own.plan own.cost.0)) some c.self.invariant.bought in
     let own : IsBought now.case.limit now.case.book best.plan best.cost.0 = subst (λ (s : SearchContents). IsBought s.case.limit s.case.book best.plan best.cost.0) c.self.view_is inside in
     let allowed : c.self.inside.allowance.0 ≡ now.case.allowance = ap (λ (s : SearchContents). s.case.allowance) c.self.view_is in
     let limits : IsBook now.case.book = subst (λ (s : SearchContents). IsBook s.case.book) c.self.view_is c.line_count.ensures.limits in (
@@ -45,8 +45,8 @@ returns-clause-outcome c =
     let best = c.in-Some.best in
     let shown : IsShown now.case taken.tree taken.bound.0 = one-shown now.case c.args.first c.args.second taken c.greater-tree.ensures.one c.requires.first c.requires.second.shown in
     let some : c.self.inside.best ≡ Some best = sym c.take.ensures.value ∙ c.in-Some.is in
-    let inside : IsBought c.self.inside.limit.0 c.self.inside.book.now best.plan best.cost.0 =
-    subst (λ (b : Option Best). IfSome b (λ own. IsBought c.self.inside.limit.0 c.self.inside.book.now own.plan own.cost.0)) some c.self.invariant.bought in
+    let inside : IsBought c.self.inside.limit c.self.inside.book.now best.plan best.cost.0 =
+    subst (λ (b : Option Best). IfSome b (λ own. IsBought c.self.inside.limit c.self.inside.book.now own.plan own.cost.0)) some c.self.invariant.bought in
     let own : IsBought now.case.limit now.case.book best.plan best.cost.0 = subst (λ (s : SearchContents). IsBought s.case.limit s.case.book best.plan best.cost.0) c.self.view_is inside in
     let allowed : c.self.inside.allowance.0 ≡ now.case.allowance = ap (λ (s : SearchContents). s.case.allowance) c.self.view_is in
     let over : taken.bound.0 + now.case.allowance < best.cost.0 = omega (arith, allowed, c.if-gap-self.false, c.saturating_sub-gap.ensures) in

@@ -1,16 +1,16 @@
-use Rattle.std.proofs.Common.{◌∙◌, length, sym, ap, subst, None}
+use Rattle.std.proofs.Common.{◌∙◌, ℕ, length, sym, ap, subst, None}
 use Rattle.std.proofs.lemmas.List.{length-replicate}
 use Rattle.dual_bound.proofs.RangeLaws.{root_is_tight}
 use Rattle.dual_bound.specs.Ranges.{AreTight}
 use Rattle.offer_book.specs.Book.{BookContents}
-use Rattle.branch_search.specs.Search.{searched}
+use Rattle.branch_search.specs.Search.{IsSearchable, searched}
 use Rattle.branch_search.proofs.parts.Search.start.Goals as goal
 
 pub invariant_of-result : goal.invariant_of-result
 invariant_of-result c =
     let book : BookContents = c.args.book.now in
     record {
-      limits = c.requires;
+      limits = subst (λ (n : ℕ). IsSearchable (searched book n c.args.allowance.0 c.args.budget)) (sym c.in_ok-limit.ensures) c.requires;
       tuned = c.in_ok-tuner.ensures;
       based = c.in_ok-base.ensures.value;
       base_is = c.in_ok-base.ensures.leaf;
@@ -22,4 +22,4 @@ invariant_of-result c =
     }
 
 pub returns : goal.returns
-returns c = (λ i. record { case = searched c.args.book.now c.args.limit.0 c.args.allowance.0 c.args.budget; ranges = c.in_ok-ranges.ensures i; best = None })
+returns c = (λ i. record { case = searched c.args.book.now (c.in_ok-limit.ensures i) c.args.allowance.0 c.args.budget; ranges = c.in_ok-ranges.ensures i; best = None })

@@ -88,7 +88,7 @@ returns-in_default c =
     let same : to_z w128 (of_z w128 c.node.result.now.priced.bound) ≡ own.priced.bound = to_z-of_z w128 c.node.result.now.priced.bound (record { sfits = omega (arith, ints, small) }) ∙ read in
     let tried : IsTried now.case after ranges own.priced.bound how =
     subst (λ (s : SearchContents). IsTried s.case after ranges own.priced.bound how) c.self.view_is
-    (subst (λ (b : ℤ). IsTried (searched c.self.inside.book.now c.self.inside.limit.0 c.self.inside.allowance.0 c.self.inside.budget) after ranges b how) same c.in_ok-closing.ensures.tried) in
+    (subst (λ (b : ℤ). IsTried (searched c.self.inside.book.now c.self.inside.limit c.self.inside.allowance.0 c.self.inside.budget) after ranges b how) same c.in_ok-closing.ensures.tried) in
     record {
       case = c.in_ok-closing.ensures.kept.case ∙ ap (λ (s : SearchContents). s.case) c.self.view_is;
       no_dearer = cheaper;
