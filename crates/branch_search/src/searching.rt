@@ -330,14 +330,8 @@ pub fn search(
     allowance: Cents,
     budget: u32,
 ) -> Result<Found, SearchEnd>
-    requires limit_from { 1 ≤ limit.0 }
-    requires limit_to { limit.0 ≤ GREATEST_YIELD }
-    requires allowance { allowance.0 ≤ AMOUNT_LIMIT }
-    requires budget_from { 1 ≤ budget }
-    requires budget_to { budget ≤ MOST_NODES }
-    ensures found { IfOk result (λ found. IsFound (searched book.now limit.0 allowance.0 budget) found.plan found.tree found.gap) }
-    ensures found_by { IfOk result (λ found. IsFoundBy (searched book.now limit.0 allowance.0 budget) found.plan found.tree) }
-    ensures ended { IfErr result (EndsOf (searched book.now limit.0 allowance.0 budget)) }
+    requires { IsSearchable (searched book.now limit.0 allowance.0 budget) }
+    ensures outcome { IsOutcome (searched book.now limit.0 allowance.0 budget) result }
     ensures plain { IsPlainWithin (searched book.now limit.0 allowance.0 budget) → IfErr result (λ ended. ended ≡ SearchEnd.NoMemory) }
 {
     search_from(alloc, book, limit, allowance, budget, &mut Hint::none())
@@ -358,14 +352,8 @@ pub fn search_from(
     budget: u32,
     hint: &mut Hint,
 ) -> Result<Found, SearchEnd>
-    requires limit_from { 1 ≤ limit.0 }
-    requires limit_to { limit.0 ≤ GREATEST_YIELD }
-    requires allowance { allowance.0 ≤ AMOUNT_LIMIT }
-    requires budget_from { 1 ≤ budget }
-    requires budget_to { budget ≤ MOST_NODES }
-    ensures found { IfOk result (λ found. IsFound (searched book.now limit.0 allowance.0 budget) found.plan found.tree found.gap) }
-    ensures found_by { IfOk result (λ found. IsFoundBy (searched book.now limit.0 allowance.0 budget) found.plan found.tree) }
-    ensures ended { IfErr result (EndsOf (searched book.now limit.0 allowance.0 budget)) }
+    requires { IsSearchable (searched book.now limit.0 allowance.0 budget) }
+    ensures outcome { IsOutcome (searched book.now limit.0 allowance.0 budget) result }
     ensures plain { IsPlainWithin (searched book.now limit.0 allowance.0 budget) → IfErr result (λ ended. ended ≡ SearchEnd.NoMemory) }
 {
     // A book keeps its limits.

@@ -2,7 +2,7 @@ use Rattle.std.proofs.Common.{◌≡◌, refl, sym, subst, Option, Some, None}
 use Rattle.std.specs.Prelude.{IsNone}
 use Rattle.cash_table.specs.Reach.{IsInReach}
 use Rattle.branch_search.proofs.NoneFacts.{plain-ended}
-use Rattle.branch_search.proofs.OutcomeFacts.{outcome-ended, outcome-found, outcome-found_by}
+use Rattle.branch_search.proofs.OutcomeFacts.{outcome-ended}
 use Rattle.branch_search.specs.Parts.{SearchContents}
 use Rattle.branch_search.specs.Search.{IsOutcome, searched}
 use Rattle.branch_search.proofs.searching.search_from.Goals as goal
@@ -17,23 +17,8 @@ returns-clause-plain c =
     let case = searched c.args.book.now c.args.limit.0 c.args.allowance.0 c.args.budget in
     plain-ended case c.run_from.result c.line_count.ensures.limits c.requires.limit_from c.requires.limit_to (outcome-ended case c.run_from.result (outcome (goal.at.returns-clause-plain c).After-run_from))
 
-pub returns-clause-found : goal.returns-clause-found
-returns-clause-found c = outcome-found (searched c.args.book.now c.args.limit.0 c.args.allowance.0 c.args.budget) c.run_from.result (outcome (goal.at.returns-clause-found c).After-run_from)
-
-pub returns-clause-found_by : goal.returns-clause-found_by
-returns-clause-found_by c = outcome-found_by (searched c.args.book.now c.args.limit.0 c.args.allowance.0 c.args.budget) c.run_from.result (outcome (goal.at.returns-clause-found_by c).After-run_from)
-
-pub returns-clause-ended : goal.returns-clause-ended
-returns-clause-ended c = outcome-ended (searched c.args.book.now c.args.limit.0 c.args.allowance.0 c.args.budget) c.run_from.result (outcome (goal.at.returns-clause-ended c).After-run_from)
-
-pub start-requires : goal.start-requires
-start-requires c = record {
-  limit_from = c.requires.limit_from;
-  limit_to = c.requires.limit_to;
-  allowed = c.requires.allowance;
-  budget_from = c.requires.budget_from;
-  budget_to = c.requires.budget_to;
-}
+pub returns-clause-outcome : goal.returns-clause-outcome
+returns-clause-outcome c = outcome (goal.at.returns-clause-outcome c).After-run_from
 
 pub run_from-requires-clause-reach : goal.run_from-requires-clause-reach
 run_from-requires-clause-reach c = subst (λ (s : SearchContents). IsInReach s.case.book) (sym c.in_ok-search.ensures) (c.day_out_of_reach.ensures.none.0 (is-none c.day_out_of_reach.result c.in_default.not-Some))

@@ -10,4 +10,4 @@ returns-in-Ok-clause-answer c =
     let case = case_view c.args.case.now in
     let found = c.in-Ok.found in
     IfOk-weaker c.found_answer.result (λ answer. answer ≡ made_answer c.args.number case found.plan found.gap found.tree) (IsMadeAnswer c.args.number (Ok case))
-    (λ answer is. inl (made_of c.args.number case found.plan found.tree found.gap answer c.requires.book c.requires.terms c.in-Ok.ensures.found c.in-Ok.ensures.found_by is)) c.found_answer.ensures
+    (λ answer is. inl (made_of c.args.number case found.plan found.tree found.gap answer c.requires.book c.requires.terms c.in-Ok.ensures.outcome.0 c.in-Ok.ensures.outcome.1 is)) c.found_answer.ensures
