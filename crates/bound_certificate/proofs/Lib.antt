@@ -30,3 +30,16 @@ pub mod PackedReadFacts
 pub mod PackedWriteFacts
 pub mod PackFacts
 pub mod PackedOfFacts
+pub mod PackableFacts
+pub mod VersionFacts
+pub mod ToldFacts
+pub mod CertificateSize
+pub mod PackedSize
+pub mod PartFacts
+pub mod MoveFacts
+pub mod PlainLineFacts
+pub mod PackedTakenFacts
+pub mod WholeFacts
+pub mod ReadFacts
+pub mod LongFacts
+pub mod FrontFacts

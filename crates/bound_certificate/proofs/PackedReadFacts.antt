@@ -51,7 +51,7 @@ at-start dates bytes packed parts none same =
       count = omega arith;
     })
 
-with-vectors : (packed : Packed) (said : PackedLine) → vectors_with packed.vectors said ≡ (with_line packed said).vectors
+pub with-vectors : (packed : Packed) (said : PackedLine) → vectors_with packed.vectors said ≡ (with_line packed said).vectors
 with-vectors packed line.Title = refl
 with-vectors packed (line.Portfolio None) = refl
 with-vectors packed (line.Portfolio (Some count)) = refl

@@ -47,7 +47,7 @@ pub over-rest : (d : PackedDue) (rest : List ℕ) → is_over d ≡ true → res
 over-rest due.Nothing rest over = refl
 over-rest d rest over = absurd (cc)
 
-text_cons : (said : PackedLine) (rest : List ℕ) → packed_text said ++ rest ≡ body said ++ 10 ∷ rest
+pub text_cons : (said : PackedLine) (rest : List ℕ) → packed_text said ++ rest ≡ body said ++ 10 ∷ rest
 text_cons said rest = ap (λ (bs : List ℕ). bs ++ rest) (body-text said) ∙ append_assoc (body said) (10 ∷ []) rest
 
 -- ---- what stays true of the vectors

@@ -3,68 +3,32 @@ use Rattle.std.proofs.Common.{◌≡◌, ◌∙◌, ℕ, Bool, true, false, List
 use Rattle.std.proofs.Math.Seq.{take-suc}
 use Rattle.std.proofs.lemmas.List.{take_all}
 use Rattle.std.proofs.lemmas.List.Elements.{All-append}
-use Rattle.dual_bound.specs.Tree.{IsLeaf}
 use Rattle.dual_bound.specs.declared.tree.Leaf.{Leaf}
-use Rattle.dual_bound.specs.declared.tree.TreeNode.TheVariants as node
 use Rattle.bound_certificate.specs.declared.certificate.Certificate.{Certificate}
 use Rattle.bound_certificate.specs.declared.due.Due.{Due}
-use Rattle.bound_certificate.specs.declared.due.Due.TheVariants as due
 use Rattle.bound_certificate.specs.declared.fault.CertFault.{CertFault}
 use Rattle.bound_certificate.specs.declared.fault.FaultKind.TheVariants as kind
 use Rattle.bound_certificate.specs.declared.item.Fed.{Fed}
 use Rattle.bound_certificate.specs.declared.item.Item.{Item}
-use Rattle.bound_certificate.specs.declared.item.Item.TheVariants as item
 use Rattle.bound_certificate.specs.declared.reading.Reading.{Reading}
 use Rattle.bound_certificate.specs.Due.{is_over, next_due}
 use Rattle.bound_certificate.specs.Grammar.{line_fault, line_item, line_leaf}
 use Rattle.bound_certificate.specs.Laws.{BeginsLine, ShowsFault}
 use Rattle.bound_certificate.specs.Reading.{EndsLine, EndsNoLine, Feeds, after_bytes, fault_at, finished, finished_by, said}
 use Rattle.bound_certificate.specs.Step.{IsSuited, due_after}
-use Rattle.bound_certificate.specs.Text.{Line}
-use Rattle.bound_certificate.specs.Text as text
 use Rattle.bound_certificate.specs.Lines.{AtLine, Begins, IsOneLine, NotFeed}
+use Rattle.bound_certificate.proofs.MoveFacts.{line-due, suits}
 use Rattle.bound_certificate.proofs.CertFacts.{no_fault, none_over, not_over}
 use Rattle.bound_certificate.proofs.FirstFacts.{Goes, begins-line, goes-on, inside-line}
 use Rattle.bound_certificate.proofs.FoundFacts.{Found, line-found}
 use Rattle.bound_certificate.proofs.LawFacts.{faults-are-of-lines, items-are-of-lines, leaves-are-of-lines}
 use Rattle.bound_certificate.proofs.ReadingFacts.{after_bytes-append, after_bytes-none}
-use Rattle.bound_certificate.proofs.SaidFacts.{Fits, HasLeaf, Shows, fits-shows, item_of_line}
+use Rattle.bound_certificate.proofs.SaidFacts.{HasLeaf, Shows, fits-shows, item_of_line}
 
 -- what a line says suits what was due, and tells what is due now
 pub record Steps (dates : ℕ) (d : Due) (told : Item) (new : Reading) : Type 0 where
   pub suited : IsSuited dates d told new.scan.leaf
   pub due : new.due ≡ due_after d told
-
-leaf_suits : (dates : ℕ) (mine leaf : Leaf) (o : Option Leaf) → IsLeaf dates mine → o ≡ Some mine → Some leaf ≡ o → IsLeaf dates leaf
-leaf_suits dates mine leaf o is has given =
-    let both : Some leaf ≡ Some mine = given ∙ has in
-    let same : mine ≡ leaf = cc in
-    subst (IsLeaf dates) same is
-
-suits : (dates : ℕ) (d : Due) (line : Line) (leaf : Leaf) (o : Option Leaf) → Fits dates d line → HasLeaf line o → (item_of_line line ≡ item.Leaf → Some leaf ≡ o) →
-    IsSuited dates d (item_of_line line) leaf
-suits dates due.Title text.Title leaf o fits has given = tt
-suits dates due.Portfolio (text.Portfolio None) leaf o fits has given = tt
-suits dates due.Portfolio (text.Portfolio (Some count)) leaf o fits has given = tt
-suits dates (due.Buy left least) (text.Purchase buy) leaf o fits has given = tt
-suits dates (due.Gap most) (text.Gap cents) leaf o fits has given = fits.1
-suits dates due.Count (text.Count nodes) leaf o fits has given = tt
-suits dates (due.Node left trees) (text.Node (node.Split line at)) leaf o fits has given = tt
-suits dates (due.Node left trees) (text.Node node.Point) leaf o fits has given = tt
-suits dates (due.Node left trees) (text.Node (node.Closed mine)) leaf o fits has given = leaf_suits dates mine leaf o fits.1 has (given refl)
-suits dates (due.End trees) text.End leaf o fits has given = tt
-suits dates d line leaf o fits has given = absurd fits
-
-line_due : (d : Due) (line : Line) → next_due d (item_of_line line) ≡ due_after d (item_of_line line)
-line_due d text.Title = refl
-line_due d (text.Portfolio count) = refl
-line_due d (text.Purchase buy) = refl
-line_due d (text.Gap cents) = refl
-line_due d (text.Count nodes) = refl
-line_due d (text.Node (node.Split line at)) = refl
-line_due d (text.Node node.Point) = refl
-line_due d (text.Node (node.Closed leaf)) = refl
-line_due d text.End = refl
 
 -- a whole line
 line_steps : (dates : ℕ) (start : Reading) (leaf : Leaf) (bytes : List ℕ) → Begins start leaf → length leaf.prices ≡ dates → IsOneLine bytes →
@@ -88,7 +52,7 @@ line_steps dates start leaf bytes begins dates_are one good =
     subst Q (sym says) (record {
       suited = suits dates start.due found.said after.scan.leaf (line_leaf start.due bytes) found.fits has
           (λ leafy. leaves-are-of-lines start leaf bytes line_begins one none (item ∙ leafy));
-      due = goes.due ∙ ap (λ (i : Item). next_due start.due i) item ∙ line_due start.due found.said;
+      due = goes.due ∙ ap (λ (i : Item). next_due start.due i) item ∙ line-due start.due found.said;
     })
 
 -- what is due stays within a line

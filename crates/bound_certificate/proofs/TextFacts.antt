@@ -71,12 +71,12 @@ no_feed : (byte : ℕ) → NotFeed byte → (b : Bool) → is_feed byte ≡ b �
 no_feed byte other true e = absurd (other (grind (arith, e)))
 no_feed byte other false e = refl
 
-no_feeds : (bytes : List ℕ) → IsOneLine bytes → All (λ byte. is_feed byte ≡ false) bytes
-no_feeds bytes one i d inside = no_feed _ (one i d inside) _ refl
+pub no-feeds : (bytes : List ℕ) → IsOneLine bytes → All (λ byte. is_feed byte ≡ false) bytes
+no-feeds bytes one i d inside = no_feed _ (one i d inside) _ refl
 
 -- the lines of a text that begins with a line
 pub lines-cons : (line rest : List ℕ) → IsOneLine line → lines_in (line ++ 10 ∷ rest) ≡ line ∷ lines_in rest
-lines-cons line rest one = slice_split_at is_feed line 10 rest (no_feeds line one) refl
+lines-cons line rest one = slice_split_at is_feed line 10 rest (no-feeds line one) refl
 
 pub some-lines : (bytes : List ℕ) → 0 < length (lines_in bytes)
 some-lines bytes = omega (arith, length-slice_split is_feed bytes)
@@ -107,7 +107,7 @@ pub record AreLines (dates : ℕ) (d : Due) (bytes : List ℕ) : Type 0 where
   pub follow : Follows dates d lines
   pub text : bytes ≡ flat_map line_text lines
 
-neither_fault : (number : ℕ) (found : Option FaultKind) (rest : Option CertFault) → option_or (on_line number found) rest ≡ None → (found ≡ None) × (rest ≡ None)
+pub neither_fault : (number : ℕ) (found : Option FaultKind) (rest : Option CertFault) → option_or (on_line number found) rest ≡ None → (found ≡ None) × (rest ≡ None)
 neither_fault number None rest h = (refl, h)
 neither_fault number (Some found) rest h = absurd (cc)
 

@@ -16,6 +16,8 @@ IsSuited dates due.Title item.Header leaf = Unit {0}
 IsSuited dates due.Portfolio (item.Portfolio count) leaf = Unit {0}
 IsSuited dates (due.Buy left least) (item.Buy buy) leaf = Unit {0}
 IsSuited dates (due.Gap most) (item.Gap cents) leaf = cents ≤ GREATEST_GAP
+IsSuited dates due.Count (item.Vectors count) leaf = Unit {0}
+IsSuited dates due.Count item.Vector leaf = Unit {0}
 IsSuited dates due.Count (item.Nodes nodes) leaf = Unit {0}
 IsSuited dates (due.Node left trees) (item.Split line at) leaf = Unit {0}
 IsSuited dates (due.Node left trees) item.Point leaf = Unit {0}
@@ -23,7 +25,9 @@ IsSuited dates (due.Node left trees) item.Leaf leaf = IsLeaf dates leaf
 IsSuited dates (due.End trees) item.End leaf = Unit {0}
 IsSuited dates d other leaf = ⊥
 
--- what is due behind it; within a line the same is due
+-- what is due behind it; within a line the same is due, and vectors stand before the count of nodes as a part of it
 abbrev pub due_after : Due → Item → Due
 due_after d item.Nothing = d
+due_after d (item.Vectors count) = d
+due_after d item.Vector = d
 due_after d told = next_due d told

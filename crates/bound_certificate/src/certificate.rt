@@ -165,7 +165,12 @@ impl Certificate {
             Item::Split { line, at } => self.nodes.push(TreeNode::Split { line, at })?,
             Item::Point => self.nodes.push(TreeNode::Point)?,
             Item::Leaf => self.nodes.push_leaf(alloc, leaf)?,
-            Item::Nothing | Item::Header | Item::Nodes(_) | Item::End => {}
+            Item::Nothing
+            | Item::Header
+            | Item::Vectors(_)
+            | Item::Vector
+            | Item::Nodes(_)
+            | Item::End => {}
         }
         Ok(())
     }

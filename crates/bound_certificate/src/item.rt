@@ -15,6 +15,10 @@ pub enum Item {
     Buy(Buy),
     /// The gap, in cents.
     Gap(u64),
+    /// How many vectors follow, of version 2.
+    Vectors(u32),
+    /// A vector of prices, of version 2.
+    Vector,
     /// How many nodes follow.
     Nodes(u32),
     /// A split of the range of a line.

@@ -1,6 +1,7 @@
 //! What the reader of certificates is, and what their texts are.
 ghost use Rattle.bound_certificate.specs.Laws.{CertificatesHaveOneText, EveryCutIsTheSame, FaultsAreOfLines, FaultsAreTheFirst, FaultsStay, ItemsAreOfLines, LeavesAreOfLines, LinesFollow, TextsAreOfOne, TextsHaveNoFault, TextsSayTheirCertificate};
 ghost use Rattle.bound_certificate.specs.PackedLaws.{PackedTextsAreOfOne, PackedTextsHaveNoFault};
+ghost use Rattle.bound_certificate.specs.VersionLaws.{CertificateTextsAreOfOne, CertificateTextsHaveNoFault, LinesTellTheCertificate};
 
 /// What the reader of certificates is. However the bytes are cut into pieces, the same comes of them, and a fault stays. The line
 /// feed of a line shows the fault that the line's words have, and no other. A line without one says what its words say; behind a
@@ -31,4 +32,12 @@ pub fn text_laws()
 pub fn packed_text_laws()
     ensures exact { PackedTextsHaveNoFault }
     ensures one { PackedTextsAreOfOne }
+{}
+
+/// What the texts of certificates of either version are. Bytes have no fault exactly where they are a text of a certificate; they
+/// are that of one alone; and the certificate that their lines tell is that one.
+pub fn certificate_laws()
+    ensures exact { CertificateTextsHaveNoFault }
+    ensures one { CertificateTextsAreOfOne }
+    ensures told { LinesTellTheCertificate }
 {}

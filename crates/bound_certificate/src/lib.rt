@@ -8,27 +8,37 @@ mod fault;
 mod item;
 mod laws;
 mod limits;
+mod line_step;
+mod long_line;
 mod packed;
 mod packed_line;
 mod packed_read;
+mod packed_taken;
 #[cfg(test)]
 mod packed_tests;
 mod packed_write;
 mod packing;
+mod part;
+mod plain_line;
+mod plain_reader;
 mod read;
 mod reader;
 mod reading;
 mod row;
 mod scan;
 #[cfg(test)]
+mod test_rows;
+#[cfg(test)]
 mod tests;
+mod text_reading;
 mod unpacked;
+mod vector_room;
 mod write;
 
 pub use certificate::{Buy, Buys, Certificate, Nodes};
 pub use fault::{CertError, CertFault, FaultKind};
 pub use item::{Fed, Item};
-pub use laws::{packed_text_laws, reader_laws, text_laws};
+pub use laws::{certificate_laws, packed_text_laws, reader_laws, text_laws};
 pub use limits::{
     GREATEST_GAP, GREATEST_UNITS, MOST_BUYS, MOST_DATES, MOST_NODES, MOST_PACKED_BUYS, MOST_VECTORS,
 };

@@ -24,5 +24,14 @@ pub const MOST_VECTORS: u64 = 64;
 /// The most numbers of a line of a packed certificate: a leaf's three, and two for each need date.
 pub(crate) const MOST_NUMBERS: usize = 963;
 
+/// The most prices of a vector: one for each need date.
+pub(crate) const MOST_PRICES: usize = 480;
+
 /// One word more than a line may have.
 pub(crate) const MOST_WORDS: u16 = 484;
+
+/// More bytes than a right line has: a first word of at most 20, and 963 numbers of at most 16 digits, each behind a space.
+pub(crate) const LINE_ROOM: usize = 16_400;
+
+/// More spaces than a right line has; so many of them are counted at least.
+pub(crate) const SPACES_COUNTED: u64 = 1_000;

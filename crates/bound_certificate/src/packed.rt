@@ -7,7 +7,7 @@ use escrow_desk::NoMemory;
 use std::marker::Model;
 
 /// Another price than a vector's own, on one need date.
-#[derive(Clone, Copy, Debug, PartialEq, Eq)]
+#[derive(Clone, Copy, Debug, Default, PartialEq, Eq)]
 pub struct Change {
     /// The need date, counted from 1.
     pub place: u16,

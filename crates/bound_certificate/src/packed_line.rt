@@ -112,7 +112,7 @@ impl From<AllocError> for LineError {
 }
 
 // Whether a price is above the one before.
-fn rises(prices: &[u64]) -> bool
+pub(crate) fn rises(prices: &[u64]) -> bool
     ensures { result ≡ rises_of prices.now }
 {
     for place in 1..prices.len() {
@@ -124,7 +124,7 @@ fn rises(prices: &[u64]) -> bool
 }
 
 // Whether each place is above the one before.
-fn places_rise(changes: &[Change]) -> bool
+pub(crate) fn places_rise(changes: &[Change]) -> bool
     ensures { result ≡ are_rising (places_of changes.now) }
 {
     for place in 1..changes.len() {
@@ -136,7 +136,7 @@ fn places_rise(changes: &[Change]) -> bool
 }
 
 // Whether a change is to the vector's own price.
-fn restates(vector: &[u64], changes: &[Change]) -> bool
+pub(crate) fn restates(vector: &[u64], changes: &[Change]) -> bool
     requires { ArePlaces (length vector.now) changes.now }
     ensures { result ≡ restates_of vector.now changes.now }
 {
@@ -323,14 +323,14 @@ fn row_line(
 }
 
 // Whether the first word of a line is this one.
-fn begins_with(word: &[u8], line: &[u8]) -> bool
+pub(crate) fn begins_with(word: &[u8], line: &[u8]) -> bool
     ensures { result ≡ begins_with_of word.now line.now }
 {
     word == cut_at(line, b' ').front
 }
 
 // What the first word of a line names that stands for a node.
-fn node_row(line: &[u8]) -> Row
+pub(crate) fn node_row(line: &[u8]) -> Row
     ensures { result ≡ node_row_of line.now }
 {
     if begins_with(b"s", line) {
@@ -384,7 +384,7 @@ pub(crate) fn read_line(
 }
 
 // `buy` lines, of which so many are left, or what follows them.
-fn buys_due(left: u16, least: u32) -> PackedDue
+pub(crate) fn buys_due(left: u16, least: u32) -> PackedDue
     ensures { result ≡ buys_due_of left least }
 {
     if left == 0 {
@@ -394,7 +394,7 @@ fn buys_due(left: u16, least: u32) -> PackedDue
 }
 
 // Vectors, of which so many are left, or what follows them.
-fn vectors_due(left: u16) -> PackedDue
+pub(crate) fn vectors_due(left: u16) -> PackedDue
     ensures { result ≡ vectors_due_of left }
 {
     if left == 0 {
@@ -404,7 +404,7 @@ fn vectors_due(left: u16) -> PackedDue
 }
 
 // Nodes, of which so many are left, or what follows them.
-fn nodes_due(left: u16, trees: u16) -> PackedDue
+pub(crate) fn nodes_due(left: u16, trees: u16) -> PackedDue
     ensures { result ≡ nodes_due_of left trees }
 {
     if left == 0 {

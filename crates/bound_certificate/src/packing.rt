@@ -75,7 +75,8 @@ fn nearest(vectors: &[Prices], prices: &[u64]) -> Near
 }
 
 // The vector that a leaf of these prices is to take, from 0: the nearest one; or a new one, where there is room and the nearest differs
-// at more than a quarter of the places.
+// at too many places. How many that is grows with the vectors, from none to a quarter of the places: so early leaves, which later ones are
+// like, have vectors of their own, and there is room left for those that are unlike all of them.
 fn choose(alloc: Global, vectors: &mut Vectors, prices: &[u64]) -> Result<usize, NoMemory>
     requires same { HaveLength (length prices.now) vectors.old }
     requires few { length vectors.old ≤ MOST_VECTORS }
@@ -86,7 +87,8 @@ fn choose(alloc: Global, vectors: &mut Vectors, prices: &[u64]) -> Result<usize,
 {
     let count = vectors.as_slice().len();
     let near = nearest(vectors.as_slice(), prices);
-    if count == MOST_VECTORS as usize || count > 0 && near.changes <= prices.len() / 4 {
+    let full = count == MOST_VECTORS as usize;
+    if full || count > 0 && near.changes <= count * prices.len() / 256 {
         return Ok(near.vector);
     }
     vectors.push(Prices::new(prices.to_vec(alloc)?))?;

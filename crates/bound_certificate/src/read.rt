@@ -8,7 +8,7 @@ ghost use Rattle.bound_certificate.specs.declared.fault.CertError.TheVariants as
 use crate::certificate::Certificate;
 use crate::fault::CertError;
 use crate::limits::MOST_DATES;
-use crate::reader::CertReader;
+use crate::plain_reader::PlainReader;
 use std::alloc::Global;
 
 // The most bytes of a piece.
@@ -25,7 +25,7 @@ pub fn read_cert(alloc: Global, bytes: &[u8], dates: u16) -> Result<Certificate,
     ensures err { IfErr result (λ error. IsCause dates bytes.now error) }
     ensures back { (cert : CertificateOf) → IsTextOf dates cert bytes.now → (result ≡ Ok cert) ⊎ (result ≡ Err error.NoMemory) }
 {
-    let mut reader = CertReader::make(alloc, dates)?;
+    let mut reader = PlainReader::make(alloc, dates)?;
     let mut cert = Certificate::empty(alloc);
     let mut rest = bytes;
     while !rest.is_empty() {

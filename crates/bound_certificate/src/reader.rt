@@ -1,31 +1,50 @@
 //! A reader of certificates that come in pieces.
-ghost use Rattle.std.specs.Prelude.{◌≡◌, ◌≤◌, ◌<◌, length, replicate, IfErr, IfOk};
-ghost use Rattle.bound_certificate.specs.Reading.{Feeds, after_bytes, finished, new_leaf, new_reading};
+ghost use Rattle.std.specs.Prelude.{◌≡◌, ◌≤◌, ◌<◌, [], List, length, IfErr, IfOk, None, ℕ};
+ghost use Rattle.bound_certificate.specs.declared.due.Due.TheVariants as due;
+ghost use Rattle.bound_certificate.specs.declared.item.Item.TheVariants as item_of;
+ghost use Rattle.bound_certificate.specs.TextReading.{Finishes, HasRead, Reads, ReadsFault, stage_due};
 
-use crate::fault::CertFault;
-use crate::item::Fed;
+use crate::cut::cut_at;
+use crate::fault::{CertFault, FaultKind};
+use crate::item::{Fed, Item};
 use crate::limits::MOST_DATES;
-use crate::reading::Reading;
+use crate::part::Part;
+use crate::row::Numbers;
+use crate::text_reading::{Stage, TextReading};
+use crate::vector_room::VectorRoom;
+use arrayvec::ArrayVec;
 use dual_bound::{Leaf, Prices};
 use escrow_desk::NoMemory;
 use std::alloc::Global;
 use std::marker::Model;
 
-/// A reader of the text of a certificate, in pieces. Contracts see what has come of the certificate.
+/// A reader of the text of a certificate of either version, in pieces. Contracts see what has come of it.
 #[derive(Drop)]
 pub struct CertReader {
-    reading: Reading,
+    reading: TextReading,
+    numbers: Numbers,
 }
 
 impl Model for CertReader {
-    ghost use Rattle.bound_certificate.specs.declared.reading.Reading.{Reading};
-    ghost use Rattle.bound_certificate.specs.Reading.{IsReading};
+    ghost use Rattle.bound_certificate.specs.Moves.{IsTextReading};
+    ghost use Rattle.bound_certificate.specs.declared.text_reading.TextReading.{TextReading};
 
-    ghost Value = { Reading };
+    ghost Value = { TextReading };
 
     ghost view = { λ r. r.reading };
 
-    ghost invariant = { λ r. IsReading r.reading };
+    ghost invariant = { λ r. IsTextReading r.reading };
+}
+
+// No line ended in so many bytes.
+fn nothing(used: u32) -> Fed
+    ensures used { result.used ≡ used }
+    ensures item { result.item ≡ item_of.Nothing }
+{
+    Fed {
+        used,
+        item: Item::Nothing,
+    }
 }
 
 impl CertReader {
@@ -36,15 +55,27 @@ impl CertReader {
     /// Where memory ran out.
     pub fn make(alloc: Global, dates: u16) -> Result<CertReader, NoMemory>
         requires { dates ≤ MOST_DATES }
-        ensures { IfOk result (λ reader. reader ≡ new_reading (new_leaf dates)) }
+        ensures read { IfOk result (HasRead dates []) }
+        ensures going { IfOk result (λ reader. reader.fault ≡ None) }
+        ensures first { IfOk result (λ reader. stage_due reader.stage ≡ due.Title) }
     {
         let prices = vec![in alloc; 0; usize::from(dates)]?;
-        let reading = Reading::new(Leaf {
-            whole: false,
-            mu: 0,
-            prices: Prices::new(prices),
-        });
-        Ok(CertReader { reading })
+        let reading = TextReading {
+            line: 1,
+            stage: Stage::First,
+            vectors: VectorRoom::make(alloc)?,
+            part: Part::make(alloc)?,
+            leaf: Leaf {
+                whole: false,
+                mu: 0,
+                prices: Prices::new(prices),
+            },
+            fault: None,
+        };
+        Ok(CertReader {
+            reading,
+            numbers: ArrayVec::new(),
+        })
     }
 
     /// Takes bytes of a piece, up to and with its first line feed, and says what the line says that ended; where no line
@@ -57,27 +88,52 @@ impl CertReader {
     pub fn feed(&mut self, piece: &[u8]) -> Result<Fed, CertFault>
         requires { length piece.now ≤ 65_536 }
         ensures used { IfOk result (λ fed. (fed.used ≤ length piece.now) × (0 < length piece.now → 0 < fed.used)) }
-        ensures ok { IfOk result (λ fed. Feeds self.old piece.now fed self.new) }
-        ensures err { IfErr result (λ fault. (self.new ≡ after_bytes self.old piece.now) × (self.new.fault ≡ Some fault)) }
+        ensures going { IfOk result (λ _. self.old.fault ≡ None) }
+        ensures ok { IfOk result (λ fed. (dates : ℕ) (bytes : List ℕ) → HasRead dates bytes self.old → Reads dates bytes piece.now fed self.old self.new) }
+        ensures err { IfErr result (λ fault. (dates : ℕ) (bytes : List ℕ) → HasRead dates bytes self.old → ReadsFault dates bytes piece.now fault self.new) }
     {
-        self.reading.feed(piece)
+        if let Some(fault) = self.reading.fault {
+            return Err(fault);
+        }
+        if self.reading.stage.is_over() {
+            return self.reading.feed_over(piece);
+        }
+        let cut = cut_at(piece, b'\n');
+        if cut.rest.is_none() {
+            self.reading.part.add(piece);
+            return Ok(nothing(piece.len() as u32));
+        }
+        let item = self.reading.end_line(cut.front, &mut self.numbers)?;
+        Ok(Fed {
+            used: cut.front.len() as u32 + 1,
+            item,
+        })
     }
 
     /// The leaf that was read last. It takes no memory.
     pub fn leaf(&self) -> &Leaf
-        ensures { result.now ≡ self.now.scan.leaf }
+        ensures { result.now ≡ self.now.leaf }
     {
-        &self.reading.scan.leaf
+        &self.reading.leaf
     }
 
     /// Whether the bytes so far are the text of a certificate. It takes no memory.
     ///
     /// # Errors
     ///
-    /// The fault that came, or `Truncated` at the line that has not ended.
+    /// The first fault of the bytes so far; `Truncated` at the line that has not ended.
     pub fn finish(&self) -> Result<(), CertFault>
-        ensures { result ≡ finished self.now }
+        ensures { (dates : ℕ) (bytes : List ℕ) → HasRead dates bytes self.now → Finishes dates bytes self.now result }
     {
-        self.reading.finish()
+        if let Some(fault) = self.reading.fault {
+            return Err(fault);
+        }
+        if self.reading.stage.is_over() {
+            return Ok(());
+        }
+        Err(CertFault {
+            line: self.reading.line,
+            kind: FaultKind::Truncated,
+        })
     }
 }

@@ -57,8 +57,8 @@ fn leaf_range(dates: u16, vectors: u16, place: usize) -> Range
 }
 
 impl Row {
-    // How the line's first word is written.
-    fn word(self) -> &'static [u8]
+    /// How the line's first word is written.
+    pub(crate) fn word(self) -> &'static [u8]
         ensures { result.now ≡ row_word self }
     {
         match self {
@@ -75,8 +75,8 @@ impl Row {
         }
     }
 
-    // Whether so many numbers make a line.
-    fn fits(self, dates: u16, count: usize) -> bool
+    /// Whether so many numbers make a line.
+    pub(crate) fn fits(self, dates: u16, count: usize) -> bool
         requires { dates ≤ MOST_DATES }
         ensures { result ≡ row_fits dates self count }
     {
@@ -122,7 +122,7 @@ fn slow_number(word: &[u8]) -> Option<u64>
 }
 
 // The number that a word is. Its digits are read together where they are a number well below the greatest.
-fn whole_number(word: &[u8]) -> Option<u64>
+pub(crate) fn whole_number(word: &[u8]) -> Option<u64>
     ensures { result ≡ whole_number_of word.now }
 {
     match first_number(word) {
@@ -132,7 +132,7 @@ fn whole_number(word: &[u8]) -> Option<u64>
 }
 
 // The number of a range that a word is.
-fn number_in(range: Range, word: &[u8]) -> Option<u64>
+pub(crate) fn number_in(range: Range, word: &[u8]) -> Option<u64>
     ensures { result ≡ number_in_of range word.now }
 {
     match whole_number(word) {
@@ -167,11 +167,17 @@ fn read_numbers(
     Ok(())
 }
 
-// How many spaces a line has.
-fn count_spaces(line: &[u8]) -> usize
+/// How many spaces a line has.
+pub(crate) fn count_spaces(line: &[u8]) -> usize
     ensures { result ≡ count_by (λ byte. byte == 32) line.now }
 {
-    line.iter().filter(|byte| **byte == b' ').count()
+    let mut spaces = 0;
+    for byte in line {
+        if *byte == b' ' {
+            spaces += 1;
+        }
+    }
+    spaces
 }
 
 /// Reads the numbers of a line that begins with a row's word, where such a line may stand: in place of those that were there.

@@ -1,62 +1,14 @@
 //! Texts that are certificates, and the faults of those that aren't.
 ghost use Rattle.std.specs.Prelude.{◌≡◌, ◌≤◌, [], ◌∷◌, IfOk, false, length, true};
 
+use crate::test_rows::{Row, bad, fault_of, good};
 use crate::{
-    Buy, Buys, CertError, CertFault, CertReader, Certificate, FaultKind, Item, MOST_DATES, Nodes,
-    read_cert, write_cert,
+    Buy, Buys, CertError, CertReader, Certificate, FaultKind, Item, Nodes, read_cert, write_cert,
 };
 use dual_bound::{Leaf, Prices, TreeNode};
-use escrow_desk::NoMemory;
 use std::alloc::Global;
 use std::process::Abort;
 use std::test::Fail;
-
-// Why a text in pieces of so many bytes isn't a certificate for so many need dates.
-fn fault_of(
-    alloc: Global,
-    text: &[u8],
-    dates: u16,
-    size: usize,
-) -> Result<Option<CertFault>, NoMemory>
-    requires dates { dates ≤ MOST_DATES }
-    requires some { 1 ≤ size }
-    requires few { size ≤ 65_536 }
-{
-    let mut reader = CertReader::make(alloc, dates)?;
-    let mut rest = text;
-    while !rest.is_empty() {
-        match reader.feed(&rest[..size.min(rest.len())]) {
-            Err(fault) => return Ok(Some(fault)),
-            Ok(fed) => rest = &rest[fed.used as usize..],
-        }
-    }
-    Ok(reader.finish().err())
-}
-
-#[derive(Clone, Copy)]
-struct Row {
-    text: &'static [u8],
-    dates: u8,
-    fault: Option<CertFault>,
-}
-
-// A text that is a certificate for so many need dates.
-fn good(text: &'static [u8], dates: u8) -> Row {
-    Row {
-        text,
-        dates,
-        fault: None,
-    }
-}
-
-// A text whose line is at fault.
-fn bad(text: &'static [u8], dates: u8, line: u32, kind: FaultKind) -> Row {
-    Row {
-        text,
-        dates,
-        fault: Some(CertFault { line, kind }),
-    }
-}
 
 // In pieces of so many bytes the fault of a text is found.
 fn is_found(rt: &impl Abort, alloc: Global, row: &Row, size: usize) -> Result<(), Fail>
@@ -181,7 +133,7 @@ fn faults_are_the_first(rt: HostRuntime) -> Result<(), Fail> {
         bad(b"", 1, 1, Truncated),
         bad(b"x\n", 1, 1, Header),
         bad(b"escrow-certificate 1 \n", 1, 1, Header),
-        bad(b"escrow-certificate 2\n", 1, 1, Header),
+        bad(b"escrow-certificate 3\n", 1, 1, Header),
         bad(
             b"escrow-certificate 1\nportfolio none\ngap 0\nnodes 1\nl 1 0 5 6\n",
             2,

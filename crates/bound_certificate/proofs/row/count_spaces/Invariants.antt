@@ -1,0 +1,9 @@
+use Rattle.std.proofs.Common.{◌≡◌, ◌≤◌, count_by, take}
+use Rattle.bound_certificate.specs.Grammar.{is_space}
+use Rattle.bound_certificate.proofs.row.count_spaces.Given as goal
+
+abbrev pub invariant-loop-byte : goal.invariant-loop-byte
+invariant-loop-byte l = record {
+  few : l.spaces ≤ l.byte-index;
+  so_far : l.spaces ≡ count_by is_space (take l.byte-index l.line);
+}

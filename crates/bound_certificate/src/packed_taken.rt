@@ -1,0 +1,271 @@
+//! The lines of a packed certificate, each taken without memory.
+ghost use Rattle.std.specs.Prelude.{◌≡◌, ◌≤◌, ◌+◌, All, IfOk, IfErr, Ok, Err, List, ℕ, ◌==◌, ◌<◌, length, slice_index, false};
+ghost use Rattle.dual_bound.specs.declared.tree.Leaf.{Leaf as LeafOf};
+ghost use Rattle.bound_certificate.specs.declared.packed.PackedNode.TheVariants as node_of;
+ghost use Rattle.bound_certificate.specs.declared.packed_line.PackedLine.TheVariants as line_of;
+ghost use Rattle.bound_certificate.specs.declared.packed_line.PackedLine.{PackedLine as PackedLineOf};
+ghost use Rattle.bound_certificate.specs.declared.row.Row.TheVariants as row_of;
+ghost use Rattle.bound_certificate.specs.Packed.{IsVector, changed};
+ghost use Rattle.bound_certificate.specs.PackedGrammar.{ArePlaces, changes_of, is_over, leaf_said, line_said, next_due, row_line, said_by};
+ghost use Rattle.bound_certificate.specs.PackedDraft.{IsPackedDue, IsPackedSaid, packed_lines_left};
+ghost use Rattle.bound_certificate.specs.PackedTaken.{HasRoom, HasRoomFor, IsGiven, IsItemSaid};
+ghost use Rattle.bound_certificate.specs.Row.{AreRowNumbers};
+ghost use Rattle.bound_certificate.specs.Told.{packed_item};
+
+use crate::certificate::Buy;
+use crate::fault::FaultKind;
+use crate::item::Item;
+use crate::limits::{MOST_DATES, MOST_PRICES, MOST_VECTORS};
+use crate::packed::Change;
+use crate::packed_line::{
+    PackedDue, buys_due, node_row, nodes_due, places_rise, restates, rises, vectors_due,
+};
+use crate::row::{Numbers, Row, read_row};
+use crate::vector_room::VectorRoom;
+use arrayvec::ArrayVec;
+use dual_bound::{Leaf, Prices};
+
+// The changes that numbers are by turns: place and price of each.
+fn list_changes(numbers: &[u64]) -> ArrayVec<Change, MOST_PRICES>
+    requires places { ArePlaces 65_535 (changes_of numbers.now) }
+    requires few { length numbers.now ≤ 960 }
+    ensures { result.items ≡ changes_of numbers.now }
+{
+    let mut changes = ArrayVec::new();
+    let mut place = 0;
+    while place + 1 < numbers.len() {
+        changes.push(Change {
+            place: numbers[place] as u16,
+            price: numbers[place + 1],
+        });
+        place += 2;
+    }
+    changes
+}
+
+// Takes these prices over.
+fn copy_prices(prices: &mut Prices, vector: &[u64])
+    requires same { length prices.old ≡ length vector.now }
+    requires few { length vector.now ≤ MOST_DATES }
+    ensures { prices.new ≡ vector.now }
+{
+    let dates = vector.len() as u16;
+    for place in 0..dates {
+        prices.put(place, vector[usize::from(place)]);
+    }
+}
+
+// Puts the price of each change to its place.
+fn put_changes(prices: &mut Prices, changes: &[Change])
+    requires { ArePlaces (length prices.old) changes.now }
+    ensures { prices.new ≡ changed prices.old changes.now }
+{
+    for change in changes {
+        prices.put(change.place - 1, change.price);
+    }
+}
+
+// Takes over the prices that a vector has after changes.
+fn take_prices(prices: &mut Prices, vector: &[u64], changes: &[Change]) -> Result<(), FaultKind>
+    requires same { length prices.old ≡ length vector.now }
+    requires few { length vector.now ≤ MOST_DATES }
+    requires places { ArePlaces (length vector.now) changes.now }
+    ensures dates { length prices.new ≡ length prices.old }
+    ensures ok { IfOk result (λ _. prices.new ≡ changed vector.now changes.now) }
+    ensures said { IfOk result (λ _. (rho mu number : ℕ) → leaf_said vector.now rho mu number changes.now ≡ Ok (line_of.Node (node_of.Closed (rho == 1) mu number changes.now))) }
+    ensures err { IfErr result (λ found. (rho mu number : ℕ) → leaf_said vector.now rho mu number changes.now ≡ Err found) }
+{
+    if restates(vector, changes) {
+        return Err(FaultKind::Number);
+    }
+    if !places_rise(changes) {
+        return Err(FaultKind::Order);
+    }
+    copy_prices(prices, vector);
+    put_changes(prices, changes);
+    if rises(prices.as_slice()) {
+        return Err(FaultKind::Order);
+    }
+    Ok(())
+}
+
+// A leaf, by all its numbers.
+fn take_leaf(
+    dates: u16,
+    vectors: &VectorRoom,
+    numbers: &[u64],
+    leaf: &mut Leaf,
+) -> Result<Item, FaultKind>
+    requires dates { dates ≤ MOST_DATES }
+    requires numbers { AreRowNumbers dates (length vectors.now) row_of.Leaf numbers.now }
+    requires vectors { All (IsVector dates) vectors.now }
+    requires few { length vectors.now ≤ MOST_VECTORS }
+    requires leaf { length leaf.old.prices ≡ dates }
+    ensures dates { length leaf.new.prices ≡ dates }
+    ensures ok { IfOk result (IsGiven (said_by vectors.now row_of.Leaf numbers.now) vectors.now vectors.now leaf.new) }
+    ensures err { IfErr result (λ found. said_by vectors.now row_of.Leaf numbers.now ≡ Err found) }
+{
+    let vector = vectors.at(numbers[2] as usize - 1);
+    let changes = list_changes(&numbers[3..]);
+    take_prices(&mut leaf.prices, vector, changes.as_slice())?;
+    leaf.whole = numbers[0] == 1;
+    leaf.mu = numbers[1];
+    Ok(Item::Leaf)
+}
+
+// A purchase of a line from `least` on.
+fn take_purchase(least: u32, numbers: &[u64]) -> Result<Item, FaultKind>
+    requires two { length numbers.now ≡ 2 }
+    requires line { slice_index numbers.now 0 ≤ 65_535 }
+    ensures ok { IfOk result (λ item. (vectors : List (List ℕ)) (leaf : LeafOf) → IsGiven (said_by vectors (row_of.Buy least) numbers.now) vectors vectors leaf item) }
+    ensures err { IfErr result (λ found. (vectors : List (List ℕ)) → said_by vectors (row_of.Buy least) numbers.now ≡ Err found) }
+{
+    if numbers[0] < u64::from(least) {
+        return Err(FaultKind::Order);
+    }
+    Ok(Item::Buy(Buy {
+        line: numbers[0] as u16,
+        units: numbers[1],
+    }))
+}
+
+// A vector, for which there is room.
+fn take_vector(vectors: &mut VectorRoom, numbers: &[u64]) -> Result<Item, FaultKind>
+    requires room { length vectors.old < MOST_VECTORS }
+    requires few { length numbers.now ≤ MOST_DATES }
+    ensures ok { IfOk result (λ item. (leaf : LeafOf) → IsGiven (said_by vectors.old row_of.Vector numbers.now) vectors.old vectors.new leaf item) }
+    ensures err { IfErr result (λ found. said_by vectors.old row_of.Vector numbers.now ≡ Err found) }
+{
+    if rises(numbers) {
+        return Err(FaultKind::Order);
+    }
+    vectors.put(numbers);
+    Ok(Item::Vector)
+}
+
+// What the numbers of a line say that may have no fault but one of order.
+fn take_said(
+    row: Row,
+    dates: u16,
+    vectors: &mut VectorRoom,
+    numbers: &[u64],
+    leaf: &mut Leaf,
+) -> Result<Item, FaultKind>
+    requires dates { dates ≤ MOST_DATES }
+    requires numbers { AreRowNumbers dates (length vectors.old) row numbers.now }
+    requires vectors { All (IsVector dates) vectors.old }
+    requires few { length vectors.old ≤ MOST_VECTORS }
+    requires room { HasRoomFor row vectors.old }
+    requires leaf { length leaf.old.prices ≡ dates }
+    ensures dates { length leaf.new.prices ≡ dates }
+    ensures ok { IfOk result (IsGiven (said_by vectors.old row numbers.now) vectors.old vectors.new leaf.new) }
+    ensures err { IfErr result (λ found. said_by vectors.old row numbers.now ≡ Err found) }
+{
+    match row {
+        Row::Portfolio => Ok(Item::Portfolio(Some(numbers[0] as u32))),
+        Row::Buy { least } => take_purchase(least, numbers),
+        Row::Gap { .. } => Ok(Item::Gap(numbers[0])),
+        Row::Vectors => Ok(Item::Vectors(numbers[0] as u32)),
+        Row::Vector => take_vector(vectors, numbers),
+        Row::Nodes => Ok(Item::Nodes(numbers[0] as u32)),
+        Row::Split => Ok(Item::Split {
+            line: numbers[0] as u16,
+            at: numbers[1],
+        }),
+        Row::Point => Ok(Item::Point),
+        Row::Leaf => take_leaf(dates, vectors, numbers, leaf),
+        Row::End => Ok(Item::End),
+    }
+}
+
+// What a line says that begins with a row's word, where such a line may stand.
+fn take_row(
+    row: Row,
+    may: bool,
+    dates: u16,
+    vectors: &mut VectorRoom,
+    line: &[u8],
+    numbers: &mut Numbers,
+    leaf: &mut Leaf,
+) -> Result<Item, FaultKind>
+    requires dates { dates ≤ MOST_DATES }
+    requires vectors { All (IsVector dates) vectors.old }
+    requires room { HasRoomFor row vectors.old }
+    requires leaf { length leaf.old.prices ≡ dates }
+    ensures dates { length leaf.new.prices ≡ dates }
+    ensures ok { IfOk result (IsGiven (row_line dates vectors.old row may line.now) vectors.old vectors.new leaf.new) }
+    ensures err { IfErr result (λ found. row_line dates vectors.old row may line.now ≡ Err found) }
+{
+    read_row(row, may, dates, vectors.count(), line, numbers)?;
+    take_said(row, dates, vectors, numbers.as_slice(), leaf)
+}
+
+/// Takes a line, without its line feed, where this is due and these vectors came: what it says, a vector to the others, and a leaf's
+/// weights into `leaf`.
+///
+/// # Errors
+///
+/// Why it isn't one that is due. Prices may then have come into `leaf`.
+pub(crate) fn take_packed_line(
+    due: PackedDue,
+    dates: u16,
+    vectors: &mut VectorRoom,
+    line: &[u8],
+    numbers: &mut Numbers,
+    leaf: &mut Leaf,
+) -> Result<Item, FaultKind>
+    requires dates { dates ≤ MOST_DATES }
+    requires vectors { All (IsVector dates) vectors.old }
+    requires leaf { length leaf.old.prices ≡ dates }
+    requires room { HasRoom due vectors.old }
+    ensures dates { length leaf.new.prices ≡ dates }
+    ensures ok { IfOk result (IsGiven (line_said dates vectors.old due line.now) vectors.old vectors.new leaf.new) }
+    ensures err { IfErr result (λ kind. line_said dates vectors.old due line.now ≡ Err kind) }
+{
+    let (row, may) = match due {
+        PackedDue::Title if b"escrow-certificate 2".as_slice() == line => return Ok(Item::Header),
+        PackedDue::Title => return Err(FaultKind::Header),
+        PackedDue::Portfolio if b"portfolio none".as_slice() == line => return Ok(Item::Portfolio(
+            None,
+        )),
+        PackedDue::End { trees } if trees > 0 => return Err(FaultKind::Count),
+        PackedDue::Nothing => return Err(FaultKind::Trailing),
+        PackedDue::Portfolio => (Row::Portfolio, true),
+        PackedDue::Buy { least, .. } => (Row::Buy { least }, true),
+        PackedDue::Gap { most } => (Row::Gap { most }, true),
+        PackedDue::VectorCount => (Row::Vectors, true),
+        PackedDue::Vector { .. } => (Row::Vector, true),
+        PackedDue::NodeCount => (Row::Nodes, true),
+        PackedDue::Node { trees, .. } => (node_row(line), trees > 0),
+        PackedDue::End { .. } => (Row::End, true),
+    };
+    take_row(row, may, dates, vectors, line, numbers, leaf)
+}
+
+impl PackedDue {
+    /// What may stand after a line that says this.
+    pub(crate) fn after_item(self, item: Item) -> PackedDue
+        requires due { IsPackedDue self }
+        requires going { is_over self ≡ false }
+        requires said { IsItemSaid self item }
+        ensures value { (said : PackedLineOf) → item ≡ packed_item said → result ≡ next_due self said }
+        ensures kept { IsPackedDue result }
+        ensures lines { packed_lines_left result + 1 ≤ packed_lines_left self }
+    {
+        match (self, item) {
+            (PackedDue::Title, _) => PackedDue::Portfolio,
+            (PackedDue::Portfolio, Item::Portfolio(Some(count))) => buys_due(count as u16, 0),
+            (PackedDue::Portfolio, _) => PackedDue::Gap { most: 0 },
+            (PackedDue::Buy { left, .. }, Item::Buy(buy)) => {
+                buys_due(left - 1, u32::from(buy.line) + 1)
+            }
+            (PackedDue::Gap { .. }, _) => PackedDue::VectorCount,
+            (PackedDue::VectorCount, Item::Vectors(count)) => vectors_due(count as u16),
+            (PackedDue::Vector { left }, _) => vectors_due(left - 1),
+            (PackedDue::NodeCount, Item::Nodes(count)) => nodes_due(count as u16, 1),
+            (PackedDue::Node { left, trees }, Item::Split { .. }) => nodes_due(left - 1, trees + 1),
+            (PackedDue::Node { left, trees }, _) => nodes_due(left - 1, trees - 1),
+            _ => PackedDue::Nothing,
+        }
+    }
+}

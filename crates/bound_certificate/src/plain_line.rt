@@ -1,0 +1,311 @@
+//! A line of a certificate, at hand whole.
+ghost use Rattle.std.specs.Prelude.{◌≡◌, ◌≤◌, ◌+◌, IfOk, IfErr, IfSome, None, Ok, Some, length, option_map};
+ghost use Rattle.bound_certificate.specs.declared.due.Due.TheVariants as due_of;
+ghost use Rattle.bound_certificate.specs.declared.due.Name.TheVariants as name_of;
+ghost use Rattle.bound_certificate.specs.declared.item.Item.TheVariants as item_of;
+ghost use Rattle.bound_certificate.specs.Faults.{whole_fault};
+ghost use Rattle.bound_certificate.specs.Grammar.{leaf_of, line_item, line_leaf, line_numbers, numbers_in, whole_number as whole_number_of, words_fault, words_item, words_numbers, words_of};
+ghost use Rattle.bound_certificate.specs.PlainLine.{IsBegun, IsFaultOf, IsFrontNumber, IsNoNumber, IsOne, IsOnlyName, IsSaidAs, IsTaken, IsTwo, first_word};
+ghost use Rattle.bound_certificate.specs.Row.{parts_behind};
+ghost use Rattle.bound_certificate.specs.Scan.{is_node};
+
+use crate::certificate::Buy;
+use crate::cut::cut_at;
+use crate::due::{Due, Name, range_at};
+use crate::fault::FaultKind;
+use crate::item::Item;
+use crate::limits::MOST_DATES;
+use crate::packed_line::{begins_with, rises};
+use crate::row::{count_spaces, whole_number};
+use crate::scan::first_number;
+use dual_bound::{Leaf, Prices};
+
+// A number behind the first word of a line, and the words behind it.
+#[derive(Clone, Copy, Debug)]
+struct Taken<'a> {
+    number: u64,
+    rest: Option<&'a [u8]>,
+}
+
+// The two numbers of a line.
+#[derive(Clone, Copy, Debug)]
+struct Pair {
+    first: u64,
+    second: u64,
+}
+
+// The words behind the name of a line that may begin with no other.
+fn behind(due: Due, name: Name, dates: u16, line: &[u8]) -> Result<Option<&[u8]>, FaultKind>
+    requires dates { dates ≤ MOST_DATES }
+    requires only { IsOnlyName due name line.now }
+    ensures ok { IfOk result (IsBegun dates due name line.now) }
+    ensures err { IfErr result (λ found. words_fault dates due (words_of line.now) ≡ Some found) }
+{
+    let first = cut_at(line, b' ');
+    if first.front != name.word() {
+        return Err(FaultKind::Header);
+    }
+    if due.is_closed_early() || 1 + count_spaces(line) != usize::from(name.width(dates)) {
+        return Err(FaultKind::Count);
+    }
+    Ok(first.rest)
+}
+
+// The number at the front of bytes, where a space stands behind its digits, or nothing: what is quickly read. This and the two that
+// call it are inlined: where a leaf's prices are read, what they answer would else pass through memory.
+#[inline(always)]
+fn fast_number(bytes: &[u8]) -> Option<Taken<'_>>
+    ensures { IfSome result (IsFrontNumber bytes.now) }
+{
+    let digits = first_number(bytes)?;
+    if digits.count == bytes.len() {
+        return Some(Taken {
+            number: digits.number,
+            rest: None,
+        });
+    }
+    if bytes[digits.count] != b' ' {
+        return None;
+    }
+    Some(Taken {
+        number: digits.number,
+        rest: Some(&bytes[digits.count + 1..]),
+    })
+}
+
+// The number that the first word of bytes is.
+fn slow_number(bytes: &[u8]) -> Option<Taken<'_>>
+    ensures some { IfSome result (IsFrontNumber bytes.now) }
+    ensures none { result ≡ None → whole_number_of (first_word bytes.now) ≡ None }
+{
+    let word = cut_at(bytes, b' ');
+    let number = whole_number(word.front)?;
+    Some(Taken {
+        number,
+        rest: word.rest,
+    })
+}
+
+// The same, quickly where it can be.
+#[inline(always)]
+fn front_number(bytes: &[u8]) -> Option<Taken<'_>>
+    ensures some { IfSome result (IsFrontNumber bytes.now) }
+    ensures none { result ≡ None → whole_number_of (first_word bytes.now) ≡ None }
+{
+    match fast_number(bytes) {
+        Some(taken) => Some(taken),
+        None => slow_number(bytes),
+    }
+}
+
+// The number that the first of the words is, at a place of the line.
+#[inline(always)]
+fn next_number(
+    due: Due,
+    name: Name,
+    place: u16,
+    words: Option<&[u8]>,
+) -> Result<Taken<'_>, FaultKind>
+    requires { 1 ≤ length (parts_behind 32 words) }
+    ensures ok { IfOk result (IsTaken due name place (parts_behind 32 words.entry)) }
+    ensures err { IfErr result (IsNoNumber due name place (parts_behind 32 words.entry)) }
+{
+    let Some(bytes) = words else {
+        return Err(FaultKind::Number);
+    };
+    match front_number(bytes) {
+        Some(taken) if range_at(due, name, place).contains(taken.number) => Ok(taken),
+        _ => Err(FaultKind::Number),
+    }
+}
+
+// The number that the one word is.
+fn one_number(due: Due, name: Name, words: Option<&[u8]>) -> Result<u64, FaultKind>
+    requires { length (parts_behind 32 words) ≡ 1 }
+    ensures ok { IfOk result (IsOne due name (parts_behind 32 words.entry)) }
+    ensures err { IfErr result (IsNoNumber due name 1 (parts_behind 32 words.entry)) }
+{
+    Ok(next_number(due, name, 1, words)?.number)
+}
+
+// The numbers that the two words are.
+fn two_numbers(due: Due, name: Name, words: Option<&[u8]>) -> Result<Pair, FaultKind>
+    requires { length (parts_behind 32 words) ≡ 2 }
+    ensures ok { IfOk result (IsTwo due name (parts_behind 32 words.entry)) }
+    ensures err { IfErr result (IsNoNumber due name 1 (parts_behind 32 words.entry)) }
+{
+    let first = next_number(due, name, 1, words)?;
+    let second = next_number(due, name, 2, first.rest)?;
+    Ok(Pair {
+        first: first.number,
+        second: second.number,
+    })
+}
+
+// How many purchases the word behind `portfolio` says.
+fn portfolio(words: Option<&[u8]>) -> Result<Item, FaultKind>
+    requires { length (parts_behind 32 words) ≡ 1 }
+    ensures ok { IfOk result (IsSaidAs due_of.Portfolio name_of.Portfolio (parts_behind 32 words.entry)) }
+    ensures err { IfErr result (IsFaultOf due_of.Portfolio name_of.Portfolio (parts_behind 32 words.entry)) }
+{
+    match words {
+        Some(word) if begins_with(b"none", word) => Ok(Item::Portfolio(None)),
+        _ => {
+            let count = one_number(Due::Portfolio, Name::Portfolio, words)?;
+            Ok(Item::Portfolio(Some(count as u32)))
+        }
+    }
+}
+
+// The purchase of a line from `least` on.
+fn purchase(left: u16, least: u32, words: Option<&[u8]>) -> Result<Item, FaultKind>
+    requires { length (parts_behind 32 words) ≡ 2 }
+    ensures ok { IfOk result (IsSaidAs (due_of.Buy left least) name_of.Buy (parts_behind 32 words.entry)) }
+    ensures err { IfErr result (IsFaultOf (due_of.Buy left least) name_of.Buy (parts_behind 32 words.entry)) }
+{
+    let pair = two_numbers(Due::Buy { left, least }, Name::Buy, words)?;
+    if pair.first < u64::from(least) {
+        return Err(FaultKind::Order);
+    }
+    Ok(Item::Buy(Buy {
+        line: pair.first as u16,
+        units: pair.second,
+    }))
+}
+
+// The gap.
+fn gap(most: u64, words: Option<&[u8]>) -> Result<Item, FaultKind>
+    requires { length (parts_behind 32 words) ≡ 1 }
+    ensures ok { IfOk result (IsSaidAs (due_of.Gap most) name_of.Gap (parts_behind 32 words.entry)) }
+    ensures err { IfErr result (IsFaultOf (due_of.Gap most) name_of.Gap (parts_behind 32 words.entry)) }
+{
+    Ok(Item::Gap(one_number(Due::Gap { most }, Name::Gap, words)?))
+}
+
+// How many nodes follow.
+fn nodes(words: Option<&[u8]>) -> Result<Item, FaultKind>
+    requires { length (parts_behind 32 words) ≡ 1 }
+    ensures ok { IfOk result (IsSaidAs due_of.Count name_of.Nodes (parts_behind 32 words.entry)) }
+    ensures err { IfErr result (IsFaultOf due_of.Count name_of.Nodes (parts_behind 32 words.entry)) }
+{
+    let count = one_number(Due::Count, Name::Nodes, words)?;
+    Ok(Item::Nodes(count as u32))
+}
+
+// A split of the range of a line.
+fn split(left: u16, trees: u16, words: Option<&[u8]>) -> Result<Item, FaultKind>
+    requires { length (parts_behind 32 words) ≡ 2 }
+    ensures ok { IfOk result (IsSaidAs (due_of.Node left trees) name_of.Split (parts_behind 32 words.entry)) }
+    ensures err { IfErr result (IsFaultOf (due_of.Node left trees) name_of.Split (parts_behind 32 words.entry)) }
+{
+    let pair = two_numbers(Due::Node { left, trees }, Name::Split, words)?;
+    Ok(Item::Split {
+        line: pair.first as u16,
+        at: pair.second,
+    })
+}
+
+// Puts the prices of a leaf that the words are, from the third place of its line on.
+fn put_prices(due: Due, words: Option<&[u8]>, prices: &mut Prices) -> Result<(), FaultKind>
+    requires count { length (parts_behind 32 words) ≡ length prices.old }
+    requires few { length prices.old ≤ MOST_DATES }
+    ensures dates { length prices.new ≡ length prices.old }
+    ensures ok { IfOk result (λ _. numbers_in due name_of.Leaf 3 (parts_behind 32 words.entry) ≡ Some prices.new) }
+    ensures err { IfErr result (IsNoNumber due name_of.Leaf 3 (parts_behind 32 words.entry)) }
+{
+    let dates = prices.as_slice().len() as u16;
+    let mut rest = words;
+    for place in 0..dates {
+        let price = next_number(due, Name::Leaf, 3 + place, rest)?;
+        prices.put(place, price.number);
+        rest = price.rest;
+    }
+    Ok(())
+}
+
+// A leaf.
+fn leaf_line(
+    left: u16,
+    trees: u16,
+    words: Option<&[u8]>,
+    leaf: &mut Leaf,
+) -> Result<Item, FaultKind>
+    requires count { length (parts_behind 32 words) ≡ 2 + length leaf.old.prices }
+    requires few { length leaf.old.prices ≤ MOST_DATES }
+    ensures dates { length leaf.new.prices ≡ length leaf.old.prices }
+    ensures ok { IfOk result (IsSaidAs (due_of.Node left trees) name_of.Leaf (parts_behind 32 words.entry)) }
+    ensures leaf { IfOk result (λ _. option_map leaf_of (line_numbers (due_of.Node left trees) name_of.Leaf (parts_behind 32 words.entry)) ≡ Some leaf.new) }
+    ensures err { IfErr result (IsFaultOf (due_of.Node left trees) name_of.Leaf (parts_behind 32 words.entry)) }
+{
+    let due = Due::Node { left, trees };
+    let whole = next_number(due, Name::Leaf, 1, words)?;
+    let mu = next_number(due, Name::Leaf, 2, whole.rest)?;
+    put_prices(due, mu.rest, &mut leaf.prices)?;
+    if rises(leaf.prices.as_slice()) {
+        return Err(FaultKind::Order);
+    }
+    leaf.whole = whole.number == 1;
+    leaf.mu = mu.number;
+    Ok(Item::Leaf)
+}
+
+// A node.
+fn node_line(
+    left: u16,
+    trees: u16,
+    dates: u16,
+    line: &[u8],
+    leaf: &mut Leaf,
+) -> Result<Item, FaultKind>
+    requires dates { dates ≤ MOST_DATES }
+    requires leaf { length leaf.old.prices ≡ dates }
+    ensures dates { length leaf.new.prices ≡ dates }
+    ensures ok { IfOk result (λ item. (words_fault dates (due_of.Node left trees) (words_of line.now) ≡ None) × (item ≡ words_item (due_of.Node left trees) (words_of line.now))) }
+    ensures leaf { result ≡ Ok item_of.Leaf → option_map leaf_of (words_numbers (due_of.Node left trees) (words_of line.now)) ≡ Some leaf.new }
+    ensures err { IfErr result (λ found. words_fault dates (due_of.Node left trees) (words_of line.now) ≡ Some found) }
+{
+    let due = Due::Node { left, trees };
+    if begins_with(b"s", line) {
+        split(left, trees, behind(due, Name::Split, dates, line)?)
+    } else if begins_with(b"p", line) {
+        behind(due, Name::Point, dates, line)?;
+        Ok(Item::Point)
+    } else {
+        leaf_line(left, trees, behind(due, Name::Leaf, dates, line)?, leaf)
+    }
+}
+
+/// Reads a line, without its line feed, where this is due: what it says, and a leaf's weights into `leaf`.
+///
+/// # Errors
+///
+/// Why it isn't one that is due. Prices may then have come into `leaf`.
+pub(crate) fn read_plain_line(
+    due: Due,
+    dates: u16,
+    line: &[u8],
+    leaf: &mut Leaf,
+) -> Result<Item, FaultKind>
+    requires dates { dates ≤ MOST_DATES }
+    requires leaf { length leaf.old.prices ≡ dates }
+    ensures dates { length leaf.new.prices ≡ dates }
+    ensures ok { IfOk result (λ item. (whole_fault dates due line.now ≡ None) × (item ≡ line_item due line.now)) }
+    ensures leaf { result ≡ Ok item_of.Leaf → line_leaf due line.now ≡ Some leaf.new }
+    ensures err { IfErr result (λ kind. whole_fault dates due line.now ≡ Some kind) }
+{
+    match due {
+        Due::Title if b"escrow-certificate 1".as_slice() == line => Ok(Item::Header),
+        Due::Title => Err(FaultKind::Header),
+        Due::End { trees } if trees > 0 => Err(FaultKind::Count),
+        Due::Nothing => Err(FaultKind::Trailing),
+        Due::Portfolio => portfolio(behind(due, Name::Portfolio, dates, line)?),
+        Due::Buy { left, least } => purchase(left, least, behind(due, Name::Buy, dates, line)?),
+        Due::Gap { most } => gap(most, behind(due, Name::Gap, dates, line)?),
+        Due::Count => nodes(behind(due, Name::Nodes, dates, line)?),
+        Due::Node { left, trees } => node_line(left, trees, dates, line, leaf),
+        Due::End { .. } => {
+            behind(due, Name::End, dates, line)?;
+            Ok(Item::End)
+        }
+    }
+}

@@ -1,0 +1,113 @@
+//! Room for the vectors of a packed certificate.
+ghost use Rattle.std.specs.Prelude.{◌≡◌, ◌≤◌, ◌<◌, ◌++◌, ◌∷◌, [], IfOk, length, slice_index_or};
+
+use crate::limits::{MOST_PRICES, MOST_VECTORS};
+use arrayvec::ArrayVec;
+use escrow_desk::NoMemory;
+use std::alloc::Global;
+use std::marker::Model;
+
+/// The prices of a vector, at most one for each of 480 need dates. Contracts see the list of them.
+#[derive(Debug, Drop)]
+pub(crate) struct Vector {
+    prices: ArrayVec<u64, MOST_PRICES>,
+}
+
+impl Model for Vector {
+    ghost use Rattle.std.specs.Prelude.{ℕ, List};
+
+    ghost Value = { List ℕ };
+
+    ghost view = { λ v. v.prices.items };
+}
+
+impl Vector {
+    // A vector without prices.
+    fn empty() -> Vector
+        ensures { result ≡ [] }
+    {
+        Vector {
+            prices: ArrayVec::new(),
+        }
+    }
+
+    /// The prices.
+    pub(crate) fn as_slice(&self) -> &[u64]
+        ensures { result.now ≡ self.now }
+    {
+        self.prices.as_slice()
+    }
+
+    // Takes these prices in place of its own.
+    fn fill(&mut self, prices: &[u64])
+        requires { length prices.now ≤ MOST_PRICES }
+        ensures { self.new ≡ prices.now }
+    {
+        self.prices.clear();
+        for price in prices {
+            self.prices.push(*price);
+        }
+    }
+}
+
+/// Room for 64 vectors, taken at once, and those that came. Contracts see the list of those that came.
+#[derive(Debug, Drop)]
+pub(crate) struct VectorRoom {
+    vectors: Vec<Vector>,
+    came: u16,
+}
+
+impl Model for VectorRoom {
+    ghost use Rattle.std.specs.Prelude.{◌≡◌, ◌≤◌, ℕ, List, length, take};
+    ghost use Rattle.bound_certificate.specs.declared.limits.TheConstants.{MOST_VECTORS};
+
+    ghost Value = { List (List ℕ) };
+
+    ghost view = { λ r. take r.came r.vectors.items };
+
+    ghost invariant = { λ r. (r.came ≤ MOST_VECTORS) × (length r.vectors.items ≡ MOST_VECTORS) };
+}
+
+impl VectorRoom {
+    /// Room for 64 vectors, of which none came.
+    ///
+    /// # Errors
+    ///
+    /// [`NoMemory`] where memory ran out.
+    pub(crate) fn make(alloc: Global) -> Result<VectorRoom, NoMemory>
+        ensures { IfOk result (λ room. room ≡ []) }
+    {
+        let mut vectors = Vec::with_capacity(alloc, MOST_VECTORS as usize)?;
+        for _ in 0..MOST_VECTORS {
+            vectors.push(Vector::empty())?;
+        }
+        Ok(VectorRoom { vectors, came: 0 })
+    }
+
+    /// How many vectors came, at most 64.
+    pub(crate) fn count(&self) -> u16
+        ensures value { result ≡ length self.now }
+        ensures bound { result ≤ MOST_VECTORS }
+    {
+        self.came
+    }
+
+    /// The prices of the vector at a place, from 0.
+    pub(crate) fn at(&self, place: usize) -> &[u64]
+        requires { place < length self.now }
+        ensures { result.now ≡ slice_index_or self.now place [] }
+    {
+        self.vectors[place].as_slice()
+    }
+
+    /// One more, of at most 480 prices, where fewer than 64 came.
+    pub(crate) fn put(&mut self, prices: &[u64])
+        requires room { length self.old < MOST_VECTORS }
+        requires few { length prices.now ≤ MOST_PRICES }
+        ensures { self.new ≡ self.old ++ prices.now ∷ [] }
+    {
+        let place = usize::from(self.came);
+        self.vectors[place].fill(prices);
+        self.came += 1;
+    }
+}
