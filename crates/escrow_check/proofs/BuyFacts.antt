@@ -52,48 +52,6 @@ new-known case cert trial unnamed none new = record {
   none = none;
 }
 
--- ---- a portfolio is named
-pub named-known : (case : CaseContents) (cert : Certificate) (old new : Trial) → cert.buys ≡ None → IsBuying case cert old → new ≡ record old { named = true } →
-    IsBuying case (record cert { buys = Some [] }) new
-named-known case cert old new unnamed is rest =
-    let P : Trial → Type 0 = λ t. IsBuying case (record cert { buys = Some [] }) t in
-    subst P (sym rest) (record {
-      powers = is.powers;
-      columns = is.columns;
-      point = is.point;
-      walk = is.walk;
-      waiting = is.waiting;
-      depth = is.depth;
-      room = is.room;
-      count = is.count;
-      weak = is.weak;
-      claim = is.claim;
-      named = refl;
-      found = is.found ∙ ap (λ (o : Option (List Buy)). option_map (λ (buy : Buy). reason.NotPermitted buy.line) (first_not_offered case.book.lines (buys_in o))) unnamed;
-      plan = λ e. is.plan e ∙ ap (λ (o : Option (List Buy)). plan_of case.book (buys_in o)) unnamed;
-      permitted = is.permitted;
-      none = is.none;
-    })
-
-pub unnamed-known : (case : CaseContents) (cert : Certificate) (old : Trial) → cert.buys ≡ None → IsBuying case cert old → IsBuying case (record cert { buys = None }) old
-unnamed-known case cert old unnamed is = record {
-  powers = is.powers;
-  columns = is.columns;
-  point = is.point;
-  walk = is.walk;
-  waiting = is.waiting;
-  depth = is.depth;
-  room = is.room;
-  count = is.count;
-  weak = is.weak;
-  claim = is.claim;
-  named = is.named ∙ ap (λ (o : Option (List Buy)). is_some o) unnamed;
-  found = is.found ∙ ap (λ (o : Option (List Buy)). option_map (λ (buy : Buy). reason.NotPermitted buy.line) (first_not_offered case.book.lines (buys_in o))) unnamed;
-  plan = λ e. is.plan e ∙ ap (λ (o : Option (List Buy)). plan_of case.book (buys_in o)) unnamed;
-  permitted = is.permitted;
-  none = is.none;
-}
-
 -- ---- a purchase
 abbrev told : Option Buy → Option Reason
 told found = option_map (λ buy. reason.NotPermitted buy.line) found

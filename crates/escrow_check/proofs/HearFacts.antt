@@ -1,15 +1,15 @@
 -- What is heard, piece by piece.
-use Rattle.std.proofs.Common.{◌≡◌, ◌∙◌, ℕ, ◌+◌, ◌<◌, ◌≤◌, ◌==◌, if◌then◌else◌, Bool, true, false, not, nat_lt, ℤ, List, [], ◌++◌, length, take, drop, Option, Some, None, Ok, Err, option_map, refl, sym, subst, ap, arith, append_assoc, length-drop, ◌-◌}
+use Rattle.std.proofs.Common.{◌≡◌, ◌∙◌, inl, inr, ◌∷◌, ℕ, ◌+◌, ◌≤◌, ◌==◌, if◌then◌else◌, Bool, true, false, not, nat_lt, ℤ, List, [], ◌++◌, length, take, drop, Option, Some, None, option_map, refl, sym, subst, ap, arith, append_assoc, length-drop, ◌-◌}
 use Rattle.std.specs.Bool.{then_some}
-use Rattle.std.specs.List.{position}
+use Rattle.std.specs.List.{fold, position}
 use Rattle.std.specs.Option.{option_or}
 use Rattle.std.proofs.lemmas.List.{length-take, take-append-drop, take_all}
 use Rattle.bound_certificate.specs.Draft.{no_lines, with_item}
 use Rattle.bound_certificate.specs.Due.{is_over, nodes_due}
-use Rattle.bound_certificate.specs.Faults.{text_fault}
-use Rattle.bound_certificate.specs.Reading.{Feeds, after_bytes, finished, new_leaf, new_reading}
 use Rattle.bound_certificate.specs.Step.{IsSuited, due_after}
-use Rattle.bound_certificate.specs.Text.{IsTextOf}
+use Rattle.bound_certificate.specs.TextReading.{EndsText, HasRead, Reads, ReadsFault, stage_due}
+use Rattle.bound_certificate.specs.Told.{Tells, Told, certificate_told, told_in}
+use Rattle.bound_certificate.specs.Versions.{IsCertificateText}
 use Rattle.bound_certificate.specs.declared.certificate.Buy.{Buy}
 use Rattle.bound_certificate.specs.declared.certificate.Certificate.{Certificate}
 use Rattle.bound_certificate.specs.declared.due.Due.{Due}
@@ -18,19 +18,15 @@ use Rattle.bound_certificate.specs.declared.fault.CertFault.{CertFault}
 use Rattle.bound_certificate.specs.declared.item.Fed.{Fed}
 use Rattle.bound_certificate.specs.declared.item.Item.{Item}
 use Rattle.bound_certificate.specs.declared.item.Item.TheVariants as item
-use Rattle.bound_certificate.specs.declared.limits.TheConstants.{MOST_DATES, MOST_NODES}
-use Rattle.bound_certificate.specs.declared.reading.Reading.{Reading}
-use Rattle.bound_certificate.specs.Lines.{AtLine, IsDraft}
-use Rattle.bound_certificate.proofs.CertFacts.{at-end, at-more, end-is-first, started}
-use Rattle.bound_certificate.proofs.ReadingFacts.{after_bytes-append, after_bytes-fault, after_bytes-none}
-use Rattle.bound_certificate.proofs.StepFacts.{IsDone, Steps, at-due, at-step, done-is-over}
+use Rattle.bound_certificate.specs.declared.text_reading.TextReading.{TextReading}
+use Rattle.bound_certificate.proofs.ToldFacts.{with_told}
 use Rattle.case_file.specs.Case.{CaseContents}
 use Rattle.cash_table.specs.First.{first_short_of}
 use Rattle.cash_table.specs.Points.{is_within_limit}
 use Rattle.dual_bound.specs.declared.tree.Leaf.{Leaf}
 use Rattle.escrow_check.specs.Acceptance.{IsVerdict, claim_of, first_not_offered, is_bad_split, is_weak, judged, numbered, placed_nodes, plan_of, portfolio_reason, reason_by, reason_of, tree_reason}
 use Rattle.escrow_check.specs.Acceptance as accept
-use Rattle.escrow_check.specs.Heard.{HasHeard, KnowsLines, is_before_gap}
+use Rattle.escrow_check.specs.Heard.{HasHeard, cert_in, is_before_gap}
 use Rattle.escrow_check.specs.Knows.{Comes, IsJudging, Knows}
 use Rattle.escrow_check.specs.Trial.{IsNew, verdict_on}
 use Rattle.escrow_check.specs.declared.hearing.Hearing.{Hearing}
@@ -42,90 +38,73 @@ use Rattle.escrow_check.specs.declared.verdict.Verdict.TheVariants as verdict
 use Rattle.escrow_check.proofs.BuyFacts.{judged-known, new-known}
 
 -- nothing yet
-pub heard-nothing : (case : CaseContents) (hearing : Hearing) → length case.book.needs ≤ MOST_DATES → hearing.reader ≡ new_reading (new_leaf (length case.book.needs)) →
+told_nothing : (dates : ℕ) → certificate_told (told_in dates []) ≡ no_lines
+unfolding told_in
+told_nothing dates = refl
+
+pub heard-nothing : (case : CaseContents) (hearing : Hearing) → HasRead (length case.book.needs) [] hearing.reader → stage_due hearing.reader.stage ≡ due.Title →
     IsNew case hearing.trial → HasHeard case hearing []
-heard-nothing case hearing few reader new =
-    let dates : ℕ = length case.book.needs in
+heard-nothing case hearing read first new =
+    let P : Certificate → Type 0 = λ cert. Knows case cert due.Title hearing.trial in
+    let Q : Due → Type 0 = λ d. Knows case (cert_in case []) d hearing.trial in
     record {
-      came = reader ∙ sym (after_bytes-none (new_reading (new_leaf dates)));
-      lines = λ going. record {
-        cert = no_lines;
-        at = started dates no_lines hearing.reader few refl reader;
-        knows = (let P : Reading → Type 0 = λ r. Knows case no_lines r.due hearing.trial in subst P (sym reader) (refl, new-known case no_lines hearing.trial refl refl new));
-      };
+      read = read;
+      lines = λ going. subst Q (sym first) (subst P (sym (told_nothing (length case.book.needs))) (refl, new-known case no_lines hearing.trial refl refl new));
     }
 
--- no fault came before bytes that show none
-going-before : (old new : Reading) (bytes : List ℕ) → new ≡ after_bytes old bytes → new.fault ≡ None → old.fault ≡ None
-going-before old new bytes came going = by old.fault refl
-  where
-    by : (o : Option CertFault) → old.fault ≡ o → o ≡ None
-    by None e = refl
-    by (Some fault) e =
-        (let stays : new.fault ≡ old.fault = ap (λ (r : Reading). r.fault) (came ∙ after_bytes-fault old fault bytes e) in
-        let bad : Some fault ≡ None = sym e ∙ sym stays ∙ going in absurd (cc))
+-- ---- what a piece adds
+-- what is said of a certificate is the same for a line's own leaf, where it is a leaf's line
+same_leaf : (cert : Certificate) (told : Item) (leaf own : Leaf) → (told ≡ item.Leaf → leaf ≡ own) → with_item cert told own ≡ with_item cert told leaf
+same_leaf cert item.Leaf leaf own same = ap (λ (l : Leaf). with_item cert item.Leaf l) (sym (same refl))
+same_leaf cert (item.Portfolio None) leaf own same = refl
+same_leaf cert (item.Portfolio (Some count)) leaf own same = refl
+same_leaf cert told leaf own same = refl
 
-few_nodes : (dates : ℕ) (d : Due) (cert : Certificate) → IsDraft dates d cert → (left trees : ℕ) → d ≡ due.Node left trees → length cert.nodes < MOST_NODES
-few_nodes dates d cert draft left trees e =
-    let P : Due → Type 0 = λ x. IsDraft dates x cert in
-    let here : IsDraft dates (due.Node left trees) cert = subst P e draft in
-    omega (arith, here.0, here.1.few)
+one_more : (cert : Certificate) (before : List Told) (said : Told) → fold with_told cert (before ++ said ∷ []) ≡ with_told (fold with_told cert before) said
+one_more cert [] said = refl
+one_more cert (first ∷ before) said = one_more (with_item cert first.item first.leaf) before said
+
+-- what is told adds to the certificate what it says
+more_told : (before after : List Told) (told : Item) (leaf : Leaf) → Tells before told leaf after → certificate_told after ≡ with_item (certificate_told before) told leaf
+more_told before after told leaf (inl is) =
+    ap certificate_told is.last ∙ one_more no_lines before is.said
+    ∙ ap (λ (i : Item). with_item (certificate_told before) i is.said.leaf) (sym is.item_is) ∙ same_leaf (certificate_told before) told leaf is.said.leaf is.leaf_is
+more_told before after told leaf (inr (nothing, same)) =
+    ap certificate_told same ∙ ap (λ (i : Item). with_item (certificate_told before) i leaf) (sym nothing)
 
 -- a line that comes is due
-pub heard-comes : (case : CaseContents) (hearing : Hearing) (bytes piece : List ℕ) (fed : Fed) (new : Reading) (leaf : Leaf) → HasHeard case hearing bytes →
-    Feeds hearing.reader piece fed new → leaf ≡ new.scan.leaf → (cert : Certificate) × (d : Due) × Comes case cert d fed.item leaf hearing.trial
-heard-comes case hearing bytes piece fed new leaf heard feeds lent =
-    let dates : ℕ = length case.book.needs in
-    let lines : KnowsLines case hearing bytes = heard.lines (going-before hearing.reader new (take fed.used piece) feeds.taken feeds.going) in
-    let steps : Steps dates hearing.reader.due fed.item new = at-step dates bytes lines.cert hearing.reader piece fed new lines.at feeds in
-    let P : Leaf → Type 0 = λ l. IsSuited dates hearing.reader.due fed.item l in
-    let Q : Due → Type 0 = λ d. IsDraft dates d lines.cert in (
-      lines.cert,
-      hearing.reader.due,
-      record {
-        knows = lines.knows;
-        suited = subst P (sym lent) steps.suited;
-        few = few_nodes dates hearing.reader.due lines.cert (subst Q (at-due dates bytes lines.cert hearing.reader lines.at) lines.at.draft);
-      },
-    )
+pub heard-comes : (case : CaseContents) (hearing : Hearing) (bytes piece : List ℕ) (fed : Fed) (new : TextReading) (leaf : Leaf) → HasHeard case hearing bytes →
+    hearing.reader.fault ≡ None → Reads (length case.book.needs) bytes piece fed hearing.reader new → leaf ≡ new.leaf →
+    Comes case (cert_in case bytes) (stage_due hearing.reader.stage) fed.item leaf hearing.trial
+heard-comes case hearing bytes piece fed new leaf heard going reads lent =
+    let P : Leaf → Type 0 = λ l. IsSuited (length case.book.needs) (stage_due hearing.reader.stage) fed.item l in
+    record { knows = heard.lines going; suited = subst P (sym lent) reads.suited; few = reads.few }
 
 -- and what it says is known then
-pub heard-more : (case : CaseContents) (hearing : Hearing) (bytes piece : List ℕ) (fed : Fed) (new : Reading) (leaf : Leaf) (trial : Trial) → HasHeard case hearing bytes →
-    Feeds hearing.reader piece fed new → leaf ≡ new.scan.leaf →
+pub heard-more : (case : CaseContents) (hearing : Hearing) (bytes piece : List ℕ) (fed : Fed) (new : TextReading) (leaf : Leaf) (trial : Trial) → HasHeard case hearing bytes →
+    hearing.reader.fault ≡ None → Reads (length case.book.needs) bytes piece fed hearing.reader new → leaf ≡ new.leaf →
     ((cert : Certificate) (d : Due) → Comes case cert d fed.item leaf hearing.trial → Knows case (with_item cert fed.item leaf) (due_after d fed.item) trial) →
     HasHeard case (record { reader = new; trial = trial }) (bytes ++ take fed.used piece)
-heard-more case hearing bytes piece fed new leaf trial heard feeds lent takes =
+heard-more case hearing bytes piece fed new leaf trial heard going reads lent takes =
     let dates : ℕ = length case.book.needs in
-    let start : Reading = new_reading (new_leaf dates) in
-    let lines : KnowsLines case hearing bytes = heard.lines (going-before hearing.reader new (take fed.used piece) feeds.taken feeds.going) in
-    let steps : Steps dates hearing.reader.due fed.item new = at-step dates bytes lines.cert hearing.reader piece fed new lines.at feeds in
-    let P : Leaf → Type 0 = λ l. IsSuited dates hearing.reader.due fed.item l in
-    let Q : Due → Type 0 = λ d. IsDraft dates d lines.cert in
-    let comes : Comes case lines.cert hearing.reader.due fed.item leaf hearing.trial = record {
-      knows = lines.knows;
-      suited = subst P (sym lent) steps.suited;
-      few = few_nodes dates hearing.reader.due lines.cert (subst Q (at-due dates bytes lines.cert hearing.reader lines.at) lines.at.draft);
-    } in
-    let R : Due → Type 0 = λ d. Knows case (with_item lines.cert fed.item leaf) d trial in
-    let S : Leaf → Type 0 = λ l. AtLine dates (bytes ++ take fed.used piece) (with_item lines.cert fed.item l) new in
+    let more : List ℕ = bytes ++ take fed.used piece in
+    let told : cert_in case more ≡ with_item (cert_in case bytes) fed.item leaf =
+    more_told (told_in dates bytes) (told_in dates more) fed.item new.leaf reads.tells ∙ ap (λ (l : Leaf). with_item (cert_in case bytes) fed.item l) (sym lent) in
+    let P : Certificate → Type 0 = λ cert. Knows case cert (stage_due new.stage) trial in
+    let Q : Due → Type 0 = λ d. Knows case (with_item (cert_in case bytes) fed.item leaf) d trial in
     record {
-      came = feeds.taken ∙ ap (λ (r : Reading). after_bytes r (take fed.used piece)) heard.came ∙ sym (after_bytes-append start bytes (take fed.used piece));
-      lines = λ going. record {
-        cert = with_item lines.cert fed.item leaf;
-        at = subst S (sym lent) (at-more dates bytes lines.cert hearing.reader piece fed new lines.at feeds);
-        knows = subst R (sym steps.due) (takes lines.cert hearing.reader.due comes);
-      };
+      read = reads.read;
+      lines = λ still. subst P (sym told) (subst Q (sym reads.due_is)
+          (takes (cert_in case bytes) (stage_due hearing.reader.stage) (heard-comes case hearing bytes piece fed new leaf heard going reads lent)));
     }
 
 -- a fault ends what is heard
-pub heard-fault : (case : CaseContents) (hearing : Hearing) (bytes rest : List ℕ) (new : Reading) (fault : CertFault) → HasHeard case hearing bytes →
-    new ≡ after_bytes hearing.reader rest → new.fault ≡ Some fault → HasHeard case (record { reader = new; trial = hearing.trial }) (bytes ++ rest)
-heard-fault case hearing bytes rest new fault heard taken found =
-    let start : Reading = new_reading (new_leaf (length case.book.needs)) in
-    record {
-      came = taken ∙ ap (λ (r : Reading). after_bytes r rest) heard.came ∙ sym (after_bytes-append start bytes rest);
-      lines = λ going. (let bad : Some fault ≡ None = sym found ∙ going in absurd (cc));
-    }
+pub heard-fault : (case : CaseContents) (hearing : Hearing) (bytes rest : List ℕ) (new : TextReading) (fault : CertFault) →
+    ReadsFault (length case.book.needs) bytes rest fault new → HasHeard case (record { reader = new; trial = hearing.trial }) (bytes ++ rest)
+heard-fault case hearing bytes rest new fault reads = record {
+  read = reads.read;
+  lines = λ going. (let bad : Some fault ≡ None = sym reads.stopped ∙ going in absurd (cc));
+}
 
 -- ---- the verdict
 -- no reason of a certificate is of its grammar
@@ -199,7 +178,7 @@ unfolding judged
 not_judged case cert fault e = not_said case cert fault (reason_of case cert) (not_reason case cert cert.buys) e
 
 -- what is told of a certificate is the verdict on its text
-told_verdict : (case : CaseContents) (bytes : List ℕ) (cert : Certificate) (told : Verdict) → IsTextOf (length case.book.needs) cert bytes → told ≡ judged case cert → IsVerdict case bytes told
+told_verdict : (case : CaseContents) (bytes : List ℕ) (cert : Certificate) (told : Verdict) → IsCertificateText (length case.book.needs) cert bytes → told ≡ judged case cert → IsVerdict case bytes told
 told_verdict case bytes cert (verdict.No (reason.Grammar fault)) is e = absurd (not_judged case cert fault e)
 told_verdict case bytes cert told is e = (cert, is, e)
 
@@ -207,24 +186,15 @@ over_judges : (case : CaseContents) (cert : Certificate) (d : Due) (trial : Tria
 over_judges case cert due.Nothing trial over knows = knows
 over_judges case cert d trial over knows = absurd (cc)
 
-pub heard-judges : (case : CaseContents) (hearing : Hearing) (bytes : List ℕ) → HasHeard case hearing bytes → finished hearing.reader ≡ Ok tt → (cert : Certificate) × IsJudging case cert hearing.trial
-heard-judges case hearing bytes heard done =
-    let over : IsDone hearing.reader = done-is-over hearing.reader done in
-    let lines : KnowsLines case hearing bytes = heard.lines over.going in
-    (lines.cert, over_judges case lines.cert hearing.reader.due hearing.trial over.over lines.knows)
+pub heard-judges : (case : CaseContents) (hearing : Hearing) (bytes : List ℕ) → HasHeard case hearing bytes → EndsText (length case.book.needs) bytes hearing.reader →
+    IsJudging case (cert_in case bytes) hearing.trial
+heard-judges case hearing bytes heard ends = over_judges case (cert_in case bytes) (stage_due hearing.reader.stage) hearing.trial ends.over (heard.lines ends.going)
 
-pub heard-verdict : (case : CaseContents) (hearing : Hearing) (bytes : List ℕ) (told : Verdict) → HasHeard case hearing bytes → finished hearing.reader ≡ Ok tt →
+pub heard-verdict : (case : CaseContents) (hearing : Hearing) (bytes : List ℕ) (told : Verdict) → HasHeard case hearing bytes → EndsText (length case.book.needs) bytes hearing.reader →
     told ≡ verdict_on case hearing.trial → IsVerdict case bytes told
-heard-verdict case hearing bytes told heard done told_is =
-    let dates : ℕ = length case.book.needs in
-    let over : IsDone hearing.reader = done-is-over hearing.reader done in
-    let lines : KnowsLines case hearing bytes = heard.lines over.going in
-    let judges : IsJudging case lines.cert hearing.trial = over_judges case lines.cert hearing.reader.due hearing.trial over.over lines.knows in
-    told_verdict case bytes lines.cert told (at-end dates bytes lines.cert hearing.reader lines.at done) (told_is ∙ judged-known case lines.cert hearing.trial judges)
-
-pub heard-bad : (case : CaseContents) (hearing : Hearing) (bytes : List ℕ) (fault : CertFault) → length case.book.needs ≤ MOST_DATES → HasHeard case hearing bytes →
-    finished hearing.reader ≡ Err fault → text_fault (length case.book.needs) bytes ≡ Some fault
-heard-bad case hearing bytes fault few heard done = end-is-first (length case.book.needs) bytes hearing.reader fault few heard.came done
+heard-verdict case hearing bytes told heard ends told_is =
+    let judges : IsJudging case (cert_in case bytes) hearing.trial = heard-judges case hearing bytes heard ends in
+    told_verdict case bytes (cert_in case bytes) told ends.text (told_is ∙ judged-known case (cert_in case bytes) hearing.trial judges)
 
 -- ---- what is left of a piece
 pub rest-drop : (front rest bytes : List ℕ) (used size : ℕ) → length rest ≤ size → front ++ rest ≡ bytes →
@@ -252,6 +222,8 @@ not_both b e h = absurd (cc)
 -- once it ended, no line before it is due again
 before_back : (d : Due) (told : Item) → is_before_gap (due_after d told) ≡ true → is_before_gap d ≡ true
 before_back d item.Nothing e = e
+before_back d (item.Vectors count) e = e
+before_back d item.Vector e = e
 before_back due.Title told e = refl
 before_back due.Portfolio told e = refl
 before_back (due.Buy left least) told e = refl
@@ -263,24 +235,16 @@ before_back (due.Node left trees) told e = absurd (not_both (is_before_gap (node
 before_back (due.End trees) told e = absurd (cc)
 before_back due.Nothing told e = absurd (cc)
 
-pub still-before : (case : CaseContents) (hearing : Hearing) (bytes piece : List ℕ) (fed : Fed) (new : Reading) → HasHeard case hearing bytes → Feeds hearing.reader piece fed new →
-    is_before_gap new.due ≡ true → is_before_gap hearing.reader.due ≡ true
-still-before case hearing bytes piece fed new heard feeds e =
-    let dates : ℕ = length case.book.needs in
-    let lines : KnowsLines case hearing bytes = heard.lines (going-before hearing.reader new (take fed.used piece) feeds.taken feeds.going) in
-    let steps : Steps dates hearing.reader.due fed.item new = at-step dates bytes lines.cert hearing.reader piece fed new lines.at feeds in
-    before_back hearing.reader.due fed.item (ap (λ (d : Due). is_before_gap d) (sym steps.due) ∙ e)
+pub still-before : (dates : ℕ) (bytes piece : List ℕ) (fed : Fed) (old new : TextReading) → Reads dates bytes piece fed old new → is_before_gap (stage_due new.stage) ≡ true → is_before_gap (stage_due old.stage) ≡ true
+still-before dates bytes piece fed old new reads e = before_back (stage_due old.stage) fed.item (ap (λ (d : Due). is_before_gap d) (sym reads.due_is) ∙ e)
 
 gap_due : (dates : ℕ) (d : Due) (cents : ℕ) (leaf : Leaf) → IsSuited dates d (item.Gap cents) leaf → (is_before_gap d ≡ true) × (due_after d (item.Gap cents) ≡ due.Count)
 gap_due dates (due.Gap most) cents leaf suited = (refl, refl)
 gap_due dates d cents leaf suited = absurd suited
 
-pub gap-ends : (case : CaseContents) (hearing : Hearing) (bytes piece : List ℕ) (fed : Fed) (new : Reading) (cents : ℕ) → HasHeard case hearing bytes → Feeds hearing.reader piece fed new →
-    fed.item ≡ item.Gap cents → (is_before_gap hearing.reader.due ≡ true) × (new.due ≡ due.Count)
-gap-ends case hearing bytes piece fed new cents heard feeds gap =
-    let dates : ℕ = length case.book.needs in
-    let lines : KnowsLines case hearing bytes = heard.lines (going-before hearing.reader new (take fed.used piece) feeds.taken feeds.going) in
-    let steps : Steps dates hearing.reader.due fed.item new = at-step dates bytes lines.cert hearing.reader piece fed new lines.at feeds in
-    let P : Item → Type 0 = λ i. IsSuited dates hearing.reader.due i new.scan.leaf in
-    let here = gap_due dates hearing.reader.due cents new.scan.leaf (subst P gap steps.suited) in
-    (here.0, steps.due ∙ ap (λ (i : Item). due_after hearing.reader.due i) gap ∙ here.1)
+pub gap-ends : (dates : ℕ) (bytes piece : List ℕ) (fed : Fed) (old new : TextReading) (cents : ℕ) → Reads dates bytes piece fed old new → fed.item ≡ item.Gap cents →
+    (is_before_gap (stage_due old.stage) ≡ true) × (stage_due new.stage ≡ due.Count)
+gap-ends dates bytes piece fed old new cents reads gap =
+    let P : Item → Type 0 = λ i. IsSuited dates (stage_due old.stage) i new.leaf in
+    let here = gap_due dates (stage_due old.stage) cents new.leaf (subst P gap reads.suited) in
+    (here.0, reads.due_is ∙ ap (λ (i : Item). due_after (stage_due old.stage) i) gap ∙ here.1)

@@ -3,17 +3,16 @@ use Rattle.std.proofs.Common.{◌≡◌, ◌∙◌, List, ℕ, ℤ, length, ◌�
 use Rattle.std.specs.Prelude.{option_map}
 use Rattle.std.specs.Bool.{then_some}
 use Rattle.std.specs.Option.{option_or}
-use Rattle.bound_certificate.proofs.SayFacts.{texts_say}
-use Rattle.bound_certificate.proofs.TextFacts.{text-found, text-good}
-use Rattle.bound_certificate.specs.Draft.{certificate_in}
-use Rattle.bound_certificate.specs.Faults.{text_fault}
-use Rattle.bound_certificate.specs.Text.{IsTextOf}
+use Rattle.bound_certificate.proofs.ToldFacts.{lines-tell}
+use Rattle.bound_certificate.proofs.VersionFacts.{texts-have-no-fault}
+use Rattle.bound_certificate.specs.Versions.{IsCertificateText, certificate_fault}
 use Rattle.bound_certificate.specs.declared.certificate.Buy.{Buy}
 use Rattle.bound_certificate.specs.declared.certificate.Certificate.{Certificate}
 use Rattle.bound_certificate.specs.declared.fault.CertFault.{CertFault}
 use Rattle.bound_certificate.specs.declared.limits.TheConstants.{MOST_DATES}
 use Rattle.case_file.specs.Case.{CaseContents}
 use Rattle.escrow_check.specs.Acceptance.{IsVerdict, judged, portfolio_reason, reason_by, reason_of, tree_reason, verdict_by, yes_of}
+use Rattle.escrow_check.specs.Heard.{cert_in}
 use Rattle.escrow_check.specs.Verdicts.{BytesHaveVerdict, VerdictsAreOne, verdict_by_fault, verdict_of}
 use Rattle.escrow_check.specs.declared.verdict.Reason.{Reason}
 use Rattle.escrow_check.specs.declared.verdict.Reason.TheVariants as reason
@@ -22,13 +21,13 @@ use Rattle.escrow_check.specs.declared.verdict.Verdict.TheVariants as verdict
 
 -- what the certificate of a text is told
 OfCertificate : CaseContents → List ℕ → Verdict → Type 0
-OfCertificate case bytes told = (cert : Certificate) × IsTextOf (length case.book.needs) cert bytes × (told ≡ judged case cert)
+OfCertificate case bytes told = (cert : Certificate) × IsCertificateText (length case.book.needs) cert bytes × (told ≡ judged case cert)
 
 of-certificate : (case : CaseContents) (bytes : List ℕ) (told : Verdict) → length case.book.needs ≤ MOST_DATES → OfCertificate case bytes told → told ≡ verdict_of case bytes
 unfolding OfCertificate verdict_of
 of-certificate case bytes told few of =
-    let good : text_fault (length case.book.needs) bytes ≡ None = text-good (length case.book.needs) of.0 bytes of.1 in
-    of.2 ∙ ap (judged case) (sym (texts_say (length case.book.needs) bytes of.0 of.1)) ∙ ap (verdict_by_fault case bytes) (sym good)
+    let good : certificate_fault (length case.book.needs) bytes ≡ None = (texts-have-no-fault (length case.book.needs) bytes few).1 (of.0, of.1) in
+    of.2 ∙ ap (judged case) (sym (lines-tell (length case.book.needs) bytes of.0 few of.1)) ∙ ap (verdict_by_fault case bytes) (sym good)
 
 -- a reason, of grammar or else of a certificate
 by-reason : (case : CaseContents) (bytes : List ℕ) (why : Reason) → length case.book.needs ≤ MOST_DATES → IsVerdict case bytes (verdict.No why) → verdict.No why ≡ verdict_of case bytes
@@ -103,7 +102,7 @@ reasons-of case cert = by cert.buys
         (or-of (tree_reason case cert) _ tree (then-of _ reason.GapAbove gap-of))
 
 -- what is judged of a certificate is the verdict on its text
-judged-is : (case : CaseContents) (bytes : List ℕ) (cert : Certificate) → IsTextOf (length case.book.needs) cert bytes → (found : Option Reason) → IsOfCertificate found
+judged-is : (case : CaseContents) (bytes : List ℕ) (cert : Certificate) → IsCertificateText (length case.book.needs) cert bytes → (found : Option Reason) → IsOfCertificate found
     → verdict_by case cert found ≡ judged case cert → IsVerdict case bytes (verdict_by case cert found)
 unfolding IsOfCertificate
 judged-is case bytes cert text None of same = by cert.buys same
@@ -125,11 +124,12 @@ judged-by case cert = refl
 
 pub bytes_have : BytesHaveVerdict
 unfolding verdict_of
-bytes_have case bytes few = by (text_fault (length case.book.needs) bytes) refl
+bytes_have case bytes few = by (certificate_fault (length case.book.needs) bytes) refl
   where
-    by : (found : Option CertFault) → text_fault (length case.book.needs) bytes ≡ found → IsVerdict case bytes (verdict_by_fault case bytes found)
+    by : (found : Option CertFault) → certificate_fault (length case.book.needs) bytes ≡ found → IsVerdict case bytes (verdict_by_fault case bytes found)
     by (Some fault) is = is
     by None is =
-        let text = text-found (length case.book.needs) bytes is in
-        let same : judged case (certificate_in bytes) ≡ verdict_by case text.0 (reason_of case text.0) = ap (judged case) (texts_say (length case.book.needs) bytes text.0 text.1) ∙ judged-by case text.0 in
+        let text = (texts-have-no-fault (length case.book.needs) bytes few).0 is in
+        let same : judged case (cert_in case bytes) ≡ verdict_by case text.0 (reason_of case text.0) =
+        ap (judged case) (lines-tell (length case.book.needs) bytes text.0 few text.1) ∙ judged-by case text.0 in
         subst (IsVerdict case bytes) (sym same) (judged-is case bytes text.0 text.1 (reason_of case text.0) (reasons-of case text.0) (sym (judged-by case text.0)))

@@ -22,7 +22,7 @@ use Rattle.escrow_check.specs.Knows.{Comes, IsBuying, IsGoing, IsJudging, Knows}
 use Rattle.escrow_check.specs.Trial.{IsReady, TakesEnd, TakesSplit, closed_leaf, closed_point, with_buy, with_gap}
 use Rattle.escrow_check.specs.declared.trial.Trial.{Trial}
 use Rattle.escrow_check.specs.declared.verdict.Reason.{Reason}
-use Rattle.escrow_check.proofs.BuyFacts.{bought-known, gap-known, named-known, unnamed-known}
+use Rattle.escrow_check.proofs.BuyFacts.{bought-known, gap-known}
 use Rattle.escrow_check.proofs.NodeFacts.{end-known, split-known}
 
 -- ---- what a line finds
@@ -130,33 +130,3 @@ knows-leaf case cert (due.Node left trees) leaf old new c takes =
     by_nodes case (with_item cert item.Leaf leaf) new (left - 1) (trees - 1) (left - 1 == 0)
     (end-known case cert old new (node.Closed leaf) (closed_leaf case old leaf) tt c.knows (not_not (is_some old.weak) (is_closed_leaf case old.claim old.walk.ranges leaf)) takes)
 knows-leaf case cert d leaf old new c takes = absurd c.suited
-
-pub knows-named : (case : CaseContents) (cert : Certificate) (d : Due) (count : ℕ) (leaf : Leaf) (old new : Trial) → Comes case cert d (item.Portfolio (Some count)) leaf old →
-    new ≡ record old { named = true } → Knows case (with_item cert (item.Portfolio (Some count)) leaf) (due_after d (item.Portfolio (Some count))) new
-knows-named case cert due.Portfolio count leaf old new c rest =
-    by_buys case (record cert { buys = Some [] }) new count 0 (count == 0) refl (named-known case cert old new c.knows.0 c.knows.1 rest)
-knows-named case cert d count leaf old new c rest = absurd c.suited
-
-pub knows-unnamed : (case : CaseContents) (cert : Certificate) (d : Due) (leaf : Leaf) (old : Trial) → Comes case cert d (item.Portfolio None) leaf old →
-    Knows case (with_item cert (item.Portfolio None) leaf) (due_after d (item.Portfolio None)) old
-knows-unnamed case cert due.Portfolio leaf old c = unnamed-known case cert old c.knows.0 c.knows.1
-knows-unnamed case cert d leaf old c = absurd c.suited
-
-pub knows-nothing : (case : CaseContents) (cert : Certificate) (d : Due) (leaf : Leaf) (old : Trial) → Comes case cert d item.Nothing leaf old →
-    Knows case (with_item cert item.Nothing leaf) (due_after d item.Nothing) old
-knows-nothing case cert d leaf old c = c.knows
-
-pub knows-header : (case : CaseContents) (cert : Certificate) (d : Due) (leaf : Leaf) (old : Trial) → Comes case cert d item.Header leaf old →
-    Knows case (with_item cert item.Header leaf) (due_after d item.Header) old
-knows-header case cert due.Title leaf old c = c.knows
-knows-header case cert d leaf old c = absurd c.suited
-
-pub knows-count : (case : CaseContents) (cert : Certificate) (d : Due) (nodes : ℕ) (leaf : Leaf) (old : Trial) → Comes case cert d (item.Nodes nodes) leaf old →
-    Knows case (with_item cert (item.Nodes nodes) leaf) (due_after d (item.Nodes nodes)) old
-knows-count case cert due.Count nodes leaf old c = by_nodes case cert old nodes 1 (nodes == 0) c.knows
-knows-count case cert d nodes leaf old c = absurd c.suited
-
-pub knows-end : (case : CaseContents) (cert : Certificate) (d : Due) (leaf : Leaf) (old : Trial) → Comes case cert d item.End leaf old →
-    Knows case (with_item cert item.End leaf) (due_after d item.End) old
-knows-end case cert (due.End trees) leaf old c = c.knows
-knows-end case cert d leaf old c = absurd c.suited

@@ -1,7 +1,8 @@
 -- What a verdict on the bytes of a certificate means, proved.
 use Rattle.std.proofs.Common.{◌≡◌, ℕ, List, length, sym}
-use Rattle.bound_certificate.specs.Text.{IsTextOf}
+use Rattle.bound_certificate.specs.Versions.{IsCertificateText}
 use Rattle.bound_certificate.specs.declared.certificate.Certificate.{Certificate}
+use Rattle.bound_certificate.proofs.PackableFacts.{text-packable}
 use Rattle.case_file.specs.Case.{CaseContents, HasTerms}
 use Rattle.offer_book.specs.Book.{IsBook}
 use Rattle.escrow_check.specs.Acceptance.{IsVerdict, judged}
@@ -19,11 +20,11 @@ abbrev pub KeepsLimits : CaseContents → Type 0
 KeepsLimits case = IsBook case.book × HasTerms case
 
 -- a certificate of a text may be judged for it
-pub heard : (case : CaseContents) (bytes : List ℕ) (certificate : Certificate) → KeepsLimits case → IsTextOf (length case.book.needs) certificate bytes → IsHeard case certificate
-heard case bytes certificate keeps text = record { book = keeps.0; terms = keeps.1; written = text.well_formed }
+pub heard : (case : CaseContents) (bytes : List ℕ) (certificate : Certificate) → KeepsLimits case → IsCertificateText (length case.book.needs) certificate bytes → IsHeard case certificate
+heard case bytes certificate keeps text = record { book = keeps.0; terms = keeps.1; written = text-packable (length case.book.needs) certificate bytes text }
 
 -- a reason of the verdict on a text stands against its certificate
-opposes : (case : CaseContents) (bytes : List ℕ) (why : Reason) → KeepsLimits case → (certificate : Certificate) × IsTextOf (length case.book.needs) certificate bytes × (verdict.No why ≡ judged case certificate) → Opposes case bytes why
+opposes : (case : CaseContents) (bytes : List ℕ) (why : Reason) → KeepsLimits case → (certificate : Certificate) × IsCertificateText (length case.book.needs) certificate bytes × (verdict.No why ≡ judged case certificate) → Opposes case bytes why
 opposes case bytes why keeps (certificate, text, is) = record {
   certificate = certificate;
   is_certificate = text;

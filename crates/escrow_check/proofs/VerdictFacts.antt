@@ -14,7 +14,7 @@ use Rattle.fixed_powers.specs.declared.side.Side.TheVariants.{Low}
 use Rattle.yield_enclosure.specs.YieldAnswers.{answer_of_covered, is_within, is_worth, lower_end, upper_end, yield_answer_of}
 use Rattle.yield_enclosure.specs.declared.answer.YieldAnswer.TheVariants.{Empty, Negative, Between, Above}
 use Rattle.yield_enclosure.proofs.EndFacts.{ends_are, last_index-le, lower_end-is, upper_end-is}
-use Rattle.bound_certificate.specs.Certificate.{AreBuys, IsPortfolio}
+use Rattle.bound_certificate.specs.Packed.{ArePackedBuys, IsPackedPortfolio}
 use Rattle.bound_certificate.specs.declared.certificate.Buy.{Buy}
 use Rattle.bound_certificate.specs.declared.certificate.Certificate.{Certificate}
 use Rattle.case_file.specs.Case.{CaseContents}
@@ -165,8 +165,8 @@ unopposed case cert buys named none =
 within-gap : (whole gap other : ℕ) → (pos whole -ℤ pos gap) ≤ℤ pos other → whole ≤ other + gap
 within-gap whole gap other borne = omega (arith, ints)
 
-pub well_bought : (case : CaseContents) (cert : Certificate) (buys : List Buy) → IsHeard case cert → cert.buys ≡ Some buys → AreBuys buys
-well_bought case cert buys heard named = (subst (λ found. IsPortfolio found cert.gap) named heard.written.portfolio).0
+pub well_bought : (case : CaseContents) (cert : Certificate) (buys : List Buy) → IsHeard case cert → cert.buys ≡ Some buys → ArePackedBuys buys
+well_bought case cert buys heard named = (subst (λ found. IsPackedPortfolio found cert.gap) named heard.written.portfolio).0
 
 -- the right portfolio, by its purchases
 right : (case : CaseContents) (cert : Certificate) (buys : List Buy) → IsHeard case cert → cert.buys ≡ Some buys → IsUnopposed case cert buys → IsRightPortfolio case cert (portfolio_of case buys cert.gap)
@@ -180,7 +180,7 @@ right case cert buys heard named sound =
     ap (λ asked. position (is_weak case asked) (placed_nodes case.book cert.nodes)) (sym claim) ∙ sound.tree.closed in
     let saves : NoRivalSaves case.limit cert.gap case.book plan = λ rival is.
     within-gap (cost case.book plan) cert.gap (cost case.book rival)
-    (rival-bears_out case (Some (pos (cost case.book plan) -ℤ pos cert.gap)) cert.nodes heard.book heard.written.tree heard.written.nodes sound.tree.good closed rival is) in
+    (rival-bears_out case (Some (pos (cost case.book plan) -ℤ pos cert.gap)) cert.nodes heard.book heard.written.tree heard.written.nodes_are sound.tree.good closed rival is) in
     record {
       buys = buys;
       named = named;
@@ -197,7 +197,7 @@ right case cert buys heard named sound =
       };
       priced = λ priced other is_permitted is_met.
           within-gap (cost case.book plan) cert.gap (cost case.book other)
-          (priced-bears_out case (Some (pos (cost case.book plan) -ℤ pos cert.gap)) cert.nodes heard.book heard.written.tree heard.written.nodes priced sound.tree.good closed other is_permitted is_met);
+          (priced-bears_out case (Some (pos (cost case.book plan) -ℤ pos cert.gap)) cert.nodes heard.book heard.written.tree heard.written.nodes_are priced sound.tree.good closed other is_permitted is_met);
     }
 
 pub yes_is_right : YesIsRight
@@ -224,5 +224,5 @@ yes_none_is_right case cert heard said rival is =
     let told = none-told case cert said in
     let tree = sound_tree case cert (ap (reason_by case cert) (sym told.1) ∙ told.0) in
     let claim : claim_of case.book cert ≡ None = ap (option_map (λ (b : List Buy). pos (cost case.book (plan_of case.book b)) -ℤ pos cert.gap)) told.1 in
-    rival-bears_out case None cert.nodes heard.book heard.written.tree heard.written.nodes tree.good
+    rival-bears_out case None cert.nodes heard.book heard.written.tree heard.written.nodes_are tree.good
     (ap (λ asked. position (is_weak case asked) (placed_nodes case.book cert.nodes)) (sym claim) ∙ tree.closed) rival is

@@ -5,8 +5,7 @@ use Rattle.std.specs.List.{find, fold, position}
 use Rattle.std.specs.Option.{option_or}
 use Rattle.bound_certificate.specs.declared.certificate.Buy.{Buy}
 use Rattle.bound_certificate.specs.declared.certificate.Certificate.{Certificate}
-use Rattle.bound_certificate.specs.Faults.{text_fault}
-use Rattle.bound_certificate.specs.Text.{IsTextOf}
+use Rattle.bound_certificate.specs.Versions.{IsCertificateText, certificate_fault}
 use Rattle.case_file.specs.Case.{CaseContents}
 use Rattle.cash_table.specs.First.{first_short_of}
 use Rattle.cash_table.specs.Points.{is_excluded, is_within_limit, plan_yield}
@@ -155,5 +154,5 @@ judged case cert = verdict_by case cert (reason_of case cert)
 -- the verdict on bytes: the first fault of a text that isn't that of a certificate; and else that on the certificate whose text
 -- they are
 abbrev pub IsVerdict : CaseContents → List ℕ → Verdict → Type 0
-IsVerdict case bytes (verdict.No (reason.Grammar fault)) = text_fault (length case.book.needs) bytes ≡ Some fault
-IsVerdict case bytes told = (cert : Certificate) × IsTextOf (length case.book.needs) cert bytes × (told ≡ judged case cert)
+IsVerdict case bytes (verdict.No (reason.Grammar fault)) = certificate_fault (length case.book.needs) bytes ≡ Some fault
+IsVerdict case bytes told = (cert : Certificate) × IsCertificateText (length case.book.needs) cert bytes × (told ≡ judged case cert)

@@ -4,7 +4,7 @@ use Rattle.escrow_units.specs.Flows.{indexed}
 use Rattle.escrow_units.specs.PresentValue.{IndexedFlow, YieldLiesIn}
 use Rattle.yield_enclosure.specs.declared.answer.YieldAnswer.{YieldAnswer}
 use Rattle.yield_enclosure.specs.declared.answer.YieldAnswer.TheVariants.{Empty, Negative, Between, Above}
-use Rattle.bound_certificate.specs.Certificate.{IsWellFormed}
+use Rattle.bound_certificate.specs.Packed.{IsPackable}
 use Rattle.bound_certificate.specs.declared.certificate.Buy.{Buy}
 use Rattle.bound_certificate.specs.declared.certificate.Certificate.{Certificate}
 use Rattle.case_file.specs.Case.{CaseContents, HasTerms}
@@ -70,7 +70,7 @@ pub record IsRight (case : CaseContents) (plan : List ℕ) (gap : ℕ) : Type 0 
 pub record IsHeard (case : CaseContents) (cert : Certificate) : Type 0 where
   pub book : IsBook case.book
   pub terms : HasTerms case
-  pub written : IsWellFormed (length case.book.needs) cert
+  pub written : IsPackable (length case.book.needs) cert
 
 -- a yes with a portfolio: it is what the certificate buys, and right, with the certificate's gap
 pub record IsRightPortfolio (case : CaseContents) (cert : Certificate) (portfolio : Portfolio) : Type 0 where

@@ -1,7 +1,7 @@
 -- The verdict on bytes, computed.
 use Rattle.std.specs.Prelude.{◌≡◌, ℕ, ◌≤◌, List, length, Option, Some, None}
-use Rattle.bound_certificate.specs.Draft.{certificate_in}
-use Rattle.bound_certificate.specs.Faults.{text_fault}
+use Rattle.bound_certificate.specs.Told.{certificate_told, told_in}
+use Rattle.bound_certificate.specs.Versions.{certificate_fault}
 use Rattle.bound_certificate.specs.declared.fault.CertFault.{CertFault}
 use Rattle.bound_certificate.specs.declared.limits.TheConstants.{MOST_DATES}
 use Rattle.case_file.specs.Case.{CaseContents}
@@ -13,10 +13,10 @@ use Rattle.escrow_check.specs.declared.verdict.Verdict.TheVariants as verdict
 -- by the first fault of a text, or else by the certificate that its lines say
 abbrev pub verdict_by_fault : CaseContents → List ℕ → Option CertFault → Verdict
 verdict_by_fault case bytes (Some fault) = verdict.No (reason.Grammar fault)
-verdict_by_fault case bytes None = judged case (certificate_in bytes)
+verdict_by_fault case bytes None = judged case (certificate_told (told_in (length case.book.needs) bytes))
 
 unfoldable pub verdict_of : CaseContents → List ℕ → Verdict
-verdict_of case bytes = verdict_by_fault case bytes (text_fault (length case.book.needs) bytes)
+verdict_of case bytes = verdict_by_fault case bytes (certificate_fault (length case.book.needs) bytes)
 
 -- it is the verdict on the bytes, and there is no other
 abbrev pub BytesHaveVerdict : Type 0

@@ -13,8 +13,8 @@ use escrow_desk::NoMemory;
 use std::alloc::Global;
 use std::marker::Model;
 
-/// A checker of a certificate for a case, in pieces. Contracts see the case, what was heard of the certificate, and whether
-/// memory ran out.
+/// A checker of a certificate of either version for a case, in pieces. Contracts see the case, what was heard of the certificate,
+/// and whether memory ran out.
 #[derive(Drop)]
 pub struct Checker<'a> {
     case: &'a Case,

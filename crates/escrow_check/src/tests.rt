@@ -301,3 +301,34 @@ fn certificates_are_judged(rt: HostRuntime) -> Result<(), Fail> {
     ];
     are_told(&rt, rt.alloc(), &rows)
 }
+
+#[test]
+fn packed_certificates_are_judged(rt: HostRuntime) -> Result<(), Fail> {
+    let rows = [
+        of_zero(
+            b"escrow-certificate 2\nportfolio 1\nbuy 1 50\ngap 0\nvectors 1\nv 1000000000000\nnodes 1\nl 1 0 1\nend\n",
+            yes(500_000, 0, 0, 0),
+        ),
+        of_zero(
+            b"escrow-certificate 2\nportfolio 1\nbuy 1 50\ngap 0\nvectors 1\nv 0\nnodes 1\nl 1 0 1 1 1000000000000\nend\n",
+            yes(500_000, 0, 0, 0),
+        ),
+        of_zero(
+            b"escrow-certificate 2\nportfolio 1\nbuy 1 50\ngap 0\nvectors 1\nv 0\nnodes 1\nl 1 0 1\nend\n",
+            Told::No(Reason::WeakLeaf(1)),
+        ),
+        of_zero(
+            b"escrow-certificate 2\nportfolio 1\nbuy 1 50\ngap 0\nvectors 1\nv 1000000000000\nnodes 1\nl 1 0 2\nend\n",
+            fault(8, FaultKind::Number),
+        ),
+        of_zero(
+            b"escrow-certificate 2\nportfolio 1\nbuy 1 50\ngap 0\nvectors 1\nv 1000000000000\nnodes 1\nl 1 0 1 1 1000000000000\nend\n",
+            fault(8, FaultKind::Number),
+        ),
+        of_zero(
+            b"escrow-certificate 2\nportfolio 1\nbuy 1 50\ngap 0\nvectors 1\nv 1000000000000\nnodes 1\nl 1 0 1 1\nend\n",
+            fault(8, FaultKind::Count),
+        ),
+    ];
+    are_told(&rt, rt.alloc(), &rows)
+}

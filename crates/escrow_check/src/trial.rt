@@ -258,7 +258,13 @@ impl<'a> Trial<'a> {
             Item::Split { line, at } => self.take_split(case, line, at),
             Item::Point => self.take_point(case),
             Item::Leaf => self.take_leaf(case, leaf),
-            Item::Nothing | Item::Header | Item::Portfolio(None) | Item::Nodes(_) | Item::End => {}
+            Item::Nothing
+            | Item::Header
+            | Item::Portfolio(None)
+            | Item::Vectors(_)
+            | Item::Vector
+            | Item::Nodes(_)
+            | Item::End => {}
         }
         Ok(())
     }
