@@ -5,7 +5,7 @@ use Rattle.escrow_desk.specs.declared.limits.TheConstants.{CERTIFICATE_LIMIT}
 use Rattle.escrow_desk.specs.declared.refusal.FileKind.TheVariants as file
 use Rattle.escrow_desk.specs.declared.refusal.RefusalKind.TheVariants as kind
 use Rattle.row_fields.specs.RowForm.{refusal_of}
-use Rattle.bound_certificate.specs.Text.{IsTextOf}
+use Rattle.bound_certificate.specs.Versions.{IsCertificateText}
 use Rattle.bound_certificate.specs.declared.certificate.Buy.{Buy}
 use Rattle.bound_certificate.specs.declared.certificate.Certificate.{Certificate}
 use Rattle.bound_certificate.specs.declared.limits.TheConstants.{MOST_DATES}
@@ -101,7 +101,7 @@ IsTakenAs case certificate (verdict.No why) = ⊥
 -- the bytes are a text that is accepted, by a verdict
 record IsTaken (case : CaseContents) (cert : List ℕ) (told : Verdict) : Type 0 where
   certificate : Certificate
-  is_certificate : IsTextOf (length case.book.needs) certificate cert
+  is_certificate : IsCertificateText (length case.book.needs) certificate cert
   none : reason_of case certificate ≡ None
   means : IsTakenAs case certificate told
 
@@ -320,7 +320,7 @@ under-test : (a b : ℕ) → a ≤ b → nat_lt b a ≡ false
 under-test a b h = grind (arith, nat_tests)
 
 -- a yes is the verdict on the text of the certificate
-yes-is : (case : CaseContents) (cert : List ℕ) (certificate : Certificate) → IsTextOf (length case.book.needs) certificate cert → reason_of case certificate ≡ None
+yes-is : (case : CaseContents) (cert : List ℕ) (certificate : Certificate) → IsCertificateText (length case.book.needs) certificate cert → reason_of case certificate ≡ None
     → (buys : Option (List Buy)) → certificate.buys ≡ buys → IsVerdict case cert (yes_of case buys certificate.gap)
 yes-is case cert certificate text none None named = (certificate, text, by-none)
   where

@@ -1,9 +1,11 @@
 -- What `cap` puts out, proved.
-use Rattle.std.proofs.Common.{◌≡◌, ◌∙◌, ℕ, List, Option, Some, None, Ok, Err, refl, subst, sym, ap, inl, inr, arith}
+use Rattle.std.proofs.Common.{◌≡◌, ◌∙◌, ℕ, List, length, Option, Some, None, Ok, Err, refl, subst, sym, ap, inl, inr, arith}
 use Rattle.std.specs.Prelude.{IsSomeAnd, Result}
 use Rattle.escrow_desk.specs.Content.{Content, SaidPart, Told, with_said}
 use Rattle.escrow_desk.specs.declared.refusal.Refusal.{Refusal}
 use Rattle.escrow_units.specs.declared.amount.Rate.{Rate}
+use Rattle.bound_certificate.proofs.PackableFacts.{packable-of}
+use Rattle.bound_certificate.specs.Versions.{IsPackedFormOf}
 use Rattle.branch_search.specs.Accepted.{FoundAreAccepted, NoneFoundAreAccepted, portfolio_with}
 use Rattle.branch_search.specs.Plain.{PlainAreSettled}
 use Rattle.branch_search.specs.Purchases.{certificate_of, certificate_of_none}
@@ -29,7 +31,7 @@ use Rattle.rate_cap.specs.Search.{zero_cap}
 use Rattle.verification_report.specs.Report.{figures_of}
 use Rattle.escrow_top.proofs.CapFacts.{book-at, terms-at}
 use Rattle.escrow_top.specs.Answer.{Answer, case_of, certificate_answer, yes_text}
-use Rattle.escrow_top.specs.Capping.{AreCapTexts, Caps, CapsPart, HasObstacle, IsCapDraft, IsCapDraftFor, IsCapDraftOf, IsCapEnded, IsCapPartPut, IsCapPut, IsNextKnown, IsObstacle, IsUncapped, Obstructs, PutsOutCap, PutsOutCapPart, cap_certificate, cap_text, cap_words, obstacle_answer, uncapped}
+use Rattle.escrow_top.specs.Capping.{AreCapTexts, Caps, CapsPart, HasObstacle, IsCapCertificate, IsCapDraft, IsCapDraftFor, IsCapDraftOf, IsCapEnded, IsCapPartPut, IsCapPut, IsNextKnown, IsObstacle, IsUncapped, Obstructs, PutsOutCap, PutsOutCapPart, cap_text, cap_words, obstacle_answer, uncapped}
 use Rattle.escrow_top.specs.Accepted.{HasPortfolio}
 use Rattle.escrow_top.specs.Capped.{Capped, HasNoCap, IsCappedDraft, IsCappedFor, SaysNoCap, WroteCapped}
 use Rattle.escrow_top.specs.CaseOf.{AreWithin, GiveCase}
@@ -62,7 +64,8 @@ pub record AreSearchLaws : Type 0 where
 no_rivals : NoneFoundAreAccepted → (case : CaseContents) (nodes : List TreeNode) → IsBook case.book → HasTerms case → IsNoneFound case nodes
     → (rival : List ℕ) → ¬ IsRival case.limit case.book rival
 no_rivals law case nodes book terms is =
-    yes_none_is_right case (certificate_of_none nodes) (record { book = book; terms = terms; written = is.well_formed }) (law case nodes book terms is)
+    let writable = packable-of (length case.book.needs) (certificate_of_none nodes) is.well_formed in
+    yes_none_is_right case (certificate_of_none nodes) (record { book = book; terms = terms; written = writable }) (law case nodes book terms is)
 
 obstructs : AreSearchLaws → (case : CaseContents) (own : Obstacle) → IsBook case.book → HasTerms case → IsInTheWay case own → Obstructs case own
 obstructs laws case (obstacle.Short day) book terms is = short_from case day book is
@@ -98,7 +101,7 @@ next_known laws case top cap (Some unfound) book terms is = record {
 
 -- ---- what is put out for a case
 pub cap_texts : AreSearchLaws → (case : CaseContents) (top : Rate) (greatest : GreatestCap) (cert said : List ℕ) → IsBook case.book → HasTerms case
-    → IsTopOf (slgs_rates case.book.lines) top → IsGreatestCap case top greatest → cert ≡ cap_certificate greatest → said ≡ cap_text greatest
+    → IsTopOf (slgs_rates case.book.lines) top → IsGreatestCap case top greatest → IsCapCertificate greatest cert → said ≡ cap_text greatest
     → certificate_answer (case_view greatest.escrow.case) cert ≡ accepted_with (case_view greatest.escrow.case) greatest.escrow.found.plan greatest.escrow.found.gap
     → AreCapTexts case cert said
 cap_texts laws case top greatest cert said book terms is_top is is_cert is_said accepted = record {
@@ -133,7 +136,8 @@ is_uncapped laws one case top zero answer book terms is_top is said = record {
 has_portfolio : FoundAreAccepted → (case : CaseContents) (plan : List ℕ) (nodes : List TreeNode) (gap : ℕ) → IsBook case.book → HasTerms case → IsFound case plan nodes gap
     → HasPortfolio case (certificate_of plan nodes gap) (yes_text case (portfolio_with case plan gap))
 has_portfolio law case plan nodes gap book terms found =
-    let right = yes_is_right case (certificate_of plan nodes gap) (portfolio_with case plan gap) (record { book = book; terms = terms; written = found.well_formed })
+    let writable = packable-of (length case.book.needs) (certificate_of plan nodes gap) found.well_formed in
+    let right = yes_is_right case (certificate_of plan nodes gap) (portfolio_with case plan gap) (record { book = book; terms = terms; written = writable })
     (law case plan nodes gap book terms found) in
     record {
       portfolio = portfolio_with case plan gap;
@@ -149,7 +153,7 @@ capped_texts law one files case cert said gives book terms is = record {
   case = case;
   gives = gives;
   certificate = certificate_of found.plan found.tree found.gap;
-  is_certificate = record { well_formed = at.well_formed; text = is.is_cert };
+  is_certificate = inr (subst (λ (other : CaseContents). IsPackedFormOf (length other.book.needs) (certificate_of found.plan found.tree found.gap) cert) same is.is_cert);
   right = record {
     top = is.top;
     is_top = is.is_top;

@@ -14,5 +14,4 @@ pub mod HearingFacts
 pub mod StructureLaws
 pub mod CappingLaws
 pub mod MakingLaws
-pub mod CertificateSize
 pub mod YieldFacts

@@ -30,7 +30,8 @@ made_of number case plan nodes gap answer book terms found found_by is = record 
   gap = gap;
   found = found;
   found_by = found_by;
-  accepted = text_accepted case plan nodes gap (text_of (certificate_of plan nodes gap)) found_are_accepted book terms found refl;
+  accepted = text_accepted case plan nodes gap (text_of (certificate_of plan nodes gap)) found_are_accepted book terms found
+      (inl (record { well_formed = found.well_formed; text = refl }));
   is_answer = is;
 }
 
@@ -38,7 +39,8 @@ pub made_none : (case : CaseContents) (nodes : List TreeNode) (answer : Answer) 
 made_none case nodes answer book terms none is = record {
   nodes = nodes;
   none = none;
-  accepted = none_accepted case nodes (text_of (certificate_of_none nodes)) none_found_are_accepted book terms none refl;
+  accepted = none_accepted case nodes (text_of (certificate_of_none nodes)) none_found_are_accepted book terms none
+      (inl (record { well_formed = none.well_formed; text = refl }));
   is_answer = is;
 }
 

@@ -5,7 +5,7 @@ use Rattle.std.proofs.lemmas.Bool.{le-ltb}
 use Rattle.escrow_desk.specs.Content.{Content, SaidPart, Told, WrotePart, with_said}
 use Rattle.escrow_desk.proofs.FilesFacts.{get_inserted}
 use Rattle.escrow_desk.specs.declared.limits.TheConstants.{CERTIFICATE_LIMIT}
-use Rattle.bound_certificate.specs.Text.{text_of}
+use Rattle.bound_certificate.specs.Versions.{IsCertificateText}
 use Rattle.branch_search.specs.Accepted.{FoundAreAccepted, NoneFoundAreAccepted, portfolio_with}
 use Rattle.branch_search.specs.Purchases.{certificate_of, certificate_of_none}
 use Rattle.branch_search.specs.Search.{EndsOf, IsFound, IsNoneFound, IsSpent}
@@ -33,7 +33,7 @@ use Rattle.escrow_top.proofs.AcceptedLaws.{searched_text}
 use Rattle.escrow_top.proofs.InputFacts.{read-all}
 use Rattle.escrow_top.specs.CaseOf.{AreWithin}
 use Rattle.escrow_top.specs.Reading.{AreRead}
-use Rattle.escrow_top.proofs.CertificateSize.{text_fits}
+use Rattle.bound_certificate.proofs.PackedSize.{certificate_fits}
 use Rattle.escrow_top.specs.declared.draft.Draft.{Draft}
 use Rattle.escrow_top.specs.declared.draft.Draft.TheVariants as draft
 use Rattle.escrow_top.specs.declared.draft.Telling.{Telling}
@@ -58,24 +58,24 @@ unfound_undone s is done = let none : is_unfound status.Done ≡ true = subst (�
 
 -- `check` accepts the text of the certificate of what was found
 portfolio_accepted : (case : CaseContents) (plan : List ℕ) (nodes : List TreeNode) (gap : ℕ) (cert : List ℕ) → FoundAreAccepted → IsBook case.book → HasTerms case → IsFound case plan nodes gap
-    → cert ≡ text_of (certificate_of plan nodes gap) → verdict.Yes (portfolio_with case plan gap) ≡ verdict_of case cert
+    → IsCertificateText (length case.book.needs) (certificate_of plan nodes gap) cert → verdict.Yes (portfolio_with case plan gap) ≡ verdict_of case cert
 portfolio_accepted case plan nodes gap cert law book terms found is =
     one_verdict case cert (verdict.Yes (portfolio_with case plan gap)) (omega (arith, book.needs.few))
-    (certificate_of plan nodes gap, record { well_formed = found.well_formed; text = is }, sym (law case plan nodes gap book terms found))
+    (certificate_of plan nodes gap, is, sym (law case plan nodes gap book terms found))
 
 pub text_accepted : (case : CaseContents) (plan : List ℕ) (nodes : List TreeNode) (gap : ℕ) (cert : List ℕ) → FoundAreAccepted → IsBook case.book → HasTerms case → IsFound case plan nodes gap
-    → cert ≡ text_of (certificate_of plan nodes gap) → certificate_answer case cert ≡ accepted_with case plan gap
+    → IsCertificateText (length case.book.needs) (certificate_of plan nodes gap) cert → certificate_answer case cert ≡ accepted_with case plan gap
 text_accepted case plan nodes gap cert law book terms found is =
-    let fits : length cert ≤ CERTIFICATE_LIMIT = omega (arith, ap length is, text_fits (length case.book.needs) (certificate_of plan nodes gap) (omega (arith, book.needs.few)) found.well_formed) in
+    let fits : length cert ≤ CERTIFICATE_LIMIT = certificate_fits (length case.book.needs) (certificate_of plan nodes gap) cert (omega (arith, book.needs.few)) is in
     rw (le-ltb CERTIFICATE_LIMIT (length cert) fits, ← (portfolio_accepted case plan nodes gap cert law book terms found is)) refl
 
 -- and that of a tree which shows that there is no rival
-pub none_accepted : (case : CaseContents) (nodes : List TreeNode) (cert : List ℕ) → NoneFoundAreAccepted → IsBook case.book → HasTerms case → IsNoneFound case nodes → cert ≡ text_of (certificate_of_none nodes)
-    → certificate_answer case cert ≡ accepted_none
+pub none_accepted : (case : CaseContents) (nodes : List TreeNode) (cert : List ℕ) → NoneFoundAreAccepted → IsBook case.book → HasTerms case → IsNoneFound case nodes
+    → IsCertificateText (length case.book.needs) (certificate_of_none nodes) cert → certificate_answer case cert ≡ accepted_none
 none_accepted case nodes cert law book terms found is =
-    let fits : length cert ≤ CERTIFICATE_LIMIT = omega (arith, ap length is, text_fits (length case.book.needs) (certificate_of_none nodes) (omega (arith, book.needs.few)) found.well_formed) in
+    let fits : length cert ≤ CERTIFICATE_LIMIT = certificate_fits (length case.book.needs) (certificate_of_none nodes) cert (omega (arith, book.needs.few)) is in
     let told : verdict.YesNone ≡ verdict_of case cert = one_verdict case cert verdict.YesNone (omega (arith, book.needs.few))
-    (certificate_of_none nodes, record { well_formed = found.well_formed; text = is }, sym (law case nodes book terms found)) in
+    (certificate_of_none nodes, is, sym (law case nodes book terms found)) in
     rw (le-ltb CERTIFICATE_LIMIT (length cert) fits, ← told) refl
 
 -- the certificate that was written is accepted

@@ -6,7 +6,7 @@ use Rattle.yield_enclosure.specs.declared.answer.YieldAnswer.TheVariants.{Betwee
 use Rattle.offer_book.specs.Book.{AreWithoutInterest}
 use Rattle.offer_book.specs.Portfolio.{security_cost}
 use Rattle.offer_book.specs.Rival.{IsRival}
-use Rattle.bound_certificate.specs.Text.{IsTextOf}
+use Rattle.bound_certificate.specs.Versions.{IsCertificateText}
 use Rattle.bound_certificate.specs.declared.certificate.Certificate.{Certificate}
 use Rattle.case_file.specs.Case.{CaseContents}
 use Rattle.escrow_check.specs.Meaning.{IsRightPortfolio}
@@ -44,13 +44,13 @@ pub record Accepted (files : InputFiles) (cert text : List ℕ) : Type 0 where
   pub case : CaseContents
   pub gives : GiveCase files case
   pub certificate : Certificate
-  pub is_certificate : IsTextOf (length case.book.needs) certificate cert
+  pub is_certificate : IsCertificateText (length case.book.needs) certificate cert
   pub right : HasPortfolio case certificate text ⊎ HasNoRival case certificate text
 
 -- bytes are the text of a certificate against which no reason stands
 pub record HasNoReason (case : CaseContents) (cert : List ℕ) : Type 0 where
   pub certificate : Certificate
-  pub is_certificate : IsTextOf (length case.book.needs) certificate cert
+  pub is_certificate : IsCertificateText (length case.book.needs) certificate cert
   pub unopposed : IsUnopposed case certificate
 
 -- of bytes that give the case by which a certificate is judged, and a certificate within its limit, `Done` is answered where, and only

@@ -1,7 +1,7 @@
 -- What `check-cap` means by its answers.
 use Rattle.std.specs.Prelude.{◌≡◌, ◌⊎◌, ℕ, List, length}
 use Rattle.escrow_units.specs.declared.amount.Rate.{Rate}
-use Rattle.bound_certificate.specs.Text.{IsTextOf}
+use Rattle.bound_certificate.specs.Versions.{IsCertificateText}
 use Rattle.bound_certificate.specs.declared.certificate.Certificate.{Certificate}
 use Rattle.case_file.specs.Case.{CaseContents}
 use Rattle.escrow_check.specs.TextMeaning.{StandsAgainst}
@@ -23,7 +23,7 @@ pub record AcceptedAt (cap : Rate) (files : InputFiles) (cert text : List ℕ) :
   pub case : CaseContents
   pub gives : GiveCaseAt cap files case
   pub certificate : Certificate
-  pub is_certificate : IsTextOf (length case.book.needs) certificate cert
+  pub is_certificate : IsCertificateText (length case.book.needs) certificate cert
   pub right : HasPortfolio case certificate text ⊎ HasNoRival case certificate text
 
 -- what `no` means, of the case at a cap

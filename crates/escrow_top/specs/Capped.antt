@@ -2,7 +2,7 @@
 use Rattle.std.specs.Prelude.{◌≡◌, ◌≢◌, ℕ, ◌<◌, List, length, Option, Some, None}
 use Rattle.escrow_desk.specs.Content.{Content, Told, with_file, with_said}
 use Rattle.escrow_units.specs.declared.amount.Rate.{Rate}
-use Rattle.bound_certificate.specs.Text.{IsTextOf}
+use Rattle.bound_certificate.specs.Versions.{IsCertificateText}
 use Rattle.bound_certificate.specs.declared.certificate.Certificate.{Certificate}
 use Rattle.cap_finder.specs.declared.ends.Obstacle.{Obstacle}
 use Rattle.cap_finder.specs.declared.ends.Unfound.{Unfound}
@@ -50,7 +50,7 @@ pub record Capped (files : InputFiles) (cert text : List ℕ) : Type 0 where
   pub case : CaseContents
   pub gives : GiveCase files case
   pub certificate : Certificate
-  pub is_certificate : IsTextOf (length case.book.needs) certificate cert
+  pub is_certificate : IsCertificateText (length case.book.needs) certificate cert
   pub right : HasCap case certificate text
 
 -- so is what is about to be written and said, for the input files

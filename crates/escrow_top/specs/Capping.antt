@@ -1,11 +1,11 @@
 -- What `cap` comes to. The common cap and the texts are this project's own.
-use Rattle.std.specs.Prelude.{◌≡◌, ◌≢◌, ◌⊎◌, ℕ, ◌+◌, ◌<◌, List, [], ◌++◌, codes, Option, Some, None, Result, Ok, Err, IsSomeAnd, IsTrue}
+use Rattle.std.specs.Prelude.{◌≡◌, ◌≢◌, ◌⊎◌, ℕ, ◌+◌, ◌<◌, List, [], ◌++◌, codes, length, Option, Some, None, Result, Ok, Err, IsSomeAnd, IsTrue}
 use Rattle.escrow_desk.specs.Content.{Content, Told, with_file, with_said, SaidAll, SaidPart, WrotePart}
 use Rattle.escrow_desk.specs.declared.refusal.Refusal.{Refusal}
 use Rattle.escrow_units.specs.DateText.{day_text}
 use Rattle.escrow_units.specs.Digits.{fixed}
 use Rattle.escrow_units.specs.declared.amount.Rate.{Rate}
-use Rattle.bound_certificate.specs.Text.{text_of}
+use Rattle.bound_certificate.specs.Versions.{IsPackedFormOf}
 use Rattle.branch_search.specs.Plain.{IsPlainWithin}
 use Rattle.branch_search.specs.Purchases.{certificate_of}
 use Rattle.branch_search.specs.Search.{IsNoneFound, IsSpent}
@@ -53,9 +53,11 @@ abbrev pub cap_text : GreatestCap → List ℕ
 cap_text greatest =
     cap_words greatest.escrow.cap (figures_of (case_view greatest.escrow.case) greatest.escrow.found.plan greatest.escrow.found.gap) greatest.next
 
--- the text of the certificate of that escrow
-abbrev pub cap_certificate : GreatestCap → List ℕ
-cap_certificate greatest = text_of (certificate_of greatest.escrow.found.plan greatest.escrow.found.tree greatest.escrow.found.gap)
+-- bytes are a text of the certificate of that escrow, whose leaves share their prices
+abbrev pub IsCapCertificate : GreatestCap → List ℕ → Type 0
+IsCapCertificate greatest cert =
+    IsPackedFormOf (length (case_view greatest.escrow.case).book.needs)
+    (certificate_of greatest.escrow.found.plan greatest.escrow.found.tree greatest.escrow.found.gap) cert
 
 -- why no escrow was found for a case, as `structure` says it
 abbrev pub obstacle_answer : CaseContents → Obstacle → Answer
@@ -110,7 +112,7 @@ pub record AreCapTexts (case : CaseContents) (cert said : List ℕ) : Type 0 whe
   pub escrow : IsCappedEscrow case greatest.escrow
   pub next : IsNextKnown case top greatest.escrow.cap greatest.next
   pub above : greatest.escrow.cap.0 < top.0 → HasObstacle case
-  pub is_cert : cert ≡ cap_certificate greatest
+  pub is_cert : IsCapCertificate greatest cert
   pub is_said : said ≡ cap_text greatest
   pub accepted : certificate_answer (case_view greatest.escrow.case) cert ≡ accepted_with (case_view greatest.escrow.case) greatest.escrow.found.plan greatest.escrow.found.gap
 

@@ -3,7 +3,7 @@ use Rattle.std.specs.Prelude.{◌≡◌, ◌⊎◌, ℕ, ◌+◌, ◌≤◌, Lis
 use Rattle.escrow_desk.specs.Rows.{rows_of}
 use Rattle.escrow_desk.specs.declared.limits.TheConstants.{CERTIFICATE_LIMIT}
 use Rattle.escrow_units.specs.declared.security.Flow.{Flow}
-use Rattle.bound_certificate.specs.Text.{IsTextOf}
+use Rattle.bound_certificate.specs.Versions.{IsCertificateText}
 use Rattle.bound_certificate.specs.declared.certificate.Certificate.{Certificate}
 use Rattle.case_file.specs.Case.{CaseContents}
 use Rattle.escrow_check.specs.TextMeaning.{StandsAgainst}
@@ -43,7 +43,7 @@ pub record AcceptedHolding (holdings : List ℕ) (files : InputFiles) (cert text
   pub kept : CaseContents
   pub gives : GiveCaseHolding files holdings kept
   pub certificate : Certificate
-  pub is_certificate : IsTextOf (length kept.book.needs) certificate cert
+  pub is_certificate : IsCertificateText (length kept.book.needs) certificate cert
   pub right : HasPortfolioHolding gives.case gives.held kept certificate text ⊎ HasNoHeldRival gives.case gives.held kept certificate text
 
 -- what `no` means, of the case beside holdings

@@ -1,6 +1,6 @@
 -- What `savings` means by an answer to an accepted certificate.
 use Rattle.std.specs.Prelude.{◌≡◌, ◌⊎◌, ℕ, List, length}
-use Rattle.bound_certificate.specs.Text.{IsTextOf}
+use Rattle.bound_certificate.specs.Versions.{IsCertificateText}
 use Rattle.bound_certificate.specs.declared.certificate.Certificate.{Certificate}
 use Rattle.case_file.specs.Case.{CaseContents}
 use Rattle.issue_schedule.specs.declared.issue.Issue.{Issue}
@@ -24,5 +24,5 @@ pub record Saved (files : InputFiles) (cert text : List ℕ) : Type 0 where
   pub case : CaseContents
   pub gives : GiveCase files case
   pub certificate : Certificate
-  pub is_certificate : IsTextOf (length case.book.needs) certificate cert
+  pub is_certificate : IsCertificateText (length case.book.needs) certificate cert
   pub right : HasSavings gives.read.issue case certificate text ⊎ HasNoRival case certificate text

@@ -3,7 +3,7 @@ use Rattle.std.specs.Prelude.{◌≡◌, ◌⊎◌, ℕ, List, [], ◌++◌, cod
 use Rattle.escrow_desk.specs.Content.{Content, Told, file_of, told_map, with_file, with_said, SaidAll, SaidPart, WrotePart}
 use Rattle.escrow_desk.specs.declared.refusal.Refusal.{Refusal}
 use Rattle.escrow_units.specs.DateText.{day_text}
-use Rattle.bound_certificate.specs.Text.{text_of}
+use Rattle.bound_certificate.specs.Versions.{IsPackedFormOf}
 use Rattle.branch_search.specs.Plain.{IsPlainWithin}
 use Rattle.branch_search.specs.Purchases.{certificate_of, certificate_of_none}
 use Rattle.branch_search.specs.Search.{IsFound, IsFoundBy, IsNoneFound, IsSpent}
@@ -78,7 +78,7 @@ pub record AreTexts (tells : Telling) (case : CaseContents) (cert said : List �
   pub gap : ℕ
   pub found : IsFound case plan nodes gap
   pub found_by : IsFoundBy case plan nodes
-  pub is_cert : cert ≡ text_of (certificate_of plan nodes gap)
+  pub is_cert : IsPackedFormOf (length case.book.needs) (certificate_of plan nodes gap) cert
   pub is_said : said ≡ told_text tells case plan gap
   pub accepted : certificate_answer case cert ≡ accepted_with case plan gap
 
@@ -86,7 +86,7 @@ pub record AreTexts (tells : Telling) (case : CaseContents) (cert said : List �
 pub record AreNoneTexts (case : CaseContents) (cert said : List ℕ) : Type 0 where
   pub nodes : List TreeNode
   pub none : IsNoneFound case nodes
-  pub is_cert : cert ≡ text_of (certificate_of_none nodes)
+  pub is_cert : IsPackedFormOf (length case.book.needs) (certificate_of_none nodes) cert
   pub is_said : said ≡ none_within_text nodes
   pub accepted : certificate_answer case cert ≡ accepted_none
 

@@ -2,14 +2,14 @@
 
 use crate::Status;
 use crate::failing_tests::try_failing_writes;
-use crate::test_runs::{FIRST, Files, outcome_of};
+use crate::test_runs::{FIRST, FIRST_WRITTEN, Files, outcome_of};
 use std::test::Fail;
 
 const CAP: [&str; 5] = ["cap", "i", "r", "p", "c"];
 
 // One purchase of one unit, and the split of the root at 0.
 const ONE_UNIT: &[u8] =
-    b"escrow-certificate 1\nportfolio 1\nbuy 1 1\ngap 0\nnodes 3\ns 1 0\nl 1 0 2000000000000\nl 1 0 0\nend\n";
+    b"escrow-certificate 2\nportfolio 1\nbuy 1 1\ngap 0\nvectors 2\nv 2000000000000\nv 0\nnodes 3\ns 1 0\nl 1 0 1\nl 1 0 2\nend\n";
 
 const FIRST_SAID: &[u8] =
     b"cap 0.000\ncost 5000.00\nyield 0.00000000 0.00000000\nlimit 4.00100000\ngap 0.00\nnext none\n";
@@ -51,7 +51,7 @@ fn capped_cases(rt: HostRuntime) -> Result<(), Fail> {
             },
             Status::Done,
             FIRST_SAID,
-            FIRST.cert,
+            FIRST_WRITTEN,
         ),
         // The case itself has an escrow.
         (
@@ -68,7 +68,7 @@ fn capped_cases(rt: HostRuntime) -> Result<(), Fail> {
             Status::Done,
             b"cap 0.000\ncost 1041.00\nyield 0.00000000 0.00000000\nlimit 5.00100000\ngap 0.00\n\
                 next 0.010 budget spent 1040.90\n",
-            b"escrow-certificate 1\nportfolio 1\nbuy 1 1041\ngap 0\nnodes 1\nl 1 0 1000000000000\nend\n",
+            b"escrow-certificate 2\nportfolio 1\nbuy 1 1041\ngap 0\nvectors 1\nv 1000000000000\nnodes 1\nl 1 0 1\nend\n",
         ),
         (
             Files {

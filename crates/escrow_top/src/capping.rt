@@ -10,18 +10,18 @@ ghost use Rattle.rate_table.specs.Table.{IsTableRate};
 ghost use Rattle.escrow_top.specs.Answer.{case_of, certificate_answer};
 ghost use Rattle.escrow_top.specs.Capped.{IsCappedDraft, IsCappedFor};
 ghost use Rattle.escrow_top.specs.CaseOf.{AreWithin};
-ghost use Rattle.escrow_top.specs.Capping.{IsCapDraft, IsCapDraftFor, IsCapDraftOf, IsCapEnded, IsUncappedStatus, cap_certificate, cap_text as cap_text_of, next_line, obstacle_answer as obstacle_answer_of, obstacle_line, uncapped as uncapped_of};
+ghost use Rattle.escrow_top.specs.Capping.{IsCapDraft, IsCapDraftFor, IsCapCertificate, IsCapDraftOf, IsCapEnded, IsUncappedStatus, cap_text as cap_text_of, next_line, obstacle_answer as obstacle_answer_of, obstacle_line, uncapped as uncapped_of};
 ghost use Rattle.escrow_top.specs.Reading.{LacksInput, files_view, names_view};
 ghost use Rattle.escrow_top.specs.Stopping.{CountsStep, is_unfound};
 ghost use Rattle.escrow_top.specs.Structure.{accepted_with};
 
 use crate::answer::{Answer, budget_spent, infeasible, none_within, refused, too_long};
+use crate::certificate_text::certificate_text;
 use crate::draft::Texts;
 use crate::files::{FileNames, InputFiles, Inputs, read_inputs};
 use crate::judging::given_case;
 use crate::status::Status;
 use crate::stop::Stop;
-use bound_certificate::write_cert;
 use branch_search::{found_laws, settled_laws};
 use cap_finder::{CapEnd, CappedEscrow, CaseAtZero, GreatestCap, Obstacle, Unfound, find_cap};
 use case_file::Case;
@@ -89,7 +89,7 @@ fn cap_text(alloc: Global, greatest: &GreatestCap) -> Result<Vec<u8>, NoMemory>
 fn texts_of(alloc: Global, greatest: GreatestCap) -> Result<Texts, NoMemory>
     requires terms { HasTerms (case_view greatest.escrow.case) }
     requires found { IsFound (case_view greatest.escrow.case) greatest.escrow.found.plan greatest.escrow.found.tree greatest.escrow.found.gap }
-    ensures cert { IfOk result (λ texts. texts.cert.items ≡ cap_certificate greatest) }
+    ensures cert { IfOk result (λ texts. IsCapCertificate greatest texts.cert.items) }
     ensures said { IfOk result (λ texts. texts.said.items ≡ cap_text_of greatest) }
     ensures accepted { IfOk result (λ texts. certificate_answer (case_view greatest.escrow.case) texts.cert.items ≡ accepted_with (case_view greatest.escrow.case) greatest.escrow.found.plan greatest.escrow.found.gap) }
 {
@@ -98,7 +98,7 @@ fn texts_of(alloc: Global, greatest: GreatestCap) -> Result<Texts, NoMemory>
     let said = cap_text(alloc, &greatest)?;
     let CappedEscrow { case, found, .. } = greatest.escrow;
     let certificate = found.into_certificate(alloc, &case.book)?;
-    let cert = write_cert(alloc, &certificate)?;
+    let cert = certificate_text(alloc, &certificate)?;
     Ok(Texts { cert, said })
 }
 

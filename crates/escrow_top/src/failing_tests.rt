@@ -1,7 +1,7 @@
 //! Runs of which one call of the desk fails.
 
 use crate::Status;
-use crate::test_runs::{CHECK, FIRST, Files, outcome_of};
+use crate::test_runs::{CHECK, FIRST, FIRST_WRITTEN, Files, outcome_of};
 use std::alloc::Global;
 use std::process::Abort;
 use std::test::Fail;
@@ -54,7 +54,7 @@ pub(crate) fn try_failing_writes(
         let (status, cert): (Status, &[u8]) = match calls - failing {
             3 => (Status::WriteFault, b"x"),
             2 => (Status::WriteFault, b""),
-            1 => (Status::WriteFault, FIRST.cert),
+            1 => (Status::WriteFault, FIRST_WRITTEN),
             _ => (Status::ReadFault, b"x"),
         };
         assert_eq!(rt; ran.status, status);

@@ -3,7 +3,7 @@
 use crate::Status;
 use crate::failing_tests::{try_failing_calls, try_failing_writes};
 use crate::test_runs::{
-    CHECK_HELD, FIRST, FIRST_TEXT, Files, NO_RIVAL, Row, outcome_of, try_words,
+    CHECK_HELD, FIRST, FIRST_TEXT, FIRST_WRITTEN, Files, NO_RIVAL, Row, outcome_of, try_words,
 };
 use std::test::Fail;
 
@@ -26,6 +26,10 @@ const AMPLE: Files = Files {
 
 // What is said where nothing has to be bought.
 const NOTHING_BOUGHT: &[u8] = b"cost 0.00\nyield empty\nlimit 4.00100000\ngap 0.00\n";
+
+// And the certificate that is written then.
+const NOTHING_WRITTEN: &[u8] =
+    b"escrow-certificate 2\nportfolio 0\ngap 0\nvectors 1\nv\nnodes 1\nl 1 0 1\nend\n";
 
 // What `check-held` answers where the holdings aren't refused.
 #[test]
@@ -76,7 +80,7 @@ fn certificates_beside_holdings(rt: HostRuntime) -> Result<(), Fail> {
 // The refusals of the holdings, and their place among those of the other files.
 #[test]
 fn refused_holdings(rt: HostRuntime) -> Result<(), Fail> {
-    let rows: [(&'static [u8], &'static [u8]); 9] = [
+    let rows: [(&'static [u8], &'static [u8]); 8] = [
         (
             b"hold,2025-04-15,1.00\n",
             b"refused held row 1 UnknownRow\n",
@@ -100,7 +104,6 @@ fn refused_holdings(rt: HostRuntime) -> Result<(), Fail> {
             b"held,2025-04-15,100000000000.00\nheld,2025-01-15,0.01\n",
             b"refused held row 0 HeldTooLarge\n",
         ),
-        (b"held,2025-04-15,100000000000.00\n", NOTHING_BOUGHT),
     ];
     for (held, said) in &rows {
         let files = Files { held, ..AMPLE };
@@ -108,6 +111,14 @@ fn refused_holdings(rt: HostRuntime) -> Result<(), Fail> {
         assert_eq!(rt; ran.desk.said(), *said);
         assert_eq!(rt; ran.desk.bytes_of("c"), Some(AMPLE.cert));
     }
+    // The most that may be held.
+    let most = Files {
+        held: b"held,2025-04-15,100000000000.00\n",
+        ..AMPLE
+    };
+    let ran = outcome_of(rt.alloc(), &STRUCTURE_HELD, &most, u64::MAX)?;
+    assert_eq!(rt; ran.desk.said(), NOTHING_BOUGHT);
+    assert_eq!(rt; ran.desk.bytes_of("c"), Some(NOTHING_WRITTEN));
     // They come after the computed yield's.
     let files = Files {
         issue: b"settle,2025-01-15\nprice,100000.00\npay,2025-07-15,99000.00\n",
@@ -126,14 +137,14 @@ fn refused_holdings(rt: HostRuntime) -> Result<(), Fail> {
 #[test]
 fn structured_beside_holdings(rt: HostRuntime) -> Result<(), Fail> {
     let rows: [(Files, Status, &[u8], &[u8]); 6] = [
-        (FIRST, Status::Done, &FIRST_TEXT[4..], FIRST.cert),
+        (FIRST, Status::Done, &FIRST_TEXT[4..], FIRST_WRITTEN),
         (
             BESIDE,
             Status::Done,
             b"cost 4000.00\nyield 0.00000000 0.00000000\nlimit 4.00100000\ngap 0.00\n",
-            BESIDE.cert,
+            b"escrow-certificate 2\nportfolio 1\nbuy 1 40\ngap 0\nvectors 1\nv 1000000000000\nnodes 1\nl 1 0 1\nend\n",
         ),
-        (AMPLE, Status::Done, NOTHING_BOUGHT, AMPLE.cert),
+        (AMPLE, Status::Done, NOTHING_BOUGHT, NOTHING_WRITTEN),
         (
             Files {
                 rates: b"",
@@ -150,7 +161,7 @@ fn structured_beside_holdings(rt: HostRuntime) -> Result<(), Fail> {
             },
             Status::NoneWithinYield,
             b"none within yield\nnodes 5\n",
-            b"escrow-certificate 1\nportfolio none\ngap 0\nnodes 5\ns 1 0\nl 0 0 1000000000000\ns 1 1\np\np\nend\n",
+            b"escrow-certificate 2\nportfolio none\ngap 0\nvectors 1\nv 1000000000000\nnodes 5\ns 1 0\nl 0 0 1\ns 1 1\np\np\nend\n",
         ),
         (
             Files {

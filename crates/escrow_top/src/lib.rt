@@ -3,6 +3,7 @@
 
 mod answer;
 mod capping;
+mod certificate_text;
 mod check;
 mod command;
 mod draft;

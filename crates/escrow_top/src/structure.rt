@@ -13,12 +13,13 @@ ghost use Rattle.escrow_top.specs.Structure.{AreNoneTexts, AreTexts, FindsPlain,
 ghost use Rattle.escrow_top.specs.Stopping.{CountsStep};
 
 use crate::answer::{budget_spent, infeasible, none_within, refused, too_long};
+use crate::certificate_text::certificate_text;
 use crate::draft::{Draft, Telling, Texts};
 use crate::files::{FileNames, InputFiles, Inputs, read_inputs};
 use crate::inquiry::Inquiry;
 use crate::judging::judged_case;
 use crate::stop::Stop;
-use bound_certificate::{Certificate, Nodes, write_cert};
+use bound_certificate::{Certificate, Nodes};
 use branch_search::{Found, SearchEnd, search};
 use case_file::Case;
 use escrow_desk::{CaseError, Desk, NoMemory};
@@ -60,7 +61,7 @@ fn texts_of(alloc: Global, tells: Telling, case: &Case, found: Found) -> Result<
 {
     let said = told_text(alloc, tells, case, &found)?;
     let certificate = found.into_certificate(alloc, &case.book)?;
-    let cert = write_cert(alloc, &certificate)?;
+    let cert = certificate_text(alloc, &certificate)?;
     Ok(Texts { cert, said })
 }
 
@@ -77,7 +78,7 @@ fn none_texts(alloc: Global, case: &Case, nodes: Nodes) -> Result<Texts, NoMemor
         gap: 0,
         nodes,
     };
-    let cert = write_cert(alloc, &certificate)?;
+    let cert = certificate_text(alloc, &certificate)?;
     Ok(Texts { cert, said })
 }
 

@@ -1,8 +1,9 @@
 //! Whole runs of `structure` over a desk in memory.
 
 use crate::failing_tests::try_failing_writes;
-use crate::test_runs::{CHECK, FIRST, Files, outcome_of};
+use crate::test_runs::{CHECK, FIRST, FIRST_TEXT, FIRST_WRITTEN, Files, outcome_of};
 use crate::{Status, run};
+use bound_certificate::read_packed;
 use std::alloc::Global;
 use std::process::Abort;
 use std::test::Fail;
@@ -62,7 +63,7 @@ fn structured_cases(rt: HostRuntime) -> Result<(), Fail> {
             },
             Status::Done,
             FIRST_REPORT,
-            FIRST.cert,
+            FIRST_WRITTEN,
         ),
         (
             Files {
@@ -72,7 +73,7 @@ fn structured_cases(rt: HostRuntime) -> Result<(), Fail> {
             Status::Done,
             b"escrow report\nsettlement 2025-01-15\ncash 0.00\ncost 0.00\nyield empty\nlimit 4.00100000\ngap 0.00\n\
                 date 2025-01-15 0.00 0.00 0.00\nend\n",
-            b"escrow-certificate 1\nportfolio 0\ngap 0\nnodes 1\nl 1 0\nend\n",
+            b"escrow-certificate 2\nportfolio 0\ngap 0\nvectors 1\nv\nnodes 1\nl 1 0 1\nend\n",
         ),
         (
             Files {
@@ -99,7 +100,7 @@ fn structured_cases(rt: HostRuntime) -> Result<(), Fail> {
             NONE_WITHIN,
             Status::NoneWithinYield,
             b"none within yield\nnodes 5\n",
-            b"escrow-certificate 1\nportfolio none\ngap 0\nnodes 5\ns 1 0\nl 0 0 1000000000000\ns 1 1\np\np\nend\n",
+            b"escrow-certificate 2\nportfolio none\ngap 0\nvectors 1\nv 1000000000000\nnodes 5\ns 1 0\nl 0 0 1\ns 1 1\np\np\nend\n",
         ),
         (
             Files {
@@ -177,6 +178,19 @@ fn structured_and_checked(rt: HostRuntime) -> Result<(), Fail> {
     Ok(())
 }
 
+// What is written is of version 2, and `check` says of it what it says of version 1.
+#[test]
+fn either_version_is_checked(rt: HostRuntime) -> Result<(), Fail> {
+    let alloc = rt.alloc();
+    assert!(rt; read_packed(alloc, FIRST_WRITTEN, 1).is_ok());
+    for cert in [FIRST.cert, FIRST_WRITTEN] {
+        let ran = outcome_of(alloc, &CHECK, &Files { cert, ..FIRST }, u64::MAX)?;
+        assert_eq!(rt; ran.status, Status::Done);
+        assert_eq!(rt; ran.desk.said(), FIRST_TEXT);
+    }
+    Ok(())
+}
+
 #[test]
 fn each_call_of_structure_fails_in_turn(rt: HostRuntime) -> Result<(), Fail> {
     let lacking = ["structure", "i", "r", "none", "c"];
@@ -189,6 +203,6 @@ fn certificate_over_an_input(rt: HostRuntime) -> Result<(), Fail> {
     let words = ["structure", "i", "r", "p", "p"];
     let ran = outcome_of(rt.alloc(), &words, &FIRST, u64::MAX)?;
     assert_eq!(rt; ran.status, Status::Done);
-    assert_eq!(rt; ran.desk.bytes_of("p"), Some(FIRST.cert));
+    assert_eq!(rt; ran.desk.bytes_of("p"), Some(FIRST_WRITTEN));
     Ok(())
 }

@@ -27,6 +27,10 @@ pub(crate) const FIRST: Files = Files {
     cert: b"escrow-certificate 1\nportfolio 1\nbuy 1 50\ngap 0\nnodes 1\nl 1 0 1000000000000\nend\n",
 };
 
+/// The certificate of the first files as it is written.
+pub(crate) const FIRST_WRITTEN: &[u8] =
+    b"escrow-certificate 2\nportfolio 1\nbuy 1 50\ngap 0\nvectors 1\nv 1000000000000\nnodes 1\nl 1 0 1\nend\n";
+
 /// One need, and one offer that yields too much: a certificate that there is no rival.
 pub(crate) const NO_RIVAL: Files = Files {
     issue: b"settle,2025-01-15\nneed,2025-07-15,1000.00\nrestricted,3.00\n",

@@ -1,13 +1,24 @@
-use Rattle.std.proofs.Common.{◌∙◌, ap}
-use Rattle.bound_certificate.specs.Text.{text_of}
+use Rattle.std.proofs.Common.{length, inr, arith}
+use Rattle.bound_certificate.proofs.PackableFacts.{packable-of}
 use Rattle.branch_search.proofs.FoundFacts.{found_are_accepted}
+use Rattle.branch_search.specs.Purchases.{certificate_of}
 use Rattle.case_file.specs.Case.{case_view}
 use Rattle.escrow_top.proofs.StructureLaws.{text_accepted}
 use Rattle.escrow_top.proofs.structure.texts_of.Goals as goal
 
+pub certificate_text-requires : goal.certificate_text-requires
+certificate_text-requires c =
+    let case = case_view c.args.case.now in
+    let cert = certificate_of c.args.found.plan c.args.found.tree c.args.found.gap in
+    rw c.in_ok-certificate.ensures
+    (length case.book.needs, omega (arith, c.requires.book.needs.few), packable-of (length case.book.needs) cert c.requires.found.well_formed)
+
 pub returns : goal.returns
 returns c =
-    let is = c.in_ok-cert.ensures ∙ ap text_of c.in_ok-certificate.ensures in
+    let case = case_view c.args.case.now in
+    let cert = certificate_of c.args.found.plan c.args.found.tree c.args.found.gap in
+    let writes = rw c.in_ok-certificate.ensures at c.in_ok-cert.ensures in
+    let is = writes (length case.book.needs) (packable-of (length case.book.needs) cert c.requires.found.well_formed) in
     record {
       plan = c.args.found.plan;
       nodes = c.args.found.tree;
@@ -16,6 +27,6 @@ returns c =
       found_by = c.requires.found_by;
       is_cert = is;
       is_said = c.in_ok-said.ensures;
-      accepted = text_accepted (case_view c.args.case.now) c.args.found.plan c.args.found.tree c.args.found.gap c.in_ok-cert.cert.items
-          found_are_accepted c.requires.book c.requires.terms c.requires.found is;
+      accepted = text_accepted case c.args.found.plan c.args.found.tree c.args.found.gap c.in_ok-cert.cert.items
+          found_are_accepted c.requires.book c.requires.terms c.requires.found (inr is);
     }

@@ -1,0 +1,22 @@
+//! The text of a certificate that is written.
+
+ghost use Rattle.std.specs.Prelude.{ℕ, IfOk};
+ghost use Rattle.bound_certificate.specs.Packed.{IsPackable, IsPackableCert};
+ghost use Rattle.bound_certificate.specs.Versions.{IsPackedFormOf};
+
+use bound_certificate::{Certificate, pack, write_packed};
+use escrow_desk::NoMemory;
+use std::alloc::Global;
+
+/// The text of version 2 of a certificate, whose leaves share their prices.
+///
+/// # Errors
+///
+/// `NoMemory` where memory fails.
+pub(crate) fn certificate_text(alloc: Global, cert: &Certificate) -> Result<Vec<u8>, NoMemory>
+    requires { IsPackableCert cert.now }
+    ensures { IfOk result (λ text. (dates : ℕ) → IsPackable dates cert.now → IsPackedFormOf dates cert.now text.items) }
+{
+    let packed = pack(alloc, cert)?;
+    write_packed(alloc, &packed)
+}
