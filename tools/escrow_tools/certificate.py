@@ -21,16 +21,30 @@ class Certificate:
     nodes: int
 
 
+MOST_LINES = 600
+"""More than stand before the nodes: at most 513 purchases, 64 vectors, and five lines of their own words."""
+
+
+def is_packed(data: bytes) -> bool:
+    """Whether a text is of version 2, whose leaves share vectors of prices."""
+    return data.startswith(b"escrow-certificate 2\n")
+
+
 def read_certificate(data: bytes) -> Optional[Certificate]:
-    """The head of a certificate; None where the text isn't one up to its nodes."""
+    """The head of a certificate of either version; None where the text isn't one up to its nodes."""
     try:
-        lines = data.decode("ascii").split("\n")
-        words = [line.split(" ") for line in lines[:262]]
-        if lines[0] != "escrow-certificate 1" or words[1][0] != "portfolio":
+        lines = data.decode("ascii").split("\n", MOST_LINES)
+        words = [line.split(" ") for line in lines[:MOST_LINES]]
+        if lines[0] not in ("escrow-certificate 1", "escrow-certificate 2") or words[1][0] != "portfolio":
             return None
         count = 0 if words[1][1] == "none" else int(words[1][1])
         purchases = [Purchase(int(line), int(units)) for _, line, units in words[2 : 2 + count]]
-        gap, nodes = words[2 + count], words[3 + count]
+        gap, behind = words[2 + count], 3 + count
+        if is_packed(data):
+            if words[behind][0] != "vectors":
+                return None
+            behind += 1 + int(words[behind][1])
+        nodes = words[behind]
         if gap[0] != "gap" or nodes[0] != "nodes":
             return None
         return Certificate(None if words[1][1] == "none" else purchases, int(gap[1]), int(nodes[1]))

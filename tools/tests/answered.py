@@ -12,6 +12,7 @@ CHECK_HELD, STRUCTURE_HELD = ("check-held",) + FILES_BESIDE, ("structure-held",)
 ISSUE = "settle,2025-01-15\nneed,2025-04-15,5000.00\nrestricted,4.00\n"
 RATES = "terms,1000,100\noffer,2025-04-15,0.00,,10000\n"
 CERTIFICATE = "escrow-certificate 1\nportfolio 1\nbuy 1 50\ngap 0\nnodes 1\nl 1 0 1000000000000\nend\n"
+PACKED = "escrow-certificate 2\nportfolio 1\nbuy 1 50\ngap 0\nvectors 1\nv 1000000000000\nnodes 1\nl 1 0 1\nend\n"
 
 
 @dataclass(frozen=True)
@@ -61,6 +62,10 @@ def folder_at(name: str) -> Callable:
 
 def cert(old: str, new: str) -> Callable:
     return case(certificate=CERTIFICATE.replace(old, new))
+
+
+def packed(old: str, new: str) -> Callable:
+    return case(certificate=PACKED.replace(old, new))
 
 
 NOT_ENOUGH = "terms,1000,100\noffer,2025-04-15,0.00,,3000\n"
@@ -139,6 +144,9 @@ ANSWERED = (
     Answered("an empty certificate", case(certificate=""), CHECK, "no Grammar 1 Truncated", ("is empty",)),
     Answered("a gap in dollars", cert("gap 0", "gap 0.00"), CHECK, "no Grammar 4 Number", ("whole cents",)),
     Answered("too few prices", cert("l 1 0 1000000000000", "l 1 0"), CHECK, "no Grammar 6 Count", ("1 need date", "0 prices")),
+    Answered("too few prices of a vector", packed("v 1000000000000", "v"), CHECK, "no Grammar 6 Count", ("1 need date", "0 prices")),
+    Answered("a place without a price", packed("l 1 0 1", "l 1 0 1 1"), CHECK, "no Grammar 8 Count", ("pairs of a place and a price",)),
+    Answered("no vectors", packed("vectors 1\nv 1000000000000\n", ""), CHECK, "no Grammar 5 Header", ("`vectors COUNT`",)),
     Answered("lines in disorder", cert("portfolio 1\nbuy 1 50", "portfolio 2\nbuy 2 1\nbuy 1 50"), CHECK, "no Grammar 4 Order", ("rise",)),
     Answered("a report in the place of the certificate", case(certificate="escrow report\nend\n"), CHECK, "no Grammar 1 Header",
              ("another file",)),

@@ -6,33 +6,27 @@ from typing import Optional
 
 from ..amounts import counted
 from ..case_files import CERT, HELD
+from ..certificate import is_packed
 from .explanation import shown
 from .forms import words_of
 
-FORMS = (
-    "escrow-certificate 1",
-    "portfolio COUNT",
-    "buy LINE UNITS",
-    "gap CENTS",
-    "nodes COUNT",
-    "s LINE UNITS",
-    "p",
-    "l WHOLE WEIGHT PRICE ..",
-    "end",
-)
+HEAD = ("portfolio COUNT", "buy LINE UNITS", "gap CENTS")
+TREE = ("nodes COUNT", "s LINE UNITS", "p")
+FORMS = ("escrow-certificate 1",) + HEAD + TREE + ("l WHOLE WEIGHT PRICE ..", "end")
+PACKED_FORMS = ("escrow-certificate 2",) + HEAD + ("vectors COUNT", "v PRICE ..") + TREE + ("l WHOLE WEIGHT VECTOR PLACE PRICE ..", "end")
 MEANINGS = {
     "Truncated": "the text ends before this line does: the last line, `end`, has a line end too",
     "Trailing": "something stands behind `end`: delete it, blank lines too",
     "Count": "the line has another number of words than it should, or the tree has more or fewer nodes than the `nodes` line says",
-    "Header": "this line can't stand here: the lines are, in this order, " + ", ".join("`%s`" % form for form in FORMS),
+    "Header": "this line can't stand here: the lines are, in this order, %s",
     "Number": "a word of this line isn't a number of its range: plain digits, no leading zero, point, comma or sign",
-    "Order": "lines that are bought rise from one `buy` to the next, and the prices of a leaf never rise",
+    "Order": "lines that are bought rise from one `buy` to the next, the prices of a leaf never rise, and the places of its changes do",
 }
 
 
 def explain_grammar(data: Optional[bytes], names: dict, number: int, kind: str, needs: Optional[dict]) -> list[str]:
     """Of a line of a certificate for a case with these needs, if they are known."""
-    lines = ["%s, line %d: it isn't the text of a certificate: %s" % (names[CERT], number, MEANINGS.get(kind, kind))]
+    lines = ["%s, line %d: it isn't the text of a certificate: %s" % (names[CERT], number, _meaning(data, kind))]
     if data is None:
         return lines
     pieces = data.split(b"\n")
@@ -40,6 +34,14 @@ def explain_grammar(data: Optional[bytes], names: dict, number: int, kind: str, 
     if text:
         lines.append("the line: " + shown(text))
     return lines + _advice(data, names, text, kind, needs)
+
+
+def _meaning(data: Optional[bytes], kind: str) -> str:
+    """What is wrong with a line of a text of either version."""
+    if kind != "Header":
+        return MEANINGS.get(kind, kind)
+    forms = PACKED_FORMS if data is not None and is_packed(data) else FORMS
+    return MEANINGS[kind] % ", ".join("`%s`" % form for form in forms)
 
 
 def _advice(data: bytes, names: dict, text: str, kind: str, needs: Optional[dict]) -> list[str]:
@@ -55,8 +57,12 @@ def _advice(data: bytes, names: dict, text: str, kind: str, needs: Optional[dict
     if data.startswith((b"escrow report", b"cost ", b"settle,", b"terms,", b"held,")):
         return ["this is another file, not a certificate: the words are %s" % words_of(names)]
     words = text.split(" ")
+    if words[0] == "v" and kind == "Count":
+        return _counted_prices(names, "behind `v`", len(words) - 1, needs)
     if words[0] == "l" and kind == "Count":
-        return _counted_prices(names, max(len(words) - 3, 0), needs)
+        if is_packed(data):
+            return ["behind `l`, WHOLE, WEIGHT and VECTOR stand pairs of a place and a price, and none where no price changes"]
+        return _counted_prices(names, "behind `l`, WHOLE and WEIGHT", max(len(words) - 3, 0), needs)
     if text != text.strip() or "  " in text or "\t" in text:
         return ["words are parted by one blank, and none stands before or behind them"]
     if words[0] == "buy" and kind == "Number":
@@ -70,9 +76,9 @@ def _advice(data: bytes, names: dict, text: str, kind: str, needs: Optional[dict
     return []
 
 
-def _counted_prices(names: dict, prices: int, needs: Optional[dict]) -> list[str]:
-    """How many prices a leaf has, and how many it should have."""
-    rule = "behind `l`, WHOLE and WEIGHT stands a price for each need date"
+def _counted_prices(names: dict, place: str, prices: int, needs: Optional[dict]) -> list[str]:
+    """How many prices a line has, and how many it should have."""
+    rule = place + " stands a price for each need date"
     if needs is None:
         return [rule]
     dates, has = counted(len(needs), "need date"), counted(prices, "price")
