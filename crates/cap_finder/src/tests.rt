@@ -46,7 +46,10 @@ fn case_of(rt: &impl Abort, alloc: Global, row: &Row) -> Result<Case, Fail>
 {
     cap_laws();
     assert!(rt; row.issue.len() as u64 <= FILE_LIMIT && row.rates.len() as u64 <= FILE_LIMIT);
-    Ok(read_case(alloc, row.issue, row.rates, b"")?)
+    match read_case(alloc, row.issue, row.rates, b"") {
+        Ok(case) => Ok(case),
+        Err(_) => Err(Fail::new("no case")),
+    }
 }
 
 fn cause_of(obstacle: &Obstacle) -> Cause {
