@@ -384,19 +384,6 @@ packed_said dates vectors (packed_due.Node left trees) (line.Node said) fits = f
 packed_said dates vectors (packed_due.End trees) line.End fits = tt
 packed_said dates vectors d said fits = absurd fits
 
--- the vectors that came, where this is due
-pub are-vectors : (dates : ℕ) (d : PackedDue) (vectors : List (List ℕ)) → Holds dates d vectors → AreVectors dates d vectors
-are-vectors dates (packed_due.Vector left) vectors holds = record { all = holds.all; room = omega (arith, holds.room) }
-are-vectors dates packed_due.Title vectors holds = record { all = holds.all; room = holds.room }
-are-vectors dates packed_due.Portfolio vectors holds = record { all = holds.all; room = holds.room }
-are-vectors dates (packed_due.Buy left least) vectors holds = record { all = holds.all; room = holds.room }
-are-vectors dates (packed_due.Gap most) vectors holds = record { all = holds.all; room = holds.room }
-are-vectors dates packed_due.VectorCount vectors holds = record { all = holds.all; room = holds.room }
-are-vectors dates packed_due.NodeCount vectors holds = record { all = holds.all; room = holds.room }
-are-vectors dates (packed_due.Node left trees) vectors holds = record { all = holds.all; room = holds.room }
-are-vectors dates (packed_due.End trees) vectors holds = record { all = holds.all; room = holds.room }
-are-vectors dates packed_due.Nothing vectors holds = record { all = holds.all; room = holds.room }
-
 pub packed-said : (dates : ℕ) (d : PackedDue) (vectors : List (List ℕ)) (bytes : List ℕ) (said : PackedLine) (told : Item) → AreVectors dates d vectors →
     line_said dates vectors d bytes ≡ Ok said → told ≡ packed_item said → IsItemSaid d told
 packed-said dates d vectors bytes said told are h told_is =
@@ -428,13 +415,25 @@ holds_of dates (packed_due.Node left trees) vectors is are = record { all = are.
 holds_of dates (packed_due.End trees) vectors is are = record { all = are.all; room = are.room }
 holds_of dates packed_due.Nothing vectors is are = record { all = are.all; room = are.room }
 
+are_of : (dates : ℕ) (d : PackedDue) (vectors : List (List ℕ)) → Holds dates d vectors → AreVectors dates d vectors
+are_of dates (packed_due.Vector left) vectors holds = record { all = holds.all; room = omega (arith, holds.room) }
+are_of dates packed_due.Title vectors holds = record { all = holds.all; room = holds.room }
+are_of dates packed_due.Portfolio vectors holds = record { all = holds.all; room = holds.room }
+are_of dates (packed_due.Buy left least) vectors holds = record { all = holds.all; room = holds.room }
+are_of dates (packed_due.Gap most) vectors holds = record { all = holds.all; room = holds.room }
+are_of dates packed_due.VectorCount vectors holds = record { all = holds.all; room = holds.room }
+are_of dates packed_due.NodeCount vectors holds = record { all = holds.all; room = holds.room }
+are_of dates (packed_due.Node left trees) vectors holds = record { all = holds.all; room = holds.room }
+are_of dates (packed_due.End trees) vectors holds = record { all = holds.all; room = holds.room }
+are_of dates packed_due.Nothing vectors holds = record { all = holds.all; room = holds.room }
+
 pub more-vectors : (dates : ℕ) (d next : PackedDue) (vectors after : List (List ℕ)) (bytes : List ℕ) (said : PackedLine) → IsPackedDue d → AreVectors dates d vectors →
     line_said dates vectors d bytes ≡ Ok said → next ≡ packed.next_due d said → after ≡ vectors_with vectors said → AreVectors dates next after
 more-vectors dates d next vectors after bytes said is are h next_is after_is =
     let found : IsFound dates vectors d bytes said = packed_fits.line-found dates vectors d bytes said are.all (vectors-few dates d vectors are) h in
     let P : PackedDue → Type 0 = λ e. AreVectors dates e after in
     let Q : List (List ℕ) → Type 0 = λ vs. AreVectors dates (packed.next_due d said) vs in
-    subst P (sym next_is) (subst Q (sym after_is) (are-vectors dates (packed.next_due d said) (vectors_with vectors said) (holds-step dates vectors d said (holds_of dates d vectors is are) found.fits)))
+    subst P (sym next_is) (subst Q (sym after_is) (are_of dates (packed.next_due d said) (vectors_with vectors said) (holds-step dates vectors d said (holds_of dates d vectors is are) found.fits)))
 
 -- ---- where a line stands
 pub first-ok : (dates : ℕ) (at : Stage) (vectors : List (List ℕ)) (bytes : List ℕ) (leaf : Leaf) (r : Result Step FaultKind) → at ≡ stage.First → is_packed_title bytes ≡ false →

@@ -16,6 +16,7 @@ use Rattle.bound_certificate.specs.Due.{is_closed_early, width_of, word_of}
 use Rattle.bound_certificate.specs.Grammar.{is_name, is_space, line_numbers, name_in, named_fault, named_item, numbers_fault, numbers_item, said_by, words_fault, words_item, words_numbers, words_of}
 use Rattle.bound_certificate.specs.PlainLine.{IsBegun, IsFaultOf, IsOnlyName, IsSaidAs, first_word}
 use Rattle.bound_certificate.specs.PackedGrammar.{begins_with}
+use Rattle.bound_certificate.specs.Scan.{is_leaf}
 use Rattle.bound_certificate.specs.Row.{parts_behind}
 
 -- a line's words, the first of which may only be a name
@@ -151,10 +152,6 @@ said-err dates d n line rest (Ok said) begun h = tt
 said-err dates d n line rest (Err found) begun h = begun.fault ∙ h
 
 -- only the line of a leaf says one
-abbrev pub is_leaf : Name → Bool
-is_leaf name.Leaf = true
-is_leaf other = false
-
 other_said : (n : Name) (numbers : List ℕ) → is_leaf n ≡ false → item.Leaf ≡ said_by n numbers → ⊥
 other_said name.Title numbers other h = absurd (cc)
 other_said name.Portfolio [] other h = absurd (cc)

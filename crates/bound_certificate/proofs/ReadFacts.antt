@@ -34,7 +34,8 @@ use Rattle.bound_certificate.specs.Step.{IsSuited, due_after}
 use Rattle.bound_certificate.specs.TextReading.{EndsText, FewNodes, HasRead, IsAtLine, Reads, ReadsFault, stage_due, stage_fault, stage_told}
 use Rattle.bound_certificate.specs.Told.{Told, certificate_told, told_in}
 use Rattle.bound_certificate.specs.Versions.{IsCertificateText, certificate_fault}
-use Rattle.bound_certificate.proofs.TextFacts.{AreOneLine, lines-one, lines-cons, no-feeds, some-lines}
+use Rattle.bound_certificate.proofs.FirstFacts.{AreOneLine, lines-one}
+use Rattle.bound_certificate.proofs.TextFacts.{lines-cons, no-feeds, some-lines}
 use Rattle.bound_certificate.proofs.ToldFacts.{lines-tell, with_told}
 use Rattle.bound_certificate.proofs.VersionFacts.{texts-have-no-fault}
 

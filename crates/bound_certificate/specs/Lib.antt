@@ -15,8 +15,9 @@ pub mod PackedLaws
 pub mod PackedTaken
 pub mod PackedText
 pub mod PlainLine
+pub mod Reading
 pub mod Row
-pub mod Digits
+pub mod Scan
 pub mod Step
 pub mod Text
 pub mod TextReading

@@ -27,6 +27,9 @@ pub(crate) const MOST_NUMBERS: usize = 963;
 /// The most prices of a vector: one for each need date.
 pub(crate) const MOST_PRICES: usize = 480;
 
+/// One word more than a line may have.
+pub(crate) const MOST_WORDS: u16 = 484;
+
 /// More bytes than a right line has: a first word of at most 20, and 963 numbers of at most 16 digits, each behind a space.
 pub(crate) const LINE_ROOM: usize = 16_400;
 

@@ -6,9 +6,9 @@ ghost use Rattle.bound_certificate.specs.declared.packed_line.PackedLine.TheVari
 ghost use Rattle.bound_certificate.specs.declared.packed_line.PackedLine.{PackedLine as PackedLineOf};
 ghost use Rattle.bound_certificate.specs.declared.row.Row.TheVariants as row_of;
 ghost use Rattle.bound_certificate.specs.Packed.{IsVector, changed};
-ghost use Rattle.bound_certificate.specs.PackedGrammar.{ArePlaces, are_rising, changes_of, is_over, leaf_said, line_said, next_due, places_of, restates as restates_of, row_line, said_by};
-ghost use Rattle.bound_certificate.specs.PackedDraft.{IsPackedDue, packed_lines_left};
-ghost use Rattle.bound_certificate.specs.PackedTaken.{HasRoom, HasRoomFor, IsGiven, IsItemSaid, IsOfNumbers};
+ghost use Rattle.bound_certificate.specs.PackedGrammar.{ArePlaces, changes_of, is_over, leaf_said, line_said, next_due, row_line, said_by};
+ghost use Rattle.bound_certificate.specs.PackedDraft.{IsPackedDue, IsPackedSaid, packed_lines_left};
+ghost use Rattle.bound_certificate.specs.PackedTaken.{HasRoom, HasRoomFor, IsGiven, IsItemSaid};
 ghost use Rattle.bound_certificate.specs.Row.{AreRowNumbers};
 ghost use Rattle.bound_certificate.specs.Told.{packed_item};
 
@@ -17,14 +17,16 @@ use crate::fault::FaultKind;
 use crate::item::Item;
 use crate::limits::{MOST_DATES, MOST_PRICES, MOST_VECTORS};
 use crate::packed::Change;
-use crate::packed_line::{PackedDue, buys_due, node_row, nodes_due, rises, vectors_due};
+use crate::packed_line::{
+    PackedDue, buys_due, node_row, nodes_due, places_rise, restates, rises, vectors_due,
+};
 use crate::row::{Numbers, Row, read_row};
 use crate::vector_room::VectorRoom;
 use arrayvec::ArrayVec;
 use dual_bound::{Leaf, Prices};
 
-/// The changes that numbers are by turns: place and price of each.
-pub(crate) fn list_changes(numbers: &[u64]) -> ArrayVec<Change, MOST_PRICES>
+// The changes that numbers are by turns: place and price of each.
+fn list_changes(numbers: &[u64]) -> ArrayVec<Change, MOST_PRICES>
     requires places { ArePlaces 65_535 (changes_of numbers.now) }
     requires few { length numbers.now ≤ 960 }
     ensures { result.items ≡ changes_of numbers.now }
@@ -41,31 +43,6 @@ pub(crate) fn list_changes(numbers: &[u64]) -> ArrayVec<Change, MOST_PRICES>
     changes
 }
 
-// Whether each place is above the one before.
-fn places_rise(changes: &[Change]) -> bool
-    ensures { result ≡ are_rising (places_of changes.now) }
-{
-    for place in 1..changes.len() {
-        if changes[place - 1].place >= changes[place].place {
-            return false;
-        }
-    }
-    true
-}
-
-// Whether a change is to the vector's own price.
-fn restates(vector: &[u64], changes: &[Change]) -> bool
-    requires { ArePlaces (length vector.now) changes.now }
-    ensures { result ≡ restates_of vector.now changes.now }
-{
-    for change in changes {
-        if change.price == vector[usize::from(change.place) - 1] {
-            return true;
-        }
-    }
-    false
-}
-
 // Takes these prices over.
 fn copy_prices(prices: &mut Prices, vector: &[u64])
     requires same { length prices.old ≡ length vector.now }
@@ -78,8 +55,8 @@ fn copy_prices(prices: &mut Prices, vector: &[u64])
     }
 }
 
-/// Puts the price of each change to its place.
-pub(crate) fn put_changes(prices: &mut Prices, changes: &[Change])
+// Puts the price of each change to its place.
+fn put_changes(prices: &mut Prices, changes: &[Change])
     requires { ArePlaces (length prices.old) changes.now }
     ensures { prices.new ≡ changed prices.old changes.now }
 {
@@ -126,7 +103,6 @@ fn take_leaf(
     requires leaf { length leaf.old.prices ≡ dates }
     ensures dates { length leaf.new.prices ≡ dates }
     ensures ok { IfOk result (IsGiven (said_by vectors.now row_of.Leaf numbers.now) vectors.now vectors.now leaf.new) }
-    ensures numbers { IfOk result (IsOfNumbers (said_by vectors.now row_of.Leaf numbers.now) numbers.now) }
     ensures err { IfErr result (λ found. said_by vectors.now row_of.Leaf numbers.now ≡ Err found) }
 {
     let vector = vectors.at(numbers[2] as usize - 1);
@@ -142,7 +118,6 @@ fn take_purchase(least: u32, numbers: &[u64]) -> Result<Item, FaultKind>
     requires two { length numbers.now ≡ 2 }
     requires line { slice_index numbers.now 0 ≤ 65_535 }
     ensures ok { IfOk result (λ item. (vectors : List (List ℕ)) (leaf : LeafOf) → IsGiven (said_by vectors (row_of.Buy least) numbers.now) vectors vectors leaf item) }
-    ensures numbers { IfOk result (λ item. (vectors : List (List ℕ)) → IsOfNumbers (said_by vectors (row_of.Buy least) numbers.now) numbers.now item) }
     ensures err { IfErr result (λ found. (vectors : List (List ℕ)) → said_by vectors (row_of.Buy least) numbers.now ≡ Err found) }
 {
     if numbers[0] < u64::from(least) {
@@ -159,7 +134,6 @@ fn take_vector(vectors: &mut VectorRoom, numbers: &[u64]) -> Result<Item, FaultK
     requires room { length vectors.old < MOST_VECTORS }
     requires few { length numbers.now ≤ MOST_DATES }
     ensures ok { IfOk result (λ item. (leaf : LeafOf) → IsGiven (said_by vectors.old row_of.Vector numbers.now) vectors.old vectors.new leaf item) }
-    ensures numbers { IfOk result (IsOfNumbers (said_by vectors.old row_of.Vector numbers.now) numbers.now) }
     ensures err { IfErr result (λ found. said_by vectors.old row_of.Vector numbers.now ≡ Err found) }
 {
     if rises(numbers) {
@@ -185,7 +159,6 @@ fn take_said(
     requires leaf { length leaf.old.prices ≡ dates }
     ensures dates { length leaf.new.prices ≡ dates }
     ensures ok { IfOk result (IsGiven (said_by vectors.old row numbers.now) vectors.old vectors.new leaf.new) }
-    ensures numbers { IfOk result (IsOfNumbers (said_by vectors.old row numbers.now) numbers.now) }
     ensures err { IfErr result (λ found. said_by vectors.old row numbers.now ≡ Err found) }
 {
     match row {
@@ -221,7 +194,6 @@ fn take_row(
     requires leaf { length leaf.old.prices ≡ dates }
     ensures dates { length leaf.new.prices ≡ dates }
     ensures ok { IfOk result (IsGiven (row_line dates vectors.old row may line.now) vectors.old vectors.new leaf.new) }
-    ensures numbers { IfOk result (IsOfNumbers (row_line dates vectors.old row may line.now) numbers.new.items) }
     ensures err { IfErr result (λ found. row_line dates vectors.old row may line.now ≡ Err found) }
 {
     read_row(row, may, dates, vectors.count(), line, numbers)?;
@@ -229,7 +201,7 @@ fn take_row(
 }
 
 /// Takes a line, without its line feed, where this is due and these vectors came: what it says, a vector to the others, and a leaf's
-/// weights into `leaf`. Its numbers are then in `numbers`.
+/// weights into `leaf`.
 ///
 /// # Errors
 ///
@@ -248,7 +220,6 @@ pub(crate) fn take_packed_line(
     requires room { HasRoom due vectors.old }
     ensures dates { length leaf.new.prices ≡ dates }
     ensures ok { IfOk result (IsGiven (line_said dates vectors.old due line.now) vectors.old vectors.new leaf.new) }
-    ensures numbers { IfOk result (IsOfNumbers (line_said dates vectors.old due line.now) numbers.new.items) }
     ensures err { IfErr result (λ kind. line_said dates vectors.old due line.now ≡ Err kind) }
 {
     let (row, may) = match due {

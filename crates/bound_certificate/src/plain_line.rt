@@ -7,16 +7,17 @@ ghost use Rattle.bound_certificate.specs.Faults.{whole_fault};
 ghost use Rattle.bound_certificate.specs.Grammar.{leaf_of, line_item, line_leaf, line_numbers, numbers_in, whole_number as whole_number_of, words_fault, words_item, words_numbers, words_of};
 ghost use Rattle.bound_certificate.specs.PlainLine.{IsBegun, IsFaultOf, IsFrontNumber, IsNoNumber, IsOne, IsOnlyName, IsSaidAs, IsTaken, IsTwo, first_word};
 ghost use Rattle.bound_certificate.specs.Row.{parts_behind};
+ghost use Rattle.bound_certificate.specs.Scan.{is_node};
 
 use crate::certificate::Buy;
 use crate::cut::cut_at;
-use crate::digits::{first_number, whole_number};
 use crate::due::{Due, Name, range_at};
 use crate::fault::FaultKind;
 use crate::item::Item;
 use crate::limits::MOST_DATES;
 use crate::packed_line::{begins_with, rises};
-use crate::row::count_spaces;
+use crate::row::{count_spaces, whole_number};
+use crate::scan::first_number;
 use dual_bound::{Leaf, Prices};
 
 // A number behind the first word of a line, and the words behind it.

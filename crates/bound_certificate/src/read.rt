@@ -5,13 +5,14 @@ ghost use Rattle.bound_certificate.specs.Text.{IsTextOf};
 ghost use Rattle.bound_certificate.specs.declared.certificate.Certificate.{Certificate as CertificateOf};
 ghost use Rattle.bound_certificate.specs.declared.fault.CertError.TheVariants as error;
 
-use crate::certificate::{Certificate, empty_leaf};
-use crate::cut::cut_at;
-use crate::due::Due;
-use crate::fault::{CertError, CertFault, rest_fault};
+use crate::certificate::Certificate;
+use crate::fault::CertError;
 use crate::limits::MOST_DATES;
-use crate::plain_line::read_plain_line;
+use crate::plain_reader::PlainReader;
 use std::alloc::Global;
+
+// The most bytes of a piece.
+const PIECE: usize = 65_536;
 
 /// Reads the text of a certificate for so many need dates, at most 480: a leaf has a price for each.
 ///
@@ -24,23 +25,14 @@ pub fn read_cert(alloc: Global, bytes: &[u8], dates: u16) -> Result<Certificate,
     ensures err { IfErr result (λ error. IsCause dates bytes.now error) }
     ensures back { (cert : CertificateOf) → IsTextOf dates cert bytes.now → (result ≡ Ok cert) ⊎ (result ≡ Err error.NoMemory) }
 {
-    let mut leaf = empty_leaf(alloc, dates)?;
+    let mut reader = PlainReader::make(alloc, dates)?;
     let mut cert = Certificate::empty(alloc);
-    let mut due = Due::Title;
-    let mut number = 1;
-    let mut part = cut_at(bytes, b'\n');
-    while let Some(rest) = part.rest {
-        let item = match read_plain_line(due, dates, part.front, &mut leaf) {
-            Ok(item) => item,
-            Err(kind) => return Err(CertError::Fault(CertFault { line: number, kind })),
-        };
-        due = due.after(item);
-        cert.take(alloc, item, &leaf)?;
-        number += 1;
-        part = cut_at(rest, b'\n');
+    let mut rest = bytes;
+    while !rest.is_empty() {
+        let fed = reader.feed(&rest[..rest.len().min(PIECE)])?;
+        cert.take(alloc, fed.item, reader.leaf())?;
+        rest = &rest[fed.used as usize..];
     }
-    match rest_fault(due.is_over(), part.front) {
-        Some(kind) => Err(CertError::Fault(CertFault { line: number, kind })),
-        None => Ok(cert),
-    }
+    reader.finish()?;
+    Ok(cert)
 }

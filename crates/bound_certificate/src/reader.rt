@@ -4,7 +4,6 @@ ghost use Rattle.bound_certificate.specs.declared.due.Due.TheVariants as due;
 ghost use Rattle.bound_certificate.specs.declared.item.Item.TheVariants as item_of;
 ghost use Rattle.bound_certificate.specs.TextReading.{Finishes, HasRead, Reads, ReadsFault, stage_due};
 
-use crate::certificate::empty_leaf;
 use crate::cut::cut_at;
 use crate::fault::{CertFault, FaultKind};
 use crate::item::{Fed, Item};
@@ -14,7 +13,7 @@ use crate::row::Numbers;
 use crate::text_reading::{Stage, TextReading};
 use crate::vector_room::VectorRoom;
 use arrayvec::ArrayVec;
-use dual_bound::Leaf;
+use dual_bound::{Leaf, Prices};
 use escrow_desk::NoMemory;
 use std::alloc::Global;
 use std::marker::Model;
@@ -60,12 +59,17 @@ impl CertReader {
         ensures going { IfOk result (λ reader. reader.fault ≡ None) }
         ensures first { IfOk result (λ reader. stage_due reader.stage ≡ due.Title) }
     {
+        let prices = vec![in alloc; 0; usize::from(dates)]?;
         let reading = TextReading {
             line: 1,
             stage: Stage::First,
             vectors: VectorRoom::make(alloc)?,
             part: Part::make(alloc)?,
-            leaf: empty_leaf(alloc, dates)?,
+            leaf: Leaf {
+                whole: false,
+                mu: 0,
+                prices: Prices::new(prices),
+            },
             fault: None,
         };
         Ok(CertReader {
