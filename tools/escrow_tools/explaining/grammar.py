@@ -12,8 +12,8 @@ from .forms import words_of
 
 HEAD = ("portfolio COUNT", "buy LINE UNITS", "gap CENTS")
 TREE = ("nodes COUNT", "s LINE UNITS", "p")
-FORMS = ("escrow-certificate 1",) + HEAD + TREE + ("l WHOLE WEIGHT PRICE ..", "end")
-PACKED_FORMS = ("escrow-certificate 2",) + HEAD + ("vectors COUNT", "v PRICE ..") + TREE + ("l WHOLE WEIGHT VECTOR PLACE PRICE ..", "end")
+FORMS = ("escrow-certificate 1",) + HEAD + TREE + ("l WHOLE MULTIPLIER PRICE ..", "end")
+PACKED_FORMS = ("escrow-certificate 2",) + HEAD + ("vectors COUNT", "v PRICE ..") + TREE + ("l WHOLE MULTIPLIER VECTOR PLACE PRICE ..", "end")
 MEANINGS = {
     "Truncated": "the text ends before this line does: the last line, `end`, has a line end too",
     "Trailing": "something stands behind `end`: delete it, blank lines too",
@@ -61,8 +61,8 @@ def _advice(data: bytes, names: dict, text: str, kind: str, needs: Optional[dict
         return _counted_prices(names, "behind `v`", len(words) - 1, needs)
     if words[0] == "l" and kind == "Count":
         if is_packed(data):
-            return ["behind `l`, WHOLE, WEIGHT and VECTOR stand pairs of a place and a price, and none where no price changes"]
-        return _counted_prices(names, "behind `l`, WHOLE and WEIGHT", max(len(words) - 3, 0), needs)
+            return ["behind `l`, WHOLE, MULTIPLIER and VECTOR stand pairs of a place and a price, and none where no price changes"]
+        return _counted_prices(names, "behind `l`, WHOLE and MULTIPLIER", max(len(words) - 3, 0), needs)
     if text != text.strip() or "  " in text or "\t" in text:
         return ["words are parted by one blank, and none stands before or behind them"]
     if words[0] == "buy" and kind == "Number":
