@@ -192,13 +192,13 @@ fn lines_are_counted_before_the_yield(rt: HostRuntime) -> Result<(), Fail> {
     try_count(
         &rt,
         rt.alloc(),
-        57,
+        313,
         refused(FileKind::Prices, 0, RefusalKind::TooManyLines),
     )?;
     try_count(
         &rt,
         rt.alloc(),
-        56,
+        312,
         refused(FileKind::Issue, 2, RefusalKind::OutOfRange),
     )
 }

@@ -31,14 +31,14 @@ securities_at_most days (line ∷ lines) (units ∷ plan) securities permitted =
     (securities_at_most days lines plan (All-tail (IsSecurityLine days) line lines securities) (All-tail PairIsPermitted (line, units) (zip lines plan) permitted))
 
 -- all that a permitted portfolio costs is within a 64-bit number by far
-pub lines_cost_at_most : (days : PaymentDays) (lines : List Line) (plan : List ℕ) → AreLines days lines → All PairIsPermitted (zip lines plan) → sum_by pair_cost (zip lines plan) ≤ 91 * 10 ^ 12
+pub lines_cost_at_most : (days : PaymentDays) (lines : List Line) (plan : List ℕ) → AreLines days lines → All PairIsPermitted (zip lines plan) → sum_by pair_cost (zip lines plan) ≤ 172 * 10 ^ 12
 lines_cost_at_most days [] plan lines permitted = absurd lines
 lines_cost_at_most days (cash ∷ securities) [] lines permitted = omega arith
 lines_cost_at_most days (cash ∷ securities) (units ∷ plan) lines permitted =
     let first = cash-at_most cash units lines.0 (permitted_few cash units (All-head PairIsPermitted (cash, units) (zip securities plan) permitted)) in
     let rest = sum_by-le pair_cost (316 * 10 ^ 9) (zip securities plan) (securities_at_most days securities plan lines.1 (All-tail PairIsPermitted (cash, units) (zip securities plan) permitted)) in
     let sum = sum_by-cons pair_cost (cash, units) (zip securities plan) in
-    let count : length (zip securities plan) ≤ 256 = omega (arith, length-zip securities plan, lines.2) in
+    let count : length (zip securities plan) ≤ 512 = omega (arith, length-zip securities plan, lines.2) in
     omega (arith, first, rest, sum, mul-le-mul_right (316 * 10 ^ 9) count)
 
 pub drop-zip : {A B : Type 0} (xs : List A) (ys : List B) → zip (drop 1 xs) (drop 1 ys) ≡ drop 1 (zip xs ys)
@@ -59,18 +59,18 @@ cost_parts days (cash ∷ securities) (units ∷ plan) lines same =
 pub cost_is : (book : BookContents) (plan : List ℕ) → IsBook book → IsPermitted book plan → cost book plan ≡ get_or plan 0 0 + security_cost book plan
 cost_is book plan limits permitted = cost_parts book.days book.lines plan limits.lines permitted.same_length
 
-pub cost_at_most : (book : BookContents) (plan : List ℕ) → IsBook book → IsPermitted book plan → cost book plan ≤ 91 * 10 ^ 12
+pub cost_at_most : (book : BookContents) (plan : List ℕ) → IsBook book → IsPermitted book plan → cost book plan ≤ 172 * 10 ^ 12
 cost_at_most book plan limits permitted = lines_cost_at_most book.days book.lines plan limits.lines permitted.units
 
-securities_cost_at_most : (days : PaymentDays) (lines : List Line) (plan : List ℕ) → AreLines days lines → All PairIsPermitted (zip lines plan) → sum_by pair_cost (drop 1 (zip lines plan)) ≤ 81 * 10 ^ 12
+securities_cost_at_most : (days : PaymentDays) (lines : List Line) (plan : List ℕ) → AreLines days lines → All PairIsPermitted (zip lines plan) → sum_by pair_cost (drop 1 (zip lines plan)) ≤ 162 * 10 ^ 12
 securities_cost_at_most days [] plan lines permitted = absurd lines
 securities_cost_at_most days (cash ∷ securities) [] lines permitted = omega arith
 securities_cost_at_most days (cash ∷ securities) (units ∷ plan) lines permitted =
     let rest = sum_by-le pair_cost (316 * 10 ^ 9) (zip securities plan) (securities_at_most days securities plan lines.1 (All-tail PairIsPermitted (cash, units) (zip securities plan) permitted)) in
-    let count : length (zip securities plan) ≤ 256 = omega (arith, length-zip securities plan, lines.2) in
+    let count : length (zip securities plan) ≤ 512 = omega (arith, length-zip securities plan, lines.2) in
     omega (arith, rest, mul-le-mul_right (316 * 10 ^ 9) count)
 
-pub security_cost_at_most : (book : BookContents) (plan : List ℕ) → IsBook book → IsPermitted book plan → security_cost book plan ≤ 81 * 10 ^ 12
+pub security_cost_at_most : (book : BookContents) (plan : List ℕ) → IsBook book → IsPermitted book plan → security_cost book plan ≤ 162 * 10 ^ 12
 security_cost_at_most book plan limits permitted = securities_cost_at_most book.days book.lines plan limits.lines permitted.units
 
 pub lines_present : (book : BookContents) → IsBook book → 1 ≤ length book.lines

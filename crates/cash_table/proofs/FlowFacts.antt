@@ -83,28 +83,28 @@ securities_permitted (line ∷ lines) (units ∷ plan) permitted = All-tail Pair
 
 -- securities pay less than 10^15 cents together, even with what they cost
 securities_total : (days : PaymentDays) (lines : List Line) (plan : List ℕ) → IsSettlement days.settle → All (IsSecurityLine days) lines → All PairIsPermitted (zip lines plan)
-    → All (λ p. pair_total days p ≤ 346 * 10 ^ 10) (zip lines plan)
-securities_total days [] plan h securities permitted = All-nil (λ p. pair_total days p ≤ 346 * 10 ^ 10)
-securities_total days (line ∷ lines) [] h securities permitted = All-nil (λ p. pair_total days p ≤ 346 * 10 ^ 10)
+    → All (λ p. pair_total days p ≤ 134 * 10 ^ 10) (zip lines plan)
+securities_total days [] plan h securities permitted = All-nil (λ p. pair_total days p ≤ 134 * 10 ^ 10)
+securities_total days (line ∷ lines) [] h securities permitted = All-nil (λ p. pair_total days p ≤ 134 * 10 ^ 10)
 securities_total days (line ∷ lines) (units ∷ plan) h securities permitted =
-    All-cons (λ p. pair_total days p ≤ 346 * 10 ^ 10) (line, units) (zip lines plan)
+    All-cons (λ p. pair_total days p ≤ 134 * 10 ^ 10) (line, units) (zip lines plan)
     (line_payments-little days line units h (All-head (IsSecurityLine days) line lines securities) (permitted_few line units (All-head PairIsPermitted (line, units) (zip lines plan) permitted)))
     (securities_total days lines plan h (All-tail (IsSecurityLine days) line lines securities) (All-tail PairIsPermitted (line, units) (zip lines plan) permitted))
 
 total_at_most : (days : PaymentDays) (lines : List Line) (plan : List ℕ) → IsSettlement days.settle → AreLines days lines → All PairIsPermitted (drop 1 (zip lines plan))
-    → sum_by (pair_total days) (drop 1 (zip lines plan)) ≤ 89 * 10 ^ 13
+    → sum_by (pair_total days) (drop 1 (zip lines plan)) ≤ 69 * 10 ^ 13
 total_at_most days [] plan h lines permitted = absurd lines
 total_at_most days (cash ∷ securities) [] h lines permitted = omega arith
 total_at_most days (cash ∷ securities) (units ∷ plan) h lines permitted =
-    let each = sum_by-le (pair_total days) (346 * 10 ^ 10) (zip securities plan) (securities_total days securities plan h lines.1 permitted) in
-    let count : length (zip securities plan) ≤ 256 = omega (arith, length-zip securities plan, lines.2) in
-    omega (arith, each, mul-le-mul_right (346 * 10 ^ 10) count)
+    let each = sum_by-le (pair_total days) (134 * 10 ^ 10) (zip securities plan) (securities_total days securities plan h lines.1 permitted) in
+    let count : length (zip securities plan) ≤ 512 = omega (arith, length-zip securities plan, lines.2) in
+    omega (arith, each, mul-le-mul_right (134 * 10 ^ 10) count)
 
-pub securities_at_most : (book : BookContents) (plan : List ℕ) → IsBook book → IsPermitted book plan → total (flat_map (pair_payments book.days) (drop 1 (zip book.lines plan))) ≤ 89 * 10 ^ 13
+pub securities_at_most : (book : BookContents) (plan : List ℕ) → IsBook book → IsPermitted book plan → total (flat_map (pair_payments book.days) (drop 1 (zip book.lines plan))) ≤ 69 * 10 ^ 13
 securities_at_most book plan limits permitted =
     let bound = total_at_most book.days book.lines plan limits.settlement limits.lines (securities_permitted book.lines plan permitted.units) in
     omega (arith, bound, total-payments book.days (drop 1 (zip book.lines plan)))
 
-pub flows_at_most : (book : BookContents) (plan : List ℕ) → IsBook book → IsPermitted book plan → total (security_flows book plan) ≤ 89 * 10 ^ 13
+pub flows_at_most : (book : BookContents) (plan : List ℕ) → IsBook book → IsPermitted book plan → total (security_flows book plan) ≤ 69 * 10 ^ 13
 flows_at_most book plan limits permitted =
     omega (arith, keep-total (flat_map (pair_payments book.days) (drop 1 (zip book.lines plan))), securities_at_most book plan limits permitted)

@@ -61,22 +61,22 @@ all_lines days (cash ∷ securities) lines =
     All-cons (IsLine days) cash securities (inl lines.0) (All-weaker (IsSecurityLine days) (IsLine days) (λ line security. inr security) securities lines.1)
 
 -- all payments of a permitted portfolio are within a 64-bit number by far
-pairs_total : (days : PaymentDays) (lines : List Line) (plan : List ℕ) → IsSettlement days.settle → All (IsLine days) lines → All PairIsPermitted (zip lines plan) → All (λ p. pair_total days p ≤ 2 * 10 ^ 13) (zip lines plan)
-pairs_total days [] plan h lines permitted = All-nil (λ p. pair_total days p ≤ 2 * 10 ^ 13)
-pairs_total days (line ∷ lines) [] h all permitted = All-nil (λ p. pair_total days p ≤ 2 * 10 ^ 13)
+pairs_total : (days : PaymentDays) (lines : List Line) (plan : List ℕ) → IsSettlement days.settle → All (IsLine days) lines → All PairIsPermitted (zip lines plan) → All (λ p. pair_total days p ≤ 17 * 10 ^ 12) (zip lines plan)
+pairs_total days [] plan h lines permitted = All-nil (λ p. pair_total days p ≤ 17 * 10 ^ 12)
+pairs_total days (line ∷ lines) [] h all permitted = All-nil (λ p. pair_total days p ≤ 17 * 10 ^ 12)
 pairs_total days (line ∷ lines) (units ∷ plan) h all permitted =
-    All-cons (λ p. pair_total days p ≤ 2 * 10 ^ 13) (line, units) (zip lines plan)
+    All-cons (λ p. pair_total days p ≤ 17 * 10 ^ 12) (line, units) (zip lines plan)
     (line_payments-total days line units h (All-head (IsLine days) line lines all) (permitted_few line units (All-head PairIsPermitted (line, units) (zip lines plan) permitted)))
     (pairs_total days lines plan h (All-tail (IsLine days) line lines all) (All-tail PairIsPermitted (line, units) (zip lines plan) permitted))
 
-pub total-at_most : (days : PaymentDays) (lines : List Line) (plan : List ℕ) → IsSettlement days.settle → All (IsLine days) lines → length lines ≤ 257 → All PairIsPermitted (zip lines plan)
+pub total-at_most : (days : PaymentDays) (lines : List Line) (plan : List ℕ) → IsSettlement days.settle → All (IsLine days) lines → length lines ≤ 513 → All PairIsPermitted (zip lines plan)
     → total (flat_map (pair_payments days) (zip lines plan)) ≤ 10 ^ 16
 total-at_most days lines plan h all few permitted =
-    let each = sum_by-le (pair_total days) (2 * 10 ^ 13) (zip lines plan) (pairs_total days lines plan h all permitted) in
-    let count : length (zip lines plan) ≤ 257 = omega (arith, length-zip lines plan) in
-    omega (arith, total-payments days (zip lines plan), each, mul-le-mul_right (2 * 10 ^ 13) count)
+    let each = sum_by-le (pair_total days) (17 * 10 ^ 12) (zip lines plan) (pairs_total days lines plan h all permitted) in
+    let count : length (zip lines plan) ≤ 513 = omega (arith, length-zip lines plan) in
+    omega (arith, total-payments days (zip lines plan), each, mul-le-mul_right (17 * 10 ^ 12) count)
 
-pub count_lines : (days : PaymentDays) (lines : List Line) → AreLines days lines → length lines ≤ 257
+pub count_lines : (days : PaymentDays) (lines : List Line) → AreLines days lines → length lines ≤ 513
 count_lines days [] lines = absurd lines
 count_lines days (cash ∷ securities) lines = omega (arith, lines.2)
 

@@ -18,11 +18,11 @@ pub fn cost(book: &Book, plan: &Plan) -> Cents
     Cents(lines_cost(book.lines(), plan.units()))
 }
 
-/// What the securities of a permitted portfolio cost, without opening cash, in cents: at most 810 billion dollars.
+/// What the securities of a permitted portfolio cost, without opening cash, in cents: at most 1,620 billion dollars.
 pub fn security_cost(book: &Book, plan: &Plan) -> Cents
     requires { IsPermitted book.now plan.now }
     ensures value { result.0 ≡ security_cost_of book.now plan.now }
-    ensures bound { result.0 ≤ 81 * 10 ^ 12 }
+    ensures bound { result.0 ≤ 162 * 10 ^ 12 }
 {
     Cents(lines_cost(&book.lines()[1..], &plan.units()[1..]))
 }

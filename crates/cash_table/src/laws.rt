@@ -50,17 +50,17 @@ pub fn flow_days()
         → HaveLaterAmount book.days.settle (security_flows book plan) }
 {}
 
-/// A law: a permitted portfolio costs at most 910 billion dollars, and its securities pay at most 8,900 billion. So what they
+/// A law: a permitted portfolio costs at most 1,720 billion dollars, and its securities pay at most 6,900 billion. So what they
 /// pay and cost is within the 10^15 cents for which a yield is sought.
 pub fn bounds()
     ensures cost { (book : BookContents) (plan : List ℕ)
         → IsBook book
         → IsPermitted book plan
-        → cost book plan ≤ 91 * 10 ^ 12 }
+        → cost book plan ≤ 172 * 10 ^ 12 }
     ensures flows { (book : BookContents) (plan : List ℕ)
         → IsBook book
         → IsPermitted book plan
-        → total (security_flows book plan) ≤ 89 * 10 ^ 13 }
+        → total (security_flows book plan) ≤ 69 * 10 ^ 13 }
     ensures limit { (book : BookContents) (plan : List ℕ)
         → IsBook book
         → IsPermitted book plan

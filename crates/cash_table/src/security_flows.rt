@@ -30,7 +30,7 @@ pub fn flows(alloc: Global, book: &Book, plan: &Plan) -> Result<Vec<Flow>, NoMem
     ensures above { IfOk result (λ flows. AreAboveZero flows.items) }
     ensures within { IfOk result (λ flows. FallWithinFortyYears book.now.days.settle flows.items) }
     ensures later { IfOk result (λ flows. HaveLaterAmount book.now.days.settle flows.items) }
-    ensures bound { IfOk result (λ flows. total flows.items ≤ 89 * 10 ^ 13) }
+    ensures bound { IfOk result (λ flows. total flows.items ≤ 69 * 10 ^ 13) }
 {
     let lines = book.lines();
     let settle = book.settle();

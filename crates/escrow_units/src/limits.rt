@@ -31,4 +31,4 @@ pub const FIRST_WAIT: u32 = 30;
 pub const MOST_NEED_DATES: usize = 480;
 
 /// The most lines on offer.
-pub const MOST_LINES: usize = 256;
+pub const MOST_LINES: usize = 512;

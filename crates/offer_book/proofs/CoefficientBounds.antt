@@ -147,17 +147,21 @@ sum-high units (pay ∷ pays) (flow ∷ flows) enclosed close =
     rw (sum_by-cons (high_of units) pay pays, sum_by-cons cents_of flow flows)
     (sum-more COEFFICIENT_SCALE units (length flows) (high_of units pay) (cents_of flow) (sum_by (high_of units) pays) (sum_by cents_of flows) first rest)
 
+pub pays-high_little : (days : PaymentDays) (line : Line) (units : ℕ) → IsSettlement days.settle → IsSecurityLine days line → units ≤ line.most
+    → sum_by (λ pay. pay.high * units + pay.slack) (pay_coefficients days line) ≤ 14 * 10 ^ 20
+unfolding high_of cents_of
+pays-high_little days line units h own few =
+    let enclosed = (coefficients-enclose days line h (inr own) units).pays in
+    let sum = sum-high units (pay_coefficients days line) (line_payments days line units) enclosed (pays-close days line) in
+    let few_flows : length (line_payments days line units) ≤ 84 = omega (arith, length-map (schedule_of days line) (flow_by (kind_rate line.kind) (par line units)), schedule-few days line h own) in
+    let count = mul-le-mul_right (COEFFICIENT_SCALE + units) few_flows in
+    omega (arith, sum, count, line_payments-little days line units h own few, units-few days line units own few)
+
 pub pays-high_small : (days : PaymentDays) (line : Line) (units : ℕ) → IsSettlement days.settle → IsLine days line → units ≤ line.most
     → sum_by (λ pay. pay.high * units + pay.slack) (pay_coefficients days line) ≤ 10 ^ 22
-unfolding high_of cents_of
 pays-high_small days line units h is_line few = elim is_line [
   | inl cash ↦ subst (λ (pays : List PayCoefficients). sum_by (λ pay. pay.high * units + pay.slack) pays ≤ 10 ^ 22) (sym (cash-coefficients days line cash.kind)) (of_cash line.step cash.step (omega (arith, few, cash.most)))
-  | inr own ↦
-      let enclosed = (coefficients-enclose days line h (inr own) units).pays in
-      let sum = sum-high units (pay_coefficients days line) (line_payments days line units) enclosed (pays-close days line) in
-      let few_flows : length (line_payments days line units) ≤ 84 = omega (arith, length-map (schedule_of days line) (flow_by (kind_rate line.kind) (par line units)), schedule-few days line h own) in
-      let count = mul-le-mul_right (COEFFICIENT_SCALE + units) few_flows in
-      omega (arith, sum, count, line_payments-little days line units h own few, units-few days line units own few)
+  | inr own ↦ omega (arith, pays-high_little days line units h own few)
 ]
   where
     of_cash : (step : ℕ) → step ≡ 1 → units ≤ 10 ^ 13

@@ -20,7 +20,7 @@ use Rattle.payment_schedule.proofs.ScheduleFacts.{flows-none, flows_by}
 use Rattle.slgs_interest.specs.Payments.{first_accrual_of, payment_dates, payment_on, slgs_schedule}
 use Rattle.slgs_interest.specs.PaymentLaws.{AreSmall, AreWithinTerm}
 use Rattle.escrow_units.proofs.RoundingFacts.{near-zero}
-use Rattle.slgs_interest.proofs.PaymentFacts.{first-short, interest-little, paid_on, payments-by_date, payments-face, payments-principal, payments-small, payments-within, slgs_flows}
+use Rattle.slgs_interest.proofs.PaymentFacts.{first-short, interest-sum, paid_on, payments-by_date, payments-face, payments-principal, payments-small, payments-within, slgs_flows}
 use Rattle.slgs_interest.proofs.Series.{IsPaid, paid, certificate-first}
 use Rattle.market_notes.proofs.FlowFacts.{note_flows}
 use Rattle.market_notes.proofs.AmountFacts as notes
@@ -147,7 +147,7 @@ schedule-few days line h security = kind_schedule-few days line.kind h security.
 pub slgs_flows-few : (slgs : Slgs) (closed : Closings) (face : ℕ) → IsPaid slgs → length (slgs_flows slgs closed face) ≤ 84
 slgs_flows-few slgs closed face p = omega (arith, ap length (payments-by_date slgs closed face), length-map (payment_dates slgs) (paid_on slgs closed face), dates-few slgs p)
 
-pub small-total : (flows : List Flow) → length flows ≤ 84 → AreSmall flows → total flows ≤ 2 * 10 ^ 13
+pub small-total : (flows : List Flow) → length flows ≤ 84 → AreSmall flows → total flows ≤ 17 * 10 ^ 12
 small-total flows few small =
     omega (arith, sum_by-le (λ (flow : Flow). flow.cents.0) (2 * 10 ^ 11) flows small, mul-le-mul_right (2 * 10 ^ 11) few)
 
@@ -163,21 +163,20 @@ kind-within days (Market note) face h security ends =
     subst (λ day. FallWithinFortyYears day (note_flows note days.closed face)) security.0
     (notes.payments-within note days.closed face security.1 (subst (λ day. open_day days.closed note.maturity ≤ℤ years_after_of day 40) (sym security.0) ends))
 
-kind-total : (days : PaymentDays) (kind : LineKind) (amount : ℕ) → IsSettlement days.settle → IsSecurity days kind → amount ≤ 10 ^ 11 → total (kind_flows days kind amount) ≤ 2 * 10 ^ 13
+kind-total : (days : PaymentDays) (kind : LineKind) (amount : ℕ) → IsSettlement days.settle → IsSecurity days kind → amount ≤ 10 ^ 11 → total (kind_flows days kind amount) ≤ 17 * 10 ^ 12
 kind-total days Cash amount h security few = absurd security
 kind-total days (Security slgs) amount h security few =
     let p = is_paid days slgs h security in
     small-total (slgs_flows slgs days.closed amount) (slgs_flows-few slgs days.closed amount p) (payments-small slgs days.closed amount (is_short days slgs h security) few security.2)
 kind-total days (Market note) face h security few = omega (arith, notes.payments-little note days.closed face security.1 few)
 
--- the face once, and on each date at most four tenths of the greatest face
+-- the face once, a first interest, and half coupons
 pays-little : (slgs : Slgs) (closed : Closings) (face : ℕ) → IsPaid slgs → IsShort (first_accrual_of slgs) → face ≤ 10 ^ 11 → slgs.rate.0 ≤ 30_000
-    → total (slgs_flows slgs closed face) ≤ 346 * 10 ^ 10
+    → total (slgs_flows slgs closed face) ≤ 134 * 10 ^ 10
 pays-little slgs closed face p short few low =
-    let interest = sum_by-le (interest_by slgs.rate.0 face) (4 * 10 ^ 10) (slgs_schedule slgs closed) (interest-little slgs closed face short few low) in
-    omega (arith, payments-principal slgs closed face p, interest, mul-le-mul_right (4 * 10 ^ 10) (slgs_schedule-few slgs closed p))
+    omega (arith, payments-principal slgs closed face p, interest-sum slgs closed face p short few low)
 
-kind-little : (days : PaymentDays) (kind : LineKind) (amount : ℕ) → IsSettlement days.settle → IsSecurity days kind → amount ≤ 10 ^ 11 → total (kind_flows days kind amount) ≤ 346 * 10 ^ 10
+kind-little : (days : PaymentDays) (kind : LineKind) (amount : ℕ) → IsSettlement days.settle → IsSecurity days kind → amount ≤ 10 ^ 11 → total (kind_flows days kind amount) ≤ 134 * 10 ^ 10
 kind-little days Cash amount h security few = absurd security
 kind-little days (Security slgs) amount h security few =
     pays-little slgs days.closed amount (is_paid days slgs h security) (is_short days slgs h security) few security.2
@@ -216,13 +215,13 @@ line_payments-within days line units h is_line = elim is_line [
   | inr security ↦ kind-within days line.kind (par line units) h security.security security.ends
 ]
 
-pub line_payments-total : (days : PaymentDays) (line : Line) (units : ℕ) → IsSettlement days.settle → IsLine days line → units ≤ line.most → total (line_payments days line units) ≤ 2 * 10 ^ 13
+pub line_payments-total : (days : PaymentDays) (line : Line) (units : ℕ) → IsSettlement days.settle → IsLine days line → units ≤ line.most → total (line_payments days line units) ≤ 17 * 10 ^ 12
 line_payments-total days line units h is_line few = elim is_line [
   | inl cash ↦ omega (arith, ap total (cash-payments days line units cash), cash_par-at_most line units cash few)
   | inr security ↦ kind-total days line.kind (par line units) h security.security (par-at_most days line units security few)
 ]
 
-pub line_payments-little : (days : PaymentDays) (line : Line) (units : ℕ) → IsSettlement days.settle → IsSecurityLine days line → units ≤ line.most → total (line_payments days line units) ≤ 346 * 10 ^ 10
+pub line_payments-little : (days : PaymentDays) (line : Line) (units : ℕ) → IsSettlement days.settle → IsSecurityLine days line → units ≤ line.most → total (line_payments days line units) ≤ 134 * 10 ^ 10
 line_payments-little days line units h security few = kind-little days line.kind (par line units) h security.security (par-at_most days line units security few)
 
 -- no less than their face

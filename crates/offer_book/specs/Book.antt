@@ -71,7 +71,7 @@ pub record IsSecurityLine (days : PaymentDays) (line : Line) : Type 0 where
 abbrev pub IsLine : PaymentDays → Line → Type 0
 IsLine days line = IsCashLine line ⊎ IsSecurityLine days line
 
--- opening cash, and then at most 256 lines of securities
+-- opening cash, and then at most 512 lines of securities
 abbrev pub AreLines : PaymentDays → List Line → Type 0
 AreLines days [] = ⊥
 AreLines days (cash ∷ securities) =

@@ -39,7 +39,7 @@ book_of issue offers = record {
 abbrev pub lines_on_offer : RateFile → NoteFile → ℕ
 lines_on_offer rates notes = length rates.offers + length notes.notes
 
--- more than 256 lines are refused with the price file as a whole (this project's own)
+-- more than 512 lines are refused with the price file as a whole (this project's own)
 abbrev pub too_many_lines : Refusal
 too_many_lines = refusal_of Prices 0 TooManyLines
 
@@ -78,7 +78,7 @@ pub record IsLateNote (issue : Issue) (rates : RateFile) (notes : NoteFile) (ref
   pub sold : AreLinesOf (issue_days issue) rates lines
   pub late : IsFirstLateNote (issue_days issue) notes refusal
 
--- too many lines: all offers keep the rules, all notes open in time, and there are more than 256 offers and notes
+-- too many lines: all offers keep the rules, all notes open in time, and there are more than 512 offers and notes
 pub record IsTooMany (issue : Issue) (rates : RateFile) (notes : NoteFile) (refusal : Refusal) : Type 0 where
   pub name : refusal ≡ too_many_lines
   pub lines : List Line

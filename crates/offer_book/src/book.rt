@@ -86,7 +86,7 @@ impl Book {
         self.needs[place as usize]
     }
 
-    /// How many lines there are, line 0 included: from 1 to 257.
+    /// How many lines there are, line 0 included: from 1 to 513.
     pub fn line_count(&self) -> u16
         ensures value { result ≡ length self.now.lines }
         ensures limits { IsBook self.now }

@@ -21,7 +21,7 @@ use market_notes::NoteFile;
 use rate_table::RateFile;
 use std::alloc::Global;
 
-// That at most 256 lines are on offer.
+// That at most 512 lines are on offer.
 fn require_few_lines(count: usize) -> Result<(), CaseError>
     ensures { Answers result (within_most_lines count) }
 {
@@ -67,7 +67,7 @@ fn payment_days(alloc: Global, issue: &Issue) -> Result<PaymentDays, NoMemory>
     })
 }
 
-// The book of an issue, its payment days and at most 256 lines on offer.
+// The book of an issue, its payment days and at most 512 lines on offer.
 fn book_of_issue(
     alloc: Global,
     issue: &Issue,
@@ -96,7 +96,7 @@ fn book_of_issue(
 ///
 /// `Refused` for the first faulty offer, as `slgs_lines` says; else with file `Prices`, its row and `ClosedPastEnd` for the
 /// first note whose maturity opens more than 40 years after settlement; else with file `Prices`, row 0 and `TooManyLines`
-/// where there are more than 256 offers and notes. `NoMemory` where memory ran out.
+/// where there are more than 512 offers and notes. `NoMemory` where memory ran out.
 #[tactic(auto, unfolding(crate::specs::CaseBook::book_of_files))]
 pub fn make_book(
     alloc: Global,
@@ -120,7 +120,7 @@ pub fn make_book(
 
 /// What the book of three files is: its lines are opening cash and those of the files' rows, in order, and it keeps every
 /// limit; and that files are refused for their first faulty offer, or else for their first note that opens too late, or else
-/// for more than 256 lines.
+/// for more than 512 lines.
 pub fn book_laws()
     ensures books { BooksAreOfTheirFiles }
     ensures refusals { BooksAreRefusedInOrder }

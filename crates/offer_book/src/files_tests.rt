@@ -214,7 +214,7 @@ struct Count {
 }
 
 #[test]
-fn at_most_256_lines_are_on_offer(rt: HostRuntime) -> Result<(), Fail> {
+fn at_most_512_lines_are_on_offer(rt: HostRuntime) -> Result<(), Fail> {
     let too_many = Refusal {
         file: FileKind::Prices,
         row: 0,
@@ -228,28 +228,28 @@ fn at_most_256_lines_are_on_offer(rt: HostRuntime) -> Result<(), Fail> {
     let counts = [
         Count {
             offer: b"offer,2025-04-15,0.00,,10000\n",
-            notes: 56,
+            notes: 112,
             refusal: None,
         },
         Count {
             offer: b"offer,2025-04-15,0.00,,10000\n",
-            notes: 57,
+            notes: 113,
             refusal: Some(too_many),
         },
         Count {
             offer: b"offer,2025-01-29,0.00,,10000\n",
-            notes: 57,
+            notes: 113,
             refusal: Some(too_short),
         },
     ];
     for count in &counts {
-        let rates = repeated(rt.alloc(), count.offer, 200)?;
+        let rates = repeated(rt.alloc(), count.offer, 400)?;
         let prices = repeated(rt.alloc(), b"note,2025-07-15,4,100,1000\n", count.notes)?;
         let book = book_in(rt.alloc(), ISSUE, rates.as_slice(), prices.as_slice())?;
         match book {
             Ok(book) => {
                 assert_eq!(rt; count.refusal, None);
-                assert_eq!(rt; book.line_count(), 257);
+                assert_eq!(rt; book.line_count(), 513);
             }
             Err(error) => assert_eq!(rt; count.refusal.map(CaseError::Refused), Some(error)),
         }
@@ -275,7 +275,7 @@ fn a_maturity_opens_by_the_end(rt: HostRuntime) -> Result<(), Fail> {
     let note = b"terms,1000,1000\nnote,2065-01-15,4.000,100,200000\n";
     let later =
         b"terms,1000,1000\nnote,2025-07-15,4.000,100,2000\nnote,2065-01-15,4.000,100,2000\n";
-    let many = repeated(rt.alloc(), b"offer,2025-04-15,0.00,,10000\n", 257)?;
+    let many = repeated(rt.alloc(), b"offer,2025-04-15,0.00,,10000\n", 513)?;
     let refused: [(&[u8], &[u8], FileKind, u32); 5] = [
         (offer, b"", FileKind::Rates, 2),
         (b"", note, FileKind::Prices, 2),

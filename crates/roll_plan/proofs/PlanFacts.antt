@@ -170,14 +170,14 @@ count_days (roll ∷ rolls) from to rise within order =
     after a b less = omega (arith, ints, less)
 
 -- each of them takes at most what securities pay in all
-sum_small : (rolls : List Roll) → All (λ (roll : Roll). roll.cents.0 ≤ 89 * 10 ^ 13) rolls → total (taken rolls) ≤ length rolls * (89 * 10 ^ 13)
+sum_small : (rolls : List Roll) → All (λ (roll : Roll). roll.cents.0 ≤ 69 * 10 ^ 13) rolls → total (taken rolls) ≤ length rolls * (69 * 10 ^ 13)
 sum_small [] small = omega arith
 sum_small (roll ∷ rolls) small =
     omega (
       arith,
       sum_by-cons (λ (f : Flow). f.cents.0) (on roll.day roll.cents.0) (taken rolls),
-      All-head (λ (r : Roll). r.cents.0 ≤ 89 * 10 ^ 13) roll rolls small,
-      sum_small rolls (All-tail (λ (r : Roll). r.cents.0 ≤ 89 * 10 ^ 13) roll rolls small),
+      All-head (λ (r : Roll). r.cents.0 ≤ 69 * 10 ^ 13) roll rolls small,
+      sum_small rolls (All-tail (λ (r : Roll). r.cents.0 ≤ 69 * 10 ^ 13) roll rolls small),
     )
 
 one_of_all : (rolls : List Roll) (k : ℕ) (d : Roll) → k < length rolls → (get_or rolls k d).cents.0 ≤ cents_on (get_or rolls k d).day (taken rolls)
@@ -208,7 +208,7 @@ pub record AreKnown (book : BookContents) (plan : List ℕ) (rolls : List Roll) 
   pub from : FallWithinFortyYears book.days.settle (taken rolls)
   pub to : FallWithinFortyYears book.days.settle (returned rolls)
   pub order : All (λ (roll : Roll). roll.day <ℤ roll.next) rolls
-  pub small : total (taken rolls) ≤ 14_641 * (89 * 10 ^ 13)
+  pub small : total (taken rolls) ≤ 14_641 * (69 * 10 ^ 13)
 
 at_entry_day : (book : BookContents) (plan : List ℕ) (entries : List Balance) (day : ℤ) → IsBook book → AreBalances book plan entries → Any (λ (entry : Balance). entry.day ≡ day) entries
     → (book.days.settle ≤ℤ day) × (day ≤ℤ years_after_of book.days.settle 40)
@@ -216,10 +216,10 @@ at_entry_day book plan entries day limits balances (k, e, within, at, falls) =
     subst (λ (z : ℤ). (book.days.settle ≤ℤ z) × (z ≤ℤ years_after_of book.days.settle 40)) (ap (λ (b : Balance). b.day) at ∙ falls) (entry_within book plan entries k e limits balances within)
 
 each_small : (book : BookContents) (plan : List ℕ) (terms : Terms) (entries : List Balance) (rolls : List Roll) (k : ℕ) (d : Roll) → IsBook book → IsPermitted book plan → AreBalances book plan entries
-    → AreRolls book.days.closed terms entries (security_flows book plan) rolls → k < length rolls → (get_or rolls k d).cents.0 ≤ 89 * 10 ^ 13
+    → AreRolls book.days.closed terms entries (security_flows book plan) rolls → k < length rolls → (get_or rolls k d).cents.0 ≤ 69 * 10 ^ 13
 each_small book plan terms entries rolls k d limits permitted balances are within = by_entry (are.allowed k d within).0.from
   where
-    by_entry : Any (λ (entry : Balance). entry.day ≡ (get_or rolls k d).day) entries → (get_or rolls k d).cents.0 ≤ 89 * 10 ^ 13
+    by_entry : Any (λ (entry : Balance). entry.day ≡ (get_or rolls k d).day) entries → (get_or rolls k d).cents.0 ≤ 69 * 10 ^ 13
     by_entry (i, e, here, at, falls) =
         let same : (get_or entries i e).day ≡ (get_or rolls k d).day = ap (λ (b : Balance). b.day) at ∙ falls in
         let back = come_back (get_or entries i e).day rolls (each_comes_back book plan terms book.days.closed entries (security_flows book plan) rolls i e are here) in

@@ -43,6 +43,12 @@ yearly face rate days f r =
     let product = mul-le-mul f r in
     mul-le-mul_right days (omega (arith, product))
 
+-- half a year's interest at no more than 30 percent is at most fifteen hundredths of the greatest face
+pub half-at-most : (face rate : ℕ) → face ≤ 10 ^ 11 → rate ≤ 30_000 → earned_of face rate 1 2 ≤ 15 * 10 ^ 9
+half-at-most face rate f r =
+    let product = yearly face rate 1 f r in
+    near-at-most (face * rate * 1) (100_000 * 2) (15 * 10 ^ 9) (omega arith) (omega (arith, product))
+
 -- interest at no more than 30 percent, for so few days that it is at most four tenths of the face
 pub interest-at-most : (face rate days year : ℕ) → face ≤ 10 ^ 11 → rate ≤ 30_000 → 0 < year → 3 * days ≤ 4 * year
     → earned_of face rate days year ≤ 4 * 10 ^ 10

@@ -3,7 +3,8 @@ use Rattle.std.specs.Prelude.{All}
 use Rattle.std.proofs.Common.{◌≡◌, ◌∙◌, ℕ, ◌+◌, ◌*◌, ◌<◌, ◌≤◌, zero, suc, refl, sym, ap, subst, arith, ℤ, ◌≤ℤ◌, ◌<ℤ◌, Bool, true, false, if◌then◌else◌, List, [], ◌∷◌, ◌++◌, ◌-◌, map, length, take, sum_by, get_or, pos, ◌+ℤ◌, ◌^◌, int_lt}
 use Rattle.std.proofs.lemmas.Int.{ints}
 use Rattle.escrow_units.proofs.FlowFacts.{choice-false, choice-true, days_between_of-some, days_between_of-whole, int_lt-not, order-map}
-use Rattle.escrow_units.proofs.LastDates.{last_dates, last_dates-all, last_dates-last, last_dates-rise, dates_before, half_back_of-order, half_back_of-reach, half_back_of-zero}
+use Rattle.escrow_units.proofs.SeriesFacts.{half_back_of-falls}
+use Rattle.escrow_units.proofs.LastDates.{last_dates, last_dates-all, last_dates-last, last_dates-rise, length-last_dates, dates_before, half_back_of-order, half_back_of-reach, half_back_of-zero}
 use Rattle.escrow_units.specs.Flows.{ComeInOrder, EndsOn, FallOnOpenDays, total}
 use Rattle.escrow_units.specs.OpenDays.{Closings, IsBy2190, is_closed, no_closings, open_day}
 use Rattle.escrow_units.proofs.OpenDayFacts.{open_day-least, open_day-order}
@@ -11,8 +12,9 @@ use Rattle.escrow_units.specs.Interest.{earned_of, half_coupon_of}
 use Rattle.escrow_units.specs.Series.{days_between_of}
 use Rattle.std.specs.Ordering.{int_eq}
 use Rattle.std.proofs.lemmas.Bool.Decides.{Decides-int_eq}
-use Rattle.std.proofs.lemmas.List.{map-append, take_all}
-use Rattle.std.proofs.lemmas.List.Elements.{All-map, All-same, All-weaker}
+use Rattle.std.proofs.lemmas.List.{length-map, map-append, take_all}
+use Rattle.std.proofs.Math.Nat.{mul-le-mul_right}
+use Rattle.std.proofs.lemmas.List.Elements.{All-head, All-map, All-same, All-weaker}
 use Rattle.std.proofs.lemmas.List.Sums.{sum_by-cons, sum_by-le}
 use Rattle.std.proofs.lemmas.Simd.{map-map}
 use Rattle.jiff_core.proofs.SignedLemmas.{signed_arith}
@@ -28,7 +30,7 @@ use Rattle.payment_schedule.specs.declared.schedule.ScheduledPayment.{ScheduledP
 use Rattle.payment_schedule.proofs.ScheduleFacts.{each-flow, flows_by, half-coupon, half-short}
 use Rattle.slgs_interest.specs.Payments.{payment_dates, payment_on, slgs_schedule, first_accrual_of, first_period_accrual, certificate_accrual, accrual_of_kind, before_first, second_before_first, has_leap_day, basis_of}
 use Rattle.slgs_interest.specs.PaymentLaws.{AreSmall, EarnLittle, AreWithinTerm, KeepAmounts, PayPrincipalOnce, PayFaceAlone, PayEqualInterest}
-use Rattle.slgs_interest.proofs.Amounts.{interest-at-most, no-interest, whole-period}
+use Rattle.slgs_interest.proofs.Amounts.{half-at-most, interest-at-most, no-interest, whole-period}
 use Rattle.slgs_interest.proofs.Series.{IsPaid}
 
 -- what a face pays, and on a date
@@ -302,6 +304,44 @@ interest-little slgs closed face first f r = λ k d lt.
     let short = schedule-short slgs closed first k d lt in
     let payment = get_or (slgs_schedule slgs closed) k d in
     interest-at-most face slgs.rate.0 payment.accrual.parts payment.accrual.year f r short.year short.parts
+
+-- after the first payment it is half a coupon, at most 150 million dollars
+interest-later : (slgs : Slgs) (closed : Closings) (face : ℕ) (date : ℤ) → face ≤ 10 ^ 11 → slgs.rate.0 ≤ 30_000 → slgs.first <ℤ date
+    → interest_by slgs.rate.0 face (payment_on slgs closed date) ≤ 15 * 10 ^ 9
+interest-later slgs closed face date f r later = at (int_eq date slgs.first) refl
+  where
+    at : (t : Bool) → int_eq date slgs.first ≡ t
+        → earned_of face slgs.rate.0 (if t then first_accrual_of slgs else half_year_accrual).parts (if t then first_accrual_of slgs else half_year_accrual).year ≤ 15 * 10 ^ 9
+    at true e = absurd (omega (arith, signed_arith, later, (Decides-int_eq date slgs.first).0 e))
+    at false e = half-at-most face slgs.rate.0 f r
+
+-- all interest together: the first and at most 80 half coupons
+pub interest-sum : (slgs : Slgs) (closed : Closings) (face : ℕ) → IsPaid slgs → IsShort (first_accrual_of slgs) → face ≤ 10 ^ 11 → slgs.rate.0 ≤ 30_000
+    → sum_by (interest_by slgs.rate.0 face) (slgs_schedule slgs closed) ≤ 124 * 10 ^ 10
+unfolding last_dates
+interest-sum slgs closed face p short f r =
+    let interest : ScheduledPayment → ℕ = interest_by slgs.rate.0 face in
+    let payment : ℤ → ScheduledPayment = payment_on slgs closed in
+    let dates : List ℤ = last_dates slgs.maturity rule.SameDay p.steps in
+    let first : ℤ = half_back_of slgs.maturity p.steps rule.SameDay in
+    let more : p.steps + 1 ≡ suc p.steps = omega arith in
+    let series : slgs_schedule slgs closed ≡ payment first ∷ map payment dates =
+    schedule-series slgs closed p ∙ ap (λ (n : ℕ). map payment (last_dates slgs.maturity rule.SameDay n)) more in
+    let little : All (λ payment. interest payment ≤ 4 * 10 ^ 10) (payment first ∷ map payment dates) =
+    subst (All (λ payment. interest payment ≤ 4 * 10 ^ 10)) series (interest-little slgs closed face short f r) in
+    let each = last_dates-all (λ date. interest (payment date) ≤ 15 * 10 ^ 9) slgs.maturity rule.SameDay p.steps (λ j less.
+    interest-later slgs closed face (half_back_of slgs.maturity j rule.SameDay) f r
+    (omega (arith, signed_arith, p.first, half_back_of-falls slgs.maturity rule.SameDay j p.steps p.base less (omega (arith, p.few))))) in
+    let rest = sum_by-le interest (15 * 10 ^ 9) (map payment dates) (All-map (λ payment. interest payment ≤ 15 * 10 ^ 9) payment dates each) in
+    let count : length (map payment dates) ≤ 80 = omega (arith, length-map dates payment, length-last_dates slgs.maturity rule.SameDay p.steps, p.few) in
+    omega (
+      arith,
+      ap (sum_by interest) series,
+      sum_by-cons interest (payment first) (map payment dates),
+      All-head (λ payment. interest payment ≤ 4 * 10 ^ 10) (payment first) (map payment dates) little,
+      rest,
+      mul-le-mul_right (15 * 10 ^ 9) count,
+    )
 
 pub payments-interest : (slgs : Slgs) (closed : Closings) (face : ℕ) → IsShort (first_accrual_of slgs) → face ≤ 10 ^ 11 → slgs.rate.0 ≤ 30_000
     → EarnLittle slgs closed face (slgs_flows slgs closed face)

@@ -13,7 +13,7 @@ use Rattle.cash_table.proofs.FlowFacts.{lines_after_cash, flows_within, flows_at
 use Rattle.cash_table.proofs.security_flows.flows.Goals as goal
 
 abbrev IsBounded : List Flow → Type 0
-IsBounded flows = total flows ≤ 89 * 10 ^ 13
+IsBounded flows = total flows ≤ 69 * 10 ^ 13
 
 pub add_bought-requires-clause-permitted : goal.add_bought-requires-clause-permitted
 add_bought-requires-clause-permitted c =

@@ -21,4 +21,5 @@ returns-clause-within c =
 
 pub returns-clause-bound : goal.returns-clause-bound
 returns-clause-bound c =
-    subst (λ flows. total flows ≤ 2 * 10 ^ 13) (sym (returns-clause-value c)) (line_payments-total c.args.days.now c.args.self.now c.args.units c.requires.settlement c.requires.line c.requires.units)
+    subst (λ flows. total flows ≤ 2 * 10 ^ 13) (sym (returns-clause-value c))
+    (omega (arith, line_payments-total c.args.days.now c.args.self.now c.args.units c.requires.settlement c.requires.line c.requires.units))
