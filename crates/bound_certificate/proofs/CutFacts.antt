@@ -1,16 +1,10 @@
--- Bytes up to a mark, and the words of a line.
-use Rattle.std.proofs.Common.{◌≡◌, ◌∙◌, ℕ, ◌+◌, ◌-◌, ◌<◌, ◌≤◌, Bool, true, false, ◌==◌, cond, List, [], ◌∷◌, length, take, drop, All, refl, sym, ap, arith, Some, None, position, nat_lt, not, length-drop}
-use Rattle.std.specs.List.{fold, position_or_len, slice_split}
+-- Bytes up to a mark.
+use Rattle.std.proofs.Common.{◌≡◌, ◌∙◌, ℕ, ◌+◌, ◌-◌, ◌<◌, ◌≤◌, Bool, true, false, ◌==◌, cond, List, [], ◌∷◌, length, take, drop, get_or, All, refl, sym, ap, arith, Option, Some, None, position, nat_lt, not, length-drop}
+use Rattle.std.specs.List.{position_or_len, slice_split}
 use Rattle.std.proofs.lemmas.List.{take_all}
 use Rattle.std.proofs.lemmas.List.Splits.{slice_split_first, slice_split_none}
-use Rattle.std.proofs.lemmas.List.Sums.{prefix_len_passes}
-use Rattle.bound_certificate.specs.declared.due.Due.TheVariants as due
-use Rattle.bound_certificate.specs.declared.scan.Digits.{Digits}
-use Rattle.bound_certificate.specs.declared.scan.Word.{Word}
-use Rattle.bound_certificate.specs.declared.scan.Word.TheVariants as word
-use Rattle.bound_certificate.specs.Grammar.{whole_number}
-use Rattle.bound_certificate.specs.Scan.{IsFirstNumber, longer, number_of}
-use Rattle.bound_certificate.proofs.LineFacts.{whole-read}
+use Rattle.std.proofs.lemmas.List.Sums.{position_or_len_is, prefix_len_passes}
+use Rattle.memchr.specs.Find.{IsFirstByte}
 
 -- bytes in which a mark stands
 some_by : (p : ℕ → Bool) (bytes : List ℕ) (place : ℕ) (b : Bool) → nat_lt (position_or_len p bytes) (length bytes) ≡ b →
@@ -44,17 +38,24 @@ none_here p bytes h i d inside = not_yes _ (prefix_len_passes (λ x. not (p x)) 
 pub cut_none : (mark : ℕ) (bytes : List ℕ) → position (λ byte. byte == mark) bytes ≡ None → slice_split (λ byte. byte == mark) bytes ≡ bytes ∷ []
 cut_none mark bytes h = slice_split_none (λ byte. byte == mark) bytes (none_here (λ byte. byte == mark) bytes (none_at (λ byte. byte == mark) bytes _ refl h))
 
--- the number that a word is, whose digits are all at its front
-pub front_number : (bytes : List ℕ) (digits : Digits) → IsFirstNumber bytes digits → digits.count ≡ length bytes → Some digits.number ≡ whole_number bytes
-front_number bytes digits is all =
-    let whole : take digits.count bytes ≡ bytes = take_all digits.count bytes (omega (arith, all)) in
-    sym (ap (λ (w : Word). number_of w) (is.word due.Nothing 1 (omega arith)))
-    ∙ ap (λ (bs : List ℕ). number_of (fold (longer due.Nothing 1) word.Empty bs)) whole
-    ∙ whole-read due.Nothing 1 bytes (omega arith)
+-- where a mark first stands
+pub first_place : (p : ℕ → Bool) (bytes : List ℕ) (place : ℕ) → place < length bytes → ((k : ℕ) → k < place → p (get_or bytes k 0) ≡ false) →
+    p (get_or bytes place 0) ≡ true → position p bytes ≡ Some place
+first_place p bytes place inside before here =
+    let at : position_or_len p bytes ≡ place = position_or_len_is p bytes place 0 (omega (arith, inside)) before (λ _. here) in
+    let low : nat_lt place (length bytes) ≡ true = grind (arith, inside) in
+    ap (λ (k : ℕ). cond (nat_lt k (length bytes)) (Some k) None) at ∙ ap (λ (b : Bool). cond b (Some place) None) low
 
-pub slow_number : (bytes : List ℕ) (index : ℕ) (so_far : Word) → length bytes ≤ index → so_far ≡ fold (longer due.Nothing 1) word.Empty (take index bytes) →
-    number_of so_far ≡ whole_number bytes
-slow_number bytes index so_far over e =
-    ap (λ (w : Word). number_of w) e
-    ∙ ap (λ (bs : List ℕ). number_of (fold (longer due.Nothing 1) word.Empty bs)) (take_all index bytes over)
-    ∙ whole-read due.Nothing 1 bytes (omega arith)
+pub no_place : (p : ℕ → Bool) (bytes : List ℕ) → ((k : ℕ) → k < length bytes → p (get_or bytes k 0) ≡ false) → position p bytes ≡ None
+no_place p bytes none =
+    let at : position_or_len p bytes ≡ length bytes = position_or_len_is p bytes (length bytes) 0 (omega arith) none (λ inside. absurd (omega (arith, inside))) in
+    let high : nat_lt (length bytes) (length bytes) ≡ false = grind arith in
+    ap (λ (k : ℕ). cond (nat_lt k (length bytes)) (Some k) None) at ∙ ap (λ (b : Bool). cond b (Some (length bytes)) None) high
+
+not_true : (b : Bool) → (b ≡ true → ⊥) → b ≡ false
+not_true true h = absurd (h refl)
+not_true false h = refl
+
+pub place-found : (p : ℕ → Bool) (bytes : List ℕ) (found : Option ℕ) → IsFirstByte p bytes found → found ≡ position p bytes
+place-found p bytes None none = sym (no_place p bytes (λ k inside. not_true _ (none k (omega arith) inside)))
+place-found p bytes (Some place) is = sym (first_place p bytes place is.0.high (λ k low. not_true _ (is.0.before k (omega arith) low)) is.1)

@@ -1,9 +1,8 @@
 -- Eight digits read together.
-use Rattle.std.proofs.Common.{◌≡◌, ◌∙◌, ℕ, map, subst, length-take, replicate, cond, ltb, false, ltb-false, w8, ◌+◌, ◌-◌, ◌*◌, ◌/◌, ◌%◌, ◌<◌, ◌≤◌, ◌^◌, Bool, true, ◌==◌, ◌&&◌, not, nat_le, if◌then◌else◌, List, [], ◌∷◌, ◌++◌, All, length, take, drop, get_or, bit_and, w64, refl, sym, ap, arith}
+use Rattle.std.proofs.Common.{◌≡◌, ◌∙◌, ℕ, map, subst, length-take, replicate, cond, ltb, false, ltb-false, w8, ◌+◌, ◌-◌, ◌*◌, ◌/◌, ◌%◌, ◌<◌, ◌≤◌, ◌^◌, Bool, not, List, [], ◌∷◌, ◌++◌, All, length, take, drop, get_or, bit_and, w64, Some, refl, sym, ap, arith}
 use Rattle.std.specs.Int.{from_le_bytes}
 use Rattle.std.specs.Int.Digits.{number_from_digits}
-use Rattle.std.specs.List.{fold}
-use Rattle.std.specs.Char.{digit_value, is_ascii_digit}
+use Rattle.std.specs.Char.{digit_value}
 use Rattle.std.specs.Str.Parse.{AllDigits, digits_value, digits_value_after}
 use lib.Lanes.{mask_l, top, zip2}
 use Rattle.std.proofs.Math.Seq.{take-add, take-suc}
@@ -15,14 +14,11 @@ use Rattle.std.proofs.lemmas.List.Sums.{prefix_len_passes}
 use Rattle.std.proofs.lemmas.Nat.{and_mask}
 use Rattle.std.proofs.lemmas.Simd.{leading_from_mask_l, mask_l-mod, tops_compared, zip2_splat, zip2_splat_left}
 use Rattle.std.proofs.lemmas.Str.{digit_value_digit}
-use Rattle.bound_certificate.specs.declared.due.Due.{Due}
-use Rattle.bound_certificate.specs.declared.scan.Digits.{Digits}
-use Rattle.bound_certificate.specs.declared.scan.Word.{Word}
-use Rattle.bound_certificate.specs.declared.scan.Word.TheVariants as word
+use Rattle.bound_certificate.specs.declared.digits.Digits.{Digits}
 use Rattle.bound_certificate.specs.declared.limits.TheConstants.{GREATEST_GAP}
-use Rattle.bound_certificate.specs.Scan.{IsEightDigits, IsFirstDigit, IsFirstNumber, longer}
+use Rattle.bound_certificate.specs.Digits.{IsEightDigits, IsFirstDigit, IsFirstNumber}
 use Rattle.bound_certificate.proofs.DigitFacts.{Digit}
-use Rattle.bound_certificate.proofs.WordFacts.{one_digit}
+use Rattle.bound_certificate.proofs.NumberFacts.{digits-written}
 
 -- ---- pairs of digits
 -- a number of two bytes or more
@@ -139,24 +135,6 @@ pub value-least : (number : ℕ) (bytes : List ℕ) → number ≤ digits_value_
 value-least number [] = omega arith
 value-least number (byte ∷ bytes) = omega (arith, value-least (number * 10 + digit_value byte) bytes)
 
-one_more : (d : Due) (words number byte : ℕ) → 1 ≤ number → Digit byte → number * 10 + digit_value byte ≤ GREATEST_GAP
-    → longer d words (word.Number number) byte ≡ word.Number (number * 10 + digit_value byte)
-one_more d words number byte some digit fits =
-    let same : number * 10 + digit_value byte ≡ 10 * number + (byte - 48) = omega (arith, (digit_is byte digit).0) in
-    let within : 10 * number + (byte - 48) ≤ GREATEST_GAP = omega (arith, same, fits) in
-    let taken : (not (number == 0) && is_ascii_digit byte && nat_le (10 * number + (byte - 48)) GREATEST_GAP) ≡ true = grind (arith, some, digit, within) in
-    ap (λ (b : Bool). if b then word.Number (10 * number + (byte - 48)) else word.Other) taken
-    ∙ ap (λ (n : ℕ). word.Number n) (sym same)
-
-pub number-longer : (d : Due) (words number : ℕ) (bytes : List ℕ) → 1 ≤ number → All Digit bytes → digits_value_after 10 number bytes ≤ GREATEST_GAP
-    → fold (longer d words) (word.Number number) bytes ≡ word.Number (digits_value_after 10 number bytes)
-number-longer d words number [] some all fits = refl
-number-longer d words number (byte ∷ bytes) some all fits =
-    let more : ℕ = number * 10 + digit_value byte in
-    ap (λ (w : Word). fold (longer d words) w bytes)
-    (one_more d words number byte some (All-head Digit byte bytes all) (omega (arith, value-least more bytes, fits)))
-    ∙ number-longer d words more bytes (omega (arith, some)) (All-tail Digit byte bytes all) fits
-
 all_digits : (bytes : List ℕ) → All Digit bytes → AllDigits 10 bytes
 all_digits [] all = tt
 all_digits (byte ∷ bytes) all =
@@ -196,20 +174,11 @@ module _ (piece : List ℕ) (one : Digits) (number : ℕ) (first : IsFirstDigit 
       let most : digits_value 10 (take 8 piece) < 100000000 = subst (λ (n : ℕ). digits_value 10 (take 8 piece) < 10 ^ n) long (value-most (take 8 piece) eight.all) in
       omega (arith, most, eight.written, written)
 
-  begins : (d : Due) (words : ℕ) → 1 ≤ words → longer d words word.Empty first_byte ≡ word.Number (0 * 10 + digit_value first_byte)
-  begins d words some =
-      let is = digit_is first_byte first.digit in
-      let same : first_byte ≡ 48 + (first_byte - 48) = omega (arith, first.number, first.some) in
-      let value : first_byte - 48 ≡ 0 * 10 + digit_value first_byte = omega (arith, is.0) in
-      ap (λ (b : ℕ). longer d words word.Empty b) same ∙ one_digit d words (first_byte - 48) some (omega (arith, is.1)) ∙ ap (λ (n : ℕ). word.Number n) value
+  alone : get_or (take 8 piece) 0 0 ≡ 48 → length (take 8 piece) ≡ 1
+  alone zero = absurd (omega (arith, zero, ap (λ (bytes : List ℕ). get_or bytes 0 0) apart, first.number, first.some))
 
   pub eight-number : IsFirstNumber piece (record { number = number; count = 8 })
   eight-number = record {
     within = room;
-    all = eight.all;
-    word = λ d words some.
-        ap (λ (bytes : List ℕ). fold (longer d words) word.Empty bytes) apart
-        ∙ ap (λ (w : Word). fold (longer d words) w others) (begins d words some)
-        ∙ number-longer d words (0 * 10 + digit_value first_byte) others above (All-tail Digit first_byte others digits) fits
-        ∙ ap (λ (n : ℕ). word.Number n) (sym written);
+    is = digits-written (take 8 piece) eight.all (omega (arith, length-take 8 piece, room)) alone (omega (arith, fits, ap (digits_value 10) apart)) ∙ ap (λ (n : ℕ). Some n) (sym eight.written);
   }

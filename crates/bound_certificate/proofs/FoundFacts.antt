@@ -18,7 +18,11 @@ use Rattle.bound_certificate.specs.Text.{Line}
 use Rattle.bound_certificate.specs.Text as text
 use Rattle.bound_certificate.proofs.RowFacts.{AreInRange, AreNumbers, AreWritten, numbers-found, words-row}
 use Rattle.bound_certificate.proofs.SaidFacts.{Fits, body, order-falling, prices-found, row, weight-found}
-use Rattle.bound_certificate.proofs.FaultFacts.{only_name}
+
+-- a name that may stand alone is the one found
+only_name : (n m : Name) (b : Bool) → cond b (Some n) None ≡ Some m → m ≡ n
+only_name n m true h = cc
+only_name n m false h = absurd (cc)
 
 -- a line that may stand, whose text this is
 pub record Found (dates : ℕ) (d : Due) (bytes : List ℕ) : Type 0 where

@@ -68,6 +68,31 @@ suits dates (due.Node left trees) (text.Node (node.Closed mine)) leaf o fits has
 suits dates (due.End trees) text.End leaf o fits has given = tt
 suits dates d line leaf o fits has given = absurd fits
 
+pub line-ended : (line : Line) → item_of_line line ≡ item.Nothing → ⊥
+line-ended text.Title h = absurd (cc)
+line-ended (text.Portfolio count) h = absurd (cc)
+line-ended (text.Purchase buy) h = absurd (cc)
+line-ended (text.Gap cents) h = absurd (cc)
+line-ended (text.Count nodes) h = absurd (cc)
+line-ended (text.Node (node.Split line at)) h = absurd (cc)
+line-ended (text.Node node.Point) h = absurd (cc)
+line-ended (text.Node (node.Closed leaf)) h = absurd (cc)
+line-ended text.End h = absurd (cc)
+
+packed_ended : (said : PackedLine) → packed_item said ≡ item.Nothing → ⊥
+packed_ended line.Title h = absurd (cc)
+packed_ended (line.Portfolio None) h = absurd (cc)
+packed_ended (line.Portfolio (Some count)) h = absurd (cc)
+packed_ended (line.Purchase buy) h = absurd (cc)
+packed_ended (line.Gap cents) h = absurd (cc)
+packed_ended (line.Vectors count) h = absurd (cc)
+packed_ended (line.Vector prices) h = absurd (cc)
+packed_ended (line.Nodes count) h = absurd (cc)
+packed_ended (line.Node (packed_node.Split number at)) h = absurd (cc)
+packed_ended (line.Node packed_node.Point) h = absurd (cc)
+packed_ended (line.Node (packed_node.Closed whole mu vector changes)) h = absurd (cc)
+packed_ended line.End h = absurd (cc)
+
 pub line-due : (d : Due) (line : Line) → next_due d (item_of_line line) ≡ due_after d (item_of_line line)
 line-due d text.Title = refl
 line-due d (text.Portfolio count) = refl
@@ -161,6 +186,7 @@ plain-moves dates d vectors bytes told leaf none told_is leaf_is =
     record {
       said = plain_told d bytes;
       item_is = told_is;
+      ended = λ nothing. line-ended found.said (item_is ∙ nothing);
       leaf_is = λ leafy. ap (λ (o : Option Leaf). leaf_said o) (sym (leaf_is leafy));
       more = due_still.0;
       suited = suited;
@@ -203,6 +229,7 @@ pub first-plain-moves : (dates : ℕ) (vectors : List (List ℕ)) (bytes : List 
 first-plain-moves dates vectors bytes next told leaf other moves = record {
   said = moves.said;
   item_is = moves.item_is;
+  ended = moves.ended;
   leaf_is = moves.leaf_is;
   more = refl;
   suited = moves.suited;
@@ -307,6 +334,7 @@ packed-moves dates d next vectors after bytes said told leaf are h told_is leaf_
     record {
       said = packed_told vectors said;
       item_is = told_is;
+      ended = λ nothing. packed_ended said (sym told_is ∙ nothing);
       leaf_is = leaf_is;
       more = plain-over d ∙ fits-due dates vectors d said found.fits;
       suited = suited;
@@ -342,6 +370,7 @@ first-packed-moves dates vectors bytes leaf are title =
     record {
       said = moves.said;
       item_is = moves.item_is;
+      ended = moves.ended;
       leaf_is = moves.leaf_is;
       more = refl;
       suited = tt;
@@ -384,6 +413,19 @@ packed_said dates vectors (packed_due.Node left trees) (line.Node said) fits = f
 packed_said dates vectors (packed_due.End trees) line.End fits = tt
 packed_said dates vectors d said fits = absurd fits
 
+-- the vectors that came, where this is due
+pub are-vectors : (dates : ℕ) (d : PackedDue) (vectors : List (List ℕ)) → Holds dates d vectors → AreVectors dates d vectors
+are-vectors dates (packed_due.Vector left) vectors holds = record { all = holds.all; room = omega (arith, holds.room) }
+are-vectors dates packed_due.Title vectors holds = record { all = holds.all; room = holds.room }
+are-vectors dates packed_due.Portfolio vectors holds = record { all = holds.all; room = holds.room }
+are-vectors dates (packed_due.Buy left least) vectors holds = record { all = holds.all; room = holds.room }
+are-vectors dates (packed_due.Gap most) vectors holds = record { all = holds.all; room = holds.room }
+are-vectors dates packed_due.VectorCount vectors holds = record { all = holds.all; room = holds.room }
+are-vectors dates packed_due.NodeCount vectors holds = record { all = holds.all; room = holds.room }
+are-vectors dates (packed_due.Node left trees) vectors holds = record { all = holds.all; room = holds.room }
+are-vectors dates (packed_due.End trees) vectors holds = record { all = holds.all; room = holds.room }
+are-vectors dates packed_due.Nothing vectors holds = record { all = holds.all; room = holds.room }
+
 pub packed-said : (dates : ℕ) (d : PackedDue) (vectors : List (List ℕ)) (bytes : List ℕ) (said : PackedLine) (told : Item) → AreVectors dates d vectors →
     line_said dates vectors d bytes ≡ Ok said → told ≡ packed_item said → IsItemSaid d told
 packed-said dates d vectors bytes said told are h told_is =
@@ -415,25 +457,13 @@ holds_of dates (packed_due.Node left trees) vectors is are = record { all = are.
 holds_of dates (packed_due.End trees) vectors is are = record { all = are.all; room = are.room }
 holds_of dates packed_due.Nothing vectors is are = record { all = are.all; room = are.room }
 
-are_of : (dates : ℕ) (d : PackedDue) (vectors : List (List ℕ)) → Holds dates d vectors → AreVectors dates d vectors
-are_of dates (packed_due.Vector left) vectors holds = record { all = holds.all; room = omega (arith, holds.room) }
-are_of dates packed_due.Title vectors holds = record { all = holds.all; room = holds.room }
-are_of dates packed_due.Portfolio vectors holds = record { all = holds.all; room = holds.room }
-are_of dates (packed_due.Buy left least) vectors holds = record { all = holds.all; room = holds.room }
-are_of dates (packed_due.Gap most) vectors holds = record { all = holds.all; room = holds.room }
-are_of dates packed_due.VectorCount vectors holds = record { all = holds.all; room = holds.room }
-are_of dates packed_due.NodeCount vectors holds = record { all = holds.all; room = holds.room }
-are_of dates (packed_due.Node left trees) vectors holds = record { all = holds.all; room = holds.room }
-are_of dates (packed_due.End trees) vectors holds = record { all = holds.all; room = holds.room }
-are_of dates packed_due.Nothing vectors holds = record { all = holds.all; room = holds.room }
-
 pub more-vectors : (dates : ℕ) (d next : PackedDue) (vectors after : List (List ℕ)) (bytes : List ℕ) (said : PackedLine) → IsPackedDue d → AreVectors dates d vectors →
     line_said dates vectors d bytes ≡ Ok said → next ≡ packed.next_due d said → after ≡ vectors_with vectors said → AreVectors dates next after
 more-vectors dates d next vectors after bytes said is are h next_is after_is =
     let found : IsFound dates vectors d bytes said = packed_fits.line-found dates vectors d bytes said are.all (vectors-few dates d vectors are) h in
     let P : PackedDue → Type 0 = λ e. AreVectors dates e after in
     let Q : List (List ℕ) → Type 0 = λ vs. AreVectors dates (packed.next_due d said) vs in
-    subst P (sym next_is) (subst Q (sym after_is) (are_of dates (packed.next_due d said) (vectors_with vectors said) (holds-step dates vectors d said (holds_of dates d vectors is are) found.fits)))
+    subst P (sym next_is) (subst Q (sym after_is) (are-vectors dates (packed.next_due d said) (vectors_with vectors said) (holds-step dates vectors d said (holds_of dates d vectors is are) found.fits)))
 
 -- ---- where a line stands
 pub first-ok : (dates : ℕ) (at : Stage) (vectors : List (List ℕ)) (bytes : List ℕ) (leaf : Leaf) (r : Result Step FaultKind) → at ≡ stage.First → is_packed_title bytes ≡ false →

@@ -1,5 +1,5 @@
 -- A packed certificate as its lines are read.
-use Rattle.std.proofs.Common.{◌≡◌, ◌∙◌, ℕ, ◌+◌, ◌<◌, ◌≤◌, Bool, true, false, List, [], ◌∷◌, ◌++◌, length, refl, sym, subst, ap, arith, Option, Some, None, Result, Ok, append_assoc}
+use Rattle.std.proofs.Common.{◌≡◌, ◌∙◌, ℕ, ◌+◌, ◌<◌, ◌≤◌, Bool, true, false, List, [], ◌∷◌, ◌++◌, length, refl, sym, subst, ap, arith, Option, Some, None, Result, Ok, Err, append_assoc}
 use Rattle.std.specs.List.{flat_map, join_with_byte}
 use Rattle.std.proofs.lemmas.Grind.{flat_map-append}
 use Rattle.std.proofs.lemmas.List.{append-nil}
@@ -10,21 +10,20 @@ use Rattle.bound_certificate.specs.declared.fault.CertError.TheVariants as error
 use Rattle.bound_certificate.specs.declared.fault.FaultKind.{FaultKind}
 use Rattle.bound_certificate.specs.declared.fault.FaultKind.TheVariants as kind
 use Rattle.bound_certificate.specs.declared.packed.Packed.{Packed}
-use Rattle.bound_certificate.specs.declared.packed_line.LineError.{LineError}
-use Rattle.bound_certificate.specs.declared.packed_line.LineError.TheVariants as cause
 use Rattle.bound_certificate.specs.declared.packed_line.PackedDue.{PackedDue}
 use Rattle.bound_certificate.specs.declared.packed_line.PackedDue.TheVariants as due
 use Rattle.bound_certificate.specs.declared.packed_line.PackedLine.{PackedLine}
 use Rattle.bound_certificate.specs.declared.packed_line.PackedLine.TheVariants as line
 use Rattle.bound_certificate.specs.declared.limits.TheConstants.{MOST_DATES}
-use Rattle.bound_certificate.specs.Faults.{lines_in, on_line}
-use Rattle.bound_certificate.specs.PackedDraft.{IsPackedDue, IsPackedSaid, no_packed, packed_lines_left, with_line}
-use Rattle.bound_certificate.specs.PackedGrammar.{IsLineCause, IsPackedCause, error_at, fault_or, first_fault, is_over, line_said, next_due, packed_fault, rest_fault, vectors_with}
+use Rattle.bound_certificate.specs.Faults.{lines_in, on_line, rest_fault}
+use Rattle.bound_certificate.specs.PackedDraft.{IsPackedDue, no_packed, packed_lines_left, with_line}
+use Rattle.bound_certificate.specs.PackedGrammar.{IsPackedCause, fault_or, first_fault, is_over, line_said, next_due, packed_fault, vectors_with}
 use Rattle.bound_certificate.specs.PackedText.{IsPackedTextOf, packed_text}
 use Rattle.bound_certificate.proofs.PackedFits.{body, body-text}
 use Rattle.bound_certificate.proofs.PackedFollows.{Follows, with_lines}
 use Rattle.bound_certificate.proofs.PackedLineFits.{Fits, IsFound, line-found}
-use Rattle.bound_certificate.proofs.PackedTextFacts.{Holds, first-cons, holds-few, holds-none, holds-step, lines-text, over-rest, rest-due, text-good}
+use Rattle.bound_certificate.proofs.TextFacts.{over-rest, rest-due}
+use Rattle.bound_certificate.proofs.PackedTextFacts.{Holds, first-cons, holds-few, holds-none, holds-step, lines-text, text-good}
 
 -- the lines so far gave the certificate so far, and these parts of the bytes are still to come
 pub record AtLine (dates number : ℕ) (d : PackedDue) (packed : Packed) (bytes : List ℕ) (parts : List (List ℕ)) : Type 0 where
@@ -109,20 +108,6 @@ at-more dates number d packed after bytes part parts others said next at h same_
       count = omega (arith, at.count, fewer);
     }
 
--- what is said where it is due
-pub fits-said : (dates : ℕ) (vectors : List (List ℕ)) (d : PackedDue) (said : PackedLine) → Fits dates vectors d said → IsPackedSaid d said
-fits-said dates vectors due.Title line.Title fits = tt
-fits-said dates vectors due.Portfolio (line.Portfolio None) fits = tt
-fits-said dates vectors due.Portfolio (line.Portfolio (Some count)) fits = fits
-fits-said dates vectors (due.Buy left least) (line.Purchase buy) fits = fits.0.0
-fits-said dates vectors (due.Gap most) (line.Gap cents) fits = tt
-fits-said dates vectors due.VectorCount (line.Vectors count) fits = fits
-fits-said dates vectors (due.Vector left) (line.Vector prices) fits = tt
-fits-said dates vectors due.NodeCount (line.Nodes count) fits = fits.1
-fits-said dates vectors (due.Node left trees) (line.Node said) fits = fits.0
-fits-said dates vectors (due.End trees) line.End fits = tt
-fits-said dates vectors d said fits = absurd fits
-
 pub fits-due : (dates : ℕ) (vectors : List (List ℕ)) (d : PackedDue) (said : PackedLine) → Fits dates vectors d said → is_over d ≡ false
 fits-due dates vectors due.Nothing said fits = absurd fits
 fits-due dates vectors due.Title said fits = refl
@@ -136,10 +121,9 @@ fits-due dates vectors (due.Node left trees) said fits = refl
 fits-due dates vectors (due.End trees) said fits = refl
 
 -- a fault of a line is the text's
-pub line-cause : (dates number : ℕ) (d : PackedDue) (packed : Packed) (bytes part : List ℕ) (parts : List (List ℕ)) (found : LineError) → AtLine dates number d packed bytes (part ∷ parts) →
-    0 < length parts → IsLineCause (line_said dates packed.vectors d part) found → IsPackedCause dates bytes (error_at number found)
-line-cause dates number d packed bytes part parts cause.NoMemory at some h = tt
-line-cause dates number d packed bytes part parts (cause.Fault found) at some h =
+pub line-cause : (dates number : ℕ) (d : PackedDue) (packed : Packed) (bytes part : List ℕ) (parts : List (List ℕ)) (found : FaultKind) → AtLine dates number d packed bytes (part ∷ parts) →
+    0 < length parts → line_said dates packed.vectors d part ≡ Err found → packed_fault dates bytes ≡ Some (record { line = number; kind = found })
+line-cause dates number d packed bytes part parts found at some h =
     at.fault ∙ first-cons dates number d packed.vectors part parts some
     ∙ ap (λ (r : Result PackedLine FaultKind). fault_or number r (λ l. first_fault dates (number + 1) (next_due d l) (vectors_with packed.vectors l) parts)) h
 
@@ -152,17 +136,17 @@ no-cause dates bytes (error.Fault fault) packed short h is =
 
 -- behind the last line feed
 pub end-cause : (dates number : ℕ) (d : PackedDue) (packed : Packed) (bytes part : List ℕ) (parts : List (List ℕ)) (found : FaultKind) → AtLine dates number d packed bytes (part ∷ parts) →
-    parts ≡ [] → rest_fault d part ≡ Some found → packed_fault dates bytes ≡ Some (record { line = number; kind = found })
+    parts ≡ [] → rest_fault (is_over d) part ≡ Some found → packed_fault dates bytes ≡ Some (record { line = number; kind = found })
 end-cause dates number d packed bytes part parts found at none h =
     at.fault ∙ ap (λ (ps : List (List ℕ)). first_fault dates number d packed.vectors (part ∷ ps)) none ∙ ap (λ (o : Option FaultKind). on_line number o) h
 
-over_none : (d : PackedDue) (part : List ℕ) → rest_fault d part ≡ None → (b : Bool) → is_over d ≡ b → (is_over d ≡ true) × (part ≡ [])
-over_none d part h false e = let bad : Some kind.Truncated ≡ None = sym (rest-due d part e) ∙ h in absurd (cc)
+over_none : (d : PackedDue) (part : List ℕ) → rest_fault (is_over d) part ≡ None → (b : Bool) → is_over d ≡ b → (is_over d ≡ true) × (part ≡ [])
+over_none d part h false e = let bad : Some kind.Truncated ≡ None = sym (rest-due (is_over d) part e) ∙ h in absurd (cc)
 over_none d [] h true e = (e, refl)
-over_none d (byte ∷ part) h true e = let bad : Some kind.Trailing ≡ None = sym (over-rest d (byte ∷ part) e) ∙ h in absurd (cc)
+over_none d (byte ∷ part) h true e = let bad : Some kind.Trailing ≡ None = sym (over-rest (is_over d) (byte ∷ part) e) ∙ h in absurd (cc)
 
 pub end-text : (dates number : ℕ) (d : PackedDue) (packed : Packed) (bytes part : List ℕ) (parts : List (List ℕ)) → AtLine dates number d packed bytes (part ∷ parts) →
-    parts ≡ [] → rest_fault d part ≡ None → IsPackedTextOf dates packed bytes
+    parts ≡ [] → rest_fault (is_over d) part ≡ None → IsPackedTextOf dates packed bytes
 end-text dates number d packed bytes part parts at none h =
     let over : (is_over d ≡ true) × (part ≡ []) = over_none d part h (is_over d) refl in
     let P : List PackedLine → Type 0 = λ ls. Follows dates due.Title [] ls in

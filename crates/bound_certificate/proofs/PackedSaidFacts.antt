@@ -10,7 +10,7 @@ use Rattle.bound_certificate.specs.declared.packed.Change.{Change}
 use Rattle.bound_certificate.specs.declared.row.Row.TheVariants as row
 use Rattle.bound_certificate.specs.declared.limits.TheConstants.{MOST_DATES}
 use Rattle.bound_certificate.specs.Due.{from_to, is_in}
-use Rattle.bound_certificate.specs.Packed.{IsChange, IsVector, changed}
+use Rattle.bound_certificate.specs.Packed.{IsChange, changed}
 use Rattle.bound_certificate.specs.PackedGrammar.{ArePlaces, are_rising, changes_of, places_of, restates}
 use Rattle.bound_certificate.specs.PackedText.{change_numbers}
 use Rattle.bound_certificate.specs.Row.{AreRowNumbers, InRanges, leaf_range, row_fits}
@@ -202,10 +202,7 @@ are-changes dates vector changes all others i d inside =
     let here = all i d inside in record { first = here.first; last = here.last; range = here.range; other = others i d inside }
 
 -- the changes of a leaf's line are in range
-abbrev IsPlaceUpTo : ℕ → Change → Type 0
-IsPlaceUpTo last change = (1 ≤ change.place) × (change.place ≤ last)
-
-leaf_three : (dates count : ℕ) → row_fits dates row.Leaf count ≡ true → (3 ≤ count) × (count ≤ 3 + 2 * dates) × (count % 2 ≡ 1)
+pub leaf_three : (dates count : ℕ) → row_fits dates row.Leaf count ≡ true → (3 ≤ count) × (count ≤ 3 + 2 * dates) × (count % 2 ≡ 1)
 leaf_three dates count h = (grind (arith, h), grind (arith, h), grind (arith, h))
 
 pub leaf-changes : (dates vectors : ℕ) (numbers : List ℕ) → AreRowNumbers dates vectors row.Leaf numbers → All (InChange dates) (changes_of (drop 3 numbers))
@@ -225,11 +222,6 @@ leaf-places dates vectors last numbers few are =
     subst P (sym whole) (up-to dates last (changes_of (drop 3 numbers)) few (leaf-changes dates vectors numbers are))
 
 -- a vector that is there
-pub vector-length : (dates place : ℕ) (vectors : List (List ℕ)) (vector : List ℕ) → All (IsVector dates) vectors → place < length vectors → vector ≡ get_or vectors place vector →
-    length vector ≡ dates
-vector-length dates place vectors vector all inside is =
-    let here : IsVector dates (get_or vectors place vector) = all place vector inside in ap length is ∙ here.every_date
-
 pub leaf-vector : (dates vectors : ℕ) (numbers : List ℕ) → AreRowNumbers dates vectors row.Leaf numbers → (1 ≤ get_or numbers 2 0) × (get_or numbers 2 0 ≤ vectors)
 leaf-vector dates vectors [] are = absurd (omega (arith, (leaf_three dates 0 are.fits).0))
 leaf-vector dates vectors (rho ∷ []) are = absurd (omega (arith, (leaf_three dates 1 are.fits).0))

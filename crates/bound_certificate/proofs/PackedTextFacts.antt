@@ -13,16 +13,16 @@ use Rattle.bound_certificate.specs.declared.packed_line.PackedDue.TheVariants as
 use Rattle.bound_certificate.specs.declared.packed_line.PackedLine.{PackedLine}
 use Rattle.bound_certificate.specs.declared.packed_line.PackedLine.TheVariants as line
 use Rattle.bound_certificate.specs.declared.limits.TheConstants.{GREATEST_GAP, MOST_DATES, MOST_VECTORS}
-use Rattle.bound_certificate.specs.Faults.{lines_in, on_line}
+use Rattle.bound_certificate.specs.Faults.{lines_in, on_line, rest_fault}
 use Rattle.bound_certificate.specs.Packed.{IsVector}
 use Rattle.bound_certificate.specs.PackedDraft.{no_packed}
-use Rattle.bound_certificate.specs.PackedGrammar.{fault_or, first_fault, is_over, line_said, next_due, packed_fault, rest_fault, vectors_due, vectors_with}
+use Rattle.bound_certificate.specs.PackedGrammar.{fault_or, first_fault, is_over, line_said, next_due, packed_fault, vectors_due, vectors_with}
 use Rattle.bound_certificate.specs.PackedText.{IsPackedTextOf, packed_lines_of, packed_text}
 use Rattle.bound_certificate.proofs.DraftFacts.{some_left}
 use Rattle.bound_certificate.proofs.PackedFits.{body, body-text}
 use Rattle.bound_certificate.proofs.PackedFollows.{Follows, IsLinesOf, lines-fold, lines-follow, lines-of, with_lines}
 use Rattle.bound_certificate.proofs.PackedLineFits.{Fits, IsFound, IsShown, line-found, line-shows}
-use Rattle.bound_certificate.proofs.TextFacts.{head_same, lines-cons, some-lines}
+use Rattle.bound_certificate.proofs.TextFacts.{head_same, lines-cons, some-lines, over-rest, rest-due}
 
 -- the first fault of lines after a line
 pub first-cons : (dates number : ℕ) (d : PackedDue) (vectors : List (List ℕ)) (bytes : List ℕ) (lines : List (List ℕ)) → 0 < length lines →
@@ -30,22 +30,6 @@ pub first-cons : (dates number : ℕ) (d : PackedDue) (vectors : List (List ℕ)
     ≡ fault_or number (line_said dates vectors d bytes) (λ said. first_fault dates (number + 1) (next_due d said) (vectors_with vectors said) lines)
 first-cons dates number d vectors bytes [] some = absurd (omega arith)
 first-cons dates number d vectors bytes (next ∷ lines) some = refl
-
-pub rest-due : (d : PackedDue) (rest : List ℕ) → is_over d ≡ false → rest_fault d rest ≡ Some kind.Truncated
-rest-due due.Nothing rest more = absurd (cc)
-rest-due due.Title rest more = refl
-rest-due due.Portfolio rest more = refl
-rest-due (due.Buy left least) rest more = refl
-rest-due (due.Gap most) rest more = refl
-rest-due due.VectorCount rest more = refl
-rest-due (due.Vector left) rest more = refl
-rest-due due.NodeCount rest more = refl
-rest-due (due.Node left trees) rest more = refl
-rest-due (due.End trees) rest more = refl
-
-pub over-rest : (d : PackedDue) (rest : List ℕ) → is_over d ≡ true → rest_fault d rest ≡ rest_fault due.Nothing rest
-over-rest due.Nothing rest over = refl
-over-rest d rest over = absurd (cc)
 
 pub text_cons : (said : PackedLine) (rest : List ℕ) → packed_text said ++ rest ≡ body said ++ 10 ∷ rest
 text_cons said rest = ap (λ (bs : List ℕ). bs ++ rest) (body-text said) ∙ append_assoc (body said) (10 ∷ []) rest
@@ -123,7 +107,7 @@ holds-step dates vectors d said holds fits = absurd fits
 -- ---- lines that may stand one after another have no fault
 pub follows-fault : (dates : ℕ) (lines : List PackedLine) (number : ℕ) (d : PackedDue) (vectors : List (List ℕ)) → dates ≤ MOST_DATES → Follows dates d vectors lines →
     first_fault dates number d vectors (lines_in (flat_map packed_text lines)) ≡ None
-follows-fault dates [] number d vectors short follows = ap (λ (o : Option FaultKind). on_line number o) (over-rest d [] follows)
+follows-fault dates [] number d vectors short follows = ap (λ (o : Option FaultKind). on_line number o) (over-rest (is_over d) [] follows)
 follows-fault dates (said ∷ lines) number d vectors short follows =
     let rest : List ℕ = flat_map packed_text lines in
     let shown : IsShown dates vectors d said = line-shows dates vectors d said short follows.0 in
@@ -140,13 +124,13 @@ pub record AreLines (dates : ℕ) (d : PackedDue) (vectors : List (List ℕ)) (b
   pub follow : Follows dates d vectors lines
   pub text : bytes ≡ flat_map packed_text lines
 
-rest_lines : (dates number : ℕ) (d : PackedDue) (vectors : List (List ℕ)) (rest : List ℕ) → on_line number (rest_fault d rest) ≡ None → (b : Bool) → is_over d ≡ b →
+rest_lines : (dates number : ℕ) (d : PackedDue) (vectors : List (List ℕ)) (rest : List ℕ) → on_line number (rest_fault (is_over d) rest) ≡ None → (b : Bool) → is_over d ≡ b →
     AreLines dates d vectors rest
 rest_lines dates number d vectors rest h false e =
-    let bad : on_line number (Some kind.Truncated) ≡ None = ap (λ (o : Option FaultKind). on_line number o) (sym (rest-due d rest e)) ∙ h in absurd (cc)
+    let bad : on_line number (Some kind.Truncated) ≡ None = ap (λ (o : Option FaultKind). on_line number o) (sym (rest-due (is_over d) rest e)) ∙ h in absurd (cc)
 rest_lines dates number d vectors [] h true e = record { lines = []; follow = e; text = refl }
 rest_lines dates number d vectors (byte ∷ rest) h true e =
-    let bad : on_line number (Some kind.Trailing) ≡ None = ap (λ (o : Option FaultKind). on_line number o) (sym (over-rest d (byte ∷ rest) e)) ∙ h in absurd (cc)
+    let bad : on_line number (Some kind.Trailing) ≡ None = ap (λ (o : Option FaultKind). on_line number o) (sym (over-rest (is_over d) (byte ∷ rest) e)) ∙ h in absurd (cc)
 
 -- no fault of a line, and none behind it
 pub record NoFault (r : Result PackedLine FaultKind) (more : PackedLine → Option CertFault) : Type 0 where

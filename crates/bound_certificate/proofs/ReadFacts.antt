@@ -34,8 +34,7 @@ use Rattle.bound_certificate.specs.Step.{IsSuited, due_after}
 use Rattle.bound_certificate.specs.TextReading.{EndsText, FewNodes, HasRead, IsAtLine, Reads, ReadsFault, stage_due, stage_fault, stage_told}
 use Rattle.bound_certificate.specs.Told.{Told, certificate_told, told_in}
 use Rattle.bound_certificate.specs.Versions.{IsCertificateText, certificate_fault}
-use Rattle.bound_certificate.proofs.FirstFacts.{AreOneLine, lines-one}
-use Rattle.bound_certificate.proofs.TextFacts.{lines-cons, no-feeds, some-lines}
+use Rattle.bound_certificate.proofs.TextFacts.{AreOneLine, lines-one, lines-cons, no-feeds, some-lines}
 use Rattle.bound_certificate.proofs.ToldFacts.{lines-tell, with_told}
 use Rattle.bound_certificate.proofs.VersionFacts.{texts-have-no-fault}
 
@@ -195,6 +194,7 @@ adds-read dates bytes piece fed old new going one used said adds read =
         said,
         ap (λ (bs : List ℕ). told_in dates (bytes ++ bs)) all ∙ told-now dates (bytes ++ piece) new after ∙ sym (told-now dates bytes old at),
       );
+      lent = λ _. adds.leaf_is;
       suited = subst Q (sym said) tt;
       due_is = ap (λ (s : Stage). stage_due s) adds.stage_is ∙ ap (λ (i : Item). due_after (stage_due old.stage) i) (sym said);
       few = few-now dates bytes old at;
@@ -260,6 +260,7 @@ ends-read dates bytes piece front fed old new going cut used ends read =
         item_is = moves.item_is;
         leaf_is = moves.leaf_is;
       });
+      lent = ends.lent;
       suited = moves.suited;
       due_is = moves.due_is;
       few = few-now dates bytes old at;

@@ -15,7 +15,7 @@ use Rattle.bound_certificate.specs.declared.limits.TheConstants.{GREATEST_GAP}
 use Rattle.bound_certificate.specs.Due.{is_in, range_at}
 use Rattle.bound_certificate.specs.Grammar.{is_space, number_in, numbers_in, whole_number, words_of}
 use Rattle.bound_certificate.specs.Text.{spaced_numbers}
-use Rattle.bound_certificate.proofs.LineFacts.{whole-decimal}
+use Rattle.bound_certificate.proofs.NumberFacts.{whole-decimal}
 
 -- a digit
 abbrev pub IsDigit : ℕ → Type 0

@@ -19,7 +19,7 @@ use Rattle.bound_certificate.proofs.SaidFacts.{HasLeaf, Shows, body, fits-shows,
 use Rattle.bound_certificate.proofs.TextFacts.{lines-cons, some-lines, text_cons}
 
 -- one line more
-more-lines : (d : Due) (cert : Certificate) (line : List ℕ) (lines : List (List ℕ)) → 0 < length lines
+pub more-lines : (d : Due) (cert : Certificate) (line : List ℕ) (lines : List (List ℕ)) → 0 < length lines
     → with_lines_of d cert (line ∷ lines)
     ≡ with_lines_of (next_due d (line_item d line)) (with_item cert (line_item d line) (leaf_said (line_leaf d line))) lines
 more-lines d cert line [] some = absurd (omega arith)

@@ -1,7 +1,8 @@
 -- Whole texts, line by line.
-use Rattle.std.proofs.Common.{◌≡◌, ◌∙◌, ℕ, ◌+◌, ◌<◌, Bool, true, false, List, [], ◌∷◌, ◌++◌, length, All, refl, sym, subst, ap, arith, Option, Some, None, append_assoc}
-use Rattle.std.specs.List.{flat_map, join_with_byte}
+use Rattle.std.proofs.Common.{◌≡◌, ◌∙◌, ℕ, ◌+◌, ◌<◌, Bool, true, false, cond, List, [], ◌∷◌, ◌++◌, length, All, refl, sym, subst, ap, arith, Option, Some, None, append_assoc}
+use Rattle.std.specs.List.{flat_map, join_with_byte, onto_first}
 use Rattle.std.specs.Option.{option_or}
+use Rattle.std.proofs.lemmas.List.Elements.{All-cons, All-nil}
 use Rattle.std.proofs.lemmas.List.Splits.{join_with_byte-slice_split, length-slice_split, slice_split_at}
 use Rattle.bound_certificate.specs.declared.certificate.Certificate.{Certificate}
 use Rattle.bound_certificate.specs.declared.due.Due.{Due}
@@ -42,19 +43,11 @@ pub over-whole : (dates : ℕ) (d : Due) (line : List ℕ) → is_over d ≡ tru
 over-whole dates due.Nothing line over = refl
 over-whole dates d line over = absurd (cc)
 
-pub rest-due : (d : Due) (rest : List ℕ) → is_over d ≡ false → rest_fault d rest ≡ Some kind.Truncated
-rest-due due.Nothing rest more = absurd (cc)
-rest-due due.Title rest more = refl
-rest-due due.Portfolio rest more = refl
-rest-due (due.Buy left least) rest more = refl
-rest-due (due.Gap most) rest more = refl
-rest-due due.Count rest more = refl
-rest-due (due.Node left trees) rest more = refl
-rest-due (due.End trees) rest more = refl
+pub rest-due : (over : Bool) (rest : List ℕ) → over ≡ false → rest_fault over rest ≡ Some kind.Truncated
+rest-due over rest more = ap (λ (b : Bool). rest_fault b rest) more
 
-pub over-rest : (d : Due) (rest : List ℕ) → is_over d ≡ true → rest_fault d rest ≡ rest_fault due.Nothing rest
-over-rest due.Nothing rest over = refl
-over-rest d rest over = absurd (cc)
+pub over-rest : (over : Bool) (rest : List ℕ) → over ≡ true → rest_fault over rest ≡ rest_fault true rest
+over-rest over rest is = ap (λ (b : Bool). rest_fault b rest) is
 
 -- a line that may stand isn't behind the last
 fits-due : (dates : ℕ) (d : Due) (line : Line) → Fits dates d line → is_over d ≡ false
@@ -81,13 +74,30 @@ lines-cons line rest one = slice_split_at is_feed line 10 rest (no-feeds line on
 pub some-lines : (bytes : List ℕ) → 0 < length (lines_in bytes)
 some-lines bytes = omega (arith, length-slice_split is_feed bytes)
 
+-- lines of a text
+abbrev pub AreOneLine : List (List ℕ) → Type 0
+AreOneLine [] = Unit {0}
+AreOneLine (bytes ∷ lines) = IsOneLine bytes × AreOneLine lines
+
+onto_line : (byte : ℕ) (lines : List (List ℕ)) → NotFeed byte → AreOneLine lines → AreOneLine (onto_first byte lines)
+onto_line byte [] other are = (All-cons NotFeed byte [] other (All-nil NotFeed), tt)
+onto_line byte (first ∷ lines) other are = (All-cons NotFeed byte first other are.0, are.1)
+
+lines_by : (byte : ℕ) (lines : List (List ℕ)) → AreOneLine lines → (b : Bool) → is_feed byte ≡ b → AreOneLine (cond b ([] ∷ lines) (onto_first byte lines))
+lines_by byte lines are true e = (All-nil NotFeed, are)
+lines_by byte lines are false e = onto_line byte lines (λ same. absurd (grind (arith, e, same))) are
+
+pub lines-one : (bytes : List ℕ) → AreOneLine (lines_in bytes)
+lines-one [] = (All-nil NotFeed, tt)
+lines-one (byte ∷ bytes) = lines_by byte (lines_in bytes) (lines-one bytes) (is_feed byte) refl
+
 pub text_cons : (line : Line) (rest : List ℕ) → line_text line ++ rest ≡ body line ++ 10 ∷ rest
 text_cons line rest = ap (λ (bs : List ℕ). bs ++ rest) (body-text line) ∙ append_assoc (body line) (10 ∷ []) rest
 
 -- lines that may stand one after another have no fault
 pub follows-fault : (dates : ℕ) (lines : List Line) (number : ℕ) (d : Due) → Follows dates d lines →
     first_fault dates number d (lines_in (flat_map line_text lines)) ≡ None
-follows-fault dates [] number d follows = ap (λ (o : Option FaultKind). on_line number o) (over-rest d [] follows)
+follows-fault dates [] number d follows = ap (λ (o : Option FaultKind). on_line number o) (over-rest (is_over d) [] follows)
 follows-fault dates (line ∷ lines) number d follows =
     let rest : List ℕ = flat_map line_text lines in
     let shows : Shows dates d line = fits-shows dates d line follows.0 in
@@ -115,12 +125,12 @@ over_by : (dates : ℕ) (d : Due) (line : List ℕ) → whole_fault dates d line
 over_by dates d line h true e = let bad : None ≡ Some kind.Trailing = sym h ∙ over-whole dates d line e in absurd (cc)
 over_by dates d line h false e = sym (whole-due dates d line e) ∙ h
 
-rest_lines : (dates number : ℕ) (d : Due) (rest : List ℕ) → on_line number (rest_fault d rest) ≡ None → (b : Bool) → is_over d ≡ b → AreLines dates d rest
+rest_lines : (dates number : ℕ) (d : Due) (rest : List ℕ) → on_line number (rest_fault (is_over d) rest) ≡ None → (b : Bool) → is_over d ≡ b → AreLines dates d rest
 rest_lines dates number d rest h false e =
-    let bad : on_line number (Some kind.Truncated) ≡ None = ap (λ (o : Option FaultKind). on_line number o) (sym (rest-due d rest e)) ∙ h in absurd (cc)
+    let bad : on_line number (Some kind.Truncated) ≡ None = ap (λ (o : Option FaultKind). on_line number o) (sym (rest-due (is_over d) rest e)) ∙ h in absurd (cc)
 rest_lines dates number d [] h true e = record { lines = []; follow = e; text = refl }
 rest_lines dates number d (byte ∷ rest) h true e =
-    let bad : on_line number (Some kind.Trailing) ≡ None = ap (λ (o : Option FaultKind). on_line number o) (sym (over-rest d (byte ∷ rest) e)) ∙ h in absurd (cc)
+    let bad : on_line number (Some kind.Trailing) ≡ None = ap (λ (o : Option FaultKind). on_line number o) (sym (over-rest (is_over d) (byte ∷ rest) e)) ∙ h in absurd (cc)
 
 pub fault-lines : (dates : ℕ) (parts : List (List ℕ)) (number : ℕ) (d : Due) → 0 < length parts →
     first_fault dates number d parts ≡ None → AreLines dates d (join_with_byte 10 parts)

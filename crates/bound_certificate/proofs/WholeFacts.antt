@@ -3,6 +3,7 @@ use Rattle.std.proofs.Common.{◌≡◌, ◌∙◌, ℕ, ◌<◌, ◌==◌, nat_
 use Rattle.std.proofs.lemmas.List.{length-take, take_all}
 use Rattle.dual_bound.specs.declared.tree.Leaf.{Leaf}
 use Rattle.bound_certificate.specs.declared.fault.FaultKind.{FaultKind}
+use Rattle.bound_certificate.specs.declared.item.Item.TheVariants as item
 use Rattle.bound_certificate.specs.declared.limits.TheConstants.{LINE_ROOM}
 use Rattle.bound_certificate.specs.declared.line_step.Step.{Step}
 use Rattle.bound_certificate.specs.declared.text_reading.Stage.{Stage}
@@ -46,3 +47,8 @@ line-err n dates old vectors line front kept (Err found) same whole stops = λ p
     let P : ℕ → Type 0 = λ k. Stops k old vectors (part ++ front) found in
     let Q : List ℕ → Type 0 = λ bs. Stops n old vectors bs found in
     subst P same (subst Q (whole part is) stops)
+
+pub line-ended : (dates : ℕ) (old : Stage) (vectors after : List (List ℕ)) (line : List ℕ) (leaf : Leaf) (r : Result Step FaultKind) →
+    IfOk r (λ step. Moves dates old step.stage vectors after line step.item leaf) → IfOk r (λ step. step.item ≡ item.Nothing → ⊥)
+line-ended dates old vectors after line leaf (Ok step) moves = moves.ended
+line-ended dates old vectors after line leaf (Err found) moves = tt

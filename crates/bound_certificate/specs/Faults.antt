@@ -1,5 +1,5 @@
 -- The first fault of a text, by its lines. The grammar is this project's own.
-use Rattle.std.specs.Prelude.{◌≡◌, ℕ, ◌+◌, Bool, ◌==◌, List, [], ◌∷◌, Option, Some, None, option_map, Result, Ok, Err}
+use Rattle.std.specs.Prelude.{◌≡◌, ℕ, ◌+◌, Bool, true, false, ◌==◌, List, [], ◌∷◌, Option, Some, None, option_map}
 use Rattle.std.specs.List.{slice_split}
 use Rattle.std.specs.Option.{option_or}
 use Rattle.bound_certificate.specs.declared.due.Due.{Due}
@@ -9,7 +9,7 @@ use Rattle.bound_certificate.specs.declared.fault.CertError.TheVariants as error
 use Rattle.bound_certificate.specs.declared.fault.CertFault.{CertFault}
 use Rattle.bound_certificate.specs.declared.fault.FaultKind.{FaultKind}
 use Rattle.bound_certificate.specs.declared.fault.FaultKind.TheVariants as kind
-use Rattle.bound_certificate.specs.Due.{next_due}
+use Rattle.bound_certificate.specs.Due.{is_over, next_due}
 use Rattle.bound_certificate.specs.Grammar.{line_fault, line_item}
 
 -- the lines of a text: what stands before each line feed, and last what stands behind the last one
@@ -24,11 +24,11 @@ abbrev pub whole_fault : ℕ → Due → List ℕ → Option FaultKind
 whole_fault dates due.Nothing line = Some kind.Trailing
 whole_fault dates d line = line_fault dates d line
 
--- why the bytes behind the last line feed don't end a text: there are any behind the last line, or a line is still due
-abbrev pub rest_fault : Due → List ℕ → Option FaultKind
-rest_fault due.Nothing [] = None
-rest_fault due.Nothing (byte ∷ bytes) = Some kind.Trailing
-rest_fault d rest = Some kind.Truncated
+-- why the bytes behind the last line feed don't end a text, where the last line came or didn't: there are any behind it, or a line is still due
+abbrev pub rest_fault : Bool → List ℕ → Option FaultKind
+rest_fault false rest = Some kind.Truncated
+rest_fault true [] = None
+rest_fault true (byte ∷ bytes) = Some kind.Trailing
 
 -- why a line of a number is at fault
 abbrev pub on_line : ℕ → Option FaultKind → Option CertFault
@@ -37,18 +37,13 @@ on_line number found = option_map (λ kind. record { line = number; kind = kind 
 -- the first fault of lines, from the line of a number on, where this is due
 abbrev pub first_fault : ℕ → ℕ → Due → List (List ℕ) → Option CertFault
 first_fault dates number d [] = None
-first_fault dates number d (rest ∷ []) = on_line number (rest_fault d rest)
+first_fault dates number d (rest ∷ []) = on_line number (rest_fault (is_over d) rest)
 first_fault dates number d (line ∷ next ∷ lines) =
     option_or (on_line number (whole_fault dates d line)) (first_fault dates (number + 1) (next_due d (line_item d line)) (next ∷ lines))
 
 -- the first fault of a text, where a leaf has a price for each of so many dates
 abbrev pub text_fault : ℕ → List ℕ → Option CertFault
 text_fault dates bytes = first_fault dates 1 due.Title (lines_in bytes)
-
--- what a reader answers at the end of a text
-abbrev pub answer_of : Option CertFault → Result (Unit {0}) CertFault
-answer_of None = Ok tt
-answer_of (Some fault) = Err fault
 
 -- why a text isn't read
 abbrev pub IsCause : ℕ → List ℕ → CertError → Type 0

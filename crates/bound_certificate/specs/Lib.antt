@@ -15,9 +15,8 @@ pub mod PackedLaws
 pub mod PackedTaken
 pub mod PackedText
 pub mod PlainLine
-pub mod Reading
 pub mod Row
-pub mod Scan
+pub mod Digits
 pub mod Step
 pub mod Text
 pub mod TextReading

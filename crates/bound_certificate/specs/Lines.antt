@@ -1,20 +1,14 @@
 -- A certificate whose text comes line by line: what came of it before something is due. It is this project's own.
-use Rattle.std.specs.Prelude.{◌≡◌, ◌≢◌, ℕ, ◌+◌, ◌<◌, ◌≤◌, true, List, [], ◌∷◌, ◌++◌, length, map, All, AllPairs, Option, Some, None}
-use Rattle.std.specs.List.{flat_map}
-use Rattle.dual_bound.specs.declared.tree.Leaf.{Leaf}
+use Rattle.std.specs.Prelude.{◌≡◌, ◌≢◌, ℕ, ◌+◌, ◌<◌, ◌≤◌, List, [], ◌∷◌, ◌++◌, length, map, All, AllPairs, Option, Some, None}
 use Rattle.dual_bound.specs.declared.tree.TreeNode.{TreeNode}
 use Rattle.dual_bound.specs.Tree.{AreTrees}
 use Rattle.bound_certificate.specs.declared.certificate.Buy.{Buy}
 use Rattle.bound_certificate.specs.declared.certificate.Certificate.{Certificate}
 use Rattle.bound_certificate.specs.declared.due.Due.{Due}
 use Rattle.bound_certificate.specs.declared.due.Due.TheVariants as due
-use Rattle.bound_certificate.specs.declared.limits.TheConstants.{GREATEST_GAP, MOST_BUYS, MOST_DATES, MOST_NODES}
-use Rattle.bound_certificate.specs.declared.reading.Reading.{Reading}
+use Rattle.bound_certificate.specs.declared.limits.TheConstants.{GREATEST_GAP, MOST_BUYS, MOST_NODES}
 use Rattle.bound_certificate.specs.Certificate.{AreBuys, IsBuy, IsNode, IsPortfolio, IsWellFormed}
-use Rattle.bound_certificate.specs.Due.{is_over}
-use Rattle.bound_certificate.specs.Reading.{after_bytes}
-use Rattle.bound_certificate.specs.Scan as line
-use Rattle.bound_certificate.specs.Text.{Line, line_text, lines_of, portfolio_lines}
+use Rattle.bound_certificate.specs.Text.{Line, lines_of, portfolio_lines}
 use Rattle.bound_certificate.specs.Text as text
 
 -- bytes without a line feed
@@ -23,12 +17,6 @@ NotFeed byte = byte ≢ 10
 
 abbrev pub IsOneLine : List ℕ → Type 0
 IsOneLine bytes = All NotFeed bytes
-
--- a line begins, or nothing is due any more
-pub record Begins (reading : Reading) (leaf : Leaf) : Type 0 where
-  pub scan : reading.scan ≡ line.new_scan leaf
-  pub going : reading.fault ≡ None
-  pub dates : length leaf.prices ≤ MOST_DATES
 
 -- the lines so far
 abbrev pub bought_lines : ℕ → Option (List Buy) → List Line
@@ -87,16 +75,3 @@ IsDraft dates due.Count cert = IsPortfolio cert.buys cert.gap × (cert.nodes ≡
 IsDraft dates (due.Node left trees) cert = (1 ≤ left) × AreBegun dates left trees cert
 IsDraft dates (due.End trees) cert = AreBegun dates 0 trees cert
 IsDraft dates due.Nothing cert = IsWellFormed dates cert
-
--- the whole lines of the bytes so far gave the certificate so far, and the rest is the part of a line
-pub record AtLine (dates : ℕ) (front : List ℕ) (cert : Certificate) (reading : Reading) : Type 0 where
-  pub start : Reading
-  pub leaf : Leaf
-  pub part : List ℕ
-  pub begins : Begins start leaf
-  pub dates_are : length leaf.prices ≡ dates
-  pub came : reading ≡ after_bytes start part
-  pub one : IsOneLine part
-  pub over : is_over start.due ≡ true → part ≡ []
-  pub draft : IsDraft dates start.due cert
-  pub bytes : front ≡ flat_map line_text (draft_lines start.due cert) ++ part

@@ -1,5 +1,5 @@
 -- What a line at hand whole leads to, of whichever version.
-use Rattle.std.specs.Prelude.{◌≡◌, ℕ, ◌+◌, ◌<◌, ◌≤◌, All, false, List, [], ◌∷◌, ◌++◌, length, None, Some}
+use Rattle.std.specs.Prelude.{◌≡◌, ◌≢◌, ℕ, ◌+◌, ◌<◌, ◌≤◌, All, false, List, [], ◌∷◌, ◌++◌, length, None, Some}
 use Rattle.dual_bound.specs.declared.tree.Leaf.{Leaf}
 use Rattle.bound_certificate.specs.declared.certificate.Certificate.{Certificate}
 use Rattle.bound_certificate.specs.declared.fault.CertFault.{CertFault}
@@ -25,6 +25,7 @@ use Rattle.bound_certificate.specs.Told.{Told}
 pub record Moves (dates : ℕ) (old new : Stage) (vectors after : List (List ℕ)) (line : List ℕ) (told : Item) (leaf : Leaf) : Type 0 where
   pub said : Told
   pub item_is : told ≡ said.item
+  pub ended : told ≢ item.Nothing
   pub leaf_is : told ≡ item.Leaf → leaf ≡ said.leaf
   pub more : is_over (stage_due old) ≡ false
   pub suited : IsSuited dates (stage_due old) told leaf
@@ -83,6 +84,8 @@ pub record EndsLine (old new : TextReading) (front : List ℕ) (told : Item) : T
   pub going : new.fault ≡ None
   pub line_is : new.line ≡ old.line + 1
   pub empty : IsKept [] new.part
+  pub ended : told ≢ item.Nothing
+  pub lent : told ≢ item.Leaf → new.leaf ≡ old.leaf
   pub moves : (part : List ℕ) → IsKept part old.part →
       Moves (length old.leaf.prices) old.stage new.stage old.vectors new.vectors (part ++ front) told new.leaf
 

@@ -40,12 +40,3 @@ IsPackedDue (due.Buy left least) = (1 ≤ left) × (left ≤ MOST_PACKED_BUYS)
 IsPackedDue (due.Vector left) = (1 ≤ left) × (left ≤ MOST_VECTORS)
 IsPackedDue (due.Node left trees) = (1 ≤ left) × (left + trees ≤ MOST_NODES + 1)
 IsPackedDue other = Unit {0}
-
--- a line that is due says this
-abbrev pub IsPackedSaid : PackedDue → PackedLine → Type 0
-IsPackedSaid due.Portfolio (line.Portfolio (Some count)) = count ≤ MOST_PACKED_BUYS
-IsPackedSaid (due.Buy left least) (line.Purchase buy) = buy.line ≤ 65_535
-IsPackedSaid due.VectorCount (line.Vectors count) = count ≤ MOST_VECTORS
-IsPackedSaid due.NodeCount (line.Nodes count) = count ≤ MOST_NODES
-IsPackedSaid (due.Node left trees) said = 1 ≤ trees
-IsPackedSaid d said = Unit {0}

@@ -15,10 +15,8 @@ use Rattle.bound_certificate.specs.declared.fault.CertError.TheVariants as error
 use Rattle.bound_certificate.specs.declared.fault.CertFault.{CertFault}
 use Rattle.bound_certificate.specs.declared.fault.FaultKind.{FaultKind}
 use Rattle.bound_certificate.specs.declared.fault.FaultKind.TheVariants as kind
-use Rattle.bound_certificate.specs.declared.packed_line.LineError.{LineError}
-use Rattle.bound_certificate.specs.declared.packed_line.LineError.TheVariants as cause
 use Rattle.bound_certificate.specs.declared.limits.TheConstants.{GREATEST_GAP}
-use Rattle.bound_certificate.specs.Faults.{lines_in, on_line}
+use Rattle.bound_certificate.specs.Faults.{lines_in, on_line, rest_fault}
 use Rattle.bound_certificate.specs.Grammar.{rises, words_of}
 use Rattle.bound_certificate.specs.Packed.{changed, vector_of}
 use Rattle.bound_certificate.specs.Row.{row_said}
@@ -134,12 +132,6 @@ abbrev pub vectors_with : List (List ℕ) → PackedLine → List (List ℕ)
 vectors_with vectors (line.Vector prices) = vectors ++ prices ∷ []
 vectors_with vectors said = vectors
 
--- why the bytes behind the last line feed don't end a text: there are any behind the last line, or a line is still due
-abbrev pub rest_fault : PackedDue → List ℕ → Option FaultKind
-rest_fault due.Nothing [] = None
-rest_fault due.Nothing (byte ∷ bytes) = Some kind.Trailing
-rest_fault d rest = Some kind.Truncated
-
 -- the fault of a line, or else the first one behind it
 abbrev pub fault_or : ℕ → Result PackedLine FaultKind → (PackedLine → Option CertFault) → Option CertFault
 fault_or number (Err found) more = on_line number (Some found)
@@ -148,7 +140,7 @@ fault_or number (Ok said) more = more said
 -- the first fault of lines, from the line of a number on, where this is due and these vectors came
 abbrev pub first_fault : ℕ → ℕ → PackedDue → List (List ℕ) → List (List ℕ) → Option CertFault
 first_fault dates number d vectors [] = None
-first_fault dates number d vectors (rest ∷ []) = on_line number (rest_fault d rest)
+first_fault dates number d vectors (rest ∷ []) = on_line number (rest_fault (is_over d) rest)
 first_fault dates number d vectors (bytes ∷ next ∷ lines) =
     fault_or number (line_said dates vectors d bytes)
     (λ said. first_fault dates (number + 1) (next_due d said) (vectors_with vectors said) (next ∷ lines))
@@ -161,13 +153,3 @@ packed_fault dates bytes = first_fault dates 1 due.Title [] (lines_in bytes)
 abbrev pub IsPackedCause : ℕ → List ℕ → CertError → Type 0
 IsPackedCause dates bytes error.NoMemory = Unit {0}
 IsPackedCause dates bytes (error.Fault fault) = packed_fault dates bytes ≡ Some fault
-
--- why a line isn't read, where it is read so
-abbrev pub IsLineCause : Result PackedLine FaultKind → LineError → Type 0
-IsLineCause said cause.NoMemory = Unit {0}
-IsLineCause said (cause.Fault found) = said ≡ Err found
-
--- the same of the line of a number
-abbrev pub error_at : ℕ → LineError → CertError
-error_at number cause.NoMemory = error.NoMemory
-error_at number (cause.Fault found) = error.Fault (record { line = number; kind = found })

@@ -1,16 +1,18 @@
 -- A line of a packed certificate, taken without memory: what comes of it. It is this project's own.
-use Rattle.std.specs.Prelude.{◌≡◌, ℕ, ◌+◌, ◌≤◌, ◌<◌, List, length, Some, Result, Ok}
+use Rattle.std.specs.Prelude.{◌≡◌, ℕ, ◌+◌, ◌≤◌, ◌<◌, ◌==◌, List, ◌∷◌, drop, length, slice_index, Some, Result, Ok}
 use Rattle.dual_bound.specs.declared.tree.Leaf.{Leaf}
 use Rattle.bound_certificate.specs.declared.fault.FaultKind.{FaultKind}
 use Rattle.bound_certificate.specs.declared.item.Item.{Item}
 use Rattle.bound_certificate.specs.declared.item.Item.TheVariants as item
 use Rattle.bound_certificate.specs.declared.packed_line.PackedDue.{PackedDue}
 use Rattle.bound_certificate.specs.declared.packed_line.PackedDue.TheVariants as due
+use Rattle.bound_certificate.specs.declared.packed.PackedNode.TheVariants as node
 use Rattle.bound_certificate.specs.declared.packed_line.PackedLine.{PackedLine}
+use Rattle.bound_certificate.specs.declared.packed_line.PackedLine.TheVariants as line
 use Rattle.bound_certificate.specs.declared.row.Row.{Row}
 use Rattle.bound_certificate.specs.declared.row.Row.TheVariants as row
-use Rattle.bound_certificate.specs.declared.limits.TheConstants.{MOST_NODES, MOST_PACKED_BUYS, MOST_VECTORS}
-use Rattle.bound_certificate.specs.PackedGrammar.{vectors_with}
+use Rattle.bound_certificate.specs.declared.limits.TheConstants.{MOST_NODES, MOST_NUMBERS, MOST_PACKED_BUYS, MOST_VECTORS}
+use Rattle.bound_certificate.specs.PackedGrammar.{ArePlaces, changes_of, vectors_with}
 use Rattle.bound_certificate.specs.Told.{packed_item, packed_leaf}
 
 -- there is room for the vectors that are due
@@ -30,6 +32,32 @@ pub record IsGiven (told : Result PackedLine FaultKind) (before after : List (Li
   pub item_is : given ≡ packed_item said
   pub vectors_are : after ≡ vectors_with before said
   pub leaf_is : given ≡ item.Leaf → leaf ≡ packed_leaf before said
+
+-- what a line says, by its item and its numbers
+abbrev pub line_with : Item → List ℕ → PackedLine
+line_with item.Header numbers = line.Title
+line_with (item.Portfolio count) numbers = line.Portfolio count
+line_with (item.Buy buy) numbers = line.Purchase buy
+line_with (item.Gap cents) numbers = line.Gap cents
+line_with (item.Vectors count) numbers = line.Vectors count
+line_with item.Vector numbers = line.Vector numbers
+line_with (item.Nodes count) numbers = line.Nodes count
+line_with (item.Split number at) numbers = line.Node (node.Split number at)
+line_with item.Point numbers = line.Node node.Point
+line_with item.Leaf (rho ∷ mu ∷ vector ∷ numbers) = line.Node (node.Closed (rho == 1) mu vector (changes_of numbers))
+line_with other numbers = line.End
+
+-- the numbers of a leaf
+pub record AreOfLeaf (numbers : List ℕ) : Type 0 where
+  pub some : 3 ≤ length numbers
+  pub few : length numbers ≤ MOST_NUMBERS
+  pub vector : slice_index numbers 2 ≤ 65_535
+  pub places : ArePlaces 65_535 (changes_of (drop 3 numbers))
+
+-- an item and numbers are what a line says
+pub record IsOfNumbers (told : Result PackedLine FaultKind) (numbers : List ℕ) (given : Item) : Type 0 where
+  pub is : told ≡ Ok (line_with given numbers)
+  pub leaf : given ≡ item.Leaf → AreOfLeaf numbers
 
 -- a line that is due says this, by its item
 abbrev pub IsItemSaid : PackedDue → Item → Type 0

@@ -1,15 +1,17 @@
 -- A line of a certificate, read whole: what comes of its words one by one.
-use Rattle.std.specs.Prelude.{◌≡◌, ℕ, ◌+◌, true, if◌then◌else◌, List, [], ◌∷◌, length, Option, Some, None, option_map, slice_index_or}
+use Rattle.std.specs.Prelude.{◌≡◌, ℕ, ◌+◌, true, false, if◌then◌else◌, List, [], ◌∷◌, length, Option, Some, None, option_map, slice_index_or}
 use denote.Ref.{Bor}
+use Rattle.dual_bound.specs.declared.tree.Leaf.{Leaf}
 use Rattle.bound_certificate.specs.declared.due.Due.{Due}
 use Rattle.bound_certificate.specs.declared.due.Name.{Name}
+use Rattle.bound_certificate.specs.declared.due.Name.TheVariants as name
 use Rattle.bound_certificate.specs.declared.fault.FaultKind.{FaultKind}
 use Rattle.bound_certificate.specs.declared.fault.FaultKind.TheVariants as kind
 use Rattle.bound_certificate.specs.declared.item.Item.{Item}
 use Rattle.bound_certificate.specs.declared.plain_line.Pair.{Pair}
 use Rattle.bound_certificate.specs.declared.plain_line.Taken.{Taken}
-use Rattle.bound_certificate.specs.Due.{is_in, range_at, width_of}
-use Rattle.bound_certificate.specs.Grammar.{is_name, line_numbers, name_in, numbers_fault, numbers_in, numbers_item, whole_number, words_fault, words_item, words_numbers, words_of}
+use Rattle.bound_certificate.specs.Due.{is_closed_early, is_in, range_at, width_of}
+use Rattle.bound_certificate.specs.Grammar.{is_name, leaf_of, line_numbers, name_in, numbers_fault, numbers_in, numbers_item, whole_number, words_fault, words_item, words_numbers, words_of}
 use Rattle.bound_certificate.specs.Row.{parts_behind}
 
 -- the first word of a line may only be this name
@@ -18,6 +20,12 @@ first_word line = slice_index_or (words_of line) 0 []
 
 abbrev pub IsOnlyName : Due → Name → List ℕ → Type 0
 IsOnlyName d n line = name_in d (first_word line) ≡ (if is_name (first_word line) n then Some n else None)
+
+-- a line begins with a name that may stand there, and a node with it
+pub record IsNamed (d : Due) (n : Name) (line : List ℕ) (rest : Option (Bor (List ℕ))) : Type 0 where
+  pub words : words_of line ≡ first_word line ∷ parts_behind 32 rest
+  pub name : name_in d (first_word line) ≡ Some n
+  pub standing : is_closed_early d ≡ false
 
 -- a line begins with a name and has as many words as its name asks: what is left are the numbers behind the name
 pub record IsBegun (dates : ℕ) (d : Due) (n : Name) (line : List ℕ) (rest : Option (Bor (List ℕ))) : Type 0 where
@@ -49,6 +57,13 @@ pub record IsTwo (d : Due) (n : Name) (words : List (List ℕ)) (pair : Pair) : 
 -- the words behind a name say this, without a fault
 abbrev pub IsSaidAs : Due → Name → List (List ℕ) → Item → Type 0
 IsSaidAs d n words item = (numbers_fault d n (line_numbers d n words) ≡ None) × (item ≡ numbers_item n (line_numbers d n words))
+
+-- the words behind a leaf's name are numbers, one for each weight, and say this leaf
+pub record AreWeights (d : Due) (words : List (List ℕ)) (leaf : Leaf) : Type 0 where
+  pub count : length words ≡ 2 + length leaf.prices
+  pub numbers : List ℕ
+  pub read : numbers_in d name.Leaf 1 words ≡ Some numbers
+  pub leaf_is : leaf ≡ leaf_of numbers
 
 -- why they don't
 abbrev pub IsFaultOf : Due → Name → List (List ℕ) → FaultKind → Type 0

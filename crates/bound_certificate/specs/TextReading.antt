@@ -1,10 +1,11 @@
 -- What a reader of a certificate's text has read, and what a piece adds to it.
-use Rattle.std.specs.Prelude.{◌≡◌, ℕ, ◌+◌, ◌<◌, ◌≤◌, true, if◌then◌else◌, List, [], ◌++◌, length, take, Option, None, Some, Result, Ok, Err}
+use Rattle.std.specs.Prelude.{◌≡◌, ◌≢◌, ℕ, ◌+◌, ◌<◌, ◌≤◌, true, if◌then◌else◌, List, [], ◌++◌, length, take, position, Option, None, Some, MatchOption, Result, Ok, Err}
 use Rattle.bound_certificate.specs.declared.certificate.Certificate.{Certificate}
 use Rattle.bound_certificate.specs.declared.due.Due.{Due}
 use Rattle.bound_certificate.specs.declared.due.Due.TheVariants as due
 use Rattle.bound_certificate.specs.declared.fault.CertFault.{CertFault}
 use Rattle.bound_certificate.specs.declared.item.Fed.{Fed}
+use Rattle.bound_certificate.specs.declared.item.Item.TheVariants as item
 use Rattle.bound_certificate.specs.declared.limits.TheConstants.{MOST_DATES, MOST_NODES}
 use Rattle.bound_certificate.specs.declared.packed_line.PackedDue.{PackedDue}
 use Rattle.bound_certificate.specs.declared.packed_line.PackedDue.TheVariants as packed_due
@@ -12,7 +13,7 @@ use Rattle.bound_certificate.specs.declared.text_reading.Stage.{Stage}
 use Rattle.bound_certificate.specs.declared.text_reading.Stage.TheVariants as stage
 use Rattle.bound_certificate.specs.declared.text_reading.TextReading.{TextReading}
 use Rattle.bound_certificate.specs.Due.{is_over}
-use Rattle.bound_certificate.specs.Faults.{first_fault, lines_in}
+use Rattle.bound_certificate.specs.Faults.{first_fault, is_feed, lines_in}
 use Rattle.bound_certificate.specs.Kept.{IsKept}
 use Rattle.bound_certificate.specs.Lines.{IsOneLine}
 use Rattle.bound_certificate.specs.PackedGrammar as packed
@@ -79,11 +80,19 @@ pub record HasRead (dates : ℕ) (bytes : List ℕ) (reading : TextReading) : Ty
   pub going : reading.fault ≡ None → IsAtLine dates bytes reading
   pub stopped : (fault : CertFault) → reading.fault ≡ Some fault → (more : List ℕ) → certificate_fault dates (bytes ++ more) ≡ Some fault
 
--- bytes of a piece were read behind others, and no line was at fault: what they tell is told, it was due, and it tells what is due now
+-- a piece is taken up to and with its first line feed, and a line ended; or it has none, all of it is taken, and no line ended
+abbrev pub TakesLine : List ℕ → Fed → Type 0
+TakesLine piece fed = MatchOption (position is_feed piece)
+    ((fed.used ≡ length piece) × (fed.item ≡ item.Nothing))
+    (λ place. (fed.used ≡ place + 1) × (fed.item ≢ item.Nothing))
+
+-- bytes of a piece were read behind others, and no line was at fault: what they tell is told, it was due, and it tells what is due now;
+-- the leaf that is lent changes by a leaf's line alone
 pub record Reads (dates : ℕ) (bytes piece : List ℕ) (fed : Fed) (old new : TextReading) : Type 0 where
   pub read : HasRead dates (bytes ++ take fed.used piece) new
   pub going : new.fault ≡ None
   pub tells : Tells (told_in dates bytes) fed.item new.leaf (told_in dates (bytes ++ take fed.used piece))
+  pub lent : fed.item ≢ item.Leaf → new.leaf ≡ old.leaf
   pub suited : IsSuited dates (stage_due old.stage) fed.item new.leaf
   pub due_is : stage_due new.stage ≡ due_after (stage_due old.stage) fed.item
   pub few : (left trees : ℕ) → stage_due old.stage ≡ due.Node left trees → length (certificate_told (told_in dates bytes)).nodes < MOST_NODES

@@ -1,5 +1,5 @@
 //! What a certificate says.
-ghost use Rattle.std.specs.Prelude.{◌≡◌, ◌++◌, ◌∷◌, [], OnOk};
+ghost use Rattle.std.specs.Prelude.{◌≡◌, ◌++◌, ◌∷◌, [], IfOk, OnOk, length};
 ghost use Rattle.dual_bound.specs.declared.tree.TreeNode.TheVariants as node;
 ghost use Rattle.bound_certificate.specs.Draft.{no_lines, with_item};
 
@@ -120,6 +120,22 @@ impl Nodes {
             prices,
         }))
     }
+}
+
+/// A leaf with a price for each of so many need dates, all 0.
+///
+/// # Errors
+///
+/// [`NoMemory`] where memory ran out.
+pub(crate) fn empty_leaf(alloc: Global, dates: u16) -> Result<Leaf, NoMemory>
+    ensures { IfOk result (λ leaf. length leaf.prices ≡ dates) }
+{
+    let prices = vec![in alloc; 0; usize::from(dates)]?;
+    Ok(Leaf {
+        whole: false,
+        mu: 0,
+        prices: Prices::new(prices),
+    })
 }
 
 /// What a certificate says: a portfolio, by how much it may cost more than the cheapest, and a tree that shows it.

@@ -1,7 +1,10 @@
 //! Bytes up to a mark.
-ghost use Rattle.std.specs.Prelude.{◌≡◌, ◌==◌, ◌<◌, ◌∷◌, IfSome, length, position};
+ghost use Rattle.std.specs.Prelude.{◌≡◌, ◌==◌, ◌<◌, ◌∷◌, ℕ, IfSome, length, position};
 ghost use Rattle.std.specs.List.{slice_split};
+ghost use Rattle.bound_certificate.specs.Faults.{is_feed};
 ghost use Rattle.bound_certificate.specs.Row.{parts_behind};
+
+use memchr::memchr;
 
 /// Bytes before the first of a mark, and those behind it, where it stands there.
 #[derive(Clone, Copy, Debug)]
@@ -18,11 +21,20 @@ fn place_of(bytes: &[u8], mark: u8) -> Option<usize>
     bytes.iter().position(|byte| *byte == mark)
 }
 
-/// Cuts bytes at the first of a mark.
-pub(crate) fn cut_at(bytes: &[u8], mark: u8) -> Cut<'_>
-    ensures { slice_split (λ byte. byte == mark) bytes.now ≡ result.front.now ∷ parts_behind mark result.rest }
+// Where the first line feed stands. Lines are long, so this search goes over many bytes at once.
+fn feed_place(bytes: &[u8]) -> Option<usize>
+    ensures place { result ≡ position is_feed bytes.now }
+    ensures bound { IfSome result (λ place. place < length bytes.now) }
 {
-    match place_of(bytes, mark) {
+    memchr(b'\n', bytes)
+}
+
+// Cuts bytes at a place, where there is one.
+fn cut_by(bytes: &[u8], place: Option<usize>) -> Cut<'_>
+    requires { IfSome place (λ place. place < length bytes.now) }
+    ensures { (mark : ℕ) → place ≡ position (λ byte. byte == mark) bytes.now → slice_split (λ byte. byte == mark) bytes.now ≡ result.front.now ∷ parts_behind mark result.rest }
+{
+    match place {
         Some(place) => Cut {
             front: &bytes[..place],
             rest: Some(&bytes[place + 1..]),
@@ -32,4 +44,18 @@ pub(crate) fn cut_at(bytes: &[u8], mark: u8) -> Cut<'_>
             rest: None,
         },
     }
+}
+
+/// Cuts bytes at the first of a mark.
+pub(crate) fn cut_at(bytes: &[u8], mark: u8) -> Cut<'_>
+    ensures { slice_split (λ byte. byte == mark) bytes.now ≡ result.front.now ∷ parts_behind mark result.rest }
+{
+    cut_by(bytes, place_of(bytes, mark))
+}
+
+/// Cuts bytes at the first line feed.
+pub(crate) fn cut_line(bytes: &[u8]) -> Cut<'_>
+    ensures { slice_split (λ byte. byte == 10) bytes.now ≡ result.front.now ∷ parts_behind 10 result.rest }
+{
+    cut_by(bytes, feed_place(bytes))
 }

@@ -1,7 +1,6 @@
 //! What may stand on a line, after the lines before it.
 ghost use Rattle.std.specs.Prelude.{◌≡◌, ◌+◌, ◌≤◌, false};
-ghost use Rattle.bound_certificate.specs.Due.{IsDue, IsSaid, buys_due as buys_due_of, from_to, next_due, nodes_due as nodes_due_of, is_closed_early, is_in, is_over, is_unclosed, lines_left, most_gap, range_at as range_at_of, weight_range as weight_range_of, width_of, word_of};
-ghost use Rattle.bound_certificate.specs.Scan.{node_starting as node_starting_of, name_starting as name_starting_of};
+ghost use Rattle.bound_certificate.specs.Due.{IsDue, IsSaid, buys_due as buys_due_of, from_to, next_due, nodes_due as nodes_due_of, is_closed_early, is_in, is_over, lines_left, most_gap, range_at as range_at_of, weight_range as weight_range_of, width_of, word_of};
 
 use crate::item::Item;
 use crate::limits::{GREATEST_GAP, GREATEST_UNITS, MOST_BUYS, MOST_DATES, MOST_NODES};
@@ -83,39 +82,6 @@ impl Name {
             Name::Buy | Name::Split => 3,
             Name::Leaf => 3 + dates,
         }
-    }
-}
-
-/// The name that begins with a byte and may stand as the word at a place of the line, from 0.
-pub(crate) fn name_starting(due: Due, place: u16, byte: u8) -> Option<Name>
-    ensures { result ≡ name_starting_of due place byte }
-{
-    let name = match due {
-        Due::Title if place == 0 => Name::Title,
-        Due::Portfolio if place == 0 => Name::Portfolio,
-        Due::Portfolio if place == 1 => Name::Absent,
-        Due::Buy { .. } if place == 0 => Name::Buy,
-        Due::Gap { .. } if place == 0 => Name::Gap,
-        Due::Count if place == 0 => Name::Nodes,
-        Due::Node { .. } if place == 0 => node_starting(byte),
-        Due::End { .. } if place == 0 => Name::End,
-        _ => return None,
-    };
-    if name.word()[0] == byte {
-        Some(name)
-    } else {
-        None
-    }
-}
-
-// The name of a node that begins with a byte, or else a name that doesn't.
-fn node_starting(byte: u8) -> Name
-    ensures { result ≡ node_starting_of byte }
-{
-    match byte {
-        b's' => Name::Split,
-        b'p' => Name::Point,
-        _ => Name::Leaf,
     }
 }
 
@@ -214,16 +180,6 @@ impl Due {
     {
         match self {
             Due::Node { trees, .. } => trees == 0,
-            _ => false,
-        }
-    }
-
-    /// Whether the last node came, but the tree hasn't closed.
-    pub(crate) fn is_unclosed(self) -> bool
-        ensures { result ≡ is_unclosed self }
-    {
-        match self {
-            Due::End { trees } => trees > 0,
             _ => false,
         }
     }

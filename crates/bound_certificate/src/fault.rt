@@ -1,5 +1,6 @@
 //! Why bytes are no text of a certificate.
 ghost use Rattle.std.specs.Prelude.{◌≡◌};
+ghost use Rattle.bound_certificate.specs.Faults.{rest_fault as rest_fault_of};
 ghost use Rattle.bound_certificate.specs.declared.fault.CertError.TheVariants as error;
 
 use escrow_desk::NoMemory;
@@ -72,4 +73,17 @@ impl<T: Drop> From<AllocFailed<T>> for CertError {
     fn from(_failed: AllocFailed<T>) -> CertError {
         CertError::NoMemory
     }
+}
+
+/// Why the bytes behind the last line feed don't end a text, where the last line came or didn't.
+pub(crate) fn rest_fault(over: bool, rest: &[u8]) -> Option<FaultKind>
+    ensures { result ≡ rest_fault_of over rest.now }
+{
+    if !over {
+        return Some(FaultKind::Truncated);
+    }
+    if rest.is_empty() {
+        return None;
+    }
+    Some(FaultKind::Trailing)
 }

@@ -1,21 +1,7 @@
-//! What the reader of certificates is, and what their texts are.
-ghost use Rattle.bound_certificate.specs.Laws.{CertificatesHaveOneText, EveryCutIsTheSame, FaultsAreOfLines, FaultsAreTheFirst, FaultsStay, ItemsAreOfLines, LeavesAreOfLines, LinesFollow, TextsAreOfOne, TextsHaveNoFault, TextsSayTheirCertificate};
+//! What the texts of certificates are.
+ghost use Rattle.bound_certificate.specs.Laws.{CertificatesHaveOneText, TextsAreOfOne, TextsHaveNoFault, TextsSayTheirCertificate};
 ghost use Rattle.bound_certificate.specs.PackedLaws.{PackedTextsAreOfOne, PackedTextsHaveNoFault};
 ghost use Rattle.bound_certificate.specs.VersionLaws.{CertificateTextsAreOfOne, CertificateTextsHaveNoFault, LinesTellTheCertificate};
-
-/// What the reader of certificates is. However the bytes are cut into pieces, the same comes of them, and a fault stays. The line
-/// feed of a line shows the fault that the line's words have, and no other. A line without one says what its words say; behind a
-/// leaf's line the leaf is the one that its words say; and what a line says tells what is due on the next. At the end of the
-/// bytes the reader answers the first fault of their lines, and none where they have none.
-pub fn reader_laws()
-    ensures cuts { EveryCutIsTheSame }
-    ensures stay { FaultsStay }
-    ensures lines { FaultsAreOfLines }
-    ensures items { ItemsAreOfLines }
-    ensures leaves { LeavesAreOfLines }
-    ensures follow { LinesFollow }
-    ensures first { FaultsAreTheFirst }
-{}
 
 /// What the texts of certificates are. A text has no fault exactly where it is that of a well-formed certificate; it is that of
 /// one certificate alone, and a certificate has no other text; and the certificate that its lines say is that one. So what was

@@ -3,6 +3,7 @@
 
 mod certificate;
 mod cut;
+mod digits;
 mod due;
 mod fault;
 mod item;
@@ -20,12 +21,9 @@ mod packed_write;
 mod packing;
 mod part;
 mod plain_line;
-mod plain_reader;
 mod read;
 mod reader;
-mod reading;
 mod row;
-mod scan;
 #[cfg(test)]
 mod test_rows;
 #[cfg(test)]
@@ -38,7 +36,7 @@ mod write;
 pub use certificate::{Buy, Buys, Certificate, Nodes};
 pub use fault::{CertError, CertFault, FaultKind};
 pub use item::{Fed, Item};
-pub use laws::{certificate_laws, packed_text_laws, reader_laws, text_laws};
+pub use laws::{certificate_laws, packed_text_laws, text_laws};
 pub use limits::{
     GREATEST_GAP, GREATEST_UNITS, MOST_BUYS, MOST_DATES, MOST_NODES, MOST_PACKED_BUYS, MOST_VECTORS,
 };

@@ -1,6 +1,6 @@
 //! The limits of a certificate's numbers. They are this project's own.
 
-/// The most purchases.
+/// The most purchases of a certificate of version 1.
 pub const MOST_BUYS: u64 = 257;
 
 /// The greatest number of units of a purchase or a split.
@@ -13,7 +13,7 @@ pub const GREATEST_GAP: u64 = 1_000_000_000_000_000;
 pub const MOST_NODES: u64 = 10_000;
 
 /// The most need dates, for each of which a leaf has a price.
-pub const MOST_DATES: u16 = 480;
+pub const MOST_DATES: usize = 480;
 
 /// The most purchases of a packed certificate.
 pub const MOST_PACKED_BUYS: u64 = 513;
@@ -22,13 +22,7 @@ pub const MOST_PACKED_BUYS: u64 = 513;
 pub const MOST_VECTORS: u64 = 64;
 
 /// The most numbers of a line of a packed certificate: a leaf's three, and two for each need date.
-pub(crate) const MOST_NUMBERS: usize = 963;
-
-/// The most prices of a vector: one for each need date.
-pub(crate) const MOST_PRICES: usize = 480;
-
-/// One word more than a line may have.
-pub(crate) const MOST_WORDS: u16 = 484;
+pub(crate) const MOST_NUMBERS: usize = 3 + 2 * MOST_DATES;
 
 /// More bytes than a right line has: a first word of at most 20, and 963 numbers of at most 16 digits, each behind a space.
 pub(crate) const LINE_ROOM: usize = 16_400;

@@ -1,11 +1,12 @@
 //! What a line at hand whole leads to, of whichever version.
-ghost use Rattle.std.specs.Prelude.{◌≡◌, ◌≤◌, ◌<◌, ◌+◌, false, IfOk, IfErr, List, ℕ, length};
+ghost use Rattle.std.specs.Prelude.{◌≡◌, ◌≢◌, ◌≤◌, ◌<◌, ◌+◌, false, IfOk, IfErr, List, ℕ, length};
 ghost use Rattle.bound_certificate.specs.Due.{IsDue, is_over};
 ghost use Rattle.bound_certificate.specs.LongLine.{IsLongLine};
 ghost use Rattle.bound_certificate.specs.Moves.{AreVectors, IsStage, Moves, Stops, stage_lines_left};
 ghost use Rattle.bound_certificate.specs.PackedDraft.{IsPackedDue};
 ghost use Rattle.bound_certificate.specs.PackedGrammar.{is_over as is_packed_over};
 ghost use Rattle.bound_certificate.specs.TextReading.{stage_due};
+ghost use Rattle.bound_certificate.specs.declared.item.Item.TheVariants as item_of;
 ghost use Rattle.bound_certificate.specs.declared.text_reading.Stage.TheVariants as stage_of;
 
 use crate::due::Due;
@@ -36,6 +37,7 @@ fn plain_step(due: Due, dates: u16, line: &[u8], leaf: &mut Leaf) -> Result<Step
     requires going { is_over due ≡ false }
     ensures dates { length leaf.new.prices ≡ dates }
     ensures ok { IfOk result (λ step. (vectors : List (List ℕ)) → Moves dates (stage_of.Plain due) step.stage vectors vectors line.now step.item leaf.new) }
+    ensures lent { IfOk result (λ step. step.item ≢ item_of.Leaf → leaf.new ≡ leaf.old) }
     ensures kept { IfOk result (λ step. (vectors : List (List ℕ)) → IsStage dates step.stage vectors) }
     ensures lines { IfOk result (λ step. stage_lines_left step.stage + 1 ≤ stage_lines_left (stage_of.Plain due)) }
     ensures err { IfErr result (λ kind. (vectors : List (List ℕ)) → Stops dates (stage_of.Plain due) vectors line.now kind) }
@@ -63,6 +65,7 @@ fn packed_step(
     requires going { is_packed_over due ≡ false }
     ensures dates { length leaf.new.prices ≡ dates }
     ensures ok { IfOk result (λ step. Moves dates (stage_of.Packed due) step.stage vectors.old vectors.new line.now step.item leaf.new) }
+    ensures lent { IfOk result (λ step. step.item ≢ item_of.Leaf → leaf.new ≡ leaf.old) }
     ensures kept { IfOk result (λ step. IsStage dates step.stage vectors.new) }
     ensures lines { IfOk result (λ step. stage_lines_left step.stage + 1 ≤ stage_lines_left (stage_of.Packed due)) }
     ensures err { IfErr result (Stops dates (stage_of.Packed due) vectors.old line.now) }
@@ -93,6 +96,7 @@ pub(crate) fn take_line(
     requires going { is_over (stage_due stage) ≡ false }
     ensures dates { length leaf.new.prices ≡ dates }
     ensures ok { IfOk result (λ step. Moves dates stage step.stage vectors.old vectors.new line.now step.item leaf.new) }
+    ensures lent { IfOk result (λ step. step.item ≢ item_of.Leaf → leaf.new ≡ leaf.old) }
     ensures kept { IfOk result (λ step. IsStage dates step.stage vectors.new) }
     ensures lines { IfOk result (λ step. stage_lines_left step.stage + 1 ≤ stage_lines_left stage) }
     ensures err { IfErr result (Stops dates stage vectors.old line.now) }

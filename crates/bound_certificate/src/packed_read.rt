@@ -1,18 +1,25 @@
 //! Reads a packed certificate that is there whole.
-ghost use Rattle.std.specs.Prelude.{◌≡◌, ◌≤◌, ◌⊎◌, ◌++◌, ◌∷◌, [], IfErr, IfOk, OnOk, Ok, Err, MatchOption};
+ghost use Rattle.std.specs.Prelude.{◌≡◌, ◌≤◌, ◌⊎◌, IfErr, IfOk, OnOk, Ok, Err};
 ghost use Rattle.bound_certificate.specs.PackedDraft.{no_packed, with_line};
-ghost use Rattle.bound_certificate.specs.PackedGrammar.{IsPackedCause, rest_fault as rest_fault_of};
+ghost use Rattle.bound_certificate.specs.PackedGrammar.{IsPackedCause};
+ghost use Rattle.bound_certificate.specs.PackedTaken.{AreOfLeaf, line_with};
 ghost use Rattle.bound_certificate.specs.PackedText.{IsPackedTextOf};
+ghost use Rattle.bound_certificate.specs.declared.item.Item.TheVariants as item_of;
+ghost use Rattle.bound_certificate.specs.declared.packed_line.PackedLine.TheVariants as line;
 ghost use Rattle.bound_certificate.specs.declared.fault.CertError.TheVariants as error;
 ghost use Rattle.bound_certificate.specs.declared.packed.Packed.{Packed as PackedOf};
 
-use crate::certificate::Buys;
-use crate::cut::cut_at;
-use crate::fault::{CertError, CertFault, FaultKind};
+use crate::certificate::{Buys, empty_leaf};
+use crate::cut::cut_line;
+use crate::fault::{CertError, CertFault, rest_fault};
+use crate::item::Item;
 use crate::limits::MOST_DATES;
-use crate::packed::{Packed, PackedNodes, Vectors};
-use crate::packed_line::{LineError, PackedDue, PackedLine, read_line};
+use crate::packed::{Changes, Packed, PackedNode, PackedNodes, Vectors};
+use crate::packed_line::{PackedDue, PackedLine};
+use crate::packed_taken::{list_changes, take_packed_line};
+use crate::vector_room::VectorRoom;
 use arrayvec::ArrayVec;
+use dual_bound::Prices;
 use escrow_desk::NoMemory;
 use std::alloc::Global;
 
@@ -51,17 +58,39 @@ impl Packed {
     }
 }
 
-// Why the bytes behind the last line feed don't end a text.
-fn rest_fault(due: PackedDue, rest: &[u8]) -> Option<FaultKind>
-    ensures { result ≡ rest_fault_of due rest.now }
+// A leaf, by its numbers.
+fn leaf_node(alloc: Global, numbers: &[u64]) -> Result<PackedNode, NoMemory>
+    requires { AreOfLeaf numbers.now }
+    ensures { IfOk result (λ said. line.Node said ≡ line_with item_of.Leaf numbers.now) }
 {
-    if !due.is_over() {
-        return Some(FaultKind::Truncated);
-    }
-    if rest.is_empty() {
-        return None;
-    }
-    Some(FaultKind::Trailing)
+    let changes = list_changes(&numbers[3..]);
+    Ok(PackedNode::Closed {
+        whole: numbers[0] == 1,
+        mu: numbers[1],
+        vector: numbers[2] as u16,
+        changes: Changes::new(changes.as_slice().to_vec(alloc)?),
+    })
+}
+
+// What a line says, by its item and its numbers.
+fn line_of(alloc: Global, item: Item, numbers: &[u64]) -> Result<PackedLine, NoMemory>
+    requires { item ≡ item_of.Leaf → AreOfLeaf numbers.now }
+    ensures { IfOk result (λ said. said ≡ line_with item numbers.now) }
+{
+    Ok(match item {
+        Item::Header => PackedLine::Title,
+        Item::Portfolio(None) => PackedLine::Portfolio(None),
+        Item::Portfolio(Some(count)) => PackedLine::Portfolio(Some(u64::from(count))),
+        Item::Buy(buy) => PackedLine::Purchase(buy),
+        Item::Gap(cents) => PackedLine::Gap(cents),
+        Item::Vectors(count) => PackedLine::Vectors(u64::from(count)),
+        Item::Vector => PackedLine::Vector(Prices::new(numbers.to_vec(alloc)?)),
+        Item::Nodes(count) => PackedLine::Nodes(u64::from(count)),
+        Item::Split { line, at } => PackedLine::Node(PackedNode::Split { line, at }),
+        Item::Point => PackedLine::Node(PackedNode::Point),
+        Item::Leaf => PackedLine::Node(leaf_node(alloc, numbers)?),
+        Item::Nothing | Item::End => PackedLine::End,
+    })
 }
 
 /// Reads the text of a packed certificate for so many need dates, at most 480: a vector has a price for each.
@@ -76,28 +105,30 @@ pub fn read_packed(alloc: Global, bytes: &[u8], dates: u16) -> Result<Packed, Ce
     ensures back { (packed : PackedOf) → IsPackedTextOf dates packed bytes.now → (result ≡ Ok packed) ⊎ (result ≡ Err error.NoMemory) }
 {
     let mut numbers = ArrayVec::new();
+    let mut vectors = VectorRoom::make(alloc)?;
+    let mut leaf = empty_leaf(alloc, dates)?;
     let mut packed = Packed::empty(alloc);
     let mut due = PackedDue::Title;
     let mut number = 1;
-    let mut part = cut_at(bytes, b'\n');
+    let mut part = cut_line(bytes);
     while let Some(rest) = part.rest {
-        let said = match read_line(
-            alloc,
+        let item = match take_packed_line(
             due,
             dates,
-            packed.vectors.as_slice(),
+            &mut vectors,
             part.front,
             &mut numbers,
+            &mut leaf,
         ) {
-            Ok(said) => said,
-            Err(error) => return Err(error.at(number)),
+            Ok(item) => item,
+            Err(kind) => return Err(CertError::Fault(CertFault { line: number, kind })),
         };
-        due = due.after(&said);
-        packed.take(alloc, said)?;
+        due = due.after_item(item);
+        packed.take(alloc, line_of(alloc, item, numbers.as_slice())?)?;
         number += 1;
-        part = cut_at(rest, b'\n');
+        part = cut_line(rest);
     }
-    match rest_fault(due, part.front) {
+    match rest_fault(due.is_over(), part.front) {
         Some(kind) => Err(CertError::Fault(CertFault { line: number, kind })),
         None => Ok(packed),
     }

@@ -1,34 +1,33 @@
 //! The lines of a packed certificate, each taken without memory.
-ghost use Rattle.std.specs.Prelude.{◌≡◌, ◌≤◌, ◌+◌, All, IfOk, IfErr, Ok, Err, List, ℕ, ◌==◌, ◌<◌, length, slice_index, false};
+ghost use Rattle.std.specs.Prelude.{◌≡◌, ◌≢◌, ◌≤◌, ◌+◌, ◌*◌, All, IfOk, IfErr, Ok, Err, List, ℕ, ◌==◌, ◌<◌, length, slice_index, false, true};
 ghost use Rattle.dual_bound.specs.declared.tree.Leaf.{Leaf as LeafOf};
+ghost use Rattle.bound_certificate.specs.declared.item.Item.TheVariants as item_of;
 ghost use Rattle.bound_certificate.specs.declared.packed.PackedNode.TheVariants as node_of;
 ghost use Rattle.bound_certificate.specs.declared.packed_line.PackedLine.TheVariants as line_of;
 ghost use Rattle.bound_certificate.specs.declared.packed_line.PackedLine.{PackedLine as PackedLineOf};
 ghost use Rattle.bound_certificate.specs.declared.row.Row.TheVariants as row_of;
 ghost use Rattle.bound_certificate.specs.Packed.{IsVector, changed};
-ghost use Rattle.bound_certificate.specs.PackedGrammar.{ArePlaces, changes_of, is_over, leaf_said, line_said, next_due, row_line, said_by};
-ghost use Rattle.bound_certificate.specs.PackedDraft.{IsPackedDue, IsPackedSaid, packed_lines_left};
-ghost use Rattle.bound_certificate.specs.PackedTaken.{HasRoom, HasRoomFor, IsGiven, IsItemSaid};
+ghost use Rattle.bound_certificate.specs.PackedGrammar.{ArePlaces, are_rising, changes_of, is_over, leaf_said, line_said, next_due, places_of, restates as restates_of, row_line, said_by};
+ghost use Rattle.bound_certificate.specs.PackedDraft.{IsPackedDue, packed_lines_left};
+ghost use Rattle.bound_certificate.specs.PackedTaken.{HasRoom, HasRoomFor, IsGiven, IsItemSaid, IsOfNumbers};
 ghost use Rattle.bound_certificate.specs.Row.{AreRowNumbers};
 ghost use Rattle.bound_certificate.specs.Told.{packed_item};
 
 use crate::certificate::Buy;
 use crate::fault::FaultKind;
 use crate::item::Item;
-use crate::limits::{MOST_DATES, MOST_PRICES, MOST_VECTORS};
+use crate::limits::{MOST_DATES, MOST_VECTORS};
 use crate::packed::Change;
-use crate::packed_line::{
-    PackedDue, buys_due, node_row, nodes_due, places_rise, restates, rises, vectors_due,
-};
+use crate::packed_line::{PackedDue, buys_due, node_row, nodes_due, rises, vectors_due};
 use crate::row::{Numbers, Row, read_row};
 use crate::vector_room::VectorRoom;
 use arrayvec::ArrayVec;
 use dual_bound::{Leaf, Prices};
 
-// The changes that numbers are by turns: place and price of each.
-fn list_changes(numbers: &[u64]) -> ArrayVec<Change, MOST_PRICES>
+/// The changes that numbers are by turns: place and price of each.
+pub(crate) fn list_changes(numbers: &[u64]) -> ArrayVec<Change, MOST_DATES>
     requires places { ArePlaces 65_535 (changes_of numbers.now) }
-    requires few { length numbers.now ≤ 960 }
+    requires few { length numbers.now ≤ 2 * MOST_DATES }
     ensures { result.items ≡ changes_of numbers.now }
 {
     let mut changes = ArrayVec::new();
@@ -43,6 +42,31 @@ fn list_changes(numbers: &[u64]) -> ArrayVec<Change, MOST_PRICES>
     changes
 }
 
+// Whether each place is above the one before.
+fn places_rise(changes: &[Change]) -> bool
+    ensures { result ≡ are_rising (places_of changes.now) }
+{
+    for place in 1..changes.len() {
+        if changes[place - 1].place >= changes[place].place {
+            return false;
+        }
+    }
+    true
+}
+
+// Whether a change is to the vector's own price.
+fn restates(vector: &[u64], changes: &[Change]) -> bool
+    requires { ArePlaces (length vector.now) changes.now }
+    ensures { result ≡ restates_of vector.now changes.now }
+{
+    for change in changes {
+        if change.price == vector[usize::from(change.place) - 1] {
+            return true;
+        }
+    }
+    false
+}
+
 // Takes these prices over.
 fn copy_prices(prices: &mut Prices, vector: &[u64])
     requires same { length prices.old ≡ length vector.now }
@@ -55,8 +79,8 @@ fn copy_prices(prices: &mut Prices, vector: &[u64])
     }
 }
 
-// Puts the price of each change to its place.
-fn put_changes(prices: &mut Prices, changes: &[Change])
+/// Puts the price of each change to its place.
+pub(crate) fn put_changes(prices: &mut Prices, changes: &[Change])
     requires { ArePlaces (length prices.old) changes.now }
     ensures { prices.new ≡ changed prices.old changes.now }
 {
@@ -103,6 +127,8 @@ fn take_leaf(
     requires leaf { length leaf.old.prices ≡ dates }
     ensures dates { length leaf.new.prices ≡ dates }
     ensures ok { IfOk result (IsGiven (said_by vectors.now row_of.Leaf numbers.now) vectors.now vectors.now leaf.new) }
+    ensures lent { IfOk result (λ item. item ≢ item_of.Leaf → leaf.new ≡ leaf.old) }
+    ensures numbers { IfOk result (IsOfNumbers (said_by vectors.now row_of.Leaf numbers.now) numbers.now) }
     ensures err { IfErr result (λ found. said_by vectors.now row_of.Leaf numbers.now ≡ Err found) }
 {
     let vector = vectors.at(numbers[2] as usize - 1);
@@ -118,6 +144,7 @@ fn take_purchase(least: u32, numbers: &[u64]) -> Result<Item, FaultKind>
     requires two { length numbers.now ≡ 2 }
     requires line { slice_index numbers.now 0 ≤ 65_535 }
     ensures ok { IfOk result (λ item. (vectors : List (List ℕ)) (leaf : LeafOf) → IsGiven (said_by vectors (row_of.Buy least) numbers.now) vectors vectors leaf item) }
+    ensures numbers { IfOk result (λ item. (vectors : List (List ℕ)) → IsOfNumbers (said_by vectors (row_of.Buy least) numbers.now) numbers.now item) }
     ensures err { IfErr result (λ found. (vectors : List (List ℕ)) → said_by vectors (row_of.Buy least) numbers.now ≡ Err found) }
 {
     if numbers[0] < u64::from(least) {
@@ -134,6 +161,7 @@ fn take_vector(vectors: &mut VectorRoom, numbers: &[u64]) -> Result<Item, FaultK
     requires room { length vectors.old < MOST_VECTORS }
     requires few { length numbers.now ≤ MOST_DATES }
     ensures ok { IfOk result (λ item. (leaf : LeafOf) → IsGiven (said_by vectors.old row_of.Vector numbers.now) vectors.old vectors.new leaf item) }
+    ensures numbers { IfOk result (IsOfNumbers (said_by vectors.old row_of.Vector numbers.now) numbers.now) }
     ensures err { IfErr result (λ found. said_by vectors.old row_of.Vector numbers.now ≡ Err found) }
 {
     if rises(numbers) {
@@ -159,6 +187,8 @@ fn take_said(
     requires leaf { length leaf.old.prices ≡ dates }
     ensures dates { length leaf.new.prices ≡ dates }
     ensures ok { IfOk result (IsGiven (said_by vectors.old row numbers.now) vectors.old vectors.new leaf.new) }
+    ensures lent { IfOk result (λ item. item ≢ item_of.Leaf → leaf.new ≡ leaf.old) }
+    ensures numbers { IfOk result (IsOfNumbers (said_by vectors.old row numbers.now) numbers.now) }
     ensures err { IfErr result (λ found. said_by vectors.old row numbers.now ≡ Err found) }
 {
     match row {
@@ -178,10 +208,23 @@ fn take_said(
     }
 }
 
-// What a line says that begins with a row's word, where such a line may stand.
-fn take_row(
+// The row that a line has to be, and whether a line of its word may stand.
+#[derive(Clone, Copy, Debug)]
+struct DueRow {
     row: Row,
     may: bool,
+}
+
+// A row that may stand.
+fn due_row(row: Row) -> DueRow
+    ensures { result ≡ record { row = row; may = true } }
+{
+    DueRow { row, may: true }
+}
+
+// What a line says that begins with a row's word, where such a line may stand.
+fn take_row(
+    due: DueRow,
     dates: u16,
     vectors: &mut VectorRoom,
     line: &[u8],
@@ -190,18 +233,20 @@ fn take_row(
 ) -> Result<Item, FaultKind>
     requires dates { dates ≤ MOST_DATES }
     requires vectors { All (IsVector dates) vectors.old }
-    requires room { HasRoomFor row vectors.old }
+    requires room { HasRoomFor due.row vectors.old }
     requires leaf { length leaf.old.prices ≡ dates }
     ensures dates { length leaf.new.prices ≡ dates }
-    ensures ok { IfOk result (IsGiven (row_line dates vectors.old row may line.now) vectors.old vectors.new leaf.new) }
-    ensures err { IfErr result (λ found. row_line dates vectors.old row may line.now ≡ Err found) }
+    ensures ok { IfOk result (IsGiven (row_line dates vectors.old due.row due.may line.now) vectors.old vectors.new leaf.new) }
+    ensures lent { IfOk result (λ item. item ≢ item_of.Leaf → leaf.new ≡ leaf.old) }
+    ensures numbers { IfOk result (IsOfNumbers (row_line dates vectors.old due.row due.may line.now) numbers.new.items) }
+    ensures err { IfErr result (λ found. row_line dates vectors.old due.row due.may line.now ≡ Err found) }
 {
-    read_row(row, may, dates, vectors.count(), line, numbers)?;
-    take_said(row, dates, vectors, numbers.as_slice(), leaf)
+    read_row(due.row, due.may, dates, vectors.count(), line, numbers)?;
+    take_said(due.row, dates, vectors, numbers.as_slice(), leaf)
 }
 
 /// Takes a line, without its line feed, where this is due and these vectors came: what it says, a vector to the others, and a leaf's
-/// weights into `leaf`.
+/// weights into `leaf`. Its numbers are then in `numbers`.
 ///
 /// # Errors
 ///
@@ -220,9 +265,11 @@ pub(crate) fn take_packed_line(
     requires room { HasRoom due vectors.old }
     ensures dates { length leaf.new.prices ≡ dates }
     ensures ok { IfOk result (IsGiven (line_said dates vectors.old due line.now) vectors.old vectors.new leaf.new) }
+    ensures lent { IfOk result (λ item. item ≢ item_of.Leaf → leaf.new ≡ leaf.old) }
+    ensures numbers { IfOk result (IsOfNumbers (line_said dates vectors.old due line.now) numbers.new.items) }
     ensures err { IfErr result (λ kind. line_said dates vectors.old due line.now ≡ Err kind) }
 {
-    let (row, may) = match due {
+    let row = match due {
         PackedDue::Title if b"escrow-certificate 2".as_slice() == line => return Ok(Item::Header),
         PackedDue::Title => return Err(FaultKind::Header),
         PackedDue::Portfolio if b"portfolio none".as_slice() == line => return Ok(Item::Portfolio(
@@ -230,16 +277,19 @@ pub(crate) fn take_packed_line(
         )),
         PackedDue::End { trees } if trees > 0 => return Err(FaultKind::Count),
         PackedDue::Nothing => return Err(FaultKind::Trailing),
-        PackedDue::Portfolio => (Row::Portfolio, true),
-        PackedDue::Buy { least, .. } => (Row::Buy { least }, true),
-        PackedDue::Gap { most } => (Row::Gap { most }, true),
-        PackedDue::VectorCount => (Row::Vectors, true),
-        PackedDue::Vector { .. } => (Row::Vector, true),
-        PackedDue::NodeCount => (Row::Nodes, true),
-        PackedDue::Node { trees, .. } => (node_row(line), trees > 0),
-        PackedDue::End { .. } => (Row::End, true),
+        PackedDue::Portfolio => due_row(Row::Portfolio),
+        PackedDue::Buy { least, .. } => due_row(Row::Buy { least }),
+        PackedDue::Gap { most } => due_row(Row::Gap { most }),
+        PackedDue::VectorCount => due_row(Row::Vectors),
+        PackedDue::Vector { .. } => due_row(Row::Vector),
+        PackedDue::NodeCount => due_row(Row::Nodes),
+        PackedDue::Node { trees, .. } => DueRow {
+            row: node_row(line),
+            may: trees > 0,
+        },
+        PackedDue::End { .. } => due_row(Row::End),
     };
-    take_row(row, may, dates, vectors, line, numbers, leaf)
+    take_row(row, dates, vectors, line, numbers, leaf)
 }
 
 impl PackedDue {

@@ -1,23 +1,23 @@
 //! A line of a certificate, at hand whole.
-ghost use Rattle.std.specs.Prelude.{◌≡◌, ◌≤◌, ◌+◌, IfOk, IfErr, IfSome, None, Ok, Some, length, option_map};
+ghost use Rattle.std.specs.Prelude.{◌≡◌, ◌≢◌, ◌==◌, ◌≤◌, ◌+◌, ℕ, IfOk, IfErr, IfSome, None, Ok, Some, count_by, length, option_map};
 ghost use Rattle.bound_certificate.specs.declared.due.Due.TheVariants as due_of;
 ghost use Rattle.bound_certificate.specs.declared.due.Name.TheVariants as name_of;
 ghost use Rattle.bound_certificate.specs.declared.item.Item.TheVariants as item_of;
+ghost use Rattle.bound_certificate.specs.Due.{width_of};
 ghost use Rattle.bound_certificate.specs.Faults.{whole_fault};
-ghost use Rattle.bound_certificate.specs.Grammar.{leaf_of, line_item, line_leaf, line_numbers, numbers_in, whole_number as whole_number_of, words_fault, words_item, words_numbers, words_of};
-ghost use Rattle.bound_certificate.specs.PlainLine.{IsBegun, IsFaultOf, IsFrontNumber, IsNoNumber, IsOne, IsOnlyName, IsSaidAs, IsTaken, IsTwo, first_word};
+ghost use Rattle.bound_certificate.specs.Grammar.{is_space, leaf_of, line_item, line_leaf, numbers_in, whole_number as whole_number_of, words_fault, words_item, words_numbers, words_of};
+ghost use Rattle.bound_certificate.specs.PlainLine.{AreWeights, IsBegun, IsFaultOf, IsFrontNumber, IsNamed, IsNoNumber, IsOne, IsOnlyName, IsSaidAs, IsTaken, IsTwo, first_word};
 ghost use Rattle.bound_certificate.specs.Row.{parts_behind};
-ghost use Rattle.bound_certificate.specs.Scan.{is_node};
 
 use crate::certificate::Buy;
 use crate::cut::cut_at;
+use crate::digits::{first_number, whole_number};
 use crate::due::{Due, Name, range_at};
 use crate::fault::FaultKind;
 use crate::item::Item;
 use crate::limits::MOST_DATES;
 use crate::packed_line::{begins_with, rises};
-use crate::row::{count_spaces, whole_number};
-use crate::scan::first_number;
+use crate::row::count_spaces;
 use dual_bound::{Leaf, Prices};
 
 // A number behind the first word of a line, and the words behind it.
@@ -34,21 +34,42 @@ struct Pair {
     second: u64,
 }
 
-// The words behind the name of a line that may begin with no other.
+// The words behind the name of a line that may begin with no other; they aren't counted.
+fn named(due: Due, name: Name, line: &[u8]) -> Result<Option<&[u8]>, FaultKind>
+    requires { IsOnlyName due name line.now }
+    ensures ok { IfOk result (IsNamed due name line.now) }
+    ensures err { IfErr result (λ found. (dates : ℕ) → words_fault dates due (words_of line.now) ≡ Some found) }
+{
+    let first = cut_at(line, b' ');
+    if first.front != name.word() {
+        return Err(FaultKind::Header);
+    }
+    if due.is_closed_early() {
+        return Err(FaultKind::Count);
+    }
+    Ok(first.rest)
+}
+
+// Whether a line has as many words as its name asks.
+fn has_width(name: Name, dates: u16, line: &[u8]) -> bool
+    requires { dates ≤ MOST_DATES }
+    ensures { result ≡ (1 + count_by is_space line.now == width_of dates name) }
+{
+    1 + count_spaces(line) == usize::from(name.width(dates))
+}
+
+// The words behind the name of a line that may begin with no other, as many as its name asks.
 fn behind(due: Due, name: Name, dates: u16, line: &[u8]) -> Result<Option<&[u8]>, FaultKind>
     requires dates { dates ≤ MOST_DATES }
     requires only { IsOnlyName due name line.now }
     ensures ok { IfOk result (IsBegun dates due name line.now) }
     ensures err { IfErr result (λ found. words_fault dates due (words_of line.now) ≡ Some found) }
 {
-    let first = cut_at(line, b' ');
-    if first.front != name.word() {
-        return Err(FaultKind::Header);
-    }
-    if due.is_closed_early() || 1 + count_spaces(line) != usize::from(name.width(dates)) {
+    let words = named(due, name, line)?;
+    if !has_width(name, dates, line) {
         return Err(FaultKind::Count);
     }
-    Ok(first.rest)
+    Ok(words)
 }
 
 // The number at the front of bytes, where a space stands behind its digits, or nothing: what is quickly read. This and the two that
@@ -98,7 +119,7 @@ fn front_number(bytes: &[u8]) -> Option<Taken<'_>>
     }
 }
 
-// The number that the first of the words is, at a place of the line.
+// The number that the first of the words is, at a place of the line. Where no word is left, that counts as no number.
 #[inline(always)]
 fn next_number(
     due: Due,
@@ -106,9 +127,8 @@ fn next_number(
     place: u16,
     words: Option<&[u8]>,
 ) -> Result<Taken<'_>, FaultKind>
-    requires { 1 ≤ length (parts_behind 32 words) }
     ensures ok { IfOk result (IsTaken due name place (parts_behind 32 words.entry)) }
-    ensures err { IfErr result (IsNoNumber due name place (parts_behind 32 words.entry)) }
+    ensures err { IfErr result (λ found. 1 ≤ length (parts_behind 32 words.entry) → IsNoNumber due name place (parts_behind 32 words.entry) found) }
 {
     let Some(bytes) = words else {
         return Err(FaultKind::Number);
@@ -205,13 +225,14 @@ fn split(left: u16, trees: u16, words: Option<&[u8]>) -> Result<Item, FaultKind>
     })
 }
 
-// Puts the prices of a leaf that the words are, from the third place of its line on.
+// Puts the prices of a leaf that the words are, from the third place of its line on. It fails where they aren't a number for each
+// price; with as many words one isn't a number then.
 fn put_prices(due: Due, words: Option<&[u8]>, prices: &mut Prices) -> Result<(), FaultKind>
-    requires count { length (parts_behind 32 words) ≡ length prices.old }
-    requires few { length prices.old ≤ MOST_DATES }
+    requires { length prices.old ≤ MOST_DATES }
     ensures dates { length prices.new ≡ length prices.old }
+    ensures count { IfOk result (λ _. length (parts_behind 32 words.entry) ≡ length prices.new) }
     ensures ok { IfOk result (λ _. numbers_in due name_of.Leaf 3 (parts_behind 32 words.entry) ≡ Some prices.new) }
-    ensures err { IfErr result (IsNoNumber due name_of.Leaf 3 (parts_behind 32 words.entry)) }
+    ensures err { IfErr result (λ found. length (parts_behind 32 words.entry) ≡ length prices.old → IsNoNumber due name_of.Leaf 3 (parts_behind 32 words.entry) found) }
 {
     let dates = prices.as_slice().len() as u16;
     let mut rest = words;
@@ -220,33 +241,52 @@ fn put_prices(due: Due, words: Option<&[u8]>, prices: &mut Prices) -> Result<(),
         prices.put(place, price.number);
         rest = price.rest;
     }
-    Ok(())
+    match rest {
+        None => Ok(()),
+        Some(_) => Err(FaultKind::Number),
+    }
 }
 
-// A leaf.
-fn leaf_line(
-    left: u16,
-    trees: u16,
-    words: Option<&[u8]>,
-    leaf: &mut Leaf,
-) -> Result<Item, FaultKind>
-    requires count { length (parts_behind 32 words) ≡ 2 + length leaf.old.prices }
-    requires few { length leaf.old.prices ≤ MOST_DATES }
+// Puts the weights of a leaf that the words are. It fails as `put_prices` does.
+fn put_weights(due: Due, words: Option<&[u8]>, leaf: &mut Leaf) -> Result<(), FaultKind>
+    requires { length leaf.old.prices ≤ MOST_DATES }
     ensures dates { length leaf.new.prices ≡ length leaf.old.prices }
-    ensures ok { IfOk result (IsSaidAs (due_of.Node left trees) name_of.Leaf (parts_behind 32 words.entry)) }
-    ensures leaf { IfOk result (λ _. option_map leaf_of (line_numbers (due_of.Node left trees) name_of.Leaf (parts_behind 32 words.entry)) ≡ Some leaf.new) }
-    ensures err { IfErr result (IsFaultOf (due_of.Node left trees) name_of.Leaf (parts_behind 32 words.entry)) }
+    ensures ok { IfOk result (λ _. AreWeights due (parts_behind 32 words.entry) leaf.new) }
+    ensures err { IfErr result (λ found. length (parts_behind 32 words.entry) ≡ 2 + length leaf.old.prices → IsNoNumber due name_of.Leaf 1 (parts_behind 32 words.entry) found) }
 {
-    let due = Due::Node { left, trees };
     let whole = next_number(due, Name::Leaf, 1, words)?;
     let mu = next_number(due, Name::Leaf, 2, whole.rest)?;
     put_prices(due, mu.rest, &mut leaf.prices)?;
-    if rises(leaf.prices.as_slice()) {
-        return Err(FaultKind::Order);
-    }
     leaf.whole = whole.number == 1;
     leaf.mu = mu.number;
-    Ok(Item::Leaf)
+    Ok(())
+}
+
+// A leaf. Its line is long, so its words are counted only where they aren't just the numbers of a leaf.
+fn leaf_line(
+    left: u16,
+    trees: u16,
+    dates: u16,
+    line: &[u8],
+    leaf: &mut Leaf,
+) -> Result<Item, FaultKind>
+    requires dates { dates ≤ MOST_DATES }
+    requires leaf { length leaf.old.prices ≡ dates }
+    requires only { IsOnlyName (due_of.Node left trees) name_of.Leaf line.now }
+    ensures dates { length leaf.new.prices ≡ dates }
+    ensures item { IfOk result (λ item. item ≡ item_of.Leaf) }
+    ensures ok { IfOk result (λ item. (words_fault dates (due_of.Node left trees) (words_of line.now) ≡ None) × (item ≡ words_item (due_of.Node left trees) (words_of line.now))) }
+    ensures leaf { IfOk result (λ _. option_map leaf_of (words_numbers (due_of.Node left trees) (words_of line.now)) ≡ Some leaf.new) }
+    ensures err { IfErr result (λ found. words_fault dates (due_of.Node left trees) (words_of line.now) ≡ Some found) }
+{
+    let due = Due::Node { left, trees };
+    let words = named(due, Name::Leaf, line)?;
+    match put_weights(due, words, leaf) {
+        Err(_) if !has_width(Name::Leaf, dates, line) => Err(FaultKind::Count),
+        Err(kind) => Err(kind),
+        Ok(()) if rises(leaf.prices.as_slice()) => Err(FaultKind::Order),
+        Ok(()) => Ok(Item::Leaf),
+    }
 }
 
 // A node.
@@ -262,6 +302,7 @@ fn node_line(
     ensures dates { length leaf.new.prices ≡ dates }
     ensures ok { IfOk result (λ item. (words_fault dates (due_of.Node left trees) (words_of line.now) ≡ None) × (item ≡ words_item (due_of.Node left trees) (words_of line.now))) }
     ensures leaf { result ≡ Ok item_of.Leaf → option_map leaf_of (words_numbers (due_of.Node left trees) (words_of line.now)) ≡ Some leaf.new }
+    ensures lent { IfOk result (λ item. item ≢ item_of.Leaf → leaf.new ≡ leaf.old) }
     ensures err { IfErr result (λ found. words_fault dates (due_of.Node left trees) (words_of line.now) ≡ Some found) }
 {
     let due = Due::Node { left, trees };
@@ -271,7 +312,7 @@ fn node_line(
         behind(due, Name::Point, dates, line)?;
         Ok(Item::Point)
     } else {
-        leaf_line(left, trees, behind(due, Name::Leaf, dates, line)?, leaf)
+        leaf_line(left, trees, dates, line, leaf)
     }
 }
 
@@ -279,7 +320,7 @@ fn node_line(
 ///
 /// # Errors
 ///
-/// Why it isn't one that is due. Prices may then have come into `leaf`.
+/// Why it isn't one that is due. Weights may then have come into `leaf`.
 pub(crate) fn read_plain_line(
     due: Due,
     dates: u16,
@@ -291,6 +332,7 @@ pub(crate) fn read_plain_line(
     ensures dates { length leaf.new.prices ≡ dates }
     ensures ok { IfOk result (λ item. (whole_fault dates due line.now ≡ None) × (item ≡ line_item due line.now)) }
     ensures leaf { result ≡ Ok item_of.Leaf → line_leaf due line.now ≡ Some leaf.new }
+    ensures lent { IfOk result (λ item. item ≢ item_of.Leaf → leaf.new ≡ leaf.old) }
     ensures err { IfErr result (λ kind. whole_fault dates due line.now ≡ Some kind) }
 {
     match due {

@@ -5,14 +5,13 @@ ghost use Rattle.bound_certificate.specs.Text.{IsTextOf};
 ghost use Rattle.bound_certificate.specs.declared.certificate.Certificate.{Certificate as CertificateOf};
 ghost use Rattle.bound_certificate.specs.declared.fault.CertError.TheVariants as error;
 
-use crate::certificate::Certificate;
-use crate::fault::CertError;
+use crate::certificate::{Certificate, empty_leaf};
+use crate::cut::cut_line;
+use crate::due::Due;
+use crate::fault::{CertError, CertFault, rest_fault};
 use crate::limits::MOST_DATES;
-use crate::plain_reader::PlainReader;
+use crate::plain_line::read_plain_line;
 use std::alloc::Global;
-
-// The most bytes of a piece.
-const PIECE: usize = 65_536;
 
 /// Reads the text of a certificate for so many need dates, at most 480: a leaf has a price for each.
 ///
@@ -25,14 +24,23 @@ pub fn read_cert(alloc: Global, bytes: &[u8], dates: u16) -> Result<Certificate,
     ensures err { IfErr result (λ error. IsCause dates bytes.now error) }
     ensures back { (cert : CertificateOf) → IsTextOf dates cert bytes.now → (result ≡ Ok cert) ⊎ (result ≡ Err error.NoMemory) }
 {
-    let mut reader = PlainReader::make(alloc, dates)?;
+    let mut leaf = empty_leaf(alloc, dates)?;
     let mut cert = Certificate::empty(alloc);
-    let mut rest = bytes;
-    while !rest.is_empty() {
-        let fed = reader.feed(&rest[..rest.len().min(PIECE)])?;
-        cert.take(alloc, fed.item, reader.leaf())?;
-        rest = &rest[fed.used as usize..];
+    let mut due = Due::Title;
+    let mut number = 1;
+    let mut part = cut_line(bytes);
+    while let Some(rest) = part.rest {
+        let item = match read_plain_line(due, dates, part.front, &mut leaf) {
+            Ok(item) => item,
+            Err(kind) => return Err(CertError::Fault(CertFault { line: number, kind })),
+        };
+        due = due.after(item);
+        cert.take(alloc, item, &leaf)?;
+        number += 1;
+        part = cut_line(rest);
     }
-    reader.finish()?;
-    Ok(cert)
+    match rest_fault(due.is_over(), part.front) {
+        Some(kind) => Err(CertError::Fault(CertFault { line: number, kind })),
+        None => Ok(cert),
+    }
 }

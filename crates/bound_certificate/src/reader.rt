@@ -2,9 +2,10 @@
 ghost use Rattle.std.specs.Prelude.{◌≡◌, ◌≤◌, ◌<◌, [], List, length, IfErr, IfOk, None, ℕ};
 ghost use Rattle.bound_certificate.specs.declared.due.Due.TheVariants as due;
 ghost use Rattle.bound_certificate.specs.declared.item.Item.TheVariants as item_of;
-ghost use Rattle.bound_certificate.specs.TextReading.{Finishes, HasRead, Reads, ReadsFault, stage_due};
+ghost use Rattle.bound_certificate.specs.TextReading.{Finishes, HasRead, Reads, ReadsFault, TakesLine, stage_due};
 
-use crate::cut::cut_at;
+use crate::certificate::empty_leaf;
+use crate::cut::cut_line;
 use crate::fault::{CertFault, FaultKind};
 use crate::item::{Fed, Item};
 use crate::limits::MOST_DATES;
@@ -13,7 +14,7 @@ use crate::row::Numbers;
 use crate::text_reading::{Stage, TextReading};
 use crate::vector_room::VectorRoom;
 use arrayvec::ArrayVec;
-use dual_bound::{Leaf, Prices};
+use dual_bound::Leaf;
 use escrow_desk::NoMemory;
 use std::alloc::Global;
 use std::marker::Model;
@@ -59,17 +60,12 @@ impl CertReader {
         ensures going { IfOk result (λ reader. reader.fault ≡ None) }
         ensures first { IfOk result (λ reader. stage_due reader.stage ≡ due.Title) }
     {
-        let prices = vec![in alloc; 0; usize::from(dates)]?;
         let reading = TextReading {
             line: 1,
             stage: Stage::First,
             vectors: VectorRoom::make(alloc)?,
             part: Part::make(alloc)?,
-            leaf: Leaf {
-                whole: false,
-                mu: 0,
-                prices: Prices::new(prices),
-            },
+            leaf: empty_leaf(alloc, dates)?,
             fault: None,
         };
         Ok(CertReader {
@@ -87,6 +83,7 @@ impl CertReader {
     /// the last line. After a fault every later call answers the same one.
     pub fn feed(&mut self, piece: &[u8]) -> Result<Fed, CertFault>
         requires { length piece.now ≤ 65_536 }
+        ensures takes { IfOk result (TakesLine piece.now) }
         ensures used { IfOk result (λ fed. (fed.used ≤ length piece.now) × (0 < length piece.now → 0 < fed.used)) }
         ensures going { IfOk result (λ _. self.old.fault ≡ None) }
         ensures ok { IfOk result (λ fed. (dates : ℕ) (bytes : List ℕ) → HasRead dates bytes self.old → Reads dates bytes piece.now fed self.old self.new) }
@@ -98,7 +95,7 @@ impl CertReader {
         if self.reading.stage.is_over() {
             return self.reading.feed_over(piece);
         }
-        let cut = cut_at(piece, b'\n');
+        let cut = cut_line(piece);
         if cut.rest.is_none() {
             self.reading.part.add(piece);
             return Ok(nothing(piece.len() as u32));

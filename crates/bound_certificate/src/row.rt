@@ -1,17 +1,16 @@
 //! A line of a word and numbers, at hand whole.
-ghost use Rattle.std.specs.Prelude.{◌≡◌, ◌≤◌, ◌+◌, ◌==◌, [], MatchResult, Ok, Err, None, Some, length, count_by, ℕ};
-ghost use Rattle.arrayvec.specs.ArrayVec.{array_vec_len};
+ghost use Rattle.std.specs.Prelude.{◌≡◌, ◌≤◌, ◌+◌, ◌==◌, [], MatchResult, Ok, Err, None, Some, length, count_by};
 ghost use Rattle.bound_certificate.specs.declared.fault.FaultKind.TheVariants as kind;
-ghost use Rattle.bound_certificate.specs.Grammar.{number_in as number_in_of, whole_number as whole_number_of};
+ghost use Rattle.bound_certificate.specs.Grammar.{number_in as number_in_of};
 ghost use Rattle.bound_certificate.specs.Row.{leaf_range as leaf_range_of, numbers_by, parts_behind, row_fits, row_range, row_said, row_word};
 
 use crate::cut::cut_at;
-use crate::due::{Due, Range};
+use crate::digits::whole_number;
+use crate::due::Range;
 use crate::fault::FaultKind;
 use crate::limits::{
     GREATEST_UNITS, MOST_DATES, MOST_NODES, MOST_NUMBERS, MOST_PACKED_BUYS, MOST_VECTORS,
 };
-use crate::scan::{Word, first_number};
 use arrayvec::ArrayVec;
 use dual_bound::PRICE_SCALE;
 
@@ -107,27 +106,6 @@ impl Row {
             Row::Leaf => leaf_range(dates, vectors, place),
             Row::Point | Row::End => Range::new(0, 0),
         }
-    }
-}
-
-// The number that a word is, byte by byte.
-fn slow_number(word: &[u8]) -> Option<u64>
-    ensures { result ≡ whole_number_of word.now }
-{
-    let mut so_far = Word::Empty;
-    for byte in word {
-        so_far = so_far.longer(Due::Nothing, 1, *byte);
-    }
-    so_far.number()
-}
-
-// The number that a word is. Its digits are read together where they are a number well below the greatest.
-pub(crate) fn whole_number(word: &[u8]) -> Option<u64>
-    ensures { result ≡ whole_number_of word.now }
-{
-    match first_number(word) {
-        Some(digits) if digits.count == word.len() => Some(digits.number),
-        _ => slow_number(word),
     }
 }
 

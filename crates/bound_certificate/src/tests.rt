@@ -106,6 +106,18 @@ fn faults_are_the_first(rt: HostRuntime) -> Result<(), Fail> {
             Count,
         ),
         bad(
+            b"escrow-certificate 1\nportfolio none\ngap 0\nnodes 1\nl 1 x 5 5\n",
+            1,
+            5,
+            Count,
+        ),
+        bad(
+            b"escrow-certificate 1\nportfolio none\ngap 0\nnodes 1\nl 1 x 5\n",
+            1,
+            5,
+            Number,
+        ),
+        bad(
             b"escrow-certificate 1\nportfolio none\ngap 0\nnodes 1 \n",
             1,
             4,

@@ -1,6 +1,6 @@
 //! What has come of the text of a certificate.
 
-ghost use Rattle.std.specs.Prelude.{◌≡◌, ◌≤◌, ◌+◌, ◌++◌, ◌<◌, [], false, IfOk, IfErr, List, ℕ, None, Some, Err, length};
+ghost use Rattle.std.specs.Prelude.{◌≡◌, ◌≢◌, ◌≤◌, ◌+◌, ◌++◌, ◌<◌, [], false, IfOk, IfErr, List, ℕ, None, Some, Err, length};
 ghost use Rattle.bound_certificate.specs.Due.{is_over};
 ghost use Rattle.bound_certificate.specs.Kept.{IsKept};
 ghost use Rattle.bound_certificate.specs.Moves.{EndsFault, EndsLine, IsStage, IsTextReading, Moves, Stops, fault_at, stage_lines_left};
@@ -109,6 +109,8 @@ impl TextReading {
         ensures line { self.new.line ≡ self.old.line }
         ensures fault { self.new.fault ≡ None }
         ensures ok { IfOk result (λ step. (part : List ℕ) → IsKept part self.old.part → Moves (length self.old.leaf.prices) self.old.stage step.stage self.old.vectors self.new.vectors (part ++ front.now) step.item self.new.leaf) }
+        ensures ended { IfOk result (λ step. step.item ≢ item_of.Nothing) }
+        ensures lent { IfOk result (λ step. step.item ≢ item_of.Leaf → self.new.leaf ≡ self.old.leaf) }
         ensures kept { IfOk result (λ step. IsStage (length self.old.leaf.prices) step.stage self.new.vectors) }
         ensures lines { IfOk result (λ step. stage_lines_left step.stage + 1 ≤ stage_lines_left self.old.stage) }
         ensures err { IfErr result (λ kind. (part : List ℕ) → IsKept part self.old.part → Stops (length self.old.leaf.prices) self.old.stage self.old.vectors (part ++ front.now) kind) }

@@ -5,7 +5,7 @@ ghost use Rattle.bound_certificate.specs.PackedGrammar.{ArePlaces};
 
 use crate::certificate::{Buys, Certificate, Nodes};
 use crate::packed::{Change, Packed, PackedNode};
-use crate::packed_line::put_changes;
+use crate::packed_taken::put_changes;
 use dual_bound::{Leaf, Prices, TreeNode};
 use escrow_desk::NoMemory;
 use std::alloc::Global;
@@ -25,9 +25,9 @@ fn changed_prices(alloc: Global, vector: &[u64], changes: &[Change]) -> Result<P
     requires { ArePlaces (length vector.now) changes.now }
     ensures { IfOk result (λ prices. prices ≡ changed vector.now changes.now) }
 {
-    let mut prices = vector.to_vec(alloc)?;
-    put_changes(prices.as_mut_slice(), changes);
-    Ok(Prices::new(prices))
+    let mut prices = Prices::new(vector.to_vec(alloc)?);
+    put_changes(&mut prices, changes);
+    Ok(prices)
 }
 
 // A node with the prices of its leaf written out.

@@ -1,7 +1,7 @@
 //! Room for the vectors of a packed certificate.
 ghost use Rattle.std.specs.Prelude.{◌≡◌, ◌≤◌, ◌<◌, ◌++◌, ◌∷◌, [], IfOk, length, slice_index_or};
 
-use crate::limits::{MOST_PRICES, MOST_VECTORS};
+use crate::limits::{MOST_DATES, MOST_VECTORS};
 use arrayvec::ArrayVec;
 use escrow_desk::NoMemory;
 use std::alloc::Global;
@@ -10,7 +10,7 @@ use std::marker::Model;
 /// The prices of a vector, at most one for each of 480 need dates. Contracts see the list of them.
 #[derive(Debug, Drop)]
 pub(crate) struct Vector {
-    prices: ArrayVec<u64, MOST_PRICES>,
+    prices: ArrayVec<u64, MOST_DATES>,
 }
 
 impl Model for Vector {
@@ -40,7 +40,7 @@ impl Vector {
 
     // Takes these prices in place of its own.
     fn fill(&mut self, prices: &[u64])
-        requires { length prices.now ≤ MOST_PRICES }
+        requires { length prices.now ≤ MOST_DATES }
         ensures { self.new ≡ prices.now }
     {
         self.prices.clear();
@@ -103,7 +103,7 @@ impl VectorRoom {
     /// One more, of at most 480 prices, where fewer than 64 came.
     pub(crate) fn put(&mut self, prices: &[u64])
         requires room { length self.old < MOST_VECTORS }
-        requires few { length prices.now ≤ MOST_PRICES }
+        requires few { length prices.now ≤ MOST_DATES }
         ensures { self.new ≡ self.old ++ prices.now ∷ [] }
     {
         let place = usize::from(self.came);

@@ -153,7 +153,7 @@ pub bought-known : (case : CaseContents) (cert : Certificate) (old new : Trial) 
 bought-known case cert old new buy some is rest = bought_by case cert old new buy cert.buys refl some is rest
 
 -- ---- the gap
-claim_small : (cents gap : ℕ) → cents ≤ 91 * 10 ^ 12 → gap ≤ GREATEST_GAP → unsigned_abs (pos cents -ℤ pos gap) ≤ 11 * 10 ^ 14
+claim_small : (cents gap : ℕ) → cents ≤ 172 * 10 ^ 12 → gap ≤ GREATEST_GAP → unsigned_abs (pos cents -ℤ pos gap) ≤ 11 * 10 ^ 14
 claim_small cents gap few less = omega (arith, ints, few, less)
 
 -- what is known of the portfolio, where it has no reason

@@ -3,6 +3,7 @@ use Rattle.bound_certificate.specs.declared.packed.Change.{Change}
 use Rattle.bound_certificate.specs.Packed.{IsVector}
 use Rattle.bound_certificate.specs.PackedGrammar.{ArePlaces}
 use Rattle.bound_certificate.proofs.PackedSaidFacts.{leaf-places, leaf-vector}
+use Rattle.bound_certificate.proofs.PackedTakenFacts.{leaf-numbers}
 use Rattle.bound_certificate.proofs.packed_taken.take_leaf.Goals as goal
 
 pub list_changes-changes-requires-clause-places : goal.list_changes-changes-requires-clause-places
@@ -18,3 +19,8 @@ take_prices-requires-clause-places c =
     let P : List Change → Type 0 = λ cs. ArePlaces (length c.at-vector.result.now) cs in
     subst P (sym (c.as_slice.ensures.value ∙ c.list_changes-changes.ensures))
     (leaf-places c.args.dates (length c.args.vectors.now) (length c.at-vector.result.now) c.args.numbers.now (omega (arith, same)) c.requires.numbers)
+
+pub returns-clause-numbers : goal.returns-clause-numbers
+returns-clause-numbers c =
+    leaf-numbers c.args.dates c.args.vectors.now c.args.numbers.now c.at-vector.result.now c.as_slice.result.now c.requires.dates c.requires.few c.requires.numbers
+    c.at-vector.ensures (c.as_slice.ensures.value ∙ c.list_changes-changes.ensures) c.in_ok-take_prices.ensures.said

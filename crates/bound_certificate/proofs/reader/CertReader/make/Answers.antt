@@ -1,9 +1,5 @@
-use Rattle.std.proofs.Common.{◌∙◌, length, ap}
-use Rattle.std.proofs.lemmas.List.{length-replicate}
 use Rattle.bound_certificate.proofs.ReadFacts.{read-start}
 use Rattle.bound_certificate.proofs.reader.CertReader.make.Goals as goal
 
 pub returns-clause-read : goal.returns-clause-read
-returns-clause-read c =
-    read-start c.args.dates c.in_ok-make.field-0 c.in_ok-make-2.field-0 _ c.requires
-    (ap length (c.new.ensures ∙ c.in_ok-prices.ensures.items_if_clones_equal (λ y is. is)) ∙ length-replicate _ _ ∙ c.from.ensures) c.in_ok-make-2.ensures c.in_ok-make.ensures
+returns-clause-read c = read-start c.args.dates c.in_ok-make.field-0 c.in_ok-make-2.field-0 _ c.requires c.in_ok-empty_leaf.ensures c.in_ok-make-2.ensures c.in_ok-make.ensures

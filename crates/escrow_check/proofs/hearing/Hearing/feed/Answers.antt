@@ -1,10 +1,16 @@
-use Rattle.std.proofs.Common.{◌∙◌, List, ℕ, ◌++◌, length, take, ap, arith, append_assoc}
+use Rattle.std.proofs.Common.{◌≡◌, ◌∙◌, Bool, true, ◌==◌, List, ℕ, [], ◌++◌, length, take, sym, ap, arith, append_assoc}
+use Rattle.std.proofs.lemmas.List.{append-nil, nil_from_length}
 use Rattle.std.proofs.lemmas.Result.{err_from_is_err_and}
-use Rattle.bound_certificate.proofs.CertFacts.{all-came, empty_rest}
 use Rattle.case_file.specs.Case.{CaseContents, case_view}
 use Rattle.escrow_check.specs.Heard.{HasHeard, cert_in}
 use Rattle.escrow_check.proofs.HearFacts.{gap-ends, heard-as, heard-comes, heard-fault, heard-more, rest-drop, rest-few, still-before}
 use Rattle.escrow_check.proofs.hearing.Hearing.feed.Goals as goal
+
+-- nothing of the piece is left
+all_came : (front rest piece : List ℕ) (empty : Bool) → empty ≡ (length rest == 0) → empty ≡ true → front ++ rest ≡ piece → front ≡ piece
+all_came front rest piece empty is none parts =
+    let nil : rest ≡ [] = nil_from_length rest (grind (arith, is, none)) in
+    sym (append-nil front) ∙ ap (λ (bs : List ℕ). front ++ bs) (sym nil) ∙ parts
 
 pub returns-in_default-clause-heard : goal.returns-in_default-clause-heard
 returns-in_default-clause-heard c = λ bytes heard.
@@ -49,8 +55,8 @@ returns-clause-heard c = λ bytes heard.
     (let case : CaseContents = case_view c.args.case.now in
     let i = c.loop-rest.invariant in
     heard-as case c.loop-rest.self (bytes ++ i.front) (bytes ++ c.args.piece.now)
-    (ap (λ (bs : List ℕ). bytes ++ bs) (all-came i.front c.loop-rest.rest.now c.args.piece.now
-    (empty_rest c.loop-rest.rest.now c.is_empty.result c.is_empty.ensures c.loop-rest-test.false) i.bytes)) (i.heard bytes heard))
+    (ap (λ (bs : List ℕ). bytes ++ bs) (all_came i.front c.loop-rest.rest.now c.args.piece.now c.is_empty.result
+    c.is_empty.ensures c.loop-rest-test.false i.bytes)) (i.heard bytes heard))
 
 pub returns-in_err-take-clause-err : goal.returns-in_err-take-clause-err
 returns-in_err-take-clause-err c =
