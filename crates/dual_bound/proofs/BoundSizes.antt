@@ -12,6 +12,7 @@ use Rattle.escrow_units.specs.Flows.{total}
 use Rattle.escrow_units.specs.SlgsTerms.{IsSettlement}
 use Rattle.escrow_units.specs.declared.limits.TheConstants.{AMOUNT_LIMIT}
 use Rattle.escrow_units.specs.declared.security.Flow.{Flow}
+use Rattle.offer_book.proofs.CoefficientBounds.{pays-close, pays-high_little}
 use Rattle.offer_book.proofs.LineFacts.{cash-at_most, line_payments-little, line_payments-total, par-at_most, security-at_most}
 use Rattle.offer_book.specs.Book.{AreLines, BookContents, IsBook, IsCashLine, IsLine, IsSecurityLine}
 use Rattle.offer_book.specs.Coefficients.{cost_coefficients, pay_coefficients}
@@ -27,7 +28,7 @@ use Rattle.dual_bound.specs.declared.ranges.Interval.{Interval}
 use Rattle.dual_bound.specs.declared.tree.Leaf.{Leaf}
 use Rattle.dual_bound.proofs.FormFacts.{form_of-is}
 use Rattle.dual_bound.proofs.Signed.{signed_sum_more}
-use Rattle.dual_bound.proofs.Sizes.{IsLight, abs-sum, cash-once, cost-sized, cost_worth-light, paid_worth-light, pays-few, pays-sized, pays_slack-small, pays_slope, pays_slope-small, side-small}
+use Rattle.dual_bound.proofs.Sizes.{IsLight, abs-sum, cash-once, cost-sized, cost_worth-light, paid_worth-light, pays-few, pays-sized, pays_slack-small, pays_slope, pays_slope-small, pays_slope-units, side-small}
 use Rattle.offer_book.specs.declared.payment_days.PaymentDays.{PaymentDays}
 
 -- ---- the form of a line
@@ -63,12 +64,28 @@ form-slack n book leaf line h well is =
 
 -- what units of a line of securities add by the slope
 form-units : (n : ℕ) (book : BookContents) (leaf : Leaf) (line : Line) (units : ℕ) → IsSettlement book.days.settle → IsLeaf (length book.needs) leaf → IsSecurityLine book.days line → units ≤ line.most
-    → unsigned_abs (form_of n book leaf line).slope * units ≤ 24 * 10 ^ 33
+    → unsigned_abs (form_of n book leaf line).slope * units ≤ 4 * 10 ^ 33
 form-units n book leaf line units h well security most =
-    let slope = form-slope n book leaf line h well (inr security) in
-    let few = mul-le-mul_right (2 * PRICE_SCALE * (1_400_000_000 * line.step)) (pays-few book.days line h security) in
-    let whole : unsigned_abs (form_of n book leaf line).slope ≤ 239_200_000_000_000_000_000_000 * line.step = omega (arith, slope, few) in
-    omega (arith, mul-le-mul_right units whole, par-at_most book.days line units security most)
+    let weight = paid_worth n book leaf line.kind in
+    let own = cost_worth leaf line.kind in
+    let costs = cost-sized book.days line (inr security) in
+    let first = side-small own (cost_coefficients line).low (cost_coefficients line).high PRICE_SCALE (4_000_000_000 * line.step) (cost_worth-light leaf line.kind well.limit) costs.low costs.high in
+    let rest = pays_slope-units weight units (pay_coefficients book.days line) (paid_worth-light n book leaf line.kind well) (pays-close book.days line) in
+    let sum : unsigned_abs (form_of n book leaf line).slope
+    ≤ unsigned_abs (least_side own (cost_coefficients line).low (cost_coefficients line).high) + unsigned_abs (pays_slope weight (pay_coefficients book.days line)) =
+    omega (
+      arith,
+      ap (λ (f : Form). unsigned_abs f.slope) (form_of-is n book leaf line),
+      abs-sum (least_side own (cost_coefficients line).low (cost_coefficients line).high) (pays_slope weight (pay_coefficients book.days line)),
+    ) in
+    omega (
+      arith,
+      mul-le-mul_right units sum,
+      mul-le-mul_right units first,
+      rest,
+      par-at_most book.days line units security most,
+      pays-high_little book.days line units h security most,
+    )
 
 form-cash : (n : ℕ) (book : BookContents) (leaf : Leaf) (line : Line) (units : ℕ) → IsSettlement book.days.settle → IsLeaf (length book.needs) leaf → IsCashLine line → units ≤ line.most
     → unsigned_abs (form_of n book leaf line).slope * units ≤ 7 * 10 ^ 34
@@ -124,12 +141,12 @@ reduced-within n book leaf line units cost paid well few little =
 reduced-cash : (n : ℕ) (book : BookContents) (leaf : Leaf) (line : Line) (units : ℕ) → IsSettlement book.days.settle → IsLeaf (length book.needs) leaf → IsCashLine line → units ≤ line.most
     → unsigned_abs (reduced_cost n book leaf line units) ≤ 5 * 10 ^ 34
 reduced-cash n book leaf line units h well cash most =
-    omega (arith, reduced-within n book leaf line units (10 ^ 13) (2 * 10 ^ 13) well (cash-at_most line units cash most) (line_payments-total book.days line units h (inl cash) most))
+    omega (arith, reduced-within n book leaf line units (10 ^ 13) (2 * 10 ^ 13) well (cash-at_most line units cash most) (omega (arith, line_payments-total book.days line units h (inl cash) most)))
 
 reduced-security : (n : ℕ) (book : BookContents) (leaf : Leaf) (line : Line) (units : ℕ) → IsSettlement book.days.settle → IsLeaf (length book.needs) leaf → IsSecurityLine book.days line → units ≤ line.most
-    → unsigned_abs (reduced_cost n book leaf line units) ≤ 8 * 10 ^ 33
+    → unsigned_abs (reduced_cost n book leaf line units) ≤ 4 * 10 ^ 33
 reduced-security n book leaf line units h well security most =
-    omega (arith, reduced-within n book leaf line units (316 * 10 ^ 9) (346 * 10 ^ 10) well (security-at_most book.days line units security most) (line_payments-little book.days line units h security most))
+    omega (arith, reduced-within n book leaf line units (316 * 10 ^ 9) (134 * 10 ^ 10) well (security-at_most book.days line units security most) (line_payments-little book.days line units h security most))
 
 -- ---- the least of a line
 min-small : (a b : ℤ) (most : ℕ) → unsigned_abs a ≤ most → unsigned_abs b ≤ most → unsigned_abs (int_min a b) ≤ most
@@ -170,11 +187,11 @@ least-cash n book leaf line interval h well cash ordered room =
     order (suc m) e = inl (omega (arith, cash.least, e))
 
 least-security : (n : ℕ) (book : BookContents) (leaf : Leaf) (line : Line) (interval : Interval) → IsSettlement book.days.settle → IsLeaf (length book.needs) leaf → IsSecurityLine book.days line
-    → interval.low ≤ interval.high → HasRoomFor line interval → unsigned_abs (least_within n book leaf line interval) ≤ 25 * 10 ^ 33
+    → interval.low ≤ interval.high → HasRoomFor line interval → unsigned_abs (least_within n book leaf line interval) ≤ 5 * 10 ^ 33
 least-security n book leaf line interval h well security ordered room =
-    least-within n book leaf line interval (25 * 10 ^ 33) ordered room (inl security.ordered)
+    least-within n book leaf line interval (5 * 10 ^ 33) ordered room (inl security.ordered)
     (λ units most. omega (arith, reduced-security n book leaf line units h well security most))
-    (λ units most. omega (arith, at-small (form_of n book leaf line) units (24 * 10 ^ 33) (form-units n book leaf line units h well security most) (form-slack n book leaf line h well (inr security))))
+    (λ units most. omega (arith, at-small (form_of n book leaf line) units (4 * 10 ^ 33) (form-units n book leaf line units h well security most) (form-slack n book leaf line h well (inr security))))
 
 pub least-small : (n : ℕ) (book : BookContents) (leaf : Leaf) (line : Line) (interval : Interval) → IsSettlement book.days.settle → IsLeaf (length book.needs) leaf → IsLine book.days line
     → interval.low ≤ interval.high → HasRoomFor line interval → unsigned_abs (least_within n book leaf line interval) ≤ 71 * 10 ^ 33
@@ -197,7 +214,7 @@ priced-small (need ∷ needs) (price ∷ prices) small =
 
 securities-sum : (n : ℕ) (book : BookContents) (leaf : Leaf) (lines : List Line) (ranges : List Interval) → IsSettlement book.days.settle → IsLeaf (length book.needs) leaf
     → All (IsSecurityLine book.days) lines → AllZip HasRoomFor lines ranges → All (λ interval. interval.low ≤ interval.high) ranges
-    → unsigned_abs (signed_sum (λ (p : Line × Interval). least_within n book leaf p.0 p.1) (zip lines ranges)) ≤ length lines * (25 * 10 ^ 33)
+    → unsigned_abs (signed_sum (λ (p : Line × Interval). least_within n book leaf p.0 p.1) (zip lines ranges)) ≤ length lines * (5 * 10 ^ 33)
 securities-sum n book leaf [] [] h well are room ordered = omega arith
 securities-sum n book leaf [] (interval ∷ ranges) h well are room ordered = absurd room
 securities-sum n book leaf (line ∷ lines) [] h well are room ordered = absurd room
@@ -208,13 +225,13 @@ securities-sum n book leaf (line ∷ lines) (interval ∷ ranges) h well are roo
 
 lines-sum : (n : ℕ) (book : BookContents) (leaf : Leaf) (lines : List Line) (ranges : List Interval) → IsSettlement book.days.settle → IsLeaf (length book.needs) leaf
     → AreLines book.days lines → AllZip HasRoomFor lines ranges → All (λ interval. interval.low ≤ interval.high) ranges
-    → unsigned_abs (signed_sum (λ (p : Line × Interval). least_within n book leaf p.0 p.1) (zip lines ranges)) ≤ 71 * 10 ^ 33 + 256 * (25 * 10 ^ 33)
+    → unsigned_abs (signed_sum (λ (p : Line × Interval). least_within n book leaf p.0 p.1) (zip lines ranges)) ≤ 71 * 10 ^ 33 + 512 * (5 * 10 ^ 33)
 lines-sum n book leaf [] ranges h well are room ordered = absurd are
 lines-sum n book leaf (cash ∷ lines) [] h well are room ordered = absurd room
 lines-sum n book leaf (cash ∷ lines) (interval ∷ ranges) h well are room ordered =
     let own = least-cash n book leaf cash interval h well are.0 (All-head (λ (i : Interval). i.low ≤ i.high) interval ranges ordered) room.0 in
     let rest = securities-sum n book leaf lines ranges h well are.1 room.1 (All-tail (λ (i : Interval). i.low ≤ i.high) interval ranges ordered) in
-    omega (arith, own, rest, mul-le-mul_right (25 * 10 ^ 33) are.2, abs-sum (least_within n book leaf cash interval) (signed_sum (λ (p : Line × Interval). least_within n book leaf p.0 p.1) (zip lines ranges)))
+    omega (arith, own, rest, mul-le-mul_right (5 * 10 ^ 33) are.2, abs-sum (least_within n book leaf cash interval) (signed_sum (λ (p : Line × Interval). least_within n book leaf p.0 p.1) (zip lines ranges)))
 
 pub bound-small : (n : ℕ) (book : BookContents) (ranges : List Interval) (leaf : Leaf) → IsBook book → IsLeaf (length book.needs) leaf
     → AllZip HasRoomFor book.lines ranges → All (λ interval. interval.low ≤ interval.high) ranges → unsigned_abs (bound_of n book ranges leaf) < 10 ^ 37
@@ -330,6 +347,6 @@ bound-all n book ranges leaf place bound all so_far =
     so_far ∙ ap (λ pairs. pos (COEFFICIENT_SCALE * priced_needs book.needs leaf.prices) +ℤ signed_sum (λ (p : Line × Interval). least_within n book leaf p.0 p.1) pairs)
     (take_all place (zip book.lines ranges) (omega (arith, length-zip book.lines ranges)))
 
-pub lines-few : (days : PaymentDays) (lines : List Line) → AreLines days lines → length lines ≤ 257
+pub lines-few : (days : PaymentDays) (lines : List Line) → AreLines days lines → length lines ≤ 513
 lines-few days [] are = absurd are
 lines-few days (cash ∷ securities) are = omega (arith, are.2)

@@ -7,6 +7,7 @@ pub mod Coverage
 pub mod DateFacts
 pub mod DayFacts
 pub mod FormFacts
+pub mod LeastFacts
 pub mod LineBound
 pub mod PayingFacts
 pub mod PriceFacts

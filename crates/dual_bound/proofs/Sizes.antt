@@ -29,6 +29,7 @@ use Rattle.offer_book.specs.declared.line.LineKind.TheVariants.{Cash, Market, Se
 use Rattle.payment_schedule.specs.Schedule.{IsShort, principal_by}
 use Rattle.payment_schedule.specs.declared.schedule.ScheduledPayment.{ScheduledPayment}
 use Rattle.offer_book.specs.Schedule.{kind_rate, kind_schedule, schedule_of}
+use Rattle.offer_book.proofs.CoefficientBounds.{IsClose}
 use Rattle.offer_book.proofs.LineFacts.{cash-at_most, rate-low, schedule-few, security-at_most}
 use Rattle.offer_book.proofs.ScheduleFacts.{schedule-short}
 use Rattle.dual_bound.specs.LeafBound.{cost_weight, cost_worth, least_side, limit_price, limit_multiplier, paid_worth, price_on, signed_sum}
@@ -234,6 +235,24 @@ pays_slope-small weight step (pay ∷ pays) light sized =
     let first = side-small (neg_ℤ (weight pay.day)) pay.low pay.high (2 * PRICE_SCALE) (1_400_000_000 * step) (omega (arith, abs-neg (weight pay.day), light pay.day)) own.low own.high in
     let rest = pays_slope-small weight step pays light (All-tail (IsSized step) pay pays sized) in
     omega (arith, first, rest, abs-sum (least_side (neg_ℤ (weight pay.day)) pay.low pay.high) (pays_slope weight pays))
+
+-- what units add by it is within twice a price of all that they pay
+slope-more : (weigh whole side slope high units slack rest : ℕ) → whole ≤ side + slope → side ≤ weigh * high → slope * units ≤ weigh * rest
+    → whole * units ≤ weigh * ((high * units + slack) + rest)
+slope-more weigh whole side slope high units slack rest sum own others =
+    omega (arith, mul-le-mul_right units sum, mul-le-mul_right units own, others)
+
+pub pays_slope-units : (weight : ℤ → ℤ) (units : ℕ) (pays : List PayCoefficients) → IsLight weight → All IsClose pays
+    → unsigned_abs (pays_slope weight pays) * units ≤ 2 * PRICE_SCALE * sum_by (λ pay. pay.high * units + pay.slack) pays
+pays_slope-units weight units [] light close = omega arith
+pays_slope-units weight units (pay ∷ pays) light close =
+    let own = All-head IsClose pay pays close in
+    let side = least_side (neg_ℤ (weight pay.day)) pay.low pay.high in
+    let first = side-small (neg_ℤ (weight pay.day)) pay.low pay.high (2 * PRICE_SCALE) pay.high (omega (arith, abs-neg (weight pay.day), light pay.day)) own.ordered (omega arith) in
+    let rest = pays_slope-units weight units pays light (All-tail IsClose pay pays close) in
+    rw (sum_by-cons (λ (pay : PayCoefficients). pay.high * units + pay.slack) pay pays)
+    (slope-more (2 * PRICE_SCALE) (unsigned_abs (pays_slope weight (pay ∷ pays))) (unsigned_abs side) (unsigned_abs (pays_slope weight pays)) pay.high units pay.slack
+    (sum_by (λ (pay : PayCoefficients). pay.high * units + pay.slack) pays) (abs-sum side (pays_slope weight pays)) first rest)
 
 abbrev pub pay_slack : (ℤ → ℤ) → PayCoefficients → ℕ
 pay_slack weight pay = unsigned_abs (weight pay.day) * pay.slack

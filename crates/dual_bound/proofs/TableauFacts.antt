@@ -28,13 +28,13 @@ use Rattle.dual_bound.proofs.ColumnMade.{column-stays, zip-push, zip-weaker}
 use Rattle.dual_bound.proofs.Soundness.{all-lines}
 use Rattle.dual_bound.proofs.SumFacts.{joined, run-worth, together-light}
 
-zip-get : {A B : Type 0} (R : A → B → Type 0) (xs : List A) (ys : List B) (i : ℕ) (d : A) (e : B) → AllZip R xs ys → i < length xs → R (get_or xs i d) (get_or ys i e)
+pub zip-get : {A B : Type 0} (R : A → B → Type 0) (xs : List A) (ys : List B) (i : ℕ) (d : A) (e : B) → AllZip R xs ys → i < length xs → R (get_or xs i d) (get_or ys i e)
 zip-get R [] ys i d e h few = absurd (omega arith)
 zip-get R (x ∷ xs) [] i d e h few = absurd h
 zip-get R (x ∷ xs) (y ∷ ys) zero d e h few = h.0
 zip-get R (x ∷ xs) (y ∷ ys) (suc i) d e h few = zip-get R xs ys i d e h.1 (omega arith)
 
-zip-right : {A B : Type 0} (R : A → B → Type 0) (P : B → Type 0) (xs : List A) (ys : List B) → ((x : A) (y : B) → R x y → P y) → AllZip R xs ys → All P ys
+pub zip-right : {A B : Type 0} (R : A → B → Type 0) (P : B → Type 0) (xs : List A) (ys : List B) → ((x : A) (y : B) → R x y → P y) → AllZip R xs ys → All P ys
 zip-right R P [] [] f h = All-nil P
 zip-right R P [] (y ∷ ys) f h = absurd h
 zip-right R P (x ∷ xs) [] f h = absurd h
@@ -101,11 +101,11 @@ pub worths-light : (dates : ℕ) (leaf : Leaf) (days : List PricedDay) (worths :
 worths-light dates leaf days worths well powers is =
     All-same IsLightWorth worths (map (worth_on leaf) days) is (All-map IsLightWorth (worth_on leaf) days (λ k d lt. light-worth dates leaf (get_or days k d) well (powers k d lt)))
 
--- a book has at most 257 lines
-pub lines-few : (book : BookContents) → IsBook book → length book.lines ≤ 257
+-- a book has at most 513 lines
+pub lines-few : (book : BookContents) → IsBook book → length book.lines ≤ 513
 lines-few book h = few book.lines h.lines
   where
-    few : (lines : List Line) → AreLines book.days lines → length lines ≤ 257
+    few : (lines : List Line) → AreLines book.days lines → length lines ≤ 513
     few [] is = absurd is
     few (cash ∷ securities) is = omega (arith, is.2)
 

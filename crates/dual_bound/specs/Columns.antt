@@ -270,7 +270,7 @@ AreSmallSums sums = (stop : ℕ) → stop < length sums → (worth_at sums stop)
 
 -- series are laid out for columns: each line's regular days are a run, and each need date knows the stops that it prices
 pub record IsLaid (dates : ℕ) (days : List PricedDay) (columns : List Column) (series : Series) : Type 0 where
-  pub few : length series.stops.items ≤ 65_535
+  pub few : length series.stops.items ≤ 100_000
   pub there : All (IsStopWithin (length days)) series.stops.items
   pub runs : AllZip (IsRunOf series.stops.items) columns series.runs.items
   pub date_stops : AreDateDays dates (map (stop_day dates days) series.stops.items) series.date_stops.items

@@ -1,5 +1,6 @@
 pub mod Columns
 pub mod Duality
 pub mod LeafBound
+pub mod Leasts
 pub mod Ranges
 pub mod Tree

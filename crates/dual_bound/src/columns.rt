@@ -8,6 +8,7 @@ ghost use Rattle.dual_bound.specs.Ranges.{HasRoomFor};
 ghost use Rattle.dual_bound.specs.Tree.{IsLeaf, with_price};
 
 use crate::form::Form;
+use crate::leasts::Leasts;
 use crate::ranges::{Interval, Ranges};
 use crate::tableau::Tableau;
 use crate::tree::Leaf;
@@ -26,16 +27,18 @@ use std::marker::Model;
 pub struct Columns<'a> {
     book: &'a Book,
     tableau: Tableau,
+    leasts: Leasts,
 }
 
 impl<'a> Model for Columns<'a> {
     ghost use Rattle.dual_bound.specs.Columns.{ColumnsContents, IsTableau};
+    ghost use Rattle.dual_bound.specs.Leasts.{AreLeasts};
 
     ghost Value = { ColumnsContents };
 
     ghost view = { λ c. record { book = c.book.now; yield_units = c.tableau.yield_units.0; leaf = c.tableau.leaf } };
 
-    ghost invariant = { λ c. IsTableau c.book.now c.tableau };
+    ghost invariant = { λ c. IsTableau c.book.now c.tableau × AreLeasts c.tableau.yield_units.0 c.book.now c.tableau.leaf c.leasts };
 }
 
 impl<'a> Columns<'a> {
@@ -51,7 +54,12 @@ impl<'a> Columns<'a> {
         ensures yield_units { IfOk result (λ columns. columns.yield_units ≡ powers.now.yield_units) }
     {
         let tableau = Tableau::make(alloc, book, powers)?;
-        Ok(Columns { book, tableau })
+        let leasts = Leasts::make(alloc, book, &tableau)?;
+        Ok(Columns {
+            book,
+            tableau,
+            leasts,
+        })
     }
 
     /// Prices the columns at a leaf that keeps its limits, with one price for each need date: each payment day once. Where the
@@ -60,6 +68,7 @@ impl<'a> Columns<'a> {
         requires { IsLeaf (length self.old.book.needs) leaf.now }
         ensures { self.new ≡ record { book = self.old.book; yield_units = self.old.yield_units; leaf = leaf.now } }
     {
+        self.leasts.price(&self.tableau.leaf, leaf);
         self.tableau.price(self.book, leaf);
     }
 
@@ -70,6 +79,7 @@ impl<'a> Columns<'a> {
         requires leaf { IsLeaf (length self.old.book.needs) (with_price self.old.leaf place price) }
         ensures { self.new ≡ record { book = self.old.book; yield_units = self.old.yield_units; leaf = with_price self.old.leaf place price } }
     {
+        self.leasts.price_date(place);
         self.tableau.price_date(self.book, place, price);
     }
 
@@ -118,7 +128,7 @@ impl<'a> Columns<'a> {
         ensures size { unsigned_abs result < 10 ^ 37 }
     {
         self.price(leaf);
-        self.tableau.bound(self.book, ranges)
+        self.leasts.bound(self.book, &self.tableau, ranges)
     }
 
     /// The lower bound of the leaf that was priced, where one line's interval changes: from the bound over the ranges as they

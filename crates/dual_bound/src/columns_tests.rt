@@ -1,7 +1,8 @@
 //! Worked bounds: the short twin and the columns give the same.
-ghost use Rattle.std.specs.Prelude.{◌≡◌, ◌*◌, ◌≤◌, ◌≤ℤ◌, IfOk};
+ghost use Rattle.std.specs.Prelude.{◌≡◌, ◌*◌, ◌≤◌, ◌≤ℤ◌, IfOk, length};
 ghost use Rattle.escrow_units.specs.Calendar.{years_after_of};
 ghost use Rattle.escrow_units.specs.SlgsTerms.{IsSettlement, IsSlgs};
+ghost use Rattle.fixed_powers.specs.DiscountPowers.{IsLowTable};
 ghost use Rattle.offer_book.specs.Book.{IsCashLine};
 ghost use Rattle.dual_bound.specs.Ranges.{AreTight};
 ghost use Rattle.dual_bound.specs.Tree.{IsLeaf};
@@ -120,6 +121,53 @@ fn try_bound(
     assert_eq!(rt; columns.bound(ranges, leaf), expected);
     assert_eq!(rt; bound(book, &powers, ranges, leaf), expected);
     Ok(())
+}
+
+// The columns give the bound of a next leaf as the short twin does, which reckons each line anew.
+fn try_next(
+    rt: &impl Abort,
+    columns: &mut Columns,
+    powers: &Powers,
+    book: &Book,
+    ranges: &Ranges,
+    leaf: &Leaf,
+)
+    requires own { columns.old.book ≡ book.now }
+    requires powers { IsLowTable powers.now }
+    requires needs { length book.now.needs ≡ 1 }
+    requires leaf { IsLeaf 1 leaf.now }
+    requires tight { AreTight book.now.lines ranges.now }
+    ensures { columns.new.book ≡ book.now }
+{
+    let anew = bound(book, powers, ranges, leaf);
+    assert_eq!(rt; columns.bound(ranges, leaf), anew);
+}
+
+// Bounds of one leaf after another: prices and intervals change and stay.
+fn try_in_turn(rt: &impl Abort, alloc: Global, book: &Book) -> Result<(), Fail> {
+    assert!(rt; book.need_count() == 1);
+    let powers = Powers::make(alloc, YieldUnits(500_099_999), Side::Low, GREATEST_INDEX)?;
+    let mut columns = Columns::make(alloc, book, &powers)?;
+    let root = root_ranges(alloc, book)?;
+    let left = side(rt, alloc, book, false)?;
+    let right = side(rt, alloc, book, true)?;
+    let low = leaf(alloc, true, 961_538_461_538)?;
+    let high = leaf(alloc, true, PRICE_SCALE)?;
+    let short = leaf(alloc, false, PRICE_SCALE)?;
+    try_next(rt, &mut columns, &powers, book, &root, &low);
+    try_next(rt, &mut columns, &powers, book, &left, &low);
+    try_next(rt, &mut columns, &powers, book, &left, &high);
+    try_next(rt, &mut columns, &powers, book, &right, &high);
+    try_next(rt, &mut columns, &powers, book, &right, &short);
+    try_next(rt, &mut columns, &powers, book, &root, &short);
+    try_next(rt, &mut columns, &powers, book, &root, &low);
+    Ok(())
+}
+
+#[test]
+fn bounds_in_turn_are_those_made_anew(rt: HostRuntime) -> Result<(), Fail> {
+    let book = sample(&rt, rt.alloc())?;
+    try_in_turn(&rt, rt.alloc(), &book)
 }
 
 #[test]

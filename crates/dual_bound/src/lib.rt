@@ -10,6 +10,7 @@ mod day_table;
 mod form;
 mod laws;
 mod leaf_bound;
+mod leasts;
 mod prices;
 mod ranges;
 mod series;

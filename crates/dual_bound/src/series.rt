@@ -137,7 +137,7 @@ impl Stops {
     // Puts days behind the others, as a series of their own.
     fn add(&mut self, places: &[u16]) -> Result<Run, NoMemory>
         requires few { length places.now ≤ 84 }
-        requires room { length self.old.stops.items ≤ 65_000 }
+        requires room { length self.old.stops.items ≤ 90_000 }
         ensures stops { OnOk result (self.new.stops.items ≡ self.old.stops.items ++ Start ∷ map DayOf places.now) }
         ensures run { IfOk result (λ run. run ≡ record { from = length self.old.stops.items; to = length self.old.stops.items + length places.now }) }
     {
@@ -155,7 +155,7 @@ impl Stops {
     // The run of a line, which is put behind the others where it isn't there yet.
     fn run(&mut self, places: &[u16]) -> Result<Run, NoMemory>
         requires few { length places.now ≤ 84 }
-        requires room { length self.old.stops.items ≤ 65_000 }
+        requires room { length self.old.stops.items ≤ 90_000 }
         ensures run { IfOk result (IsRun self.new.stops.items places.now) }
         ensures extends { OnOk result (Extends self.old.stops.items self.new.stops.items) }
         ensures more { OnOk result (length self.new.stops.items ≤ length self.old.stops.items + 85) }
@@ -169,12 +169,12 @@ impl Stops {
 
     // Puts the days of lines into series, the given lines in their order.
     fn lay_out(&mut self, columns: &[Column], order: &[usize], days: usize) -> Result<(), NoMemory>
-        requires few { length order.now ≤ 257 }
+        requires few { length order.now ≤ 513 }
         requires small { All IsSmallColumn columns.now }
         requires there { All (λ (column : ColumnOf). All (λ place. place < days) column.places.items) columns.now }
         requires empty { length self.old.stops.items ≡ 0 }
         ensures within { OnOk result (All (IsStopWithin days) self.new.stops.items) }
-        ensures few { OnOk result (length self.new.stops.items ≤ 257 * 85) }
+        ensures few { OnOk result (length self.new.stops.items ≤ 513 * 85) }
     {
         for line in order {
             if let Some(column) = columns.get(*line) {
@@ -186,13 +186,13 @@ impl Stops {
 
     // The runs of all lines.
     fn runs(&mut self, alloc: Global, columns: &[Column], days: usize) -> Result<Vec<Run>, NoMemory>
-        requires lines { length columns.now ≤ 257 }
+        requires lines { length columns.now ≤ 513 }
         requires small { All IsSmallColumn columns.now }
         requires there { All (λ (column : ColumnOf). All (λ place. place < days) column.places.items) columns.now }
         requires within { All (IsStopWithin days) self.old.stops.items }
-        requires few { length self.old.stops.items ≤ 257 * 85 }
+        requires few { length self.old.stops.items ≤ 513 * 85 }
         ensures within { OnOk result (All (IsStopWithin days) self.new.stops.items) }
-        ensures few { OnOk result (length self.new.stops.items ≤ 65_000) }
+        ensures few { OnOk result (length self.new.stops.items ≤ 90_000) }
         ensures runs { IfOk result (λ runs. AllZip (IsRunOf self.new.stops.items) columns.now runs.items) }
     {
         let mut runs = Vec::new(alloc);
@@ -268,7 +268,7 @@ impl Series {
         columns: &[Column],
         worths: &[Worth],
     ) -> Result<Series, NoMemory>
-        requires lines { length columns.now ≤ 257 }
+        requires lines { length columns.now ≤ 513 }
         requires small { All IsSmallColumn columns.now }
         requires there { All (λ (column : ColumnOf). All (λ place. place < length days.now) column.places.items) columns.now }
         requires every_day { length worths.now ≡ length days.now }

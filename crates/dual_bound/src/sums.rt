@@ -13,7 +13,7 @@ use crate::worth::Worth;
 fn sum_after(worths: &[Worth], before: Worth, stop: Stop) -> Worth
     requires there { IsStopWithin (length worths.now) stop }
     requires light { All IsLightWorth worths.now }
-    requires small { before.above + before.below ≤ 65_535 * (2 * PRICE_SCALE) }
+    requires small { before.above + before.below ≤ 100_000 * (2 * PRICE_SCALE) }
     ensures value { result ≡ sum_after_of worths.now before stop }
     ensures small { result.above + result.below ≤ before.above + before.below + 2 * PRICE_SCALE }
 {
@@ -39,7 +39,7 @@ fn sum_before(sums: &[Worth], at: usize) -> Worth
 pub(crate) fn sum_up(stops: &[Stop], worths: &[Worth], sums: &mut [Worth])
     requires there { All (IsStopWithin (length worths.now)) stops.now }
     requires light { All IsLightWorth worths.now }
-    requires few { length stops.now ≤ 65_535 }
+    requires few { length stops.now ≤ 100_000 }
     requires every { length sums.old ≡ length stops.now }
     ensures { AreSums worths.now stops.now sums.new }
 {
@@ -54,7 +54,7 @@ pub(crate) fn sum_up(stops: &[Stop], worths: &[Worth], sums: &mut [Worth])
 fn mend(stops: &[Stop], worths: &[Worth], sums: &mut [Worth], from: usize)
     requires there { All (IsStopWithin (length worths.now)) stops.now }
     requires light { All IsLightWorth worths.now }
-    requires few { length stops.now ≤ 65_535 }
+    requires few { length stops.now ≤ 100_000 }
     requires every { length sums.old ≡ length stops.now }
     requires small { AreSmallSums sums.old }
     requires from { from < length stops.now }
@@ -76,7 +76,7 @@ fn mend(stops: &[Stop], worths: &[Worth], sums: &mut [Worth], from: usize)
 pub(crate) fn mend_at(stops: &[Stop], worths: &[Worth], sums: &mut [Worth], places: &[usize])
     requires there { All (IsStopWithin (length worths.now)) stops.now }
     requires light { All IsLightWorth worths.now }
-    requires few { length stops.now ≤ 65_535 }
+    requires few { length stops.now ≤ 100_000 }
     requires every { length sums.old ≡ length stops.now }
     requires small { AreSmallSums sums.old }
     requires places { All (λ place. place < length stops.now) places.now }
@@ -100,7 +100,7 @@ pub(crate) fn mend_dates(
 )
     requires there { All (IsStopWithin (length worths.now)) stops.now }
     requires light { All IsLightWorth worths.now }
-    requires few { length stops.now ≤ 65_535 }
+    requires few { length stops.now ≤ 100_000 }
     requires every { length sums.old ≡ length stops.now }
     requires small { AreSmallSums sums.old }
     requires prices { length new.now ≡ length old.now }

@@ -14,7 +14,7 @@ use crate::column::Column;
 use crate::date_days::{DateDays, days_by_date, price_dates};
 use crate::day_table::DayTable;
 use crate::form::Form;
-use crate::leaf_bound::{cost_worth, priced_needs};
+use crate::leaf_bound::cost_worth;
 use crate::prices::PRICE_SCALE;
 use crate::ranges::{Interval, Ranges};
 use crate::series::Series;
@@ -24,7 +24,7 @@ use crate::worth::{PricedDay, Worth, price_day, price_days, price_days_at};
 use escrow_desk::NoMemory;
 use escrow_units::YieldUnits;
 use fixed_powers::Powers;
-use offer_book::{Book, COEFFICIENT_SCALE};
+use offer_book::Book;
 use std::alloc::Global;
 
 /// The columns of a book's lines, and what their days are worth at a leaf.
@@ -286,22 +286,6 @@ impl Tableau {
         }
         self.form(book, line)
             .least_within(book.line(line), interval)
-    }
-
-    /// The lower bound of the leaf by which the days are priced. What a line adds is inlined into its loop.
-    pub(crate) fn bound(&self, book: &Book, ranges: &Ranges) -> i128
-        requires tableau { IsTableau book.now self.now }
-        requires ranges { AllZip HasRoomFor book.now.lines ranges.now }
-        ensures value { result ≡ bound_of self.now.yield_units.0 book.now ranges.now self.now.leaf }
-        ensures size { unsigned_abs result < 10 ^ 37 }
-    {
-        let intervals = ranges.intervals();
-        let mut bound = COEFFICIENT_SCALE as i128
-            * priced_needs(book.needs(), self.leaf.prices.as_slice()) as i128;
-        for line in 0..book.line_count() {
-            bound += self.least(book, line, intervals[usize::from(line)]);
-        }
-        bound
     }
 
     /// The lower bound of the leaf by which the days are priced, where one line's interval changes, from the bound before.

@@ -131,7 +131,7 @@ fn change(least: i128, before: LineLeast) -> i128
 fn changed(bound: i128, needs: i128, lines: i128) -> i128
     requires bound { unsigned_abs bound < 10 ^ 37 }
     requires needs { unsigned_abs needs ≤ 2 * 10 ^ 34 }
-    requires lines { unsigned_abs lines ≤ 257 * (142 * 10 ^ 33) }
+    requires lines { unsigned_abs lines ≤ 513 * (142 * 10 ^ 33) }
     ensures { result ≡ (bound +ℤ needs) +ℤ lines }
 {
     bound + needs + lines
@@ -204,7 +204,7 @@ fn lines_change(columns: &Columns, given: &Given, leasts: &[LineLeast], step: &P
     requires leasts { AreLeasts given.now leasts.now }
     requires step { IsStepOf given.now step.now }
     ensures value { result ≡ lines_worth given.now (with_price given.now.leaf.now step.now.place step.now.price) -ℤ lines_worth given.now given.now.leaf.now }
-    ensures size { unsigned_abs result ≤ 257 * (142 * 10 ^ 33) }
+    ensures size { unsigned_abs result ≤ 513 * (142 * 10 ^ 33) }
 {
     let mut more = 0i128;
     for payer in 0..step.lines.len() {

@@ -114,7 +114,7 @@ terms-at n book terms i line own are within at here =
 pub purchase-little : (n : ℕ) (days : PaymentDays) (line : Line) (units : ℕ) (purchase : Purchase) → IsSettlement days.settle → IsLine days line → units ≤ line.most
     → IsPurchase n days line units purchase → total purchase.payments.items ≤ 2 * 10 ^ 13
 purchase-little n days line units purchase settled is few own =
-    subst (λ flows. total flows ≤ 2 * 10 ^ 13) (sym own.payments) (line_payments-total days line units settled is few)
+    subst (λ flows. total flows ≤ 2 * 10 ^ 13) (sym own.payments) (omega (arith, line_payments-total days line units settled is few))
 
 pub held-little : (n : ℕ) (book : BookContents) (plan : List ℕ) (held : List Purchase) (i : ℕ) (own : Purchase) → IsBook book → IsPermitted book plan → AreHeld n book plan held
     → i < length book.lines → own ≡ get_or held i own → total own.payments.items ≤ 2 * 10 ^ 13

@@ -1,0 +1,260 @@
+//! What each line of a book adds at least, kept from leaf to leaf.
+ghost use Rattle.std.specs.Prelude.{All, ◌≡◌, ◌⊎◌, ◌+◌, ◌*◌, ◌^◌, ◌<◌, ◌≤◌, ℕ, IfOk, length, slice_index, slice_index_or, true, unsigned_abs};
+ghost use Rattle.std.specs.List.{AllZip};
+ghost use Rattle.offer_book.specs.Book.{BookContents};
+ghost use Rattle.offer_book.specs.declared.line.Line.{Line};
+ghost use Rattle.dual_bound.specs.Columns.{IsTableau};
+ghost use Rattle.dual_bound.specs.LeafBound.{bound_of, least_within};
+ghost use Rattle.dual_bound.specs.Leasts.{AgreeInside, AreApart, AreLeasts, IsInside, IsLeast, IsOutside, IsPricedInside, IsRight, IsSpanOf};
+ghost use Rattle.dual_bound.specs.Ranges.{HasRoomFor};
+ghost use Rattle.dual_bound.specs.Tree.{with_price};
+ghost use Rattle.dual_bound.specs.declared.column.OtherPayment.{OtherPayment};
+ghost use Rattle.dual_bound.specs.declared.leasts.Least.{Least as LeastOf};
+ghost use Rattle.dual_bound.specs.declared.leasts.Span.{Span as SpanOf};
+ghost use Rattle.dual_bound.specs.declared.tree.Leaf.{Leaf as LeafOf};
+
+use crate::column::Column;
+use crate::leaf_bound::priced_needs;
+use crate::ranges::{Interval, Ranges};
+use crate::tableau::Tableau;
+use crate::tree::Leaf;
+use crate::worth::PricedDay;
+use escrow_desk::NoMemory;
+use offer_book::{Book, COEFFICIENT_SCALE};
+use std::alloc::Global;
+
+/// A place behind every need date: a book has at most 65,535 of them.
+pub(crate) const PAST_DATES: usize = 65_536;
+
+/// Need dates from a first to a last, both among them, counted from 0: none where the first is behind the last.
+#[derive(Clone, Copy)]
+pub(crate) struct Span {
+    /// The first need date.
+    pub first: usize,
+    /// The last need date.
+    pub last: usize,
+}
+
+impl Span {
+    // No need dates.
+    fn none() -> Span
+        ensures { result ≡ record { first = PAST_DATES; last = 0 } }
+    {
+        Span {
+            first: PAST_DATES,
+            last: 0,
+        }
+    }
+
+    // Every need date.
+    fn all() -> Span
+        ensures { result ≡ record { first = 0; last = PAST_DATES } }
+    {
+        Span {
+            first: 0,
+            last: PAST_DATES,
+        }
+    }
+
+    // The least span that holds this one and another.
+    fn together(self, other: Span) -> Span
+        ensures first { (result.first ≤ self.first) × (result.first ≤ other.first) }
+        ensures last { (self.last ≤ result.last) × (other.last ≤ result.last) }
+    {
+        Span {
+            first: self.first.min(other.first),
+            last: self.last.max(other.last),
+        }
+    }
+
+    // The least span that holds this one and a date.
+    fn with(self, date: usize) -> Span
+        ensures first { (result.first ≤ self.first) × (result.first ≤ date) }
+        ensures last { (self.last ≤ result.last) × (date ≤ result.last) }
+    {
+        self.together(Span {
+            first: date,
+            last: date,
+        })
+    }
+
+    // Whether a span ends before another, or starts behind it.
+    fn is_apart(self, other: Span) -> bool
+        ensures { result ≡ true → AreApart self other }
+    {
+        self.last < other.first || other.last < self.first
+    }
+}
+
+// The need dates among which all lie whose prices differ.
+fn changed_prices(old: &[u64], new: &[u64]) -> Span
+    requires { length old.now ≡ length new.now }
+    ensures { (date : ℕ) → IsOutside result date → slice_index old.now date ≡ slice_index new.now date }
+{
+    let mut changed = Span::none();
+    for date in 0..old.len() {
+        if old[date] != new[date] {
+            changed = changed.with(date);
+        }
+    }
+    changed
+}
+
+// The need dates among which all lie that price a payment otherwise at another leaf.
+fn changes(old: &Leaf, new: &Leaf) -> Span
+    requires { length old.now.prices ≡ length new.now.prices }
+    ensures { (span : SpanOf) → span.first ≤ PAST_DATES → AreApart span result → AgreeInside span old.now new.now }
+{
+    if old.whole != new.whole || old.mu != new.mu {
+        return Span::all();
+    }
+    changed_prices(old.prices.as_slice(), new.prices.as_slice())
+}
+
+// The need dates among which all lie that price a column's regular payments.
+fn regular_span(column: &Column, days: &[PricedDay]) -> Span
+    requires { All (λ place. place < length days.now) column.now.places.items }
+    ensures start { result.first ≤ PAST_DATES }
+    ensures dates { All (IsPricedInside days.now result) column.now.places.items }
+{
+    let mut span = Span::none();
+    for place in column.places.as_slice() {
+        span = span.with(days[usize::from(*place)].need);
+    }
+    span
+}
+
+// The need dates among which all lie that price a column's payments.
+fn span_of(column: &Column, days: &[PricedDay]) -> Span
+    requires places { All (λ place. place < length days.now) column.now.places.items }
+    requires others { All (λ (other : OtherPayment). other.place < length days.now) column.now.others.items }
+    ensures start { result.first ≤ PAST_DATES }
+    ensures span { IsSpanOf days.now column.now result }
+{
+    let mut span = regular_span(column, days);
+    for other in column.others.as_slice() {
+        span = span.with(days[usize::from(other.place)].need);
+    }
+    span
+}
+
+/// What a line was found to add at least within an interval.
+#[derive(Clone, Copy)]
+pub(crate) struct Least {
+    /// The need dates among which all lie that price the line's payments.
+    pub span: Span,
+    /// The interval.
+    pub interval: Interval,
+    /// What the line adds at least, scaled.
+    pub least: i128,
+}
+
+impl Least {
+    // What a line, counted from 0, adds where none of it is bought.
+    fn of_none(book: &Book, tableau: &Tableau, line: u16) -> Least
+        requires tableau { IsTableau book.now tableau.now }
+        requires line { line < length book.now.lines }
+        ensures { (d : Line) (changed : SpanOf) → IsLeast tableau.now.yield_units.0 book.now tableau.now.leaf changed (slice_index_or book.now.lines line d) result }
+    {
+        let interval = Interval { low: 0, high: 0 };
+        let least = tableau.least(book, line, interval);
+        let column = &tableau.columns[usize::from(line)];
+        Least {
+            span: span_of(column, tableau.days.as_slice()),
+            interval,
+            least,
+        }
+    }
+}
+
+/// What each line of a book was found to add at least. It stays right for a line while no price of its span changes.
+#[derive(Drop)]
+pub(crate) struct Leasts {
+    /// What each line was found to add, in the order of the lines.
+    pub lines: Vec<Least>,
+    /// The need dates among which all lie whose prices have changed since.
+    pub changed: Span,
+}
+
+impl Leasts {
+    /// What the lines of a tableau add where nothing is bought.
+    ///
+    /// # Errors
+    ///
+    /// Where memory ran out.
+    pub(crate) fn make(alloc: Global, book: &Book, tableau: &Tableau) -> Result<Leasts, NoMemory>
+        requires tableau { IsTableau book.now tableau.now }
+        ensures { IfOk result (AreLeasts tableau.now.yield_units.0 book.now tableau.now.leaf) }
+    {
+        let mut lines = Vec::with_capacity(alloc, book.lines().len())?;
+        for line in 0..book.line_count() {
+            lines.push(Least::of_none(book, tableau, line))?;
+        }
+        Ok(Leasts {
+            lines,
+            changed: Span::none(),
+        })
+    }
+
+    /// Takes note of all that another leaf prices otherwise.
+    pub(crate) fn price(&mut self, old: &Leaf, new: &Leaf)
+        requires { length old.now.prices ≡ length new.now.prices }
+        ensures { (n : ℕ) (book : BookContents) → length old.now.prices ≡ length book.needs → AreLeasts n book old.now self.old → AreLeasts n book new.now self.new }
+    {
+        self.changed = self.changed.together(changes(old, new));
+    }
+
+    /// Takes note of a need date, counted from 0, whose price changes.
+    pub(crate) fn price_date(&mut self, place: u16)
+        ensures { (n : ℕ) (book : BookContents) (leaf : LeafOf) (price : ℕ) → length leaf.prices ≡ length book.needs → AreLeasts n book leaf self.old → AreLeasts n book (with_price leaf place price) self.new }
+    {
+        self.changed = self.changed.with(usize::from(place));
+    }
+
+    // The least that a line can add within an interval: as it is known, else reckoned and kept.
+    #[inline(always)]
+    fn least(&mut self, book: &Book, tableau: &Tableau, line: u16, interval: Interval) -> i128
+        requires tableau { IsTableau book.now tableau.now }
+        requires leasts { AreLeasts tableau.now.yield_units.0 book.now tableau.now.leaf self.old }
+        requires line { line < length book.now.lines }
+        requires ordered { interval.low ≤ interval.high }
+        requires high { (d : Line) → interval.high ≤ (slice_index_or book.now.lines line d).most }
+        ensures value { (d : Line) → result ≡ least_within tableau.now.yield_units.0 book.now tableau.now.leaf (slice_index_or book.now.lines line d) interval }
+        ensures size { unsigned_abs result ≤ 71 * 10 ^ 33 }
+        ensures leasts { AreLeasts tableau.now.yield_units.0 book.now tableau.now.leaf self.new }
+        ensures right { (d : Line) (e : LeastOf) → IsRight tableau.now.yield_units.0 book.now tableau.now.leaf (slice_index_or book.now.lines line d) (slice_index_or self.new.lines.items line e) }
+        ensures others { (k : ℕ) (e : LeastOf) → ¬ (k ≡ line) → slice_index_or self.new.lines.items k e ≡ slice_index_or self.old.lines.items k e }
+    {
+        let place = usize::from(line);
+        let known = self.lines[place];
+        if known.interval == interval && known.span.is_apart(self.changed) {
+            return known.least;
+        }
+        let least = tableau.least(book, line, interval);
+        self.lines[place] = Least {
+            span: known.span,
+            interval,
+            least,
+        };
+        least
+    }
+
+    /// The lower bound of the leaf by which the days are priced. What a line adds is inlined into its loop.
+    pub(crate) fn bound(&mut self, book: &Book, tableau: &Tableau, ranges: &Ranges) -> i128
+        requires tableau { IsTableau book.now tableau.now }
+        requires leasts { AreLeasts tableau.now.yield_units.0 book.now tableau.now.leaf self.old }
+        requires ranges { AllZip HasRoomFor book.now.lines ranges.now }
+        ensures value { result ≡ bound_of tableau.now.yield_units.0 book.now ranges.now tableau.now.leaf }
+        ensures size { unsigned_abs result < 10 ^ 37 }
+        ensures leasts { AreLeasts tableau.now.yield_units.0 book.now tableau.now.leaf self.new }
+    {
+        let intervals = ranges.intervals();
+        let mut bound = COEFFICIENT_SCALE as i128
+            * priced_needs(book.needs(), tableau.leaf.prices.as_slice()) as i128;
+        for line in 0..book.line_count() {
+            bound += self.least(book, tableau, line, intervals[usize::from(line)]);
+        }
+        self.changed = Span::none();
+        bound
+    }
+}
