@@ -1,6 +1,5 @@
 -- What is found is accepted.
-use Rattle.std.proofs.Common.{◌≡◌, ◌∙◌, ℕ, List, length, ap, Option, None}
-use Rattle.bound_certificate.proofs.PackableFacts.{packable-of}
+use Rattle.std.proofs.Common.{◌≡◌, ◌∙◌, ℕ, List, ap, Option, None}
 use Rattle.bound_certificate.specs.declared.certificate.Certificate.{Certificate}
 use Rattle.escrow_check.proofs.ReasonFacts.{yes_where_unopposed}
 use Rattle.escrow_check.specs.Acceptance.{judged, reason_of, verdict_by}
@@ -14,8 +13,7 @@ pub found_are_accepted : FoundAreAccepted
 unfolding judged
 found_are_accepted case plan nodes gap limits terms found =
     let cert : Certificate = certificate_of plan nodes gap in
-    let writable = packable-of (length case.book.needs) cert found.well_formed in
-    let none : reason_of case cert ≡ None = (yes_where_unopposed case cert (record { book = limits; terms = terms; written = writable })).1 found.unopposed in
+    let none : reason_of case cert ≡ None = (yes_where_unopposed case cert (record { book = limits; terms = terms; written = found.packable })).1 found.unopposed in
     ap (λ (o : Option Reason). verdict_by case cert o) none
     ∙ ap (λ (p : List ℕ). verdict.Yes (portfolio_with case p gap)) (plan-again case.book plan found.permitted)
 
@@ -23,6 +21,5 @@ pub none_found_are_accepted : NoneFoundAreAccepted
 unfolding judged
 none_found_are_accepted case nodes limits terms found =
     let cert : Certificate = certificate_of_none nodes in
-    let writable = packable-of (length case.book.needs) cert found.well_formed in
-    let none : reason_of case cert ≡ None = (yes_where_unopposed case cert (record { book = limits; terms = terms; written = writable })).1 found.unopposed in
+    let none : reason_of case cert ≡ None = (yes_where_unopposed case cert (record { book = limits; terms = terms; written = found.packable })).1 found.unopposed in
     ap (λ (o : Option Reason). verdict_by case cert o) none

@@ -59,7 +59,7 @@ pub none-is : (case : CaseContents) (rule : SplitRule) (popped : ℤ) (tree : Tr
     → length tree.pool.states ≤ case.budget → IsNoDearerThanBackward case.limit case.book None → IsNoneFound case nodes
 none-is case rule popped tree nodes is reach small few beyond = record {
   in_reach = reach;
-  well_formed = record { portfolio = refl; few = omega (arith, small, shows.count); nodes = shows.well.limited; tree = shows.well.trees };
+  packable = record { portfolio = refl; few = omega (arith, small, shows.count); nodes_are = shows.well.limited; tree = shows.well.trees };
   unopposed = record { portfolio = tt; tree = record { proper = shows.well.proper; closed = shows.closed }; allowed = tt };
   few = omega (arith, few, shows.count);
   beyond = beyond;

@@ -12,7 +12,8 @@ use Rattle.cash_table.proofs.PermitFacts.{passes_from_permitted, permitted_from_
 use Rattle.offer_book.specs.Book.{BookContents, AreLines, IsBook, IsLine}
 use Rattle.offer_book.specs.CaseBook.{cash_line}
 use Rattle.offer_book.specs.Portfolio.{IsPermitted, IsPermittedUnits}
-use Rattle.bound_certificate.specs.Certificate.{AreBuys, IsBuy}
+use Rattle.bound_certificate.specs.Certificate.{IsBuy}
+use Rattle.bound_certificate.specs.Packed.{ArePackedBuys}
 use Rattle.cash_table.proofs.CostFacts.{permitted_few}
 use Rattle.dual_bound.proofs.Soundness.{all-lines}
 use Rattle.offer_book.specs.declared.line.Line.{Line}
@@ -163,12 +164,12 @@ pub most-small : (days : PaymentDays) (line : Line) → IsLine days line → lin
 most-small days line (inl cash) = omega (arith, cash.most)
 most-small days line (inr security) = omega (arith, mul-le-mul_left line.most security.step_at_least, security.cap)
 
-lines-few : (days : PaymentDays) (lines : List Line) → AreLines days lines → length lines ≤ 257
+lines-few : (days : PaymentDays) (lines : List Line) → AreLines days lines → length lines ≤ 513
 lines-few days [] are = absurd are
 lines-few days (cash ∷ securities) are = omega (arith, are.2)
 
 -- purchases of a permitted plan of a book are those of a certificate
-pub plan-buys_well : (book : BookContents) (plan : List ℕ) → IsBook book → IsPermitted book plan → AreBuys (purchases_of plan)
+pub plan-buys_well : (book : BookContents) (plan : List ℕ) → IsBook book → IsPermitted book plan → ArePackedBuys (purchases_of plan)
 plan-buys_well book plan limits permitted =
     let few = lines-few book.days book.lines limits.lines in
     record {
@@ -177,7 +178,7 @@ plan-buys_well book plan limits permitted =
       rising = purchases-rise 0 plan;
     }
   where
-    range : length book.lines ≤ 257 → (buy : Buy) → IsOfPlan 0 plan buy → IsBuy buy
+    range : length book.lines ≤ 513 → (buy : Buy) → IsOfPlan 0 plan buy → IsBuy buy
     range few buy is =
         let within : buy.line < length book.lines = omega (arith, is.within, permitted.same_length) in
         let line : Line = get_or book.lines buy.line (cash_line 0) in

@@ -55,10 +55,10 @@ found-closed case rule plan cents gap popped tree nodes is small bought few leas
   permitted = bought.permitted;
   meets = bought.meets;
   within = bought.within;
-  well_formed = record {
+  packable = record {
     portfolio = (plan-buys_well case.book plan is.limits bought.permitted, omega (arith, small, allowed));
     few = omega (arith, few, shows.count);
-    nodes = shows.well.limited;
+    nodes_are = shows.well.limited;
     tree = shows.well.trees;
   };
   unopposed = record {

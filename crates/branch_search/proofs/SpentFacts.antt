@@ -115,10 +115,10 @@ shown-found case cents gap nodes plan own shown budget small limits bought gap_i
   permitted = bought.permitted;
   meets = bought.meets;
   within = bought.within;
-  well_formed = record {
+  packable = record {
     portfolio = (plan-buys_well case.book plan limits bought.permitted, omega (arith, small, allowed));
     few = omega (arith, shown.few, budget);
-    nodes = shown.nodes;
+    nodes_are = shown.nodes;
     tree = shown.trees;
   };
   unopposed = record {

@@ -3,7 +3,8 @@
 use Rattle.std.specs.Prelude.{◌≡◌, ℕ, ◌+◌, ◌<◌, ◌≤◌, false, true, List, All, length, Option, Result, Err, Ok, Some, None, IfSome, MatchOption}
 use Rattle.backward_build.specs.BackwardPlan.{backward_plan}
 use Rattle.backward_build.specs.Trim.{HasNoMore, IsTrimmed}
-use Rattle.bound_certificate.specs.Certificate.{IsNode, IsWellFormed}
+use Rattle.bound_certificate.specs.Certificate.{IsNode}
+use Rattle.bound_certificate.specs.Packed.{IsPackable}
 use Rattle.bound_certificate.specs.declared.limits.TheConstants.{MOST_NODES}
 use Rattle.case_file.specs.Case.{CaseContents}
 use Rattle.cash_table.specs.First.{first_short_of}
@@ -73,7 +74,7 @@ pub record IsFound (case : CaseContents) (plan : List ℕ) (nodes : List TreeNod
   pub permitted : IsPermitted case.book plan
   pub meets : Meets case.book plan
   pub within : is_within_limit case.limit case.book plan ≡ true
-  pub well_formed : IsWellFormed (length case.book.needs) (certificate_of plan nodes gap)
+  pub packable : IsPackable (length case.book.needs) (certificate_of plan nodes gap)
   pub unopposed : IsUnopposed case (certificate_of plan nodes gap)
   pub least : (less : ℕ) → less < gap → ¬ IsSoundTree case (certificate_of plan nodes less)
 
@@ -90,7 +91,7 @@ pub record IsFoundBy (case : CaseContents) (plan : List ℕ) (nodes : List TreeN
 -- trimmed to are beyond the limit, and so is, or is short, the portfolio of each point
 pub record IsNoneFound (case : CaseContents) (nodes : List TreeNode) : Type 0 where
   pub in_reach : IsInReach case.book
-  pub well_formed : IsWellFormed (length case.book.needs) (certificate_of_none nodes)
+  pub packable : IsPackable (length case.book.needs) (certificate_of_none nodes)
   pub unopposed : IsUnopposed case (certificate_of_none nodes)
   pub few : length nodes ≤ case.budget
   pub beyond : OfBackward (λ plan. is_within_limit case.limit case.book plan ≡ false) case.book

@@ -16,7 +16,7 @@ const COST_SCALE: i128 = COEFFICIENT_SCALE as i128 * PRICE_SCALE as i128;
 /// The least gap, in cents, with which a bound bears out a cost: what the cost is above the bound, in whole cents.
 pub(crate) fn least_gap(bound: i128, cost: Cents) -> u64
     requires bound { unsigned_abs bound < 10 ^ 37 }
-    requires cost { cost.0 ≤ 91 * 10 ^ 12 }
+    requires cost { cost.0 ≤ 172 * 10 ^ 12 }
     ensures supported { bears_out bound (Some (pos cost.0 -ℤ pos result)) ≡ true }
     ensures least { (gap : ℕ) → bears_out bound (Some (pos cost.0 -ℤ pos gap)) ≡ true → result ≤ gap }
 {
@@ -46,7 +46,7 @@ pub(crate) fn greatest_cost(bound: i128, allowance: Cents) -> Cents
 
 // The greater of a gap and the least one with which a node's leaf, where that closes it, bears out a cost.
 fn greater_gap(gap: u64, node: &SearchNode, cost: Cents) -> u64
-    requires cost { cost.0 ≤ 91 * 10 ^ 12 }
+    requires cost { cost.0 ≤ 172 * 10 ^ 12 }
     requires bound { unsigned_abs node.now.priced.bound < 10 ^ 37 }
     ensures no_less { gap ≤ result }
     ensures borne { IsBorneBy node.now cost.0 result }
@@ -61,7 +61,7 @@ fn greater_gap(gap: u64, node: &SearchNode, cost: Cents) -> u64
 
 /// The least gap, in cents, with which each leaf that closes its own node bears out what a plan costs.
 pub(crate) fn tree_gap(tree: &SearchTree, cost: Cents) -> u64
-    requires cost { cost.0 ≤ 91 * 10 ^ 12 }
+    requires cost { cost.0 ≤ 172 * 10 ^ 12 }
     requires bounds { All (λ own. unsigned_abs own.priced.bound < 10 ^ 37) tree.now.nodes }
     ensures { IsLeastGap tree.now.nodes (length tree.now.nodes) cost.0 result }
 {

@@ -4,7 +4,7 @@ ghost use Rattle.case_file.specs.Case.{HasTerms, case_view};
 ghost use Rattle.branch_search.specs.Search.{EndsOf, IsFound, IsOverBound};
 
 use crate::{Found, Hint, SearchEnd, Spent, found_laws, search, search_from};
-use bound_certificate::{Buy, write_cert};
+use bound_certificate::{Buy, pack, write_packed};
 use case_file::{Case, read_case};
 use cash_table::cost;
 use escrow_check::{Verdict, check};
@@ -79,7 +79,8 @@ fn is_found(
     };
     assert!(rt; case.book.need_count() <= 480);
     let certificate = found.into_certificate(alloc, &case.book)?;
-    let text = write_cert(alloc, &certificate)?;
+    let packed = pack(alloc, &certificate)?;
+    let text = write_packed(alloc, &packed)?;
     match &certificate.buys {
         Some(bought) => assert_eq!(rt; bought.as_slice(), *buys),
         None => return Err(Fail::new("no purchases")),

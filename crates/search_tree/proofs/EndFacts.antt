@@ -197,10 +197,10 @@ split-node-by case ranges line at limits tight proper =
     let small = most-small case.book.days own (all-lines case.book.days case.book.lines limits.lines line (cash_line 0) within) in
     (omega (arith, within, few-lines case.book limits), omega (arith, split.right none, high, small))
   where
-    few-lines : (book : BookContents) → IsBook book → length book.lines ≤ 257
+    few-lines : (book : BookContents) → IsBook book → length book.lines ≤ 513
     few-lines book limits = by book.lines limits.lines
       where
-        by : (lines : List Line) → AreLines book.days lines → length lines ≤ 257
+        by : (lines : List Line) → AreLines book.days lines → length lines ≤ 513
         by [] are = absurd are
         by (cash ∷ securities) are = omega (arith, are.2)
 
