@@ -4,7 +4,6 @@ use Rattle.std.specs.Prelude.{IsSomeAnd, Result}
 use Rattle.escrow_desk.specs.Content.{Content, SaidPart, Told, with_said}
 use Rattle.escrow_desk.specs.declared.refusal.Refusal.{Refusal}
 use Rattle.escrow_units.specs.declared.amount.Rate.{Rate}
-use Rattle.bound_certificate.proofs.PackableFacts.{packable-of}
 use Rattle.bound_certificate.specs.Versions.{IsPackedFormOf}
 use Rattle.branch_search.specs.Accepted.{FoundAreAccepted, NoneFoundAreAccepted, portfolio_with}
 use Rattle.branch_search.specs.Plain.{PlainAreSettled}
@@ -64,7 +63,7 @@ pub record AreSearchLaws : Type 0 where
 no_rivals : NoneFoundAreAccepted → (case : CaseContents) (nodes : List TreeNode) → IsBook case.book → HasTerms case → IsNoneFound case nodes
     → (rival : List ℕ) → ¬ IsRival case.limit case.book rival
 no_rivals law case nodes book terms is =
-    let writable = packable-of (length case.book.needs) (certificate_of_none nodes) is.well_formed in
+    let writable = is.packable in
     yes_none_is_right case (certificate_of_none nodes) (record { book = book; terms = terms; written = writable }) (law case nodes book terms is)
 
 obstructs : AreSearchLaws → (case : CaseContents) (own : Obstacle) → IsBook case.book → HasTerms case → IsInTheWay case own → Obstructs case own
@@ -136,7 +135,7 @@ is_uncapped laws one case top zero answer book terms is_top is said = record {
 has_portfolio : FoundAreAccepted → (case : CaseContents) (plan : List ℕ) (nodes : List TreeNode) (gap : ℕ) → IsBook case.book → HasTerms case → IsFound case plan nodes gap
     → HasPortfolio case (certificate_of plan nodes gap) (yes_text case (portfolio_with case plan gap))
 has_portfolio law case plan nodes gap book terms found =
-    let writable = packable-of (length case.book.needs) (certificate_of plan nodes gap) found.well_formed in
+    let writable = found.packable in
     let right = yes_is_right case (certificate_of plan nodes gap) (portfolio_with case plan gap) (record { book = book; terms = terms; written = writable })
     (law case plan nodes gap book terms found) in
     record {

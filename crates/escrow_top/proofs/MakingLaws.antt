@@ -1,8 +1,8 @@
 -- What `make` comes to, proved.
-use Rattle.std.proofs.Common.{◌≡◌, ◌∙◌, ℕ, List, Ok, Err, Result, refl, subst, sym, ap, inl, inr}
+use Rattle.std.proofs.Common.{◌≡◌, ◌∙◌, ℕ, List, length, Ok, Err, Result, subst, sym, ap, inl, inr}
 use Rattle.std.specs.Prelude.{IfOk}
 use Rattle.escrow_desk.specs.declared.refusal.Refusal.{Refusal}
-use Rattle.bound_certificate.specs.Text.{text_of}
+use Rattle.bound_certificate.proofs.FormFacts.{HasPackedForm, packed-form}
 use Rattle.branch_search.proofs.FoundFacts.{found_are_accepted, none_found_are_accepted}
 use Rattle.branch_search.specs.Purchases.{certificate_of, certificate_of_none}
 use Rattle.branch_search.specs.Search.{IsFound, IsFoundBy, IsNoneFound}
@@ -30,19 +30,31 @@ made_of number case plan nodes gap answer book terms found found_by is = record 
   gap = gap;
   found = found;
   found_by = found_by;
-  accepted = text_accepted case plan nodes gap (text_of (certificate_of plan nodes gap)) found_are_accepted book terms found
-      (inl (record { well_formed = found.well_formed; text = refl }));
+  accepted = record {
+    text = form.text;
+    is_text = inr form.is;
+    accepted = λ bytes is_one. text_accepted case plan nodes gap bytes found_are_accepted book terms found is_one;
+  };
   is_answer = is;
 }
+  where
+    form : HasPackedForm (length case.book.needs) (certificate_of plan nodes gap)
+    form = packed-form (length case.book.needs) (certificate_of plan nodes gap) found.packable
 
 pub made_none : (case : CaseContents) (nodes : List TreeNode) (answer : Answer) → IsBook case.book → HasTerms case → IsNoneFound case nodes → answer ≡ none_answer nodes → IsMadeNone case answer
 made_none case nodes answer book terms none is = record {
   nodes = nodes;
   none = none;
-  accepted = none_accepted case nodes (text_of (certificate_of_none nodes)) none_found_are_accepted book terms none
-      (inl (record { well_formed = none.well_formed; text = refl }));
+  accepted = record {
+    text = form.text;
+    is_text = inr form.is;
+    accepted = λ bytes is_one. none_accepted case nodes bytes none_found_are_accepted book terms none is_one;
+  };
   is_answer = is;
 }
+  where
+    form : HasPackedForm (length case.book.needs) (certificate_of_none nodes)
+    form = packed-form (length case.book.needs) (certificate_of_none nodes) none.packable
 
 -- a certificate of it is accepted for the files
 end_undone : (case : CaseContents) (answer : Answer) → IsEnd case answer → (reached : Status) → answer.status ≡ reached → (status.Infeasible ≡ reached → ⊥) → (status.BudgetSpent ≡ reached → ⊥) → ⊥
@@ -52,12 +64,12 @@ end_undone case answer (inr own) reached is short spent = spent (sym (ap (λ (a 
 has_accepted : (files : InputFiles) (number : ℕ) (case : CaseContents) (answer : Answer) → GiveCase files case → IsBook case.book → HasTerms case
     → IsMadeAnswer number (Ok case) answer → (reached : Status) → answer.status ≡ reached → (status.Infeasible ≡ reached → ⊥) → (status.BudgetSpent ≡ reached → ⊥) → HasAcceptedText files
 has_accepted files number case answer gives book terms (inl own) reached ends short spent = record {
-  cert = text_of (certificate_of own.plan own.nodes own.gap);
-  is = accepted_text files (text_of (certificate_of own.plan own.nodes own.gap)) case gives (book, terms) (ap (λ (a : Answer). a.status) own.accepted);
+  cert = own.accepted.text;
+  is = accepted_text files own.accepted.text case gives (book, terms) (ap (λ (a : Answer). a.status) (own.accepted.accepted own.accepted.text own.accepted.is_text));
 }
 has_accepted files number case answer gives book terms (inr (inl own)) reached ends short spent = record {
-  cert = text_of (certificate_of_none own.nodes);
-  is = accepted_text files (text_of (certificate_of_none own.nodes)) case gives (book, terms) (ap (λ (a : Answer). a.status) own.accepted);
+  cert = own.accepted.text;
+  is = accepted_text files own.accepted.text case gives (book, terms) (ap (λ (a : Answer). a.status) (own.accepted.accepted own.accepted.text own.accepted.is_text));
 }
 has_accepted files number case answer gives book terms (inr (inr own)) reached ends short spent = absurd (end_undone case answer own reached ends short spent)
 

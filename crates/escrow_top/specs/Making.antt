@@ -1,8 +1,9 @@
 -- What `make` comes to: the files of the case of a number, and the answer to it. The texts are this project's own.
-use Rattle.std.specs.Prelude.{◌≡◌, ◌⊎◌, ℕ, List, [], ◌∷◌, ◌++◌, codes, decimal, Result, Ok, Err, IfOk}
+use Rattle.std.specs.Prelude.{◌≡◌, ◌⊎◌, ℕ, List, [], ◌∷◌, ◌++◌, codes, decimal, Result, Ok, Err, IfOk, length}
 use Rattle.escrow_desk.specs.Content.{Content, SaidPart, Told, WrotePart, told_map, with_file, with_said}
 use Rattle.escrow_desk.specs.declared.refusal.Refusal.{Refusal}
-use Rattle.bound_certificate.specs.Text.{text_of}
+use Rattle.bound_certificate.specs.declared.certificate.Certificate.{Certificate}
+use Rattle.bound_certificate.specs.Versions.{IsCertificateText}
 use Rattle.branch_search.specs.Purchases.{certificate_of, certificate_of_none}
 use Rattle.branch_search.specs.Search.{IsFound, IsFoundBy, IsNoneFound}
 use Rattle.case_file.specs.Case.{CaseContents}
@@ -45,6 +46,12 @@ made_answer number case plan gap nodes = record { status = status.Done; text = m
 abbrev pub none_answer : List TreeNode → Answer
 none_answer nodes = record { status = status.NoneWithinYield; text = none_within_text nodes }
 
+-- a certificate has a text, and `check` gives this answer to each of its texts, of either version
+pub record IsAcceptedWith (case : CaseContents) (cert : Certificate) (answer : Answer) : Type 0 where
+  pub text : List ℕ
+  pub is_text : IsCertificateText (length case.book.needs) cert text
+  pub accepted : (bytes : List ℕ) → IsCertificateText (length case.book.needs) cert bytes → certificate_answer case bytes ≡ answer
+
 -- a portfolio is found, with the least gap that its tree supports, and `check` accepts their certificate; this is said of it
 pub record IsMadeOf (number : ℕ) (case : CaseContents) (answer : Answer) : Type 0 where
   pub plan : List ℕ
@@ -52,14 +59,14 @@ pub record IsMadeOf (number : ℕ) (case : CaseContents) (answer : Answer) : Typ
   pub gap : ℕ
   pub found : IsFound case plan nodes gap
   pub found_by : IsFoundBy case plan nodes
-  pub accepted : certificate_answer case (text_of (certificate_of plan nodes gap)) ≡ accepted_with case plan gap
+  pub accepted : IsAcceptedWith case (certificate_of plan nodes gap) (accepted_with case plan gap)
   pub is_answer : answer ≡ made_answer number case plan gap nodes
 
 -- there is no rival, as a tree shows, and `check` accepts its certificate; this is said of it
 pub record IsMadeNone (case : CaseContents) (answer : Answer) : Type 0 where
   pub nodes : List TreeNode
   pub none : IsNoneFound case nodes
-  pub accepted : certificate_answer case (text_of (certificate_of_none nodes)) ≡ accepted_none
+  pub accepted : IsAcceptedWith case (certificate_of_none nodes) accepted_none
   pub is_answer : answer ≡ none_answer nodes
 
 -- the answer to the case of a number: what was found, or that nothing was; or the files of the number are refused

@@ -671,7 +671,7 @@ fn the_greatest_bounds(rt: HostRuntime) -> Result<(), Fail> {
         rt.alloc(),
         b"terms,1000000,1000000\nrate,2025-02-14,2065-01-15,30.00\n",
     )?;
-    for _ in 0..256 {
+    for _ in 0..512 {
         rates.extend_from_slice(b"offer,2065-01-15,30.00,,1000000000\n")?;
     }
     let inputs = Inputs {
@@ -683,12 +683,12 @@ fn the_greatest_bounds(rt: HostRuntime) -> Result<(), Fail> {
         Row {
             cert: b"escrow-certificate 1\nportfolio none\ngap 0\nnodes 1\nl 1 1000000000000 2000000000000\nend\n",
             way: &[],
-            bound: -312_872_436_711_971_353_295_913_216_000_000_000,
+            bound: -645_744_873_423_942_706_591_826_432_000_000_000,
         },
         Row {
             cert: b"escrow-certificate 1\nportfolio none\ngap 0\nnodes 1\nl 0 1000000000000 2000000000000\nend\n",
             way: &[],
-            bound: -338_472_436_711_971_353_295_913_216_000_000_000,
+            bound: -696_944_873_423_942_706_591_826_432_000_000_000,
         },
     ];
     try_rows(&rt, rt.alloc(), &inputs, &rows)

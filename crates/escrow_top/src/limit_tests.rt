@@ -196,11 +196,37 @@ fn with_offers(alloc: Global, offers: u32) -> Result<Built, Fail> {
 #[test]
 fn most_offers(rt: HostRuntime) -> Result<(), Fail> {
     let alloc = rt.alloc();
-    let most = with_offers(alloc, 256)?;
+    let most = with_offers(alloc, 512)?;
     try_built(&rt, alloc, &most, Status::Done, FIRST_TEXT)?;
-    let more = with_offers(alloc, 257)?;
+    let more = with_offers(alloc, 513)?;
     let said = b"refused prices row 0 TooManyLines\n";
     try_built(&rt, alloc, &more, Status::Refused, said)
+}
+
+// The purchases of ten steps of each of so many offers.
+fn push_purchases(cert: &mut Vec<u8>, alloc: Global, offers: u32) -> Result<(), Fail> {
+    for line in 0..offers {
+        cert.extend_from_slice(b"buy ")?;
+        cert.extend_from_slice((line + 1).to_string(alloc)?.as_bytes())?;
+        cert.extend_from_slice(b" 10\n")?;
+    }
+    Ok(())
+}
+
+// A certificate of version 2 buys of each of 512 offers, and a dollar of opening cash.
+#[test]
+fn most_purchases(rt: HostRuntime) -> Result<(), Fail> {
+    let alloc = rt.alloc();
+    let mut built = with_offers(alloc, 512)?;
+    built.issue = Vec::from_slice(
+        alloc,
+        b"settle,2025-01-15\ncash,1.00\nneed,2025-04-15,512001.00\nrestricted,4.00\n",
+    )?;
+    built.cert = Vec::from_slice(alloc, b"escrow-certificate 2\nportfolio 513\nbuy 0 100\n")?;
+    push_purchases(&mut built.cert, alloc, 512)?;
+    built.cert.extend_from_slice(b"gap 0\nvectors 1\nv 1000000000000\nnodes 1\nl 1 0 1\nend\n")?;
+    let said = b"yes\ncost 512001.00\nyield 0.00000000 0.00000000\nlimit 4.00100000\ngap 0.00\n";
+    try_built(&rt, alloc, &built, Status::Done, said)
 }
 
 // A tree of 9,999 nodes: the one line is split at each number of dollars from 1,001 to 5,999.

@@ -310,7 +310,7 @@ fn limits_of_files(rt: HostRuntime) -> Result<(), Fail> {
     try_made(&rt, alloc, &CHECK, files, Status::Refused, said)?;
     let mut files = MadeFiles::of_first(alloc)?;
     files.rates = Vec::from_slice(alloc, b"terms,1000,100\n")?;
-    for _ in 0..257 {
+    for _ in 0..513 {
         files
             .rates
             .extend_from_slice(b"offer,2025-04-15,0.00,,10000\n")?;

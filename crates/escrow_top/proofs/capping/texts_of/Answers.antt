@@ -1,5 +1,4 @@
 use Rattle.std.proofs.Common.{length, inr, arith}
-use Rattle.bound_certificate.proofs.PackableFacts.{packable-of}
 use Rattle.branch_search.proofs.FoundFacts.{found_are_accepted}
 use Rattle.branch_search.specs.Purchases.{certificate_of}
 use Rattle.case_file.specs.Case.{case_view}
@@ -11,7 +10,7 @@ certificate_text-requires c =
     let own = c.args.greatest.escrow in
     let dates = length (case_view own.case).book.needs in
     let cert = certificate_of own.found.plan own.found.tree own.found.gap in
-    rw c.in_ok-certificate.ensures (dates, omega (arith, c.line_count.ensures.limits.needs.few), packable-of dates cert c.requires.found.well_formed)
+    rw c.in_ok-certificate.ensures (dates, omega (arith, c.line_count.ensures.limits.needs.few), c.requires.found.packable)
 
 pub returns-clause-cert : goal.returns-clause-cert
 returns-clause-cert c =
@@ -19,7 +18,7 @@ returns-clause-cert c =
     let dates = length (case_view own.case).book.needs in
     let cert = certificate_of own.found.plan own.found.tree own.found.gap in
     let writes = rw c.in_ok-certificate.ensures at c.in_ok-cert.ensures in
-    writes dates (packable-of dates cert c.requires.found.well_formed)
+    writes dates c.requires.found.packable
 
 pub returns-clause-accepted : goal.returns-clause-accepted
 returns-clause-accepted c =

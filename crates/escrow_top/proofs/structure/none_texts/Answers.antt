@@ -1,7 +1,5 @@
 use Rattle.std.proofs.Common.{length, inr, arith}
-use Rattle.bound_certificate.proofs.PackableFacts.{packable-of}
 use Rattle.branch_search.proofs.FoundFacts.{none_found_are_accepted}
-use Rattle.branch_search.specs.Purchases.{certificate_of_none}
 use Rattle.case_file.specs.Case.{case_view}
 use Rattle.escrow_top.proofs.StructureLaws.{none_accepted}
 use Rattle.escrow_top.proofs.structure.none_texts.Goals as goal
@@ -9,13 +7,13 @@ use Rattle.escrow_top.proofs.structure.none_texts.Goals as goal
 pub certificate_text-requires : goal.certificate_text-requires
 certificate_text-requires c =
     let dates = length (case_view c.args.case.now).book.needs in
-    (dates, omega (arith, c.requires.book.needs.few), packable-of dates (certificate_of_none c.args.nodes) c.requires.none.well_formed)
+    (dates, omega (arith, c.requires.book.needs.few), c.requires.none.packable)
 
 pub returns : goal.returns
 returns c =
     let case = case_view c.args.case.now in
     let dates = length case.book.needs in
-    let is = c.in_ok-cert.ensures dates (packable-of dates (certificate_of_none c.args.nodes) c.requires.none.well_formed) in
+    let is = c.in_ok-cert.ensures dates c.requires.none.packable in
     record {
       nodes = c.args.nodes;
       none = c.requires.none;

@@ -1,5 +1,4 @@
 use Rattle.std.proofs.Common.{length, inr, arith}
-use Rattle.bound_certificate.proofs.PackableFacts.{packable-of}
 use Rattle.branch_search.proofs.FoundFacts.{found_are_accepted}
 use Rattle.branch_search.specs.Purchases.{certificate_of}
 use Rattle.case_file.specs.Case.{case_view}
@@ -11,14 +10,14 @@ certificate_text-requires c =
     let case = case_view c.args.case.now in
     let cert = certificate_of c.args.found.plan c.args.found.tree c.args.found.gap in
     rw c.in_ok-certificate.ensures
-    (length case.book.needs, omega (arith, c.requires.book.needs.few), packable-of (length case.book.needs) cert c.requires.found.well_formed)
+    (length case.book.needs, omega (arith, c.requires.book.needs.few), c.requires.found.packable)
 
 pub returns : goal.returns
 returns c =
     let case = case_view c.args.case.now in
     let cert = certificate_of c.args.found.plan c.args.found.tree c.args.found.gap in
     let writes = rw c.in_ok-certificate.ensures at c.in_ok-cert.ensures in
-    let is = writes (length case.book.needs) (packable-of (length case.book.needs) cert c.requires.found.well_formed) in
+    let is = writes (length case.book.needs) c.requires.found.packable in
     record {
       plan = c.args.found.plan;
       nodes = c.args.found.tree;
