@@ -17,8 +17,8 @@ MOST_DAYS = 14_600
 MOST_SECONDS, MOST_MEGABYTES = 5.0, 100.0
 CHANGES = {
     "needs": (1, 2, 12, 40, 121, 300, 472, 480),
-    "offers": (0, 1, 40, 130, 200, 256),
-    "notes": (0, 1, 16, 80, 256),
+    "offers": (0, 1, 40, 130, 200, 400, 512),
+    "notes": (0, 1, 16, 80, 256, 512),
     "cents": (1, 7, 100, 40_000, 2_000_000),
     "step": (1, 100, 10_000, 100_000, 1_000_000),
     "minimum": (1, 10, 1_000_000),
@@ -71,7 +71,7 @@ class Shape:
         return "\n".join(rows) + "\n" if self.offers else ""
 
     def prices(self, draw: random.Random) -> str:
-        count = min(self.notes, 256 - self.offers)
+        count = min(self.notes, 512 - self.offers)
         rows = ["terms,%d,%d" % (self.step, self.step)]
         for number in range(count):
             words = (self._day(number * 3 + 2, count * 3 + 2), draw.randrange(8), draw.randrange(8) * 125, draw.randrange(90, 110), draw.randrange(32))

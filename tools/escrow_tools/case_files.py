@@ -14,7 +14,7 @@ from .records import Record, records_of
 
 ISSUE, RATES, PRICES, HELD, CERT = "issue", "rates", "prices", "held", "cert"
 INPUT_LIMIT = 1_048_576
-GREATEST_LINES = 256
+GREATEST_LINES = 512
 GREATEST_NEED_DATES = 480
 GREATEST_CLOSED_ROWS = 1_000
 FIRST_SETTLEMENT, LAST_SETTLEMENT = date(2000, 1, 1), date(2150, 1, 1)

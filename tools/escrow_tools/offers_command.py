@@ -74,7 +74,7 @@ def words() -> Words:
         "--every", metavar="MONTHS", type=int, help="further maturities every so many months from settlement"
     )
     parser.add_argument("--no-zero", action="store_true", help="no offers at 0.00")
-    parser.add_argument("--prices", metavar="PRICES", help="price file, whose notes count to the limit of 256 lines")
+    parser.add_argument("--prices", metavar="PRICES", help="price file, whose notes count to the limit of 512 lines")
     parser.add_argument("--lines", metavar="COUNT", type=int, help="at most so many offers")
     return parser
 

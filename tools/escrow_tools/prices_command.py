@@ -44,7 +44,7 @@ def words() -> Words:
     parser.add_argument(
         "--terms", metavar="MINIMUM,STEP", default="1000,1000", help="least purchase and step in dollars (1000,1000)"
     )
-    parser.add_argument("--rates", metavar="RATES", help="rate file, whose offers count to the limit of 256 lines")
+    parser.add_argument("--rates", metavar="RATES", help="rate file, whose offers count to the limit of 512 lines")
     parser.add_argument("--lines", metavar="COUNT", type=int, help="at most so many notes")
     return parser
 

@@ -242,7 +242,7 @@ FILES = [
     _whole("a page of the web", "rates", b"<html><body>rates</body></html>", "refused rates row 1 Missing", "page"),
     _whole("a PDF", "prices", b"%PDF-1.7\n", "refused prices row 1 Missing", "PDF"),
     _whole("a file over its limit", "issue", _bytes(ISSUE + "\n" * 1_048_576), "refused issue row 0 TooLong", "1,048,576"),
-    _whole("too many lines", "rates", _bytes(RATES + (OFFER + "\n") * 250), "refused prices row 0 TooManyLines", "256"),
+    _whole("too many lines", "rates", _bytes(RATES + (OFFER + "\n") * 506), "refused prices row 0 TooManyLines", "512"),
     _whole("too many need dates", "issue",
            _bytes(ISSUE + "".join("need,20%02d-%02d-%02d,1.00\n" % (26 + n // 336, n // 28 % 12 + 1, n % 28 + 1) for n in range(481))),
            "refused issue row 0 TooManyDates", "480"),

@@ -47,6 +47,13 @@ IsAccepted (unread ∷ words) = (kind : Kind) → IsAccepted words
 
 abbrev pub unread : ℕ
 unread = 0
+
+-- what is proved of definitions is none
+pub bought-prop : (least : ℕ) → IsProp (Bought least)
+bought-prop least = λ h k. bought_path h k
+
+abbrev pub last : ℕ
+last = unread
 """,
     "crates/offer_book/specs/Book.antt": """\
 use Rattle.offer_book.specs.Parts.{part}
@@ -109,6 +116,14 @@ class SmallTest(FolderTest):
         without = {found for found in self.library.defined() if found.name == "Bought"}
         names = [found.name for found in self.clauses.reached(["yes"], without)]
         self.assertEqual(names, ["Status", "IsAccepted", "MOST", "Kind"])
+
+    def test_lemma(self) -> None:
+        defined = self.library.defined()
+        names = [found.name for found in defined if found.place == Place("escrow_top", "Ending")]
+        self.assertEqual(names, ["Bought", "IsAccepted", "unread", "last"])
+        for found in defined:
+            self.library.next_of(found)
+        self.assertFalse(self.library.unknown & {"IsProp", "bought_path"})
 
     def test_compared(self) -> None:
         page = read_page(self.folder / "docs" / "DEFINITIONS.md")

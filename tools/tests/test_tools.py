@@ -323,7 +323,7 @@ class OffersTest(FolderTest):
             self.assertIn(told, ran.err)
 
     def test_near_the_limits(self) -> None:
-        """480 need dates: 256 lines, the last and the first need date with an offer, and a case that the program takes."""
+        """480 need dates: 512 lines, the last and the first need date with an offer, and a case that the program takes."""
         days = [date(2026 + month // 12, month % 12 + 1, 15) for month in range(1, 481)]
         self.write(
             "issue.csv", "settle,2026-01-15\nrestricted,4.00\n" + "".join("need,%s,1000.00\n" % day for day in days)
@@ -333,7 +333,7 @@ class OffersTest(FolderTest):
         ran = run_tool(self.folder, "offers", "issue.csv", "table.csv", "-o", "rates.csv")
         self.assertEqual(ran.status, 0, ran.err)
         rates = read_rates((self.folder / "rates.csv").read_bytes())
-        self.assertEqual(len(rates.offers), 256)
+        self.assertEqual(len(rates.offers), 512)
         maturities = {offer.maturity for offer in rates.offers}
         self.assertTrue({days[0], days[-1]} <= maturities)
         answer = run_program(self.folder, "check", "issue.csv", "rates.csv", "prices.csv", "issue.csv")

@@ -8,6 +8,7 @@ from .. import amounts
 from ..amounts import counted, money_for_people, short_rate
 from ..case_files import (
     CERT,
+    GREATEST_LINES,
     GREATEST_NEED_DATES,
     HELD,
     INPUT_LIMIT,
@@ -540,8 +541,8 @@ def _closed_past_end(refused: Refused) -> Explanation:
 def _too_many_lines(refused: Refused) -> Explanation:
     rates, prices = refused.case.rates, refused.case.prices
     return Explanation(
-        "there are %s and %s, and 256 lines may be together: leave out those that are least wanted"
-        % (counted(len(rates.offers), "offer"), counted(len(prices.notes), "note")),
+        "there are %s and %s, and %d lines may be together: leave out those that are least wanted"
+        % (counted(len(rates.offers), "offer"), counted(len(prices.notes), "note"), GREATEST_LINES),
         place="%s and %s" % (refused.names.get(RATES, RATES), refused.names.get(PRICES, PRICES)),
         advice=["`./escrow offers` and `./escrow prices` keep to the limit"],
     )

@@ -10,6 +10,8 @@ from .mentions import NAME, Mention, Piece, mentions_of
 
 USE = re.compile(r"^(?:unfoldable |pub |ghost )*use ([\w.]+?)(?:\.\{([^}]*)\}| as (\w+))?;?$", re.MULTILINE)
 DEFINED = re.compile(r"^(?:abbrev |unfoldable )?pub (?!mod |use )(?:record |data )?(\S+)")
+# A lemma, that a fact has one proof at most: a field of a struct asks for it, and no clause means it.
+LEMMA = re.compile(r"^pub \S+ : (?:.* )?IsProp ")
 FIXITY = re.compile(r"^infix[lr]? ")
 CONSTRUCTOR = re.compile(r"^\s+(%s)\s+:" % NAME, re.MULTILINE)
 
@@ -80,18 +82,23 @@ def imports_of(text: str) -> Imports:
 
 
 def _blocks(lines: list[str]) -> list[list[str]]:
-    """The lines of each definition, the comment above it among them."""
+    """The lines of each definition, the comment above it among them. Lemmas are left out."""
     blocks: list[list[str]] = []
     above: list[str] = []
+    in_definition = False
     for line in lines:
         if not line.strip() or USE.match(line):
             above = []
         elif line.startswith("--") or FIXITY.match(line):
             above.append(line)
+        elif LEMMA.match(line):
+            above = []
+            in_definition = False
         elif DEFINED.match(line):
             blocks.append(above + [line])
             above = []
-        elif blocks and not line.startswith("pub mod"):
+            in_definition = True
+        elif in_definition and not line.startswith("pub mod"):
             blocks[-1].append(line)
     return blocks
 
