@@ -1,27 +1,27 @@
 -- The purchases of a plan are what the plan buys.
-use Rattle.std.proofs.Common.{◌≡◌, ◌≢◌, ◌∙◌, inl, inr, ◌^◌, ℕ, suc, zero, ◌+◌, ◌-◌, ◌<◌, ◌≤◌, Bool, true, false, nat_lt, if◌then◌else◌, Some, List, [], ◌∷◌, length, get_or, refl, sym, ap, subst, arith, AllPairs}
+use Rattle.std.proofs.Common.{◌≡◌, ◌≢◌, ◌∙◌, ℕ, suc, zero, ◌+◌, ◌-◌, ◌<◌, ◌≤◌, Bool, true, false, nat_lt, if◌then◌else◌, Some, List, [], ◌∷◌, length, get_or, refl, sym, ap, subst, arith, AllPairs}
 use Rattle.std.specs.Prelude.{All, slice_get}
 use Rattle.std.proofs.lemmas.Bool.{ltb-true, ltb-false}
 use Rattle.std.proofs.lemmas.List.{get_or_default}
 use Rattle.std.proofs.lemmas.List.Elements.{All-nil, All-cons, All-head, All-tail, All-weaker, All-get_or}
 use Rattle.std.proofs.lemmas.List.Kept.{AllPairs-cons}
-use Rattle.std.proofs.Math.Nat.{mul-le-mul_left}
 use Rattle.std.proofs.lemmas.Option.{slice_get-get_or}
 use Rattle.bound_certificate.specs.declared.certificate.Buy.{Buy}
 use Rattle.cash_table.proofs.PermitFacts.{passes_from_permitted, permitted_from_test}
-use Rattle.offer_book.specs.Book.{BookContents, AreLines, IsBook, IsLine}
+use Rattle.offer_book.specs.Book.{BookContents, IsBook, IsLine}
 use Rattle.offer_book.specs.CaseBook.{cash_line}
 use Rattle.offer_book.specs.Portfolio.{IsPermitted, IsPermittedUnits}
 use Rattle.bound_certificate.specs.Certificate.{IsBuy}
 use Rattle.bound_certificate.specs.Packed.{ArePackedBuys}
 use Rattle.cash_table.proofs.CostFacts.{permitted_few}
+use Rattle.cash_table.proofs.PaymentFacts.{count_lines}
 use Rattle.dual_bound.proofs.Soundness.{all-lines}
 use Rattle.offer_book.specs.declared.line.Line.{Line}
+use Rattle.search_tree.proofs.EndFacts.{most-small}
 use Rattle.escrow_check.proofs.PurchaseFacts.{none-found, one-plan, plan-buys, rise-pairs}
 use Rattle.escrow_check.specs.Acceptance.{plan_of}
 use Rattle.escrow_check.specs.Meaning.{Bought, IsOffered}
 use Rattle.branch_search.specs.Purchases.{purchases_from, purchases_of}
-use Rattle.offer_book.specs.declared.payment_days.PaymentDays.{PaymentDays}
 
 -- a purchase is of a plan whose first line has a number
 pub record IsOfPlan (line : ℕ) (plan : List ℕ) (buy : Buy) : Type 0 where
@@ -160,18 +160,10 @@ plan-again book plan permitted =
     one-plan book (purchases_of plan) (plan_of book (purchases_of plan)) plan (plan-buys book (purchases_of plan) rises none) (plan-bought book plan permitted)
 
 -- ---- their sizes
-pub most-small : (days : PaymentDays) (line : Line) → IsLine days line → line.most ≤ 10 ^ 13
-most-small days line (inl cash) = omega (arith, cash.most)
-most-small days line (inr security) = omega (arith, mul-le-mul_left line.most security.step_at_least, security.cap)
-
-lines-few : (days : PaymentDays) (lines : List Line) → AreLines days lines → length lines ≤ 513
-lines-few days [] are = absurd are
-lines-few days (cash ∷ securities) are = omega (arith, are.2)
-
 -- purchases of a permitted plan of a book are those of a certificate
 pub plan-buys_well : (book : BookContents) (plan : List ℕ) → IsBook book → IsPermitted book plan → ArePackedBuys (purchases_of plan)
 plan-buys_well book plan limits permitted =
-    let few = lines-few book.days book.lines limits.lines in
+    let few = count_lines book.days book.lines limits.lines in
     record {
       few = omega (arith, purchases-few 0 plan, permitted.same_length, few);
       range = All-weaker (IsOfPlan 0 plan) IsBuy (range few) (purchases_of plan) (all-of_plan 0 plan);

@@ -8,6 +8,8 @@ use Rattle.std.proofs.lemmas.List.{append-nil, get_or_past, length-map}
 use Rattle.std.proofs.Math.Nat.{mul-le-mul_left}
 use Rattle.bound_certificate.specs.Certificate.{IsNode}
 use Rattle.case_file.specs.Case.{CaseContents}
+use Rattle.cash_table.proofs.CostFacts.{permitted_few}
+use Rattle.cash_table.proofs.PaymentFacts.{count_lines}
 use Rattle.dual_bound.proofs.RangeFacts.{splits-at, tight-at, tight-length}
 use Rattle.dual_bound.proofs.RangeLaws.{root_is_tight, sides_are_tight}
 use Rattle.dual_bound.proofs.Soundness.{all-lines}
@@ -30,9 +32,8 @@ use Rattle.node_pool.specs.declared.node.Link.{Link}
 use Rattle.node_pool.specs.declared.node.NodeId.{NodeId}
 use Rattle.node_pool.specs.declared.node.State.{State}
 use Rattle.node_pool.specs.declared.node.State.TheVariants as state
-use Rattle.offer_book.specs.Book.{AreLines, BookContents, IsBook, IsLine}
+use Rattle.offer_book.specs.Book.{IsBook, IsLine}
 use Rattle.offer_book.specs.CaseBook.{cash_line}
-use Rattle.offer_book.specs.Portfolio.{IsPermittedUnits}
 use Rattle.offer_book.specs.declared.line.Line.{Line}
 use Rattle.search_tree.proofs.Count.{nodes-all}
 use Rattle.search_tree.proofs.Shape.{AllAt, HoldsBy, IsEndNode, all-nodes, all-placed, are-trees, from-nodes, tree-nodes, tree_nodes}
@@ -177,13 +178,9 @@ node-by case ranges own limits priced = by own.closing
     by (closing.Unreached day) = reach_is_leaf case.book.needs day limits.needs.rising
     by closing.Point = tt
 
-most-small : (days : PaymentDays) (line : Line) → IsLine days line → line.most ≤ 10 ^ 13
+pub most-small : (days : PaymentDays) (line : Line) → IsLine days line → line.most ≤ 10 ^ 13
 most-small days line (inl cash) = omega (arith, cash.most)
 most-small days line (inr security) = omega (arith, mul-le-mul_left line.most security.step_at_least, security.cap)
-
-high-few : (line : Line) (units : ℕ) → IsPermittedUnits line units → units ≤ line.most
-high-few line units (inl none) = omega arith
-high-few line units (inr some) = some.1
 
 split-node-by : (case : CaseContents) (ranges : List Interval) (line at : ℕ) → IsBook case.book → AreTight case.book.lines ranges → is_proper ranges line at ≡ true → (line ≤ 65_535) × (at ≤ 10 ^ 13)
 split-node-by case ranges line at limits tight proper =
@@ -193,16 +190,9 @@ split-node-by case ranges line at limits tight proper =
     let there = split.there in
     let within : line < length case.book.lines = omega (arith, there, same) in
     let own : Line = get_or case.book.lines line (cash_line 0) in
-    let high = high-few own (get_or ranges line none).high (tight-at case.book.lines ranges line (cash_line 0) none tight there).high in
+    let high = permitted_few own (get_or ranges line none).high (tight-at case.book.lines ranges line (cash_line 0) none tight there).high in
     let small = most-small case.book.days own (all-lines case.book.days case.book.lines limits.lines line (cash_line 0) within) in
-    (omega (arith, within, few-lines case.book limits), omega (arith, split.right none, high, small))
-  where
-    few-lines : (book : BookContents) → IsBook book → length book.lines ≤ 513
-    few-lines book limits = by book.lines limits.lines
-      where
-        by : (lines : List Line) → AreLines book.days lines → length lines ≤ 513
-        by [] are = absurd are
-        by (cash ∷ securities) are = omega (arith, are.2)
+    (omega (arith, within, count_lines case.book.days case.book.lines limits.lines), omega (arith, split.right none, high, small))
 
 -- a tree as the nodes of a certificate
 pub record IsWritten (case : CaseContents) (tree : TreeContents) (shape : Tree) (nodes : List TreeNode) : Type 0 where
