@@ -346,7 +346,3 @@ unfolding bound_of
 bound-all n book ranges leaf place bound all so_far =
     so_far ∙ ap (λ pairs. pos (COEFFICIENT_SCALE * priced_needs book.needs leaf.prices) +ℤ signed_sum (λ (p : Line × Interval). least_within n book leaf p.0 p.1) pairs)
     (take_all place (zip book.lines ranges) (omega (arith, length-zip book.lines ranges)))
-
-pub lines-few : (days : PaymentDays) (lines : List Line) → AreLines days lines → length lines ≤ 513
-lines-few days [] are = absurd are
-lines-few days (cash ∷ securities) are = omega (arith, are.2)

@@ -8,7 +8,7 @@ use Rattle.std.proofs.lemmas.List.{get_or_past, length-map, take_more}
 use Rattle.std.proofs.lemmas.List.Elements.{All-cons, All-map, All-nil, All-same}
 use Rattle.std.proofs.lemmas.Slice.Zip.{AllZip-long}
 use Rattle.fixed_powers.specs.DiscountPowers.{one}
-use Rattle.offer_book.specs.Book.{AreLines, BookContents, IsBook, IsLine}
+use Rattle.offer_book.specs.Book.{BookContents, IsBook, IsLine}
 use Rattle.offer_book.specs.declared.coefficients.TheConstants.{COEFFICIENT_SCALE}
 use Rattle.offer_book.specs.declared.line.Line.{Line}
 use Rattle.offer_book.specs.declared.line.LineKind.TheVariants.{Cash}
@@ -57,9 +57,9 @@ pub record IsReady (book : BookContents) (tableau : Tableau) (line : Line) (colu
   pub is_line : IsLine book.days line
   pub is_column : IsColumn tableau.yield_units.0 book tableau.days.items line column
   pub small : IsSmallColumn column
-  pub there : All (λ place. place < length tableau.worths.items) column.places.items
-  pub others_there : All (λ (other : OtherPayment). other.place < length tableau.worths.items) column.others.items
-  pub light : All IsLightWorth tableau.worths.items
+  pub there : All (λ place. place < length tableau.priced.worths.items) column.places.items
+  pub others_there : All (λ (other : OtherPayment). other.place < length tableau.priced.worths.items) column.others.items
+  pub light : All IsLightWorth tableau.priced.worths.items
 
 pub ready : (book : BookContents) (t : Tableau) (place : ℕ) (line : Line) (column : Column) → IsBook book → IsTableau book t → place < length book.lines
     → line ≡ get_or book.lines place line → column ≡ get_or t.columns.items place column → IsReady book t line column
@@ -67,12 +67,12 @@ ready book t place line column limits h few is column_is = record {
   is_line = subst (IsLine book.days) (sym is) (all-lines book.days book.lines limits.lines place line few);
   is_column = own;
   small = subst IsSmallColumn (sym column_is) (h.small place column (omega (arith, few, columns-long)));
-  there = zip-right (IsPlace t.yield_units.0 book line.kind t.days.items) (λ place. place < length t.worths.items) (filter is_regular (paying book.days line)) column.places.items
+  there = zip-right (IsPlace t.yield_units.0 book line.kind t.days.items) (λ place. place < length t.priced.worths.items) (filter is_regular (paying book.days line)) column.places.items
       (λ p k at. omega (arith, at.there, days)) own.places;
-  others_there = zip-right (IsOther t.yield_units.0 book line t.days.items) (λ (o : OtherPayment). o.place < length t.worths.items) (filter is_other (paying book.days line)) column.others.items
+  others_there = zip-right (IsOther t.yield_units.0 book line t.days.items) (λ (o : OtherPayment). o.place < length t.priced.worths.items) (filter is_other (paying book.days line)) column.others.items
       (λ p o at. omega (arith, at.place.there, days)) own.others;
-  light = All-same IsLightWorth t.worths.items (map (worth_on t.leaf) t.days.items) h.worths
-      (All-map IsLightWorth (worth_on t.leaf) t.days.items (λ k d lt. light-worth (length book.needs) t.leaf (get_or t.days.items k d) h.leaf (h.powers k d lt)));
+  light = All-same IsLightWorth t.priced.worths.items (map (worth_on t.priced.leaf) t.days.items) h.worths
+      (All-map IsLightWorth (worth_on t.priced.leaf) t.days.items (λ k d lt. light-worth (length book.needs) t.priced.leaf (get_or t.days.items k d) h.leaf (h.powers k d lt)));
 }
   where
     own : IsColumn t.yield_units.0 book t.days.items line column
@@ -84,8 +84,8 @@ ready book t place line column limits h few is column_is = record {
     columns-long : length t.columns.items ≡ length book.lines
     columns-long = AllZip-long (IsColumn t.yield_units.0 book t.days.items) book.lines t.columns.items h.columns
 
-    days : length t.worths.items ≡ length t.days.items
-    days = ap length h.worths ∙ length-map t.days.items (worth_on t.leaf)
+    days : length t.priced.worths.items ≡ length t.days.items
+    days = ap length h.worths ∙ length-map t.days.items (worth_on t.priced.leaf)
 
 -- the places of columns are those of days
 pub columns-there : (n : ℕ) (book : BookContents) (days : List PricedDay) (lines : List Line) (columns : List Column) → AllZip (IsColumn n book days) lines columns
@@ -101,20 +101,12 @@ pub worths-light : (dates : ℕ) (leaf : Leaf) (days : List PricedDay) (worths :
 worths-light dates leaf days worths well powers is =
     All-same IsLightWorth worths (map (worth_on leaf) days) is (All-map IsLightWorth (worth_on leaf) days (λ k d lt. light-worth dates leaf (get_or days k d) well (powers k d lt)))
 
--- a book has at most 513 lines
-pub lines-few : (book : BookContents) → IsBook book → length book.lines ≤ 513
-lines-few book h = few book.lines h.lines
-  where
-    few : (lines : List Line) → AreLines book.days lines → length lines ≤ 513
-    few [] is = absurd is
-    few (cash ∷ securities) is = omega (arith, is.2)
-
 -- the run of a line, and what it is worth
 pub record IsRunWorth (t : Tableau) (column : Column) (run : Run) : Type 0 where
-  pub to : run.to < length t.series.sums.items
-  pub from : run.from < length t.series.sums.items
-  pub worth : worth_at t.series.sums.items run.to ≡ joined (worth_at t.series.sums.items run.from) (worth_together t.worths.items column.places.items)
-  pub light : (worth_together t.worths.items column.places.items).above + (worth_together t.worths.items column.places.items).below ≤ 84 * (2 * PRICE_SCALE)
+  pub to : run.to < length t.priced.sums.items
+  pub from : run.from < length t.priced.sums.items
+  pub worth : worth_at t.priced.sums.items run.to ≡ joined (worth_at t.priced.sums.items run.from) (worth_together t.priced.worths.items column.places.items)
+  pub light : (worth_together t.priced.worths.items column.places.items).above + (worth_together t.priced.worths.items column.places.items).below ≤ 84 * (2 * PRICE_SCALE)
 
 pub runs-long : (book : BookContents) (t : Tableau) → IsTableau book t → length t.series.runs.items ≡ length book.lines
 runs-long book t h =
@@ -126,11 +118,11 @@ pub run-of : (book : BookContents) (t : Tableau) (place : ℕ) (d : Column) (run
 run-of book t place d run h few is = record {
   to = omega (arith, own.there, h.sums.every);
   from = omega (arith, own.there, own.long, h.sums.every);
-  worth = run-worth t.worths.items t.series.stops.items t.series.sums.items column.places.items run h.sums own;
+  worth = run-worth t.priced.worths.items t.series.stops.items t.priced.sums.items column.places.items run h.sums own;
   light = omega (
     arith,
-    together-light t.worths.items column.places.items (worths-light (length book.needs) t.leaf t.days.items t.worths.items h.leaf h.powers h.worths)
-        (λ k e lt. omega (arith, columns-there t.yield_units.0 book t.days.items book.lines t.columns.items h.columns place d there k e lt, ap length h.worths, length-map t.days.items (worth_on t.leaf))),
+    together-light t.priced.worths.items column.places.items (worths-light (length book.needs) t.priced.leaf t.days.items t.priced.worths.items h.leaf h.powers h.worths)
+        (λ k e lt. omega (arith, columns-there t.yield_units.0 book t.days.items book.lines t.columns.items h.columns place d there k e lt, ap length h.worths, length-map t.days.items (worth_on t.priced.leaf))),
     (h.small place d there).few,
   );
 }

@@ -274,18 +274,17 @@ pub record IsLaid (dates : ℕ) (days : List PricedDay) (columns : List Column) 
   pub there : All (IsStopWithin (length days)) series.stops.items
   pub runs : AllZip (IsRunOf series.stops.items) columns series.runs.items
   pub date_stops : AreDateDays dates (map (stop_day dates days) series.stops.items) series.date_stops.items
-  pub every_stop : length series.sums.items ≡ length series.stops.items
 
 -- ---- the whole
 -- a tableau is that of a book: it has a column for each line, its days are priced at its leaf, and their worths are summed up
 -- along series
 pub record IsTableau (book : BookContents) (tableau : Tableau) : Type 0 where
   pub limits : IsBook book
-  pub leaf : IsLeaf (length book.needs) tableau.leaf
+  pub leaf : IsLeaf (length book.needs) tableau.priced.leaf
   pub powers : All (λ priced. priced.power ≤ one) tableau.days.items
   pub columns : AllZip (IsColumn tableau.yield_units.0 book tableau.days.items) book.lines tableau.columns.items
   pub small : All IsSmallColumn tableau.columns.items
   pub date_days : AreDateDays (length book.needs) tableau.days.items tableau.date_days.items
-  pub worths : tableau.worths.items ≡ map (worth_on tableau.leaf) tableau.days.items
+  pub worths : tableau.priced.worths.items ≡ map (worth_on tableau.priced.leaf) tableau.days.items
   pub series : IsLaid (length book.needs) tableau.days.items tableau.columns.items tableau.series
-  pub sums : AreSums tableau.worths.items tableau.series.stops.items tableau.series.sums.items
+  pub sums : AreSums tableau.priced.worths.items tableau.series.stops.items tableau.priced.sums.items

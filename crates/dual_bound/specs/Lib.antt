@@ -3,4 +3,5 @@ pub mod Duality
 pub mod LeafBound
 pub mod Leasts
 pub mod Ranges
+pub mod Rooms
 pub mod Tree

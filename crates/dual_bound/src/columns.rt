@@ -10,6 +10,7 @@ ghost use Rattle.dual_bound.specs.Tree.{IsLeaf, with_price};
 use crate::form::Form;
 use crate::leasts::Leasts;
 use crate::ranges::{Interval, Ranges};
+use crate::rooms::Rooms;
 use crate::tableau::Tableau;
 use crate::tree::Leaf;
 use escrow_desk::NoMemory;
@@ -21,24 +22,26 @@ use std::marker::Model;
 /// The columns of the lines of a book, made once for it and the powers of a yield, and priced at a leaf. A column is what a
 /// line is in the linear program: what a unit costs, and what it pays on which days.
 ///
-/// Nothing after [`make`](Columns::make) takes memory, reads a calendar or discounts a payment. Contracts see the book, the
+/// Nothing after [`make`](Columns::make) reads a calendar or discounts a payment, and [`add_rooms`](Columns::add_rooms) alone
+/// takes memory. Contracts see the book, the
 /// yield, and the leaf at which the columns are priced.
 #[derive(Drop)]
 pub struct Columns<'a> {
     book: &'a Book,
     tableau: Tableau,
     leasts: Leasts,
+    rooms: Rooms,
 }
 
 impl<'a> Model for Columns<'a> {
-    ghost use Rattle.dual_bound.specs.Columns.{ColumnsContents, IsTableau};
-    ghost use Rattle.dual_bound.specs.Leasts.{AreLeasts};
+    ghost use Rattle.dual_bound.specs.Columns.{ColumnsContents};
+    ghost use Rattle.dual_bound.specs.Rooms.{AreColumns};
 
     ghost Value = { ColumnsContents };
 
-    ghost view = { λ c. record { book = c.book.now; yield_units = c.tableau.yield_units.0; leaf = c.tableau.leaf } };
+    ghost view = { λ c. record { book = c.book.now; yield_units = c.tableau.yield_units.0; leaf = c.tableau.priced.leaf } };
 
-    ghost invariant = { λ c. IsTableau c.book.now c.tableau × AreLeasts c.tableau.yield_units.0 c.book.now c.tableau.leaf c.leasts };
+    ghost invariant = { λ c. AreColumns c.book.now c.tableau c.leasts c.rooms };
 }
 
 impl<'a> Columns<'a> {
@@ -59,6 +62,7 @@ impl<'a> Columns<'a> {
             book,
             tableau,
             leasts,
+            rooms: Rooms::none(alloc),
         })
     }
 
@@ -68,7 +72,7 @@ impl<'a> Columns<'a> {
         requires { IsLeaf (length self.old.book.needs) leaf.now }
         ensures { self.new ≡ record { book = self.old.book; yield_units = self.old.yield_units; leaf = leaf.now } }
     {
-        self.leasts.price(&self.tableau.leaf, leaf);
+        self.leasts.price(&self.tableau.priced.leaf, leaf);
         self.tableau.price(self.book, leaf);
     }
 
@@ -129,6 +133,28 @@ impl<'a> Columns<'a> {
     {
         self.price(leaf);
         self.leasts.bound(self.book, &self.tableau, ranges)
+    }
+
+    /// Takes rooms for so many leaves besides, as far as there is memory and they take no more than 9 MB. Each keeps what is known at a leaf, so that
+    /// [`bound_near`](Columns::bound_near) is fast at another one that differs from it in few prices.
+    pub fn add_rooms(&mut self, alloc: Global, count: u32)
+        ensures { self.new ≡ self.old }
+    {
+        self.rooms.grow(alloc, &self.tableau, &self.leasts, count);
+    }
+
+    /// The lower bound of a leaf over ranges, as [`bound`](Columns::bound) gives it, by what is known in a room, counted from 0:
+    /// of leaves that are bound in the same room only what differs is reckoned anew. Where there is no such room the leaf before
+    /// takes its place.
+    pub fn bound_near(&mut self, room: usize, ranges: &Ranges, leaf: &Leaf) -> i128
+        requires leaf { IsLeaf (length self.old.book.needs) leaf.now }
+        requires ranges { AllZip HasRoomFor self.old.book.lines ranges.now }
+        ensures columns { self.new ≡ record { book = self.old.book; yield_units = self.old.yield_units; leaf = leaf.now } }
+        ensures value { result ≡ bound_of self.old.yield_units self.old.book ranges.now leaf.now }
+        ensures size { unsigned_abs result < 10 ^ 37 }
+    {
+        self.rooms.enter(room, &mut self.tableau, &mut self.leasts);
+        self.bound(ranges, leaf)
     }
 
     /// The lower bound of the leaf that was priced, where one line's interval changes: from the bound over the ranges as they

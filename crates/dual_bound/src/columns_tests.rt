@@ -123,7 +123,8 @@ fn try_bound(
     Ok(())
 }
 
-// The columns give the bound of a next leaf as the short twin does, which reckons each line anew.
+// The columns give the bound of a next leaf as the short twin does, which reckons each line anew: in each of two rooms, in one that
+// isn't there, and from the leaf before.
 fn try_next(
     rt: &impl Abort,
     columns: &mut Columns,
@@ -140,6 +141,9 @@ fn try_next(
     ensures { columns.new.book ≡ book.now }
 {
     let anew = bound(book, powers, ranges, leaf);
+    assert_eq!(rt; columns.bound_near(1, ranges, leaf), anew);
+    assert_eq!(rt; columns.bound_near(2, ranges, leaf), anew);
+    assert_eq!(rt; columns.bound_near(0, ranges, leaf), anew);
     assert_eq!(rt; columns.bound(ranges, leaf), anew);
 }
 
@@ -148,6 +152,7 @@ fn try_in_turn(rt: &impl Abort, alloc: Global, book: &Book) -> Result<(), Fail> 
     assert!(rt; book.need_count() == 1);
     let powers = Powers::make(alloc, YieldUnits(500_099_999), Side::Low, GREATEST_INDEX)?;
     let mut columns = Columns::make(alloc, book, &powers)?;
+    columns.add_rooms(alloc, 2);
     let root = root_ranges(alloc, book)?;
     let left = side(rt, alloc, book, false)?;
     let right = side(rt, alloc, book, true)?;

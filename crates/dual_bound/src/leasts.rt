@@ -23,7 +23,7 @@ use escrow_desk::NoMemory;
 use offer_book::{Book, COEFFICIENT_SCALE};
 use std::alloc::Global;
 
-/// A place behind every need date: a book has at most 65,535 of them.
+/// A place behind every need date: they are counted by a `u16`.
 pub(crate) const PAST_DATES: usize = 65_536;
 
 /// Need dates from a first to a last, both among them, counted from 0: none where the first is behind the last.
@@ -154,7 +154,7 @@ impl Least {
     fn of_none(book: &Book, tableau: &Tableau, line: u16) -> Least
         requires tableau { IsTableau book.now tableau.now }
         requires line { line < length book.now.lines }
-        ensures { (d : Line) (changed : SpanOf) → IsLeast tableau.now.yield_units.0 book.now tableau.now.leaf changed (slice_index_or book.now.lines line d) result }
+        ensures { (d : Line) (changed : SpanOf) → IsLeast tableau.now.yield_units.0 book.now tableau.now.priced.leaf changed (slice_index_or book.now.lines line d) result }
     {
         let interval = Interval { low: 0, high: 0 };
         let least = tableau.least(book, line, interval);
@@ -184,7 +184,7 @@ impl Leasts {
     /// Where memory ran out.
     pub(crate) fn make(alloc: Global, book: &Book, tableau: &Tableau) -> Result<Leasts, NoMemory>
         requires tableau { IsTableau book.now tableau.now }
-        ensures { IfOk result (AreLeasts tableau.now.yield_units.0 book.now tableau.now.leaf) }
+        ensures { IfOk result (AreLeasts tableau.now.yield_units.0 book.now tableau.now.priced.leaf) }
     {
         let mut lines = Vec::with_capacity(alloc, book.lines().len())?;
         for line in 0..book.line_count() {
@@ -193,6 +193,21 @@ impl Leasts {
         Ok(Leasts {
             lines,
             changed: Span::none(),
+        })
+    }
+
+    /// The same once more.
+    ///
+    /// # Errors
+    ///
+    /// Where memory ran out.
+    pub(crate) fn copy(&self, alloc: Global) -> Result<Leasts, NoMemory>
+        ensures lines { IfOk result (λ copy. copy.lines.items ≡ self.now.lines.items) }
+        ensures changed { IfOk result (λ copy. copy.changed ≡ self.now.changed) }
+    {
+        Ok(Leasts {
+            lines: self.lines.to_vec(alloc)?,
+            changed: self.changed,
         })
     }
 
@@ -215,14 +230,14 @@ impl Leasts {
     #[inline(always)]
     fn least(&mut self, book: &Book, tableau: &Tableau, line: u16, interval: Interval) -> i128
         requires tableau { IsTableau book.now tableau.now }
-        requires leasts { AreLeasts tableau.now.yield_units.0 book.now tableau.now.leaf self.old }
+        requires leasts { AreLeasts tableau.now.yield_units.0 book.now tableau.now.priced.leaf self.old }
         requires line { line < length book.now.lines }
         requires ordered { interval.low ≤ interval.high }
         requires high { (d : Line) → interval.high ≤ (slice_index_or book.now.lines line d).most }
-        ensures value { (d : Line) → result ≡ least_within tableau.now.yield_units.0 book.now tableau.now.leaf (slice_index_or book.now.lines line d) interval }
+        ensures value { (d : Line) → result ≡ least_within tableau.now.yield_units.0 book.now tableau.now.priced.leaf (slice_index_or book.now.lines line d) interval }
         ensures size { unsigned_abs result ≤ 71 * 10 ^ 33 }
-        ensures leasts { AreLeasts tableau.now.yield_units.0 book.now tableau.now.leaf self.new }
-        ensures right { (d : Line) (e : LeastOf) → IsRight tableau.now.yield_units.0 book.now tableau.now.leaf (slice_index_or book.now.lines line d) (slice_index_or self.new.lines.items line e) }
+        ensures leasts { AreLeasts tableau.now.yield_units.0 book.now tableau.now.priced.leaf self.new }
+        ensures right { (d : Line) (e : LeastOf) → IsRight tableau.now.yield_units.0 book.now tableau.now.priced.leaf (slice_index_or book.now.lines line d) (slice_index_or self.new.lines.items line e) }
         ensures others { (k : ℕ) (e : LeastOf) → ¬ (k ≡ line) → slice_index_or self.new.lines.items k e ≡ slice_index_or self.old.lines.items k e }
     {
         let place = usize::from(line);
@@ -242,15 +257,15 @@ impl Leasts {
     /// The lower bound of the leaf by which the days are priced. What a line adds is inlined into its loop.
     pub(crate) fn bound(&mut self, book: &Book, tableau: &Tableau, ranges: &Ranges) -> i128
         requires tableau { IsTableau book.now tableau.now }
-        requires leasts { AreLeasts tableau.now.yield_units.0 book.now tableau.now.leaf self.old }
+        requires leasts { AreLeasts tableau.now.yield_units.0 book.now tableau.now.priced.leaf self.old }
         requires ranges { AllZip HasRoomFor book.now.lines ranges.now }
-        ensures value { result ≡ bound_of tableau.now.yield_units.0 book.now ranges.now tableau.now.leaf }
+        ensures value { result ≡ bound_of tableau.now.yield_units.0 book.now ranges.now tableau.now.priced.leaf }
         ensures size { unsigned_abs result < 10 ^ 37 }
-        ensures leasts { AreLeasts tableau.now.yield_units.0 book.now tableau.now.leaf self.new }
+        ensures leasts { AreLeasts tableau.now.yield_units.0 book.now tableau.now.priced.leaf self.new }
     {
         let intervals = ranges.intervals();
         let mut bound = COEFFICIENT_SCALE as i128
-            * priced_needs(book.needs(), tableau.leaf.prices.as_slice()) as i128;
+            * priced_needs(book.needs(), tableau.priced.leaf.prices.as_slice()) as i128;
         for line in 0..book.line_count() {
             bound += self.least(book, tableau, line, intervals[usize::from(line)]);
         }

@@ -13,6 +13,7 @@ mod leaf_bound;
 mod leasts;
 mod prices;
 mod ranges;
+mod rooms;
 mod series;
 mod sums;
 mod tableau;

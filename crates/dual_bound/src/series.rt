@@ -1,14 +1,13 @@
 //! The regular days of lines as runs of series, so that what a run is worth is a difference of two sums.
 ghost use Rattle.std.specs.Prelude.{All, ◌≡◌, ◌+◌, ◌*◌, ◌<◌, ◌≤◌, ℕ, true, [], ◌∷◌, ◌++◌, IfOk, IfSome, OnOk, length, map};
 ghost use Rattle.std.specs.List.{AllZip};
-ghost use Rattle.dual_bound.specs.Columns.{AreSums, Extends, IsLaid, IsLightWorth, IsRun, IsRunOf, IsSmallColumn, IsStopWithin, stop_day as stop_day_of};
+ghost use Rattle.dual_bound.specs.Columns.{Extends, IsLaid, IsRun, IsRunOf, IsSmallColumn, IsStopWithin, stop_day as stop_day_of};
 ghost use Rattle.dual_bound.specs.declared.column.Column.{Column as ColumnOf};
 ghost use Rattle.dual_bound.specs.declared.series.Stop.TheVariants.{Day as DayOf, Start};
 
 use crate::column::Column;
 use crate::date_days::{DateDays, days_by_date};
-use crate::sums::sum_up;
-use crate::worth::{PricedDay, Worth};
+use crate::worth::PricedDay;
 use escrow_desk::NoMemory;
 use std::alloc::Global;
 use std::cmp::Reverse;
@@ -49,8 +48,6 @@ pub(crate) struct Series {
     pub runs: Vec<Run>,
     /// The stops whose days each need date prices.
     pub date_stops: Vec<DateDays>,
-    /// What a cent on each day of a series up to a stop is worth, together.
-    pub sums: Vec<Worth>,
 }
 
 // Whether a stop is the day at a place.
@@ -256,7 +253,7 @@ fn stop_days(
 }
 
 impl Series {
-    /// The series of columns, by what a cent on each day is worth.
+    /// The series of columns.
     ///
     /// # Errors
     ///
@@ -266,15 +263,11 @@ impl Series {
         dates: u16,
         days: &[PricedDay],
         columns: &[Column],
-        worths: &[Worth],
     ) -> Result<Series, NoMemory>
         requires lines { length columns.now ≤ 513 }
         requires small { All IsSmallColumn columns.now }
         requires there { All (λ (column : ColumnOf). All (λ place. place < length days.now) column.places.items) columns.now }
-        requires every_day { length worths.now ≡ length days.now }
-        requires light { All IsLightWorth worths.now }
         ensures laid { IfOk result (IsLaid dates days.now columns.now) }
-        ensures sums { IfOk result (λ series. AreSums worths.now series.stops.items series.sums.items) }
     {
         let mut stops = Stops::new(alloc, days.len())?;
         let order = longest_first(alloc, columns)?;
@@ -282,14 +275,10 @@ impl Series {
         let runs = stops.runs(alloc, columns, days.len())?;
         let list = stop_days(alloc, dates, days, stops.stops.as_slice())?;
         let date_stops = days_by_date(alloc, dates, list.as_slice())?;
-        let nothing = Worth { above: 0, below: 0 };
-        let mut sums = vec![in alloc; nothing; stops.stops.len()]?;
-        sum_up(stops.stops.as_slice(), worths, sums.as_mut_slice());
         Ok(Series {
             stops: stops.stops,
             runs,
             date_stops,
-            sums,
         })
     }
 }

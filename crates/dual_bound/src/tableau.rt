@@ -4,7 +4,7 @@ ghost use Rattle.std.specs.List.{AllZip};
 ghost use Rattle.fixed_powers.specs.DiscountPowers.{IsLowTable, PowerTable, one};
 ghost use Rattle.offer_book.specs.Book.{IsBook};
 ghost use Rattle.offer_book.specs.declared.line.Line.{Line};
-ghost use Rattle.dual_bound.specs.Columns.{IsColumn, IsDayTable, IsSmallColumn, IsTableau, worth_on, worth_together};
+ghost use Rattle.dual_bound.specs.Columns.{AreSums, IsColumn, IsDayTable, IsLightWorth, IsSmallColumn, IsStopWithin, IsTableau, worth_on, worth_together};
 ghost use Rattle.dual_bound.specs.declared.column.Column.{Column as ColumnOf};
 ghost use Rattle.dual_bound.specs.LeafBound.{bound_of, form_of, least_within, reduced_cost as reduced_cost_of};
 ghost use Rattle.dual_bound.specs.Ranges.{HasRoomFor};
@@ -17,7 +17,7 @@ use crate::form::Form;
 use crate::leaf_bound::cost_worth;
 use crate::prices::PRICE_SCALE;
 use crate::ranges::{Interval, Ranges};
-use crate::series::Series;
+use crate::series::{Series, Stop};
 use crate::sums::{mend_at, mend_dates, sum_up};
 use crate::tree::Leaf;
 use crate::worth::{PricedDay, Worth, price_day, price_days, price_days_at};
@@ -26,6 +26,17 @@ use escrow_units::YieldUnits;
 use fixed_powers::Powers;
 use offer_book::Book;
 use std::alloc::Global;
+
+/// What the days of a tableau are worth at a leaf.
+#[derive(Drop)]
+pub(crate) struct Priced {
+    /// The leaf by which the days are priced.
+    pub leaf: Leaf,
+    /// What a cent on each day is worth.
+    pub worths: Vec<Worth>,
+    /// What a cent on each day of a series up to a stop is worth, together.
+    pub sums: Vec<Worth>,
+}
 
 /// The columns of a book's lines, and what their days are worth at a leaf.
 #[derive(Drop)]
@@ -38,12 +49,10 @@ pub(crate) struct Tableau {
     pub date_days: Vec<DateDays>,
     /// The columns, in the order of the lines.
     pub columns: Vec<Column>,
-    /// The leaf by which the days are priced.
-    pub leaf: Leaf,
-    /// What a cent on each day is worth.
-    pub worths: Vec<Worth>,
-    /// The series of the columns, with sums of worths along each.
+    /// The series of the columns.
     pub series: Series,
+    /// The leaf by which the days are priced, and what they are worth.
+    pub priced: Priced,
 }
 
 // The columns of a book's lines, whose days are put into a table.
@@ -81,6 +90,19 @@ fn worths_of(alloc: Global, leaf: &Leaf, days: &[PricedDay]) -> Result<Vec<Worth
     Ok(worths)
 }
 
+// What a cent on each day of series up to each stop is worth, together.
+fn sums_of(alloc: Global, stops: &[Stop], worths: &[Worth]) -> Result<Vec<Worth>, NoMemory>
+    requires there { All (IsStopWithin (length worths.now)) stops.now }
+    requires light { All IsLightWorth worths.now }
+    requires few { length stops.now ≤ 100_000 }
+    ensures { IfOk result (λ sums. AreSums worths.now stops.now sums.items) }
+{
+    let nothing = Worth { above: 0, below: 0 };
+    let mut sums = vec![in alloc; nothing; stops.len()]?;
+    sum_up(stops, worths, sums.as_mut_slice());
+    Ok(sums)
+}
+
 // A sum, where one of its parts is exchanged for another.
 fn exchanged(sum: i128, old: i128, new: i128) -> i128
     requires sum { unsigned_abs sum < 10 ^ 37 }
@@ -99,6 +121,25 @@ fn are_near(old: &[u64], new: &[u64]) -> bool {
         .filter(|pair| *pair.0 != *pair.1)
         .count();
     changes <= old.len() / 8
+}
+
+impl Priced {
+    /// The same once more.
+    ///
+    /// # Errors
+    ///
+    /// Where memory ran out.
+    pub(crate) fn copy(&self, alloc: Global) -> Result<Priced, NoMemory>
+        ensures leaf { IfOk result (λ copy. copy.leaf ≡ self.now.leaf) }
+        ensures worths { IfOk result (λ copy. copy.worths.items ≡ self.now.worths.items) }
+        ensures sums { IfOk result (λ copy. copy.sums.items ≡ self.now.sums.items) }
+    {
+        Ok(Priced {
+            leaf: self.leaf.copy(alloc)?,
+            worths: self.worths.to_vec(alloc)?,
+            sums: self.sums.to_vec(alloc)?,
+        })
+    }
 }
 
 impl Tableau {
@@ -122,16 +163,15 @@ impl Tableau {
             book.need_count(),
             table.days.as_slice(),
             columns.as_slice(),
-            worths.as_slice(),
         )?;
+        let sums = sums_of(alloc, series.stops.as_slice(), worths.as_slice())?;
         Ok(Tableau {
             yield_units: powers.yield_units(),
             days: table.days,
             date_days,
             columns,
-            leaf,
-            worths,
             series,
+            priced: Priced { leaf, worths, sums },
         })
     }
 
@@ -140,46 +180,50 @@ impl Tableau {
         requires leaf { IsLeaf (length book.now.needs) leaf.now }
         requires tableau { IsTableau book.now self.old }
         ensures tableau { IsTableau book.now self.new }
-        ensures leaf { self.new.leaf ≡ leaf.now }
-        ensures yield_units { self.new.yield_units.0 ≡ self.old.yield_units.0 }
+        ensures leaf { self.new.priced.leaf ≡ leaf.now }
+        ensures frame { self.new ≡ record self.old { priced = self.new.priced } }
     {
-        price_days(leaf, self.days.as_slice(), self.worths.as_mut_slice());
+        price_days(
+            leaf,
+            self.days.as_slice(),
+            self.priced.worths.as_mut_slice(),
+        );
         sum_up(
             self.series.stops.as_slice(),
-            self.worths.as_slice(),
-            self.series.sums.as_mut_slice(),
+            self.priced.worths.as_slice(),
+            self.priced.sums.as_mut_slice(),
         );
-        self.leaf.whole = leaf.whole;
-        self.leaf.mu = leaf.mu;
-        self.leaf.prices.copy(&leaf.prices);
+        self.priced.leaf.whole = leaf.whole;
+        self.priced.leaf.mu = leaf.mu;
+        self.priced.leaf.prices.copy(&leaf.prices);
     }
 
     // Prices the days of those need dates whose prices change at another leaf, with the multiplier of the limit as it is.
     fn price_changes(&mut self, book: &Book, leaf: &Leaf)
         requires leaf { IsLeaf (length book.now.needs) leaf.now }
-        requires limit { self.old.leaf.mu ≡ leaf.now.mu }
+        requires limit { self.old.priced.leaf.mu ≡ leaf.now.mu }
         requires tableau { IsTableau book.now self.old }
         ensures tableau { IsTableau book.now self.new }
-        ensures leaf { self.new.leaf ≡ leaf.now }
-        ensures yield_units { self.new.yield_units.0 ≡ self.old.yield_units.0 }
+        ensures leaf { self.new.priced.leaf ≡ leaf.now }
+        ensures frame { self.new ≡ record self.old { priced = self.new.priced } }
     {
         price_dates(
             leaf,
-            self.leaf.prices.as_slice(),
+            self.priced.leaf.prices.as_slice(),
             self.date_days.as_slice(),
             self.days.as_slice(),
-            self.worths.as_mut_slice(),
+            self.priced.worths.as_mut_slice(),
         );
         mend_dates(
             self.series.stops.as_slice(),
-            self.worths.as_slice(),
-            self.series.sums.as_mut_slice(),
+            self.priced.worths.as_slice(),
+            self.priced.sums.as_mut_slice(),
             self.series.date_stops.as_slice(),
-            self.leaf.prices.as_slice(),
+            self.priced.leaf.prices.as_slice(),
             leaf.prices.as_slice(),
         );
-        self.leaf.whole = leaf.whole;
-        self.leaf.prices.copy(&leaf.prices);
+        self.priced.leaf.whole = leaf.whole;
+        self.priced.leaf.prices.copy(&leaf.prices);
     }
 
     /// Prices the days at a leaf: nothing where its prices and the multiplier of the limit are those of the leaf before, and where
@@ -188,13 +232,15 @@ impl Tableau {
         requires leaf { IsLeaf (length book.now.needs) leaf.now }
         requires tableau { IsTableau book.now self.old }
         ensures tableau { IsTableau book.now self.new }
-        ensures leaf { self.new.leaf ≡ leaf.now }
-        ensures yield_units { self.new.yield_units.0 ≡ self.old.yield_units.0 }
+        ensures leaf { self.new.priced.leaf ≡ leaf.now }
+        ensures frame { self.new ≡ record self.old { priced = self.new.priced } }
     {
-        if self.leaf.mu == leaf.mu && self.leaf.prices.as_slice() == leaf.prices.as_slice() {
-            self.leaf.whole = leaf.whole;
-        } else if self.leaf.mu == leaf.mu
-            && are_near(self.leaf.prices.as_slice(), leaf.prices.as_slice())
+        if self.priced.leaf.mu == leaf.mu
+            && self.priced.leaf.prices.as_slice() == leaf.prices.as_slice()
+        {
+            self.priced.leaf.whole = leaf.whole;
+        } else if self.priced.leaf.mu == leaf.mu
+            && are_near(self.priced.leaf.prices.as_slice(), leaf.prices.as_slice())
         {
             self.price_changes(book, leaf);
         } else {
@@ -205,23 +251,23 @@ impl Tableau {
     /// Changes the price of a need date, counted from 0, and prices the days of that date.
     pub(crate) fn price_date(&mut self, book: &Book, place: u16, price: u64)
         requires place { place < length book.now.needs }
-        requires leaf { IsLeaf (length book.now.needs) (with_price self.old.leaf place price) }
+        requires leaf { IsLeaf (length book.now.needs) (with_price self.old.priced.leaf place price) }
         requires tableau { IsTableau book.now self.old }
         ensures tableau { IsTableau book.now self.new }
-        ensures leaf { self.new.leaf ≡ with_price self.old.leaf place price }
-        ensures yield_units { self.new.yield_units.0 ≡ self.old.yield_units.0 }
+        ensures leaf { self.new.priced.leaf ≡ with_price self.old.priced.leaf place price }
+        ensures frame { self.new ≡ record self.old { priced = self.new.priced } }
     {
-        self.leaf.prices.put(place, price);
+        self.priced.leaf.prices.put(place, price);
         price_days_at(
-            &self.leaf,
+            &self.priced.leaf,
             self.days.as_slice(),
             self.date_days[usize::from(place)].places.as_slice(),
-            self.worths.as_mut_slice(),
+            self.priced.worths.as_mut_slice(),
         );
         mend_at(
             self.series.stops.as_slice(),
-            self.worths.as_slice(),
-            self.series.sums.as_mut_slice(),
+            self.priced.worths.as_slice(),
+            self.priced.sums.as_mut_slice(),
             self.series.date_stops[usize::from(place)].places.as_slice(),
         );
     }
@@ -231,11 +277,11 @@ impl Tableau {
     fn regular_worth(&self, book: &Book, line: u16) -> Worth
         requires tableau { IsTableau book.now self.now }
         requires line { line < length book.now.lines }
-        ensures value { (d : ColumnOf) → result ≡ worth_together self.now.worths.items (slice_index_or self.now.columns.items line d).places.items }
+        ensures value { (d : ColumnOf) → result ≡ worth_together self.now.priced.worths.items (slice_index_or self.now.columns.items line d).places.items }
         ensures light { result.above + result.below ≤ 84 * (2 * PRICE_SCALE) }
     {
         let run = self.series.runs[usize::from(line)];
-        self.series.sums[run.to].minus(self.series.sums[run.from])
+        self.priced.sums[run.to].minus(self.priced.sums[run.from])
     }
 
     /// The form of a line, counted from 0.
@@ -243,13 +289,13 @@ impl Tableau {
     pub(crate) fn form(&self, book: &Book, line: u16) -> Form
         requires tableau { IsTableau book.now self.now }
         requires line { line < length book.now.lines }
-        ensures { (d : Line) → result ≡ form_of self.now.yield_units.0 book.now self.now.leaf (slice_index_or book.now.lines line d) }
+        ensures { (d : Line) → result ≡ form_of self.now.yield_units.0 book.now self.now.priced.leaf (slice_index_or book.now.lines line d) }
     {
         let column = &self.columns[usize::from(line)];
         column.form(
-            cost_worth(&self.leaf, book.line(line).kind),
+            cost_worth(&self.priced.leaf, book.line(line).kind),
             self.regular_worth(book, line),
-            self.worths.as_slice(),
+            self.priced.worths.as_slice(),
         )
     }
 
@@ -258,15 +304,15 @@ impl Tableau {
         requires tableau { IsTableau book.now self.now }
         requires line { line < length book.now.lines }
         requires units { (d : Line) → units ≤ (slice_index_or book.now.lines line d).most }
-        ensures { (d : Line) → result ≡ reduced_cost_of self.now.yield_units.0 book.now self.now.leaf (slice_index_or book.now.lines line d) units }
+        ensures { (d : Line) → result ≡ reduced_cost_of self.now.yield_units.0 book.now self.now.priced.leaf (slice_index_or book.now.lines line d) units }
     {
         let column = &self.columns[usize::from(line)];
         let own = book.line(line);
         column.reduced_cost(
             own,
-            cost_worth(&self.leaf, own.kind),
+            cost_worth(&self.priced.leaf, own.kind),
             self.regular_worth(book, line),
-            self.worths.as_slice(),
+            self.priced.worths.as_slice(),
             units,
         )
     }
@@ -278,7 +324,7 @@ impl Tableau {
         requires line { line < length book.now.lines }
         requires ordered { interval.low ≤ interval.high }
         requires high { (d : Line) → interval.high ≤ (slice_index_or book.now.lines line d).most }
-        ensures value { (d : Line) → result ≡ least_within self.now.yield_units.0 book.now self.now.leaf (slice_index_or book.now.lines line d) interval }
+        ensures value { (d : Line) → result ≡ least_within self.now.yield_units.0 book.now self.now.priced.leaf (slice_index_or book.now.lines line d) interval }
         ensures size { unsigned_abs result ≤ 71 * 10 ^ 33 }
     {
         if interval.low == interval.high {
@@ -299,11 +345,11 @@ impl Tableau {
     ) -> i128
         requires tableau { IsTableau book.now self.now }
         requires ranges { AllZip HasRoomFor book.now.lines ranges.now }
-        requires bound { bound ≡ bound_of self.now.yield_units.0 book.now ranges.now self.now.leaf }
+        requires bound { bound ≡ bound_of self.now.yield_units.0 book.now ranges.now self.now.priced.leaf }
         requires line { line < length book.now.lines }
         requires ordered { interval.low ≤ interval.high }
         requires high { (d : Line) → interval.high ≤ (slice_index_or book.now.lines line d).most }
-        ensures { result ≡ bound_of self.now.yield_units.0 book.now (slice_set ranges.now line interval) self.now.leaf }
+        ensures { result ≡ bound_of self.now.yield_units.0 book.now (slice_set ranges.now line interval) self.now.priced.leaf }
     {
         let old = self.least(book, line, ranges.intervals()[usize::from(line)]);
         let new = self.least(book, line, interval);

@@ -34,6 +34,21 @@ impl Leaf {
             prices: Prices::new(prices),
         })
     }
+
+    /// The same leaf once more.
+    ///
+    /// # Errors
+    ///
+    /// Where memory ran out.
+    pub fn copy(&self, alloc: Global) -> Result<Leaf, NoMemory>
+        ensures { IfOk result (λ leaf. leaf ≡ self.now) }
+    {
+        Ok(Leaf {
+            whole: self.whole,
+            mu: self.mu,
+            prices: Prices::new(self.prices.as_slice().to_vec(alloc)?),
+        })
+    }
 }
 
 /// A node of a tree over ranges of units, in preorder.

@@ -8,9 +8,10 @@ use Rattle.std.specs.List.{zip}
 use Rattle.offer_book.specs.Book.{IsLine}
 use Rattle.offer_book.specs.declared.coefficients.TheConstants.{COEFFICIENT_SCALE}
 use Rattle.offer_book.specs.declared.line.Line.{Line}
+use Rattle.cash_table.proofs.PaymentFacts.{count_lines}
 use Rattle.dual_bound.specs.LeafBound.{least_within, priced_needs, signed_sum}
 use Rattle.dual_bound.specs.declared.ranges.Interval.{Interval}
-use Rattle.dual_bound.proofs.BoundSizes.{bound-all, bound-more, bound-small, lines-few, room-at, room-length}
+use Rattle.dual_bound.proofs.BoundSizes.{bound-all, bound-more, bound-small, room-at, room-length}
 use Rattle.dual_bound.proofs.Signed.{read-again}
 use Rattle.dual_bound.proofs.Soundness.{all-lines}
 use Rattle.dual_bound.proofs.leaf_bound.bound.Goals as goal
@@ -50,7 +51,7 @@ loop-place-preserved c =
     omega (arith, room-length c.args.book.now.lines c.args.ranges.now c.requires.ranges, ap length c.lines-lines.ensures.value, ap length c.intervals-intervals.ensures.value) in
     let there : c.loop-place.place < length ranges = omega (arith, same, c.loop-place-test.true) in
     let f = λ (p : Line × Interval). least_within c.args.powers.now.yield_units c.args.book.now c.args.leaf.now p.0 p.1 in
-    let few = lines-few c.args.book.now.days c.args.book.now.lines c.lines-lines.ensures.limits.lines in
+    let few = count_lines c.args.book.now.days c.args.book.now.lines c.lines-lines.ensures.limits.lines in
     let least = to_z-of_z w128 c.least-bound.result (record { sfits = c.least-bound.type_inv }) in
     let whole = read-again _ (omega (arith, ints, few, ap length c.lines-lines.ensures.value, c.loop-place-test.true, c.loop-place.invariant.1, c.least-bound.ensures.size)) in
     let value = whole ∙ ap (λ z. to_z w128 c.loop-place.bound-bits +ℤ z) least in (

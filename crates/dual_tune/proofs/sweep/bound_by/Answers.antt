@@ -5,9 +5,10 @@ use Rattle.std.proofs.lemmas.Int.{ints, to_z-of_z}
 use Rattle.std.proofs.lemmas.List.{get_or_default}
 use Rattle.offer_book.specs.declared.coefficients.TheConstants.{COEFFICIENT_SCALE}
 use Rattle.offer_book.specs.declared.line.Line.{Line}
+use Rattle.cash_table.proofs.PaymentFacts.{count_lines}
 use Rattle.dual_bound.specs.LeafBound.{least_within, priced_needs}
 use Rattle.dual_bound.specs.declared.ranges.Interval.{Interval}
-use Rattle.dual_bound.proofs.BoundSizes.{bound-all, bound-more, bound-small, lines-few, room-length}
+use Rattle.dual_bound.proofs.BoundSizes.{bound-all, bound-more, bound-small, room-length}
 use Rattle.dual_bound.proofs.Signed.{read-again}
 use Rattle.dual_bound.proofs.TableauFacts.{some-line}
 use Rattle.dual_bound.specs.declared.form.Form.{Form}
@@ -49,7 +50,7 @@ loop-line-preserved c =
     let same : length lines ≡ length ranges = room-length lines ranges given.room in
     let few : place < length lines = omega (arith, c.line_count-line-end.ensures.value, c.loop-line-test.true) in
     let f = λ (p : Line × Interval). least_within n book leaf p.0 p.1 in
-    let most = lines-few book.days lines c.line_count-line-end.ensures.limits.lines in
+    let most = count_lines book.days lines c.line_count-line-end.ensures.limits.lines in
     let least = to_z-of_z w128 c.line_least-bound.result (record { sfits = c.line_least-bound.type_inv }) in
     let whole = read-again _ (omega (arith, ints, most, few, c.loop-line.invariant.1, c.line_least-bound.ensures.size)) in
     let value = whole ∙ ap (λ z. to_z w128 c.loop-line.bound-bits +ℤ z) least in

@@ -6,11 +6,12 @@ use Rattle.std.proofs.lemmas.List.{take_all}
 use Rattle.std.proofs.lemmas.Slice.Zip.{length-zip}
 use Rattle.std.specs.List.{zip}
 use Rattle.offer_book.specs.declared.line.Line.{Line}
+use Rattle.cash_table.proofs.PaymentFacts.{count_lines}
 use Rattle.dual_bound.specs.LeafBound.{least_within, signed_sum}
 use Rattle.dual_bound.specs.Tree.{with_price}
 use Rattle.dual_bound.specs.declared.ranges.Interval.{Interval}
 use Rattle.dual_bound.specs.declared.tree.Leaf.{Leaf}
-use Rattle.dual_bound.proofs.BoundSizes.{lines-few, room-length}
+use Rattle.dual_bound.proofs.BoundSizes.{room-length}
 use Rattle.dual_bound.proofs.Signed.{read-again}
 use Rattle.dual_bound.proofs.TableauFacts.{some-line}
 use Rattle.dual_tune.specs.declared.sweep.LineLeast.{LineLeast}
@@ -44,7 +45,7 @@ loop-payer-preserved c =
     let payers = c.requires.step.payers in
     let reach : from ≤ line = c.loop-payer.invariant.5 index (omega arith) c.loop-payer-test.true in
     let few : line < length lines = payers.there index 0 c.loop-payer-test.true in
-    let most = lines-few given.book.now.days lines c.requires.limits.lines in
+    let most = count_lines given.book.now.days lines c.requires.limits.lines in
     let own = read-again c.change-more.result (omega (arith, c.change-more.ensures.size)) in
     let whole = read-again _ (omega (arith, ints, own, most, c.loop-payer.invariant.1, c.loop-payer.invariant.3, c.change-more.ensures.size)) in
     let value = whole ∙ ap (λ z. to_z w128 c.loop-payer.more-bits +ℤ z) own in
@@ -77,4 +78,4 @@ returns-clause-value c =
 
 pub returns-clause-size : goal.returns-clause-size
 returns-clause-size c =
-    omega (arith, ints, lines-few c.args.given.now.book.now.days c.args.given.now.book.now.lines c.requires.limits.lines, c.loop-payer.invariant.1, c.loop-payer.invariant.3)
+    omega (arith, ints, count_lines c.args.given.now.book.now.days c.args.given.now.book.now.lines c.requires.limits.lines, c.loop-payer.invariant.1, c.loop-payer.invariant.3)

@@ -6,9 +6,10 @@ use Rattle.std.proofs.lemmas.List.{get_or_default}
 use Rattle.std.specs.List.{zip}
 use Rattle.offer_book.specs.declared.coefficients.TheConstants.{COEFFICIENT_SCALE}
 use Rattle.offer_book.specs.declared.line.Line.{Line}
+use Rattle.cash_table.proofs.PaymentFacts.{count_lines}
 use Rattle.dual_bound.specs.LeafBound.{least_within, priced_needs, signed_sum}
 use Rattle.dual_bound.specs.declared.ranges.Interval.{Interval}
-use Rattle.dual_bound.proofs.BoundSizes.{bound-all, bound-more, bound-small, lines-few, room-at, room-length}
+use Rattle.dual_bound.proofs.BoundSizes.{bound-all, bound-more, bound-small, room-at, room-length}
 use Rattle.dual_bound.proofs.LeastFacts.{all-right, right-more}
 use Rattle.dual_bound.proofs.Signed.{read-again}
 use Rattle.dual_bound.proofs.TableauFacts.{some-line}
@@ -45,35 +46,35 @@ loop-line-preserved c =
     let same : length lines ≡ length ranges = omega (arith, room-length lines c.args.ranges.now c.requires.ranges, ap length c.intervals-intervals.ensures.value) in
     let few : place < length lines = omega (arith, c.line_count-line-end.ensures.value, c.loop-line-test.true) in
     let there : place < length ranges = omega (arith, same, few) in
-    let f = λ (p : Line × Interval). least_within c.args.tableau.now.yield_units.0 c.args.book.now c.args.tableau.now.leaf p.0 p.1 in
-    let most = lines-few c.args.book.now.days lines c.requires.tableau.limits.lines in
+    let f = λ (p : Line × Interval). least_within c.args.tableau.now.yield_units.0 c.args.book.now c.args.tableau.now.priced.leaf p.0 p.1 in
+    let most = count_lines c.args.book.now.days lines c.requires.tableau.limits.lines in
     let least = to_z-of_z w128 c.least-bound.result (record { sfits = c.least-bound.type_inv }) in
     let whole = read-again _ (omega (arith, ints, most, few, c.loop-line.invariant.small, c.least-bound.ensures.size)) in
     let value = whole ∙ ap (λ z. to_z w128 c.loop-line.bound-bits +ℤ z) least in
     let own = c.least-bound.ensures.value some-line ∙ ap (λ k. f (line, get_or ranges k none)) c.from.ensures in record {
-      sum = value ∙ bound-more (pos (COEFFICIENT_SCALE * priced_needs c.args.book.now.needs c.args.tableau.now.leaf.prices)) (to_z w128 c.loop-line.bound-bits) c.least-bound.result f
+      sum = value ∙ bound-more (pos (COEFFICIENT_SCALE * priced_needs c.args.book.now.needs c.args.tableau.now.priced.leaf.prices)) (to_z w128 c.loop-line.bound-bits) c.least-bound.result f
           lines ranges place line interval few same (get_or_default lines place some-line line few) (get_or_default ranges place none interval there) c.loop-line.invariant.sum own;
       small = omega (arith, ints, value, c.loop-line.invariant.small, c.least-bound.ensures.size);
       leasts = c.least-bound.ensures.leasts;
-      right = right-more c.args.tableau.now.yield_units.0 c.args.book.now c.args.tableau.now.leaf c.loop-line.self.lines.items c.least-bound.new.self.lines.items place
+      right = right-more c.args.tableau.now.yield_units.0 c.args.book.now c.args.tableau.now.priced.leaf c.loop-line.self.lines.items c.least-bound.new.self.lines.items place
           c.loop-line.invariant.right c.least-bound.ensures.right c.least-bound.ensures.others;
     }
 
 pub returns-clause-value : goal.returns-clause-value
 returns-clause-value c =
-    let f = λ (p : Line × Interval). least_within c.args.tableau.now.yield_units.0 c.args.book.now c.args.tableau.now.leaf p.0 p.1 in
-    bound-all c.args.tableau.now.yield_units.0 c.args.book.now c.args.ranges.now c.args.tableau.now.leaf c.loop-line.line (to_z w128 c.loop-line.bound-bits)
+    let f = λ (p : Line × Interval). least_within c.args.tableau.now.yield_units.0 c.args.book.now c.args.tableau.now.priced.leaf p.0 p.1 in
+    bound-all c.args.tableau.now.yield_units.0 c.args.book.now c.args.ranges.now c.args.tableau.now.priced.leaf c.loop-line.line (to_z w128 c.loop-line.bound-bits)
     (omega (arith, c.line_count-line-end.ensures.value, c.loop-line-test.false))
     (c.loop-line.invariant.sum
-    ∙ (λ i. pos (COEFFICIENT_SCALE * priced_needs c.args.book.now.needs c.args.tableau.now.leaf.prices)
+    ∙ (λ i. pos (COEFFICIENT_SCALE * priced_needs c.args.book.now.needs c.args.tableau.now.priced.leaf.prices)
     +ℤ signed_sum f (take c.loop-line.line (zip c.args.book.now.lines (c.intervals-intervals.ensures.value i)))))
 
 pub returns-clause-size : goal.returns-clause-size
 returns-clause-size c =
     subst (λ z. unsigned_abs z < 10 ^ 37) (sym (returns-clause-value c))
-    (bound-small c.args.tableau.now.yield_units.0 c.args.book.now c.args.ranges.now c.args.tableau.now.leaf c.requires.tableau.limits c.requires.tableau.leaf c.requires.ranges c.intervals-intervals.ensures.ordered)
+    (bound-small c.args.tableau.now.yield_units.0 c.args.book.now c.args.ranges.now c.args.tableau.now.priced.leaf c.requires.tableau.limits c.requires.tableau.leaf c.requires.ranges c.intervals-intervals.ensures.ordered)
 
 pub returns-clause-leasts : goal.returns-clause-leasts
 returns-clause-leasts c =
-    all-right c.args.tableau.now.yield_units.0 c.args.book.now c.args.tableau.now.leaf c.loop-line.self.changed _ c.args.book.now.lines c.loop-line.self.lines.items c.loop-line.invariant.leasts
+    all-right c.args.tableau.now.yield_units.0 c.args.book.now c.args.tableau.now.priced.leaf c.loop-line.self.changed _ c.args.book.now.lines c.loop-line.self.lines.items c.loop-line.invariant.leasts
     (λ k d e lt. c.loop-line.invariant.right k d e (omega (arith, lt, c.line_count-line-end.ensures.value, c.loop-line-test.false)))

@@ -10,9 +10,9 @@ use Rattle.dual_bound.proofs.leasts.Leasts.bound.Given as goal
 
 abbrev pub invariant-loop-line : goal.invariant-loop-line
 invariant-loop-line l = record {
-  sum : l.bound ≡ pos (COEFFICIENT_SCALE * priced_needs l.book.needs l.tableau.leaf.prices)
-      +ℤ signed_sum (λ (p : Line × Interval). least_within l.tableau.yield_units.0 l.book l.tableau.leaf p.0 p.1) (take l.line (zip l.book.lines l.intervals));
+  sum : l.bound ≡ pos (COEFFICIENT_SCALE * priced_needs l.book.needs l.tableau.priced.leaf.prices)
+      +ℤ signed_sum (λ (p : Line × Interval). least_within l.tableau.yield_units.0 l.book l.tableau.priced.leaf p.0 p.1) (take l.line (zip l.book.lines l.intervals));
   small : unsigned_abs l.bound ≤ 2 * 10 ^ 34 + l.line * (71 * 10 ^ 33);
-  leasts : AreLeasts l.tableau.yield_units.0 l.book l.tableau.leaf l.self;
-  right : (k : ℕ) (d : Line) (e : Least) → k < l.line → IsRight l.tableau.yield_units.0 l.book l.tableau.leaf (get_or l.book.lines k d) (get_or l.self.lines.items k e);
+  leasts : AreLeasts l.tableau.yield_units.0 l.book l.tableau.priced.leaf l.self;
+  right : (k : ℕ) (d : Line) (e : Least) → k < l.line → IsRight l.tableau.yield_units.0 l.book l.tableau.priced.leaf (get_or l.book.lines k d) (get_or l.self.lines.items k e);
 }

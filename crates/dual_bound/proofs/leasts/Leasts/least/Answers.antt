@@ -21,14 +21,14 @@ index-requires c =
       arith,
       c.from-place.ensures,
       c.requires.line,
-      AllZip-long (IsLeast c.args.tableau.now.yield_units.0 c.args.book.now c.args.tableau.now.leaf c.args.self.now.changed) c.args.book.now.lines c.args.self.now.lines.items c.requires.leasts,
+      AllZip-long (IsLeast c.args.tableau.now.yield_units.0 c.args.book.now c.args.tableau.now.priced.leaf c.args.self.now.changed) c.args.book.now.lines c.args.self.now.lines.items c.requires.leasts,
     )
 
 pub returns-then-is_apart-clause-value : goal.returns-then-is_apart-clause-value
 returns-then-is_apart-clause-value c =
     let n = c.args.tableau.now.yield_units.0 in
     let book = c.args.book.now in
-    let leaf = c.args.tableau.now.leaf in
+    let leaf = c.args.tableau.now.priced.leaf in
     let known = c.index.result.now in
     let line = get_or book.lines c.args.line some-line in
     let same = same-interval known.interval c.args.interval (grind (arith, nat_tests, c.eq.ensures, c.if-eq.true)) (grind (arith, nat_tests, c.eq.ensures, c.if-eq.true)) in
@@ -47,7 +47,7 @@ pub returns-then-is_apart-clause-size : goal.returns-then-is_apart-clause-size
 returns-then-is_apart-clause-size c =
     let book = c.args.book.now in
     subst (λ z. unsigned_abs z ≤ 71 * 10 ^ 33) (sym (returns-then-is_apart-clause-value c some-line))
-    (least-small c.args.tableau.now.yield_units.0 book c.args.tableau.now.leaf (get_or book.lines c.args.line some-line) c.args.interval c.requires.tableau.limits.settlement c.requires.tableau.leaf
+    (least-small c.args.tableau.now.yield_units.0 book c.args.tableau.now.priced.leaf (get_or book.lines c.args.line some-line) c.args.interval c.requires.tableau.limits.settlement c.requires.tableau.leaf
     (all-lines book.days book.lines c.requires.tableau.limits.lines c.args.line some-line c.requires.line) c.requires.ordered (c.requires.high some-line))
 
 pub returns-then-is_apart-clause-right : goal.returns-then-is_apart-clause-right
@@ -55,7 +55,7 @@ returns-then-is_apart-clause-right c =
     λ d e.
     let n = c.args.tableau.now.yield_units.0 in
     let book = c.args.book.now in
-    let leaf = c.args.tableau.now.leaf in
+    let leaf = c.args.tableau.now.priced.leaf in
     let known = c.index.result.now in
     let is = c.index.ensures ∙ ap (λ k. get_or c.args.self.now.lines.items k known) c.from-place.ensures in
     let long = AllZip-long (IsLeast n book leaf c.args.self.now.changed) book.lines c.args.self.now.lines.items c.requires.leasts in
@@ -68,7 +68,7 @@ index_mut-requires c =
       arith,
       c.from-place.ensures,
       c.requires.line,
-      AllZip-long (IsLeast c.args.tableau.now.yield_units.0 c.args.book.now c.args.tableau.now.leaf c.args.self.now.changed) c.args.book.now.lines c.args.self.now.lines.items c.requires.leasts,
+      AllZip-long (IsLeast c.args.tableau.now.yield_units.0 c.args.book.now c.args.tableau.now.priced.leaf c.args.self.now.changed) c.args.book.now.lines c.args.self.now.lines.items c.requires.leasts,
     )
 
 pub returns-clause-value : goal.returns-clause-value
@@ -78,7 +78,7 @@ pub returns-clause-leasts : goal.returns-clause-leasts
 returns-clause-leasts c =
     let n = c.args.tableau.now.yield_units.0 in
     let book = c.args.book.now in
-    let leaf = c.args.tableau.now.leaf in
+    let leaf = c.args.tableau.now.priced.leaf in
     let place = c.from-place.result in
     let few : place < length book.lines = omega (arith, c.from-place.ensures, c.requires.line) in
     let own = known-least n book leaf c.args.self.now place c.index.result.now c.requires.leasts few c.index.ensures some-line in
@@ -96,7 +96,7 @@ returns-clause-right c =
     let items = c.args.self.now.lines.items in
     let place = c.from-place.result in
     let own : Least = record { span = c.index.result.now.span; interval = c.args.interval; least = to_z w128 (of_z w128 c.least-least.result) } in
-    let long = AllZip-long (IsLeast c.args.tableau.now.yield_units.0 c.args.book.now c.args.tableau.now.leaf c.args.self.now.changed) c.args.book.now.lines items c.requires.leasts in
+    let long = AllZip-long (IsLeast c.args.tableau.now.yield_units.0 c.args.book.now c.args.tableau.now.priced.leaf c.args.self.now.changed) c.args.book.now.lines items c.requires.leasts in
     let there : place < length items = omega (arith, long, c.from-place.ensures, c.requires.line) in
     let same : get_or (set items place own) c.args.line e ≡ own = ap (λ k. get_or (set items place own) k e) (sym c.from-place.ensures) ∙ get_or-set_same items place own e there in
-    subst (IsRight c.args.tableau.now.yield_units.0 c.args.book.now c.args.tableau.now.leaf (get_or c.args.book.now.lines c.args.line d)) (sym same) (returns-clause-value c d)
+    subst (IsRight c.args.tableau.now.yield_units.0 c.args.book.now c.args.tableau.now.priced.leaf (get_or c.args.book.now.lines c.args.line d)) (sym same) (returns-clause-value c d)

@@ -22,7 +22,7 @@ least-old-requires-clause-high c =
 pub exchanged-requires-clause-sum : goal.exchanged-requires-clause-sum
 exchanged-requires-clause-sum c =
     subst (λ z. unsigned_abs z < 10 ^ 37) (sym (to_z-of_z w128 c.args.bound c.ranges.bound ∙ c.requires.bound))
-    (bound-small c.args.self.now.yield_units.0 c.args.book.now c.args.ranges.now c.args.self.now.leaf c.requires.tableau.limits c.requires.tableau.leaf c.requires.ranges c.intervals.ensures.ordered)
+    (bound-small c.args.self.now.yield_units.0 c.args.book.now c.args.ranges.now c.args.self.now.priced.leaf c.requires.tableau.limits c.requires.tableau.leaf c.requires.ranges c.intervals.ensures.ordered)
 
 pub returns : goal.returns
 returns c =
@@ -32,8 +32,8 @@ returns c =
     let bound = to_z-of_z w128 c.args.bound c.ranges.bound ∙ c.requires.bound in
     let interval : get_or c.intervals.result.now c.from.result none ≡ get_or c.args.ranges.now c.args.line none = (λ i. get_or (c.intervals.ensures.value i) (c.from.ensures i) none) in
     let old = to_z-of_z w128 c.least-old.result (record { sfits = c.least-old.type_inv }) ∙ c.least-old.ensures.value some-line
-    ∙ ap (λ x. least_within n c.args.book.now c.args.self.now.leaf line x) interval in
+    ∙ ap (λ x. least_within n c.args.book.now c.args.self.now.priced.leaf line x) interval in
     let new = to_z-of_z w128 c.least-new.result (record { sfits = c.least-new.type_inv }) ∙ c.least-new.ensures.value some-line in
     to_z-of_z w128 c.exchanged.result (record { sfits = c.exchanged.type_inv }) ∙ c.exchanged.ensures
     ∙ (λ i. (bound i -ℤ old i) +ℤ new i)
-    ∙ bound-set n c.args.book.now c.args.self.now.leaf c.args.ranges.now c.args.line c.args.interval some-line none c.requires.line (room-length c.args.book.now.lines c.args.ranges.now c.requires.ranges)
+    ∙ bound-set n c.args.book.now c.args.self.now.priced.leaf c.args.ranges.now c.args.line c.args.interval some-line none c.requires.line (room-length c.args.book.now.lines c.args.ranges.now c.requires.ranges)

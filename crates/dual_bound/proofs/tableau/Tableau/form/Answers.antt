@@ -41,6 +41,6 @@ returns c =
     (c.index-column.ensures ∙ ap (λ k. get_or c.args.self.now.columns.items k c.index-column.result.now) c.from.ensures) in
     let own = read-again c.cost_worth.result (omega (arith, c.cost_worth.ensures.light)) ∙ c.cost_worth.ensures.value in
     λ d. c.form.ensures ∙ (λ i. column_form (own i) (c.as_slice.ensures.value i) c.index-column.result.now)
-    ∙ column-form c.args.self.now.yield_units.0 c.args.book.now c.args.self.now.leaf c.line.result.now c.args.self.now.days.items c.args.self.now.worths.items c.index-column.result.now
+    ∙ column-form c.args.self.now.yield_units.0 c.args.book.now c.args.self.now.priced.leaf c.line.result.now c.args.self.now.days.items c.args.self.now.priced.worths.items c.index-column.result.now
     c.requires.tableau.leaf.every_date c.requires.tableau.worths known.is_column
-    ∙ ap (form_of c.args.self.now.yield_units.0 c.args.book.now c.args.self.now.leaf) (c.line.ensures ∙ get_or_default c.args.book.now.lines c.args.line c.line.result.now d c.requires.line)
+    ∙ ap (form_of c.args.self.now.yield_units.0 c.args.book.now c.args.self.now.priced.leaf) (c.line.ensures ∙ get_or_default c.args.book.now.lines c.args.line c.line.result.now d c.requires.line)

@@ -1,9 +1,10 @@
 use Rattle.std.proofs.Common.{◌<◌, ◌≤◌, All, length, sym, ap, subst, arith}
 use Rattle.std.proofs.lemmas.Slice.Zip.{AllZip-long}
 use Rattle.fixed_powers.specs.DiscountPowers.{one}
+use Rattle.cash_table.proofs.PaymentFacts.{count_lines}
 use Rattle.dual_bound.specs.Columns.{IsColumn, IsLightWorth}
 use Rattle.dual_bound.specs.declared.column.Column.{Column}
-use Rattle.dual_bound.proofs.TableauFacts.{columns-there, lines-few, worths-light}
+use Rattle.dual_bound.proofs.TableauFacts.{columns-there, worths-light}
 use Rattle.dual_bound.proofs.tableau.Tableau.make.Goals as goal
 
 pub columns_of-requires-clause-table : goal.columns_of-requires-clause-table
@@ -13,7 +14,7 @@ pub make-requires-clause-lines : goal.make-requires-clause-lines
 make-requires-clause-lines c =
     omega (
       arith,
-      lines-few c.args.book.now c.need_count.ensures.limits,
+      count_lines c.args.book.now.days c.args.book.now.lines c.need_count.ensures.limits.lines,
       AllZip-long (IsColumn c.args.powers.now.yield_units c.args.book.now c.columns_of.new.table.days.items) c.args.book.now.lines c.in_ok-columns.columns.items c.in_ok-columns.ensures.columns,
       ap length c.as_slice-4.ensures.value,
     )
@@ -24,8 +25,21 @@ make-requires-clause-there c =
     (subst (All (λ (column : Column). All (λ place. place < length c.columns_of.new.table.days.items) column.places.items)) (sym c.as_slice-4.ensures.value)
     (columns-there c.args.powers.now.yield_units c.args.book.now c.columns_of.new.table.days.items c.args.book.now.lines c.in_ok-columns.columns.items c.in_ok-columns.ensures.columns))
 
-pub make-requires-clause-light : goal.make-requires-clause-light
-make-requires-clause-light c =
-    subst (All IsLightWorth) (sym c.as_slice-5.ensures.value)
+pub sums_of-requires-clause-light : goal.sums_of-requires-clause-light
+sums_of-requires-clause-light c =
+    subst (All IsLightWorth) (sym c.as_slice-6.ensures.value)
     (worths-light c.need_count.result c.in_ok-leaf.leaf c.as_slice-2.result.now c.in_ok-worths.worths.items c.in_ok-leaf.ensures.leaf
     (subst (All (λ priced. priced.power ≤ one)) (sym c.as_slice-2.ensures.value) c.in_ok-columns.ensures.table.powers) c.in_ok-worths.ensures)
+
+pub returns-clause-tableau : goal.returns-clause-tableau
+returns-clause-tableau c = record {
+  limits = c.need_count.ensures.limits;
+  leaf = rw (← c.need_count.ensures.value) c.in_ok-leaf.ensures.leaf;
+  powers = c.in_ok-columns.ensures.table.powers;
+  columns = rw (c.yield_units.ensures) c.in_ok-columns.ensures.columns;
+  small = c.in_ok-columns.ensures.small;
+  date_days = rw (← c.need_count-2.ensures.value, ← c.as_slice.ensures.value) c.in_ok-date_days.ensures;
+  worths = rw (← c.as_slice-2.ensures.value) c.in_ok-worths.ensures;
+  series = rw (← c.need_count-3.ensures.value, ← c.as_slice-3.ensures.value, ← c.as_slice-4.ensures.value) c.in_ok-series.ensures.laid;
+  sums = rw (← c.as_slice-5.ensures.value, ← c.as_slice-6.ensures.value) c.in_ok-sums.ensures;
+}

@@ -8,6 +8,6 @@ pub sum_up-requires-clause-light : goal.sum_up-requires-clause-light
 sum_up-requires-clause-light c =
     let self = c.args.self.now in
     let new = c.price_days.new.worths in
-    let len : self.worths.len ≡ length new = omega (arith, self.worths.ok.0, c.price_days.auto.worths, ap length c.as_mut_slice.ensures.value) in
+    let len : self.priced.worths.len ≡ length new = omega (arith, self.priced.worths.ok.0, c.price_days.auto.worths, ap length c.as_mut_slice.ensures.value) in
     worths-light (length c.args.book.now.needs) c.args.leaf.now self.days.items c.as_slice-3.result.now c.requires.leaf c.requires.tableau.powers
-    (c.as_slice-3.ensures.value ∙ written new (drop (length new) self.worths.items) self.worths.len len ∙ c.price_days.ensures ∙ ap (map (worth_on c.args.leaf.now)) c.as_slice.ensures.value)
+    (c.as_slice-3.ensures.value ∙ written new (drop (length new) self.priced.worths.items) self.priced.worths.len len ∙ c.price_days.ensures ∙ ap (map (worth_on c.args.leaf.now)) c.as_slice.ensures.value)

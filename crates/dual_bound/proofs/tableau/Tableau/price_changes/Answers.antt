@@ -16,7 +16,7 @@ price_dates-requires-clause-others c =
     let self = c.args.self.now in
     let tableau = c.requires.tableau in
     let there : place < length self.days.items = omega (arith, few, ap length c.as_slice-3.ensures.value) in
-    elim (priced-or-listed (length c.args.book.now.needs) self.leaf c.args.leaf.now self.days.items self.date_days.items self.worths.items tableau.date_days tableau.leaf.every_date
+    elim (priced-or-listed (length c.args.book.now.needs) self.priced.leaf c.args.leaf.now self.days.items self.date_days.items self.priced.worths.items tableau.date_days tableau.leaf.every_date
     c.requires.leaf.every_date c.requires.limit tableau.worths place there) [
       | inl priced ↦ inl (λ d. ap (λ (ws : List Worth). worth_at ws place) c.as_mut_slice.ensures.value ∙ priced d ∙ (λ i. worth_on c.args.leaf.now (get_or (sym c.as_slice-3.ensures.value i) place d)))
       | inr change ↦ inr (record {
@@ -32,8 +32,8 @@ priced : (c : goal.After-as_slice-8) → c.as_slice-5.result.now ≡ map (worth_
 priced c =
     let self = c.args.self.now in
     let new = c.price_dates.new.worths in
-    let len : self.worths.len ≡ length new = omega (arith, self.worths.ok.0, c.price_dates.auto.worths, ap length c.as_mut_slice.ensures.value) in
-    c.as_slice-5.ensures.value ∙ written new (drop (length new) self.worths.items) self.worths.len len ∙ c.price_dates.ensures ∙ ap (map (worth_on c.args.leaf.now)) c.as_slice-3.ensures.value
+    let len : self.priced.worths.len ≡ length new = omega (arith, self.priced.worths.ok.0, c.price_dates.auto.worths, ap length c.as_mut_slice.ensures.value) in
+    c.as_slice-5.ensures.value ∙ written new (drop (length new) self.priced.worths.items) self.priced.worths.len len ∙ c.price_dates.ensures ∙ ap (map (worth_on c.args.leaf.now)) c.as_slice-3.ensures.value
 
 pub mend_dates-requires-clause-light : goal.mend_dates-requires-clause-light
 mend_dates-requires-clause-light c =
@@ -44,9 +44,9 @@ mend_dates-requires-clause-small c =
     let self = c.args.self.now in
     let tableau = c.requires.tableau in
     subst AreSmallSums (sym c.as_mut_slice-2.ensures.value)
-    (sums-small self.worths.items self.series.stops.items self.series.sums.items tableau.sums
-    (worths-light (length c.args.book.now.needs) self.leaf self.days.items self.worths.items tableau.leaf tableau.powers tableau.worths)
-    (subst (λ n. All (IsStopWithin n) self.series.stops.items) (omega (arith, ap length tableau.worths, length-map self.days.items (worth_on self.leaf))) tableau.series.there))
+    (sums-small self.priced.worths.items self.series.stops.items self.priced.sums.items tableau.sums
+    (worths-light (length c.args.book.now.needs) self.priced.leaf self.days.items self.priced.worths.items tableau.leaf tableau.powers tableau.worths)
+    (subst (λ n. All (IsStopWithin n) self.series.stops.items) (omega (arith, ap length tableau.worths, length-map self.days.items (worth_on self.priced.leaf))) tableau.series.there))
 
 pub mend_dates-requires-clause-others : goal.mend_dates-requires-clause-others
 mend_dates-requires-clause-others c =
@@ -54,8 +54,8 @@ mend_dates-requires-clause-others c =
     let self = c.args.self.now in
     let tableau = c.requires.tableau in
     let there : k < length self.series.stops.items = omega (arith, few, ap length c.as_slice-4.ensures.value) in
-    elim (summed-or-listed (length c.args.book.now.needs) self.leaf c.args.leaf.now self.days.items self.series.stops.items self.series.date_stops.items self.worths.items
-    self.series.sums.items tableau.series.date_stops tableau.series.there tableau.leaf.every_date c.requires.leaf.every_date c.requires.limit tableau.worths tableau.sums k there) [
+    elim (summed-or-listed (length c.args.book.now.needs) self.priced.leaf c.args.leaf.now self.days.items self.series.stops.items self.series.date_stops.items self.priced.worths.items
+    self.priced.sums.items tableau.series.date_stops tableau.series.there tableau.leaf.every_date c.requires.leaf.every_date c.requires.limit tableau.worths tableau.sums k there) [
       | inl summed ↦
           inl (subst (λ (ws : List Worth). IsSummed ws c.as_slice-4.result.now c.as_mut_slice-2.result.now k) (sym (priced c))
           (subst (λ (ss : List Stop). IsSummed (map (worth_on c.args.leaf.now) self.days.items) ss c.as_mut_slice-2.result.now k) (sym c.as_slice-4.ensures.value)
@@ -64,7 +64,7 @@ mend_dates-requires-clause-others c =
         date = change.date;
         there = subst (λ (prices : List ℕ). change.date < length prices) (sym c.as_slice-7.ensures) change.there;
         changed = subst (λ (prices : List ℕ). ¬ (get_or prices change.date 0 ≡ get_or c.as_slice-8.result.now change.date 0)) (sym c.as_slice-7.ensures)
-            (subst (λ (prices : List ℕ). ¬ (get_or self.leaf.prices change.date 0 ≡ get_or prices change.date 0)) (sym c.as_slice-8.ensures) change.changed);
+            (subst (λ (prices : List ℕ). ¬ (get_or self.priced.leaf.prices change.date 0 ≡ get_or prices change.date 0)) (sym c.as_slice-8.ensures) change.changed);
         listed = λ e. subst (λ (lists : List DateDays). Contains (get_or lists change.date e).places.items k) (sym c.as_slice-6.ensures.value) (change.listed e);
       })
     ]

@@ -58,7 +58,7 @@ returns c =
     let line = c.line-own.result.now in
     λ d. to_z-of_z w128 c.reduced_cost.result (record { sfits = c.reduced_cost.type_inv }) ∙ c.reduced_cost.ensures
     ∙ (λ i. column_reduced (own i) (kind_rate line.kind) (line_cost line c.args.units) (par line c.args.units) (c.as_slice.ensures.value i) c.index-column.result.now)
-    ∙ column-reduced c.args.self.now.yield_units.0 c.args.book.now c.args.self.now.leaf line c.args.self.now.days.items c.args.self.now.worths.items c.index-column.result.now c.args.units
+    ∙ column-reduced c.args.self.now.yield_units.0 c.args.book.now c.args.self.now.priced.leaf line c.args.self.now.days.items c.args.self.now.priced.worths.items c.index-column.result.now c.args.units
     c.requires.tableau.leaf.every_date c.requires.tableau.worths known.is_column
-    ∙ ap (λ l. reduced_cost c.args.self.now.yield_units.0 c.args.book.now c.args.self.now.leaf l c.args.units)
+    ∙ ap (λ l. reduced_cost c.args.self.now.yield_units.0 c.args.book.now c.args.self.now.priced.leaf l c.args.units)
     (c.line-own.ensures ∙ get_or_default c.args.book.now.lines c.args.line line d c.requires.line)

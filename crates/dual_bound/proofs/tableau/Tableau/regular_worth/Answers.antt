@@ -29,8 +29,8 @@ minus-requires-clause-above c =
     let known = run-of c.args.book.now c.args.self.now c.args.line (some-column c.args.book.now c.args.self.now c.args.line c.requires.tableau c.requires.line) c.index-run.result.now c.requires.tableau c.requires.line
     (c.index-run.ensures ∙ ap (λ k. get_or c.args.self.now.series.runs.items k c.index-run.result.now) c.from.ensures) in
     let none : Worth = record { above = 0; below = 0 } in
-    let to = c.index.ensures ∙ get_or_default c.args.self.now.series.sums.items c.index-run.result.now.to c.index.result.now none known.to in
-    let from = c.index-2.ensures ∙ get_or_default c.args.self.now.series.sums.items c.index-run.result.now.from c.index-2.result.now none known.from in
+    let to = c.index.ensures ∙ get_or_default c.args.self.now.priced.sums.items c.index-run.result.now.to c.index.result.now none known.to in
+    let from = c.index-2.ensures ∙ get_or_default c.args.self.now.priced.sums.items c.index-run.result.now.from c.index-2.result.now none known.from in
     omega (arith, ap (λ (w : Worth). w.above) to, ap (λ (w : Worth). w.above) from, ap (λ (w : Worth). w.above) known.worth)
 
 pub minus-requires-clause-below : goal.minus-requires-clause-below
@@ -38,8 +38,8 @@ minus-requires-clause-below c =
     let known = run-of c.args.book.now c.args.self.now c.args.line (some-column c.args.book.now c.args.self.now c.args.line c.requires.tableau c.requires.line) c.index-run.result.now c.requires.tableau c.requires.line
     (c.index-run.ensures ∙ ap (λ k. get_or c.args.self.now.series.runs.items k c.index-run.result.now) c.from.ensures) in
     let none : Worth = record { above = 0; below = 0 } in
-    let to = c.index.ensures ∙ get_or_default c.args.self.now.series.sums.items c.index-run.result.now.to c.index.result.now none known.to in
-    let from = c.index-2.ensures ∙ get_or_default c.args.self.now.series.sums.items c.index-run.result.now.from c.index-2.result.now none known.from in
+    let to = c.index.ensures ∙ get_or_default c.args.self.now.priced.sums.items c.index-run.result.now.to c.index.result.now none known.to in
+    let from = c.index-2.ensures ∙ get_or_default c.args.self.now.priced.sums.items c.index-run.result.now.from c.index-2.result.now none known.from in
     omega (arith, ap (λ (w : Worth). w.below) to, ap (λ (w : Worth). w.below) from, ap (λ (w : Worth). w.below) known.worth)
 
 pub returns-clause-value : goal.returns-clause-value
@@ -48,8 +48,8 @@ returns-clause-value c =
     let known = run-of c.args.book.now c.args.self.now c.args.line d c.index-run.result.now c.requires.tableau c.requires.line
     (c.index-run.ensures ∙ ap (λ k. get_or c.args.self.now.series.runs.items k c.index-run.result.now) c.from.ensures) in
     let none : Worth = record { above = 0; below = 0 } in
-    let to = c.index.ensures ∙ get_or_default c.args.self.now.series.sums.items c.index-run.result.now.to c.index.result.now none known.to in
-    let from = c.index-2.ensures ∙ get_or_default c.args.self.now.series.sums.items c.index-run.result.now.from c.index-2.result.now none known.from in
+    let to = c.index.ensures ∙ get_or_default c.args.self.now.priced.sums.items c.index-run.result.now.to c.index.result.now none known.to in
+    let from = c.index-2.ensures ∙ get_or_default c.args.self.now.priced.sums.items c.index-run.result.now.from c.index-2.result.now none known.from in
     same-worth c.minus.result _
     (omega (arith, c.minus.ensures.above, ap (λ (w : Worth). w.above) to, ap (λ (w : Worth). w.above) from, ap (λ (w : Worth). w.above) known.worth))
     (omega (arith, c.minus.ensures.below, ap (λ (w : Worth). w.below) to, ap (λ (w : Worth). w.below) from, ap (λ (w : Worth). w.below) known.worth))
@@ -59,8 +59,8 @@ returns-clause-light c =
     let known = run-of c.args.book.now c.args.self.now c.args.line (some-column c.args.book.now c.args.self.now c.args.line c.requires.tableau c.requires.line) c.index-run.result.now c.requires.tableau c.requires.line
     (c.index-run.ensures ∙ ap (λ k. get_or c.args.self.now.series.runs.items k c.index-run.result.now) c.from.ensures) in
     let none : Worth = record { above = 0; below = 0 } in
-    let to = c.index.ensures ∙ get_or_default c.args.self.now.series.sums.items c.index-run.result.now.to c.index.result.now none known.to in
-    let from = c.index-2.ensures ∙ get_or_default c.args.self.now.series.sums.items c.index-run.result.now.from c.index-2.result.now none known.from in
+    let to = c.index.ensures ∙ get_or_default c.args.self.now.priced.sums.items c.index-run.result.now.to c.index.result.now none known.to in
+    let from = c.index-2.ensures ∙ get_or_default c.args.self.now.priced.sums.items c.index-run.result.now.from c.index-2.result.now none known.from in
     omega (
       arith,
       known.light,
