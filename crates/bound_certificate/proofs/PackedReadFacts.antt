@@ -34,7 +34,7 @@ pub record AtLine (dates number : ℕ) (d : PackedDue) (packed : Packed) (bytes 
   pub holds : Holds dates d packed.vectors
   pub fault : packed_fault dates bytes ≡ first_fault dates number d packed.vectors parts
   pub due_is : IsPackedDue d
-  pub count : number + packed_lines_left d ≤ 10_584
+  pub count : number + packed_lines_left d ≤ 1 + packed_lines_left due.Title
 
 pub at-start : (dates : ℕ) (bytes : List ℕ) (packed : Packed) (parts : List (List ℕ)) → packed ≡ no_packed → lines_in bytes ≡ parts → AtLine dates 1 due.Title packed bytes parts
 at-start dates bytes packed parts none same =

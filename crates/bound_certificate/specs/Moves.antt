@@ -62,14 +62,14 @@ IsStage dates (stage.Packed d) vectors = IsPackedDue d × AreVectors dates d vec
 
 -- how many lines there may still be
 abbrev pub stage_lines_left : Stage → ℕ
-stage_lines_left stage.First = 10_583
+stage_lines_left stage.First = packed_lines_left packed_due.Title
 stage_lines_left (stage.Plain d) = lines_left d
 stage_lines_left (stage.Packed d) = packed_lines_left d
 
 -- a reader whose bytes had no fault so far
 pub record IsGoing (reading : TextReading) : Type 0 where
   pub stage_is : IsStage (length reading.leaf.prices) reading.stage reading.vectors
-  pub count : reading.line + stage_lines_left reading.stage ≤ 10_584
+  pub count : reading.line + stage_lines_left reading.stage ≤ 1 + packed_lines_left packed_due.Title
 
 abbrev pub IsTextReading : TextReading → Type 0
 IsTextReading reading = (length reading.leaf.prices ≤ MOST_DATES) × (reading.fault ≡ None → IsGoing reading)

@@ -113,12 +113,7 @@ impl Nodes {
     fn push_leaf(&mut self, alloc: Global, leaf: &Leaf) -> Result<(), NoMemory>
         ensures { OnOk result (self.new ≡ self.old ++ node.Closed leaf.now ∷ []) }
     {
-        let prices = Prices::new(leaf.prices.as_slice().to_vec(alloc)?);
-        self.push(TreeNode::Closed(Leaf {
-            whole: leaf.whole,
-            mu: leaf.mu,
-            prices,
-        }))
+        self.push(TreeNode::Closed(leaf.copy(alloc)?))
     }
 }
 

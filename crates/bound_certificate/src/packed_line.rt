@@ -58,16 +58,15 @@ pub(crate) enum PackedLine {
     End,
 }
 
-// Whether a price is above the one before.
+// Whether a price is above the one before. All are looked at, whatever was found: several at once then.
 pub(crate) fn rises(prices: &[u64]) -> bool
     ensures { result ≡ rises_of prices.now }
 {
+    let mut found = false;
     for place in 1..prices.len() {
-        if prices[place - 1] < prices[place] {
-            return true;
-        }
+        found |= prices[place - 1] < prices[place];
     }
-    false
+    found
 }
 
 // Whether the first word of a line is this one.

@@ -75,7 +75,7 @@ fn behind(due: Due, name: Name, dates: u16, line: &[u8]) -> Result<Option<&[u8]>
 // The number at the front of bytes, where a space stands behind its digits, or nothing: what is quickly read. This and the two that
 // call it are inlined: where a leaf's prices are read, what they answer would else pass through memory.
 #[inline(always)]
-fn fast_number(bytes: &[u8]) -> Option<Taken<'_>>
+fn fast_front_number(bytes: &[u8]) -> Option<Taken<'_>>
     ensures { IfSome result (IsFrontNumber bytes.now) }
 {
     let digits = first_number(bytes)?;
@@ -95,7 +95,7 @@ fn fast_number(bytes: &[u8]) -> Option<Taken<'_>>
 }
 
 // The number that the first word of bytes is.
-fn slow_number(bytes: &[u8]) -> Option<Taken<'_>>
+fn slow_front_number(bytes: &[u8]) -> Option<Taken<'_>>
     ensures some { IfSome result (IsFrontNumber bytes.now) }
     ensures none { result ≡ None → whole_number_of (first_word bytes.now) ≡ None }
 {
@@ -113,9 +113,9 @@ fn front_number(bytes: &[u8]) -> Option<Taken<'_>>
     ensures some { IfSome result (IsFrontNumber bytes.now) }
     ensures none { result ≡ None → whole_number_of (first_word bytes.now) ≡ None }
 {
-    match fast_number(bytes) {
+    match fast_front_number(bytes) {
         Some(taken) => Some(taken),
-        None => slow_number(bytes),
+        None => slow_front_number(bytes),
     }
 }
 

@@ -23,7 +23,8 @@ use std::marker::Model;
 #[derive(Drop)]
 pub struct CertReader {
     reading: TextReading,
-    numbers: Numbers,
+    // The numbers of a packed line. They stand on the heap: a reader is moved where stacks are small.
+    numbers: Box<Numbers>,
 }
 
 impl Model for CertReader {
@@ -68,10 +69,10 @@ impl CertReader {
             leaf: empty_leaf(alloc, dates)?,
             fault: None,
         };
-        Ok(CertReader {
-            reading,
-            numbers: ArrayVec::new(),
-        })
+        let Ok(numbers) = Box::new(alloc, ArrayVec::new()) else {
+            return Err(NoMemory);
+        };
+        Ok(CertReader { reading, numbers })
     }
 
     /// Takes bytes of a piece, up to and with its first line feed, and says what the line says that ended; where no line
@@ -112,6 +113,15 @@ impl CertReader {
         ensures { result.now ≡ self.now.leaf }
     {
         &self.reading.leaf
+    }
+
+    /// The vector whose prices those of the leaf that was read last are but for its changes, counted from 0; 0 in version 1. It shows
+    /// which leaves are near to each other, and nothing rests on it. It takes no memory.
+    pub fn vector(&self) -> usize {
+        match self.numbers.as_slice().get(2) {
+            Some(number) => (*number as usize).saturating_sub(1),
+            None => 0,
+        }
     }
 
     /// Whether the bytes so far are the text of a certificate. It takes no memory.

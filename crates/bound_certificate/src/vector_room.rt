@@ -22,13 +22,16 @@ impl Model for Vector {
 }
 
 impl Vector {
-    // A vector without prices.
-    fn empty() -> Vector
-        ensures { result ≡ [] }
+    // A vector of these prices.
+    fn of(prices: &[u64]) -> Vector
+        requires { length prices.now ≤ MOST_DATES }
+        ensures { result ≡ prices.now }
     {
-        Vector {
-            prices: ArrayVec::new(),
+        let mut own = ArrayVec::new();
+        for price in prices {
+            own.push(*price);
         }
+        Vector { prices: own }
     }
 
     /// The prices.
@@ -37,35 +40,25 @@ impl Vector {
     {
         self.prices.as_slice()
     }
-
-    // Takes these prices in place of its own.
-    fn fill(&mut self, prices: &[u64])
-        requires { length prices.now ≤ MOST_DATES }
-        ensures { self.new ≡ prices.now }
-    {
-        self.prices.clear();
-        for price in prices {
-            self.prices.push(*price);
-        }
-    }
 }
 
-/// Room for 64 vectors, taken at once, and those that came. Contracts see the list of those that came.
+/// Room for 64 vectors, taken at once, and those that came. No byte of it is written before a vector comes. Contracts see the list
+/// of those that came.
 #[derive(Debug, Drop)]
 pub(crate) struct VectorRoom {
     vectors: Vec<Vector>,
-    came: u16,
 }
 
 impl Model for VectorRoom {
-    ghost use Rattle.std.specs.Prelude.{◌≡◌, ◌≤◌, ℕ, List, length, take};
+    ghost use Rattle.std.specs.Prelude.{◌≤◌, ℕ, List, length};
+    ghost use Rattle.std.specs.Vec.{vec_capacity};
     ghost use Rattle.bound_certificate.specs.declared.limits.TheConstants.{MOST_VECTORS};
 
     ghost Value = { List (List ℕ) };
 
-    ghost view = { λ r. take r.came r.vectors.items };
+    ghost view = { λ r. r.vectors.items };
 
-    ghost invariant = { λ r. (r.came ≤ MOST_VECTORS) × (length r.vectors.items ≡ MOST_VECTORS) };
+    ghost invariant = { λ r. (length r.vectors.items ≤ MOST_VECTORS) × (MOST_VECTORS ≤ vec_capacity r.vectors) };
 }
 
 impl VectorRoom {
@@ -77,11 +70,8 @@ impl VectorRoom {
     pub(crate) fn make(alloc: Global) -> Result<VectorRoom, NoMemory>
         ensures { IfOk result (λ room. room ≡ []) }
     {
-        let mut vectors = Vec::with_capacity(alloc, MOST_VECTORS as usize)?;
-        for _ in 0..MOST_VECTORS {
-            vectors.push(Vector::empty())?;
-        }
-        Ok(VectorRoom { vectors, came: 0 })
+        let vectors = Vec::with_capacity(alloc, MOST_VECTORS as usize)?;
+        Ok(VectorRoom { vectors })
     }
 
     /// How many vectors came, at most 64.
@@ -89,7 +79,7 @@ impl VectorRoom {
         ensures value { result ≡ length self.now }
         ensures bound { result ≤ MOST_VECTORS }
     {
-        self.came
+        self.vectors.len() as u16
     }
 
     /// The prices of the vector at a place, from 0.
@@ -106,8 +96,6 @@ impl VectorRoom {
         requires few { length prices.now ≤ MOST_DATES }
         ensures { self.new ≡ self.old ++ prices.now ∷ [] }
     {
-        let place = usize::from(self.came);
-        self.vectors[place].fill(prices);
-        self.came += 1;
+        let _pushed = self.vectors.push(Vector::of(prices));
     }
 }

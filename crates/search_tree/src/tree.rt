@@ -11,7 +11,7 @@ ghost use Rattle.search_tree.specs.declared.node.Closing.TheVariants as closing;
 
 use crate::node::{Closing, Priced, SearchNode};
 use bound_certificate::Nodes;
-use dual_bound::{Leaf, Prices, Ranges, TreeNode};
+use dual_bound::{Ranges, TreeNode};
 use escrow_desk::NoMemory;
 use halving_tree::{Split, reach_leaf};
 use node_pool::{Link, NodeId, Pool};
@@ -192,17 +192,6 @@ impl SearchTree {
     }
 }
 
-// A copy of a leaf.
-fn copied(alloc: Global, leaf: &Leaf) -> Result<Leaf, NoMemory>
-    ensures { IfOk result (λ copy. copy ≡ leaf.now) }
-{
-    Ok(Leaf {
-        whole: leaf.whole,
-        mu: leaf.mu,
-        prices: Prices::new(leaf.prices.as_slice().to_vec(alloc)?),
-    })
-}
-
 // A closed node as it stands in a certificate: a point, or the leaf that closes it.
 fn closed_node(alloc: Global, book: &Book, node: &SearchNode) -> Result<TreeNode, NoMemory>
     ensures { IfOk result (λ next. next ≡ end_node book.now.needs node.now) }
@@ -210,6 +199,6 @@ fn closed_node(alloc: Global, book: &Book, node: &SearchNode) -> Result<TreeNode
     match node.closing {
         Closing::Point => Ok(TreeNode::Point),
         Closing::Unreached(day) => Ok(TreeNode::Closed(reach_leaf(alloc, book, day)?)),
-        Closing::Borne | Closing::Open => Ok(TreeNode::Closed(copied(alloc, &node.priced.leaf)?)),
+        Closing::Borne | Closing::Open => Ok(TreeNode::Closed(node.priced.leaf.copy(alloc)?)),
     }
 }
