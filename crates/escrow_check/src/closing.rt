@@ -25,13 +25,14 @@ fn bears_out(bound: i128, claim: Option<i128>) -> bool
     COEFFICIENT_SCALE as i128 * PRICE_SCALE as i128 * (least - 1) < bound
 }
 
-/// Whether a leaf is closed over ranges. The columns are priced at it.
+/// Whether a leaf is closed over ranges. The columns are priced at it, in a room where leaves near to it were.
 pub(crate) fn is_closed_leaf(
     case: &Case,
     columns: &mut Columns,
     claim: Option<i128>,
     ranges: &Ranges,
     leaf: &Leaf,
+    room: usize,
 ) -> bool
     requires columns { AreColumnsOf (case_view case.now) columns.old }
     requires claim { IsClaim claim }
@@ -40,7 +41,7 @@ pub(crate) fn is_closed_leaf(
     ensures closed { result ≡ is_closed_leaf_of (case_view case.now) claim ranges.now leaf.now }
     ensures columns { columns.new ≡ record columns.old { leaf = leaf.now } }
 {
-    let bound = columns.bound(ranges, leaf);
+    let bound = columns.bound_near(room, ranges, leaf);
     if leaf.whole {
         bears_out(bound, claim)
     } else {

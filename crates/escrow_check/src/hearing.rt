@@ -52,7 +52,13 @@ impl<'a> Hearing<'a> {
             let Ok(fed) = self.reader.feed(rest) else {
                 return Ok(());
             };
-            self.trial.take(alloc, case, fed.item, self.reader.leaf())?;
+            self.trial.take(
+                alloc,
+                case,
+                fed.item,
+                self.reader.leaf(),
+                self.reader.vector(),
+            )?;
             rest = &rest[fed.used as usize..];
         }
         Ok(())

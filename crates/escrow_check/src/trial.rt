@@ -92,7 +92,7 @@ fn portfolio_reason(case: &Case, short: Option<Day>, answer: YieldAnswer) -> Opt
 }
 
 impl<'a> Trial<'a> {
-    /// Nothing is known yet. All memory is taken here but that of `take_gap`.
+    /// Nothing is known yet. All memory is taken here but that of `take_gap`, and of rooms for leaves where vectors come.
     pub fn make(alloc: Global, case: &'a Case) -> Result<Trial<'a>, NoMemory>
         requires terms { HasTerms (case_view case.now) }
         requires book { IsBook case.now.book }
@@ -219,8 +219,8 @@ impl<'a> Trial<'a> {
         self.end_subtree(case, closed);
     }
 
-    /// A leaf.
-    pub fn take_leaf(&mut self, case: &Case, leaf: &Leaf)
+    /// A leaf, and the vector that it is near to.
+    pub fn take_leaf(&mut self, case: &Case, leaf: &Leaf, vector: usize)
         requires ready { IsReady (case_view case.now) self.old }
         requires leaf { IsLeaf (length case.now.book.needs) leaf.now }
         ensures { TakesEnd case.now.book.lines (closed_leaf (case_view case.now) self.old leaf.now) self.old self.new }
@@ -229,21 +229,29 @@ impl<'a> Trial<'a> {
             return;
         }
         let closed = self.weak.is_some()
-            || is_closed_leaf(case, &mut self.columns, self.claim, &self.walk.ranges, leaf);
+            || is_closed_leaf(
+                case,
+                &mut self.columns,
+                self.claim,
+                &self.walk.ranges,
+                leaf,
+                vector,
+            );
         self.end_subtree(case, closed);
     }
 
-    /// What a line says, and the leaf of a leaf's line.
+    /// What a line says, and the leaf of a leaf's line with the vector that it is near to.
     ///
     /// # Errors
     ///
-    /// Where memory ran out, which only the gap's line takes.
+    /// Where memory ran out that the gap's line takes. Where there is none for rooms it goes on without.
     pub fn take(
         &mut self,
         alloc: Global,
         case: &Case,
         item: Item,
         leaf: &Leaf,
+        vector: usize,
     ) -> Result<(), NoMemory>
         requires comes { (cert : CertificateOf) × (d : DueOf) × Comes (case_view case.now) cert d item leaf.now self.old }
         requires book { IsBook case.now.book }
@@ -257,11 +265,11 @@ impl<'a> Trial<'a> {
             Item::Gap(cents) => self.take_gap(alloc, case, cents)?,
             Item::Split { line, at } => self.take_split(case, line, at),
             Item::Point => self.take_point(case),
-            Item::Leaf => self.take_leaf(case, leaf),
+            Item::Leaf => self.take_leaf(case, leaf, vector),
+            Item::Vectors(count) => self.columns.add_rooms(alloc, count),
             Item::Nothing
             | Item::Header
             | Item::Portfolio(None)
-            | Item::Vectors(_)
             | Item::Vector
             | Item::Nodes(_)
             | Item::End => {}

@@ -5,6 +5,6 @@ use Rattle.dual_bound.proofs.RangeFacts.{tight-room}
 use Rattle.dual_bound.specs.Ranges.{HasRoomFor}
 use Rattle.escrow_check.proofs.closing.is_closed_leaf.Goals as goal
 
-pub bound-bound-requires-clause-ranges : goal.bound-bound-requires-clause-ranges
-bound-bound-requires-clause-ranges c =
+pub bound_near-bound-requires-clause-ranges : goal.bound_near-bound-requires-clause-ranges
+bound_near-bound-requires-clause-ranges c =
     subst (λ (book : BookContents). AllZip HasRoomFor book.lines c.args.ranges.now) (sym c.requires.columns.book) (tight-room c.args.case.now.book.lines c.args.ranges.now c.requires.ranges)
