@@ -6,10 +6,8 @@ import resource
 
 from .ground import DONE, INPUTS, NAMES, NAMES_BESIDE, READ_FAULT, WRITE_FAULT, Ground, Tries, example, run
 
-# The stack that is enough in an empty environment, and what those want that read a certificate.
+# The stack that is enough in an empty environment.
 ENOUGH_KILOBYTES = 64
-ENOUGH_TO_READ_KILOBYTES = 112
-READERS = ("check", "check-cap", "check-held", "savings", "roll")
 # The system puts up to 8 kB that it draws above the first frame, so one run doesn't tell.
 DRAWS = 20
 MADE = tuple("made-" + name for name in INPUTS)
@@ -29,13 +27,12 @@ COMMANDS_BESIDE_HOLDINGS = (
 
 
 def _in_a_small_stack(tries: Tries, name: str, commands: tuple) -> None:
+    little = Ground(limits={resource.RLIMIT_STACK: ENOUGH_KILOBYTES * 1024})
     with example(name) as folder:
         for words in commands:
-            kilobytes = ENOUGH_TO_READ_KILOBYTES if words[0] in READERS else ENOUGH_KILOBYTES
-            little = Ground(limits={resource.RLIMIT_STACK: kilobytes * 1024})
             wanted = run(folder, words)
             for _ in range(DRAWS):
-                what = "%s of %s in %d kB of stack" % (words[0], name, kilobytes)
+                what = "%s of %s in %d kB of stack" % (words[0], name, ENOUGH_KILOBYTES)
                 tries.same(what, run(folder, words, little), wanted)
 
 
