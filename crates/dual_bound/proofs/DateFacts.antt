@@ -5,11 +5,19 @@ use Rattle.std.proofs.lemmas.Bool.{cases_eq, cases_lt}
 use Rattle.std.proofs.lemmas.List.{get_or-map, get_or-set_other, get_or-set_same, get_or_default, get_or_past, length-map}
 use Rattle.std.proofs.lemmas.List.Elements.{All-push, Contains-append_left, Contains-push}
 use Rattle.fixed_powers.specs.DiscountPowers.{one}
-use Rattle.dual_bound.specs.Columns.{AreDateDays, IsListedChange, IsPriced, worth_at, worth_between, worth_on}
+use Rattle.dual_bound.specs.Changes.{AreChanges, IsListedAt}
+use Rattle.dual_bound.specs.Columns.{AreDateDays, IsPriced, worth_at, worth_between, worth_on}
 use Rattle.dual_bound.specs.declared.date_days.DateDays.{DateDays}
 use Rattle.dual_bound.specs.declared.tree.Leaf.{Leaf}
 use Rattle.dual_bound.specs.declared.worth.PricedDay.{PricedDay}
 use Rattle.dual_bound.specs.declared.worth.Worth.{Worth}
+
+-- a place stands in the list of a need date whose price changes
+pub record IsListedChange (old new : List ℕ) (lists : List DateDays) (place : ℕ) : Type 0 where
+  pub date : ℕ
+  pub there : date < length old
+  pub changed : ¬ (get_or old date 0 ≡ get_or new date 0)
+  pub listed : (e : DateDays) → Contains (get_or lists date e).places.items place
 
 -- lists of the same elements
 pub same-list : {A : Type 0} (xs ys : List A) → length xs ≡ length ys → ((k : ℕ) (d : A) → k < length xs → get_or xs k d ≡ get_or ys k d) → xs ≡ ys
@@ -118,22 +126,32 @@ change-at old new date price lists place e is h =
       | inr apart ↦ absurd (h.changed (sym (ap (λ prices. get_or prices h.date 0) is ∙ get_or-set_other old date h.date price 0 apart)))
     ]
 
--- a change at one of the dates from one on
-abbrev pub IsChangeAhead : ℕ → List ℕ → List ℕ → List DateDays → ℕ → Type 0
-IsChangeAhead from old new lists place = (change : IsListedChange old new lists place) × (from ≤ change.date)
+-- a place that one of the dates from an index on lists
+abbrev pub IsListedAhead : ℕ → List ℕ → List DateDays → ℕ → Type 0
+IsListedAhead from dates lists place = (k : ℕ) × (from ≤ k) × (k < length dates) × ((e : DateDays) → Contains (get_or lists (get_or dates k 0) e).places.items place)
 
--- one date more: what was done stays so, and where its price changes what is listed there gets done
-pub changes-more : (was is : Type 0) (from : ℕ) (old new : List ℕ) (lists : List DateDays) (place : ℕ) → (was → is)
-    → (¬ (get_or old from 0 ≡ get_or new from 0) → ((e : DateDays) → Contains (get_or lists from e).places.items place) → is)
-    → was ⊎ IsChangeAhead from old new lists place → is ⊎ IsChangeAhead (from + 1) old new lists place
-changes-more was is from old new lists place stays done (inl before) = inl (stays before)
-changes-more was is from old new lists place stays done (inr ahead) =
-    elim (cases_eq ahead.0.date from) [
-      | inl at ↦
-          inl (done (subst (λ date. ¬ (get_or old date 0 ≡ get_or new date 0)) at ahead.0.changed)
-          (λ e. subst (λ date. Contains (get_or lists date e).places.items place) at (ahead.0.listed e)))
-      | inr late ↦ inr (ahead.0, omega (arith, ahead.1, late))
+pub listed-start : (dates : List ℕ) (lists : List DateDays) (place : ℕ) → IsListedAt dates lists place → IsListedAhead 0 dates lists place
+listed-start dates lists place at =
+    let is : get_or dates at.among.0 0 ≡ at.date = get_or_default dates at.among.0 0 at.date at.among.1 ∙ at.among.2 in
+    (at.among.0, omega arith, at.among.1, λ e. subst (λ date. Contains (get_or lists date e).places.items place) (sym is) (at.listed e))
+
+-- one date more: what was done stays so, and what it lists gets done
+pub dates-more : (was is : Type 0) (from : ℕ) (dates : List ℕ) (lists : List DateDays) (place : ℕ) → (was → is)
+    → (((e : DateDays) → Contains (get_or lists (get_or dates from 0) e).places.items place) → is) → was ⊎ IsListedAhead from dates lists place → is ⊎ IsListedAhead (from + 1) dates lists place
+dates-more was is from dates lists place stays done (inl before) = inl (stays before)
+dates-more was is from dates lists place stays done (inr ahead) =
+    elim (cases_eq ahead.0 from) [
+      | inl at ↦ inl (done (subst (λ k. (e : DateDays) → Contains (get_or lists (get_or dates k 0) e).places.items place) at ahead.3))
+      | inr late ↦ inr (ahead.0, omega (arith, ahead.1, late), ahead.2, ahead.3)
     ]
+
+-- what a change lists is listed at one of the dates among which all changes are
+pub listed-change-at : (old new dates : List ℕ) (lists : List DateDays) (place : ℕ) → AreChanges old new dates → IsListedChange old new lists place → IsListedAt dates lists place
+listed-change-at old new dates lists place changes change = record {
+  date = change.date;
+  among = changes.every change.date change.there change.changed;
+  listed = change.listed;
+}
 
 -- a day of the rest of a list
 abbrev pub IsAhead : ℕ → List ℕ → ℕ → Type 0

@@ -1,9 +1,9 @@
 -- What a line adds at least, while prices change that don't count for it.
-use Rattle.std.proofs.Common.{◌≡◌, ◌∙◌, ℕ, zero, suc, ◌+◌, ◌*◌, ◌<◌, ◌≤◌, ◌==◌, if◌then◌else◌, List, [], ◌∷◌, All, get_or, length, map, set, refl, sym, ap, subst, arith, inl, inr, ℤ, pos, ◌+ℤ◌, ◌-ℤ◌, ◌*ℤ◌, neg_ℤ, unsigned_abs}
+use Rattle.std.proofs.Common.{◌≡◌, ◌∙◌, ◌⊎◌, ℕ, zero, suc, ◌+◌, ◌*◌, ◌<◌, ◌≤◌, ◌==◌, if◌then◌else◌, List, [], ◌∷◌, All, get_or, length, map, set, refl, sym, ap, subst, arith, inl, inr, ℤ, pos, ◌+ℤ◌, ◌-ℤ◌, ◌*ℤ◌, neg_ℤ, unsigned_abs}
 use Rattle.std.specs.Int.{int_min}
-use Rattle.std.specs.List.{AllZip, filter, sum_by}
-use Rattle.std.proofs.lemmas.Bool.{cases_lt}
-use Rattle.std.proofs.lemmas.List.{get_or-map, get_or-set_other, get_or_default}
+use Rattle.std.specs.List.{AllZip, Contains, filter, sum_by}
+use Rattle.std.proofs.lemmas.Bool.{cases_eq, cases_lt}
+use Rattle.std.proofs.lemmas.List.{get_or-map, get_or-set_other, get_or_default, get_or_past}
 use Rattle.std.proofs.lemmas.List.Sums.{sum_by-cons}
 use Rattle.escrow_units.specs.Interest.{earned_of}
 use Rattle.offer_book.specs.Book.{BookContents}
@@ -14,6 +14,7 @@ use Rattle.offer_book.specs.declared.line.Line.{Line}
 use Rattle.offer_book.specs.declared.line.LineKind.{LineKind}
 use Rattle.offer_book.specs.declared.line.LineKind.TheVariants.{Cash, Market, Security}
 use Rattle.payment_schedule.specs.Schedule.{flow_by}
+use Rattle.dual_bound.specs.Changes.{AreChanges}
 use Rattle.dual_bound.specs.Columns.{IsColumn, IsOther, IsPlace, column_form, column_reduced, form_plus, is_other, is_regular, other_forms, paying, regular_form, signed_worth, worth_at, worth_on, worth_together}
 use Rattle.dual_bound.specs.LeafBound.{cost_worth, form_at, form_of, least_side, least_within, reduced_cost, signed_sum}
 use Rattle.dual_bound.specs.Leasts.{AgreeInside, AreApart, AreLeasts, IsInside, IsLeast, IsPricedBy, IsPricedInside, IsRight, IsSpanOf}
@@ -157,6 +158,11 @@ pub still-apart : (span changed wider : Span) → wider.first ≤ changed.first 
 still-apart span changed wider first last (inl before) = inl (omega (arith, before, first))
 still-apart span changed wider first last (inr behind) = inr (omega (arith, behind, last))
 
+-- no span is apart from that of all need dates
+pub never-apart : (span wider : Span) → wider ≡ record { first = 0; last = PAST_DATES } → span.first ≤ PAST_DATES → AreApart span wider → ⊥
+never-apart span wider all start (inl before) = omega (arith, before, ap (λ (s : Span). s.first) all)
+never-apart span wider all start (inr behind) = omega (arith, behind, start, ap (λ (s : Span). s.last) all)
+
 -- what is known stays known at another leaf, where the leaves agree within each span that is apart from what changed
 pub all-stay : (n : ℕ) (book : BookContents) (old new : Leaf) (changed wider : Span) (leasts : List Least) → length old.prices ≡ length book.needs → length new.prices ≡ length book.needs
     → ((span : Span) → span.first ≤ PAST_DATES → AreApart span wider → AreApart span changed × AgreeInside span old new)
@@ -199,6 +205,28 @@ agree-without span wider leaf place price first last apart = record {
     other : (date : ℕ) → IsInside span date → AreApart span wider → date ≡ place → ⊥
     other date inside (inl before) at = omega (arith, inside.1, before, first, at)
     other date inside (inr behind) at = omega (arith, inside.0, behind, last, at)
+
+-- leaves agree within a span that lies apart from all need dates whose prices differ
+pub agree-apart : (span wider : Span) (old new : Leaf) (dates : List ℕ) → old.whole ≡ new.whole → old.mu ≡ new.mu → length old.prices ≡ length new.prices → AreChanges old.prices new.prices dates
+    → All (IsInside wider) dates → AreApart span wider → AgreeInside span old new
+agree-apart span wider old new dates whole limit long changes inside apart = record {
+  whole = whole;
+  limit = limit;
+  prices = λ date within. same date within (cases_lt date (length old.prices)) (cases_eq (get_or old.prices date 0) (get_or new.prices date 0));
+}
+  where
+    outside : (date : ℕ) → IsInside span date → IsInside wider date → AreApart span wider → ⊥
+    outside date within at (inl before) = omega (arith, within.1, before, at.0)
+    outside date within at (inr behind) = omega (arith, within.0, behind, at.1)
+
+    among : (date : ℕ) → Contains dates date → IsInside wider date
+    among date at = subst (IsInside wider) at.2 (inside at.0 date at.1)
+
+    same : (date : ℕ) → IsInside span date → (date < length old.prices) ⊎ (length old.prices ≤ date) → (get_or old.prices date 0 ≡ get_or new.prices date 0) ⊎ ¬ (get_or old.prices date 0 ≡ get_or new.prices date 0)
+        → get_or old.prices date 0 ≡ get_or new.prices date 0
+    same date within few (inl is) = is
+    same date within (inl few) (inr differ) = absurd (outside date within (among date (changes.every date few differ)) apart)
+    same date within (inr past) (inr differ) = get_or_past old.prices date 0 past ∙ sym (get_or_past new.prices date 0 (omega (arith, past, long)))
 
 -- ---- the leasts of lines
 -- where each is right, each is known, whatever changes

@@ -9,6 +9,7 @@ pub mod DayFacts
 pub mod FormFacts
 pub mod LeastFacts
 pub mod LineBound
+pub mod NeedsFacts
 pub mod PayingFacts
 pub mod PriceFacts
 pub mod RangeFacts

@@ -6,7 +6,7 @@ use Rattle.std.specs.List.{AllZip, Contains, sum_by}
 use Rattle.std.proofs.lemmas.List.Sums.{sum_by-cons, sum_by_more}
 use Rattle.std.proofs.Math.Seq.{take-append_seam}
 use Rattle.std.proofs.lemmas.List.Elements.{All-append, All-cons, All-map}
-use Rattle.dual_bound.specs.Columns.{AreDateDays, AreSmallSums, AreSums, Extends, IsLightWorth, IsListedChange, IsRun, IsRunOf, IsStopWithin, IsSummed, stop_day, sum_after, sum_before, worth_at, worth_on, worth_together}
+use Rattle.dual_bound.specs.Columns.{AreDateDays, AreSmallSums, AreSums, Extends, IsLightWorth, IsRun, IsRunOf, IsStopWithin, IsSummed, stop_day, sum_after, sum_before, worth_at, worth_on, worth_together}
 use Rattle.dual_bound.specs.declared.column.Column.{Column}
 use Rattle.dual_bound.specs.declared.date_days.DateDays.{DateDays}
 use Rattle.dual_bound.specs.declared.prices.TheConstants.{PRICE_SCALE}
@@ -17,7 +17,7 @@ use Rattle.dual_bound.specs.declared.tree.Leaf.{Leaf}
 use Rattle.dual_bound.specs.declared.worth.PricedDay.{PricedDay}
 use Rattle.dual_bound.specs.declared.worth.Worth.{Worth}
 use Rattle.dual_bound.proofs.ColumnMade.{zip-push, zip-weaker}
-use Rattle.dual_bound.proofs.DateFacts.{change-at, listed-change, worth-stays}
+use Rattle.dual_bound.proofs.DateFacts.{change-at, IsListedChange, listed-change, worth-stays}
 
 -- two worths together
 abbrev pub joined : Worth → Worth → Worth

@@ -16,7 +16,7 @@ use Rattle.offer_book.specs.declared.payment_days.PaymentDays.{PaymentDays}
 use Rattle.payment_schedule.specs.declared.schedule.ScheduledPayment.{ScheduledPayment}
 use Rattle.payment_schedule.specs.Schedule.{IsShort, flow_by, half_year_accrual}
 use Rattle.offer_book.specs.declared.coefficients.TheConstants.{COEFFICIENT_SCALE}
-use Rattle.dual_bound.specs.LeafBound.{least_side, price_on, signed_sum}
+use Rattle.dual_bound.specs.LeafBound.{least_side, price_on, priced_needs, signed_sum}
 use Rattle.dual_bound.specs.Tree.{IsLeaf}
 use Rattle.dual_bound.specs.declared.column.Column.{Column}
 use Rattle.dual_bound.specs.declared.column.OtherPayment.{OtherPayment}
@@ -96,13 +96,6 @@ pub record AreDateDays (dates : ℕ) (days : List PricedDay) (lists : List DateD
 -- the day at a place is priced at a leaf
 abbrev pub IsPriced : Leaf → List PricedDay → List Worth → ℕ → Type 0
 IsPriced leaf days worths place = (d : PricedDay) → worth_at worths place ≡ worth_on leaf (slice_index_or days place d)
-
--- a place stands in the list of a need date whose price changes
-pub record IsListedChange (old new : List ℕ) (lists : List DateDays) (place : ℕ) : Type 0 where
-  pub date : ℕ
-  pub there : date < length old
-  pub changed : ¬ (slice_index old date ≡ slice_index new date)
-  pub listed : (e : DateDays) → Contains (slice_index_or lists date e).places.items place
 
 -- ---- columns
 -- half a year's interest and nothing else, as most dates pay
@@ -288,3 +281,4 @@ pub record IsTableau (book : BookContents) (tableau : Tableau) : Type 0 where
   pub worths : tableau.priced.worths.items ≡ map (worth_on tableau.priced.leaf) tableau.days.items
   pub series : IsLaid (length book.needs) tableau.days.items tableau.columns.items tableau.series
   pub sums : AreSums tableau.priced.worths.items tableau.series.stops.items tableau.priced.sums.items
+  pub needs : tableau.priced.needs ≡ priced_needs book.needs tableau.priced.leaf.prices

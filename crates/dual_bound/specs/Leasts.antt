@@ -14,10 +14,7 @@ use Rattle.dual_bound.specs.declared.ranges.Interval.{Interval}
 use Rattle.dual_bound.specs.declared.tree.Leaf.{Leaf}
 use Rattle.dual_bound.specs.declared.worth.PricedDay.{PricedDay}
 
--- a need date lies outside of a span
-abbrev pub IsOutside : Span → ℕ → Type 0
-IsOutside span date = (date < span.first) ⊎ (span.last < date)
-
+-- a need date lies inside of a span
 abbrev pub IsInside : Span → ℕ → Type 0
 IsInside span date = (span.first ≤ date) × (date ≤ span.last)
 

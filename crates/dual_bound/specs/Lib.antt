@@ -1,3 +1,4 @@
+pub mod Changes
 pub mod Columns
 pub mod Duality
 pub mod LeafBound

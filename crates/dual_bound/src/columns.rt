@@ -7,6 +7,7 @@ ghost use Rattle.dual_bound.specs.LeafBound.{bound_of, form_of, least_within};
 ghost use Rattle.dual_bound.specs.Ranges.{HasRoomFor};
 ghost use Rattle.dual_bound.specs.Tree.{IsLeaf, with_price};
 
+use crate::changes::ChangedDates;
 use crate::form::Form;
 use crate::leasts::Leasts;
 use crate::ranges::{Interval, Ranges};
@@ -23,14 +24,14 @@ use std::marker::Model;
 /// line is in the linear program: what a unit costs, and what it pays on which days.
 ///
 /// Nothing after [`make`](Columns::make) reads a calendar or discounts a payment, and [`add_rooms`](Columns::add_rooms) alone
-/// takes memory. Contracts see the book, the
-/// yield, and the leaf at which the columns are priced.
+/// takes memory. Contracts see the book, the yield, and the leaf at which the columns are priced.
 #[derive(Drop)]
 pub struct Columns<'a> {
     book: &'a Book,
     tableau: Tableau,
     leasts: Leasts,
     rooms: Rooms,
+    changed: ChangedDates,
 }
 
 impl<'a> Model for Columns<'a> {
@@ -41,7 +42,7 @@ impl<'a> Model for Columns<'a> {
 
     ghost view = { λ c. record { book = c.book.now; yield_units = c.tableau.yield_units.0; leaf = c.tableau.priced.leaf } };
 
-    ghost invariant = { λ c. AreColumns c.book.now c.tableau c.leasts c.rooms };
+    ghost invariant = { λ c. AreColumns c.book.now c.tableau c.leasts c.rooms c.changed };
 }
 
 impl<'a> Columns<'a> {
@@ -63,6 +64,7 @@ impl<'a> Columns<'a> {
             tableau,
             leasts,
             rooms: Rooms::none(alloc),
+            changed: ChangedDates::make(alloc, book.need_count())?,
         })
     }
 
@@ -72,8 +74,18 @@ impl<'a> Columns<'a> {
         requires { IsLeaf (length self.old.book.needs) leaf.now }
         ensures { self.new ≡ record { book = self.old.book; yield_units = self.old.yield_units; leaf = leaf.now } }
     {
-        self.leasts.price(&self.tableau.priced.leaf, leaf);
-        self.tableau.price(self.book, leaf);
+        let few = self.changed.take(
+            self.tableau.priced.leaf.prices.as_slice(),
+            leaf.prices.as_slice(),
+        );
+        if few {
+            let dates = self.changed.dates.as_slice();
+            self.leasts.price(&self.tableau.priced.leaf, leaf, dates);
+            self.tableau.price(self.book, leaf, dates);
+        } else {
+            self.leasts.price_all();
+            self.tableau.price_anew(self.book, leaf);
+        }
     }
 
     /// Changes one price of the leaf at which the columns are priced, of a need date counted from 0, so that the leaf keeps its
@@ -135,8 +147,8 @@ impl<'a> Columns<'a> {
         self.leasts.bound(self.book, &self.tableau, ranges)
     }
 
-    /// Takes rooms for so many leaves besides, as far as there is memory and they take no more than 9 MB. Each keeps what is known at a leaf, so that
-    /// [`bound_near`](Columns::bound_near) is fast at another one that differs from it in few prices.
+    /// Takes rooms for so many leaves besides, as far as there is memory and they take no more than 10 MB. Each keeps what is known
+    /// at a leaf, so that [`bound_near`](Columns::bound_near) is fast at another one that differs from it in few prices.
     pub fn add_rooms(&mut self, alloc: Global, count: u32)
         ensures { self.new ≡ self.old }
     {

@@ -1,8 +1,9 @@
 //! The days that each need date prices.
 ghost use Rattle.std.specs.Prelude.{All, ◌≡◌, ◌⊎◌, ◌<◌, ◌≤◌, ℕ, [], ◌∷◌, ◌++◌, IfOk, OnOk, length, map, slice_index_or};
 ghost use Rattle.fixed_powers.specs.DiscountPowers.{one};
-ghost use Rattle.dual_bound.specs.Columns.{AreDateDays, IsListedChange, IsPriced, worth_on};
-ghost use Rattle.dual_bound.specs.declared.date_days.DateDays.{DateDays};
+ghost use Rattle.dual_bound.specs.Changes.{IsListedAt};
+ghost use Rattle.dual_bound.specs.Columns.{AreDateDays, IsPriced, worth_on};
+ghost use Rattle.dual_bound.specs.declared.date_days.DateDays.{DateDays, DateDays as DateDaysOf};
 
 use crate::prices::PRICE_SCALE;
 use crate::tree::Leaf;
@@ -71,11 +72,10 @@ pub(crate) fn days_by_date(
     Ok(lists)
 }
 
-/// Prices the days of those need dates whose prices a leaf changes from the old ones, at that leaf, which keeps its limits. Each
-/// other day is priced at it already.
+/// Prices the days of some need dates at a leaf, which keeps its limits. Each other day is priced at it already.
 pub(crate) fn price_dates(
     leaf: &Leaf,
-    old: &[u64],
+    dates: &[usize],
     lists: &[DateDays],
     days: &[PricedDay],
     worths: &mut [Worth],
@@ -83,15 +83,12 @@ pub(crate) fn price_dates(
     requires leaf { leaf.now.mu ≤ PRICE_SCALE }
     requires powers { All (λ priced. priced.power ≤ one) days.now }
     requires same { length worths.old ≡ length days.now }
-    requires prices { length leaf.now.prices ≡ length old.now }
-    requires lists { AreDateDays (length old.now) days.now lists.now }
-    requires others { (place : ℕ) → place < length days.now → IsPriced leaf.now days.now worths.old place ⊎ IsListedChange old.now leaf.now.prices lists.now place }
+    requires dates { All (λ date. date < length lists.now) dates.now }
+    requires lists { All (λ (list : DateDaysOf). All (λ place. place < length days.now) list.places.items) lists.now }
+    requires others { (place : ℕ) → place < length days.now → IsPriced leaf.now days.now worths.old place ⊎ IsListedAt dates.now lists.now place }
     ensures { worths.new ≡ map (worth_on leaf.now) days.now }
 {
-    let prices = leaf.prices.as_slice();
-    for date in 0..old.len() {
-        if old[date] != prices[date] {
-            price_days_at(leaf, days, lists[date].places.as_slice(), worths);
-        }
+    for date in dates {
+        price_days_at(leaf, days, lists[*date].places.as_slice(), worths);
     }
 }

@@ -3,9 +3,10 @@ ghost use Rattle.std.specs.Prelude.{All, ◌≡◌, ◌⊎◌, ◌+◌, ◌*◌,
 ghost use Rattle.std.specs.List.{AllZip};
 ghost use Rattle.offer_book.specs.Book.{BookContents};
 ghost use Rattle.offer_book.specs.declared.line.Line.{Line};
+ghost use Rattle.dual_bound.specs.Changes.{AreChanges};
 ghost use Rattle.dual_bound.specs.Columns.{IsTableau};
 ghost use Rattle.dual_bound.specs.LeafBound.{bound_of, least_within};
-ghost use Rattle.dual_bound.specs.Leasts.{AgreeInside, AreApart, AreLeasts, IsInside, IsLeast, IsOutside, IsPricedInside, IsRight, IsSpanOf};
+ghost use Rattle.dual_bound.specs.Leasts.{AgreeInside, AreApart, AreLeasts, IsInside, IsLeast, IsPricedInside, IsRight, IsSpanOf};
 ghost use Rattle.dual_bound.specs.Ranges.{HasRoomFor};
 ghost use Rattle.dual_bound.specs.Tree.{with_price};
 ghost use Rattle.dual_bound.specs.declared.column.OtherPayment.{OtherPayment};
@@ -14,7 +15,6 @@ ghost use Rattle.dual_bound.specs.declared.leasts.Span.{Span as SpanOf};
 ghost use Rattle.dual_bound.specs.declared.tree.Leaf.{Leaf as LeafOf};
 
 use crate::column::Column;
-use crate::leaf_bound::priced_needs;
 use crate::ranges::{Interval, Ranges};
 use crate::tableau::Tableau;
 use crate::tree::Leaf;
@@ -86,29 +86,27 @@ impl Span {
     }
 }
 
-// The need dates among which all lie whose prices differ.
-fn changed_prices(old: &[u64], new: &[u64]) -> Span
-    requires { length old.now ≡ length new.now }
-    ensures { (date : ℕ) → IsOutside result date → slice_index old.now date ≡ slice_index new.now date }
+// The need dates among which all of these lie.
+fn span_together(dates: &[usize]) -> Span
+    ensures { All (IsInside result) dates.now }
 {
-    let mut changed = Span::none();
-    for date in 0..old.len() {
-        if old[date] != new[date] {
-            changed = changed.with(date);
-        }
+    let mut span = Span::none();
+    for date in dates {
+        span = span.with(*date);
     }
-    changed
+    span
 }
 
-// The need dates among which all lie that price a payment otherwise at another leaf.
-fn changes(old: &Leaf, new: &Leaf) -> Span
-    requires { length old.now.prices ≡ length new.now.prices }
+// The need dates among which all lie that price a payment otherwise at another leaf, where only these need dates' prices differ.
+fn changes(old: &Leaf, new: &Leaf, dates: &[usize]) -> Span
+    requires long { length old.now.prices ≡ length new.now.prices }
+    requires dates { AreChanges old.now.prices new.now.prices dates.now }
     ensures { (span : SpanOf) → span.first ≤ PAST_DATES → AreApart span result → AgreeInside span old.now new.now }
 {
     if old.whole != new.whole || old.mu != new.mu {
         return Span::all();
     }
-    changed_prices(old.prices.as_slice(), new.prices.as_slice())
+    span_together(dates)
 }
 
 // The need dates among which all lie that price a column's regular payments.
@@ -211,12 +209,20 @@ impl Leasts {
         })
     }
 
-    /// Takes note of all that another leaf prices otherwise.
-    pub(crate) fn price(&mut self, old: &Leaf, new: &Leaf)
-        requires { length old.now.prices ≡ length new.now.prices }
+    /// Takes note that every line may be priced otherwise.
+    pub(crate) fn price_all(&mut self)
+        ensures { (n : ℕ) (book : BookContents) (old new : LeafOf) → length old.prices ≡ length book.needs → length new.prices ≡ length book.needs → AreLeasts n book old self.old → AreLeasts n book new self.new }
+    {
+        self.changed = Span::all();
+    }
+
+    /// Takes note of all that another leaf prices otherwise, where only these need dates' prices differ.
+    pub(crate) fn price(&mut self, old: &Leaf, new: &Leaf, dates: &[usize])
+        requires long { length old.now.prices ≡ length new.now.prices }
+        requires dates { AreChanges old.now.prices new.now.prices dates.now }
         ensures { (n : ℕ) (book : BookContents) → length old.now.prices ≡ length book.needs → AreLeasts n book old.now self.old → AreLeasts n book new.now self.new }
     {
-        self.changed = self.changed.together(changes(old, new));
+        self.changed = self.changed.together(changes(old, new, dates));
     }
 
     /// Takes note of a need date, counted from 0, whose price changes.
@@ -264,8 +270,7 @@ impl Leasts {
         ensures leasts { AreLeasts tableau.now.yield_units.0 book.now tableau.now.priced.leaf self.new }
     {
         let intervals = ranges.intervals();
-        let mut bound = COEFFICIENT_SCALE as i128
-            * priced_needs(book.needs(), tableau.priced.leaf.prices.as_slice()) as i128;
+        let mut bound = COEFFICIENT_SCALE as i128 * tableau.needs_worth(book) as i128;
         for line in 0..book.line_count() {
             bound += self.least(book, tableau, line, intervals[usize::from(line)]);
         }

@@ -1,6 +1,7 @@
 //! Trees of lower bounds on the cost of a portfolio: their nodes, and the prices of a leaf.
 #![tactic(auto)]
 
+mod changes;
 mod column;
 mod columns;
 #[cfg(test)]

@@ -10,7 +10,7 @@ use escrow_desk::NoMemory;
 use std::alloc::Global;
 use std::mem::swap;
 
-// How many worths of days and stops all rooms may hold: 8 MB.
+// How many worths of days and stops all rooms may hold: 8 MB, to which come 29 kB at most for the lines and prices of each.
 const ROOM_WORTHS: usize = 500_000;
 
 /// What is known at a leaf besides: what the days of a tableau are worth, and what each line was found to add.

@@ -1,7 +1,8 @@
 //! Sums of what the days of a series are worth, up to each stop.
 ghost use Rattle.std.specs.Prelude.{All, ◌≡◌, ◌⊎◌, ◌+◌, ◌*◌, ◌<◌, ◌≤◌, ℕ, length};
 ghost use Rattle.std.specs.List.{Contains};
-ghost use Rattle.dual_bound.specs.Columns.{AreSmallSums, AreSums, IsLightWorth, IsListedChange, IsStopWithin, IsSummed, sum_after as sum_after_of, sum_before as sum_before_of};
+ghost use Rattle.dual_bound.specs.Changes.{IsListedAt};
+ghost use Rattle.dual_bound.specs.Columns.{AreSmallSums, AreSums, IsLightWorth, IsStopWithin, IsSummed, sum_after as sum_after_of, sum_before as sum_before_of};
 ghost use Rattle.dual_bound.specs.declared.date_days.DateDays.{DateDays as DateDaysOf};
 
 use crate::date_days::DateDays;
@@ -88,30 +89,26 @@ pub(crate) fn mend_at(stops: &[Stop], worths: &[Worth], sums: &mut [Worth], plac
     }
 }
 
-/// Mends the sums, where the days of those need dates have changed whose prices did. All days are priced before, so that a
-/// series is gone through once, from its first changed stop on: at a later one its sum is right already.
+/// Mends the sums, where the days of some need dates have changed. All days are priced before, so that a series is gone through
+/// once, from its first changed stop on: at a later one its sum is right already.
 pub(crate) fn mend_dates(
     stops: &[Stop],
     worths: &[Worth],
     sums: &mut [Worth],
     lists: &[DateDays],
-    old: &[u64],
-    new: &[u64],
+    dates: &[usize],
 )
     requires there { All (IsStopWithin (length worths.now)) stops.now }
     requires light { All IsLightWorth worths.now }
     requires few { length stops.now ≤ 100_000 }
     requires every { length sums.old ≡ length stops.now }
     requires small { AreSmallSums sums.old }
-    requires prices { length new.now ≡ length old.now }
-    requires dates { length lists.now ≡ length old.now }
+    requires dates { All (λ date. date < length lists.now) dates.now }
     requires lists { All (λ (list : DateDaysOf). All (λ place. place < length stops.now) list.places.items) lists.now }
-    requires others { (k : ℕ) → k < length stops.now → IsSummed worths.now stops.now sums.old k ⊎ IsListedChange old.now new.now lists.now k }
+    requires others { (k : ℕ) → k < length stops.now → IsSummed worths.now stops.now sums.old k ⊎ IsListedAt dates.now lists.now k }
     ensures { AreSums worths.now stops.now sums.new }
 {
-    for date in 0..old.len() {
-        if old[date] != new[date] {
-            mend_at(stops, worths, sums, lists[date].places.as_slice());
-        }
+    for date in dates {
+        mend_at(stops, worths, sums, lists[*date].places.as_slice());
     }
 }

@@ -4,9 +4,11 @@ ghost use Rattle.std.specs.List.{AllZip};
 ghost use Rattle.fixed_powers.specs.DiscountPowers.{IsLowTable, PowerTable, one};
 ghost use Rattle.offer_book.specs.Book.{IsBook};
 ghost use Rattle.offer_book.specs.declared.line.Line.{Line};
+ghost use Rattle.escrow_units.specs.Flows.{total};
+ghost use Rattle.dual_bound.specs.Changes.{AreChanges};
 ghost use Rattle.dual_bound.specs.Columns.{AreSums, IsColumn, IsDayTable, IsLightWorth, IsSmallColumn, IsStopWithin, IsTableau, worth_on, worth_together};
 ghost use Rattle.dual_bound.specs.declared.column.Column.{Column as ColumnOf};
-ghost use Rattle.dual_bound.specs.LeafBound.{bound_of, form_of, least_within, reduced_cost as reduced_cost_of};
+ghost use Rattle.dual_bound.specs.LeafBound.{bound_of, form_of, least_within, priced_needs as priced_needs_of, reduced_cost as reduced_cost_of};
 ghost use Rattle.dual_bound.specs.Ranges.{HasRoomFor};
 ghost use Rattle.dual_bound.specs.Tree.{IsLeaf, with_price};
 
@@ -14,15 +16,15 @@ use crate::column::Column;
 use crate::date_days::{DateDays, days_by_date, price_dates};
 use crate::day_table::DayTable;
 use crate::form::Form;
-use crate::leaf_bound::cost_worth;
-use crate::prices::PRICE_SCALE;
+use crate::leaf_bound::{cost_worth, priced_needs};
+use crate::prices::{PRICE_SCALE, Prices};
 use crate::ranges::{Interval, Ranges};
 use crate::series::{Series, Stop};
 use crate::sums::{mend_at, mend_dates, sum_up};
 use crate::tree::Leaf;
 use crate::worth::{PricedDay, Worth, price_day, price_days, price_days_at};
 use escrow_desk::NoMemory;
-use escrow_units::YieldUnits;
+use escrow_units::{AMOUNT_LIMIT, Cents, Flow, YieldUnits};
 use fixed_powers::Powers;
 use offer_book::Book;
 use std::alloc::Global;
@@ -36,6 +38,8 @@ pub(crate) struct Priced {
     pub worths: Vec<Worth>,
     /// What a cent on each day of a series up to a stop is worth, together.
     pub sums: Vec<Worth>,
+    /// What the needs are worth, in cents over `PRICE_SCALE`.
+    pub needs: u128,
 }
 
 /// The columns of a book's lines, and what their days are worth at a leaf.
@@ -113,14 +117,35 @@ fn exchanged(sum: i128, old: i128, new: i128) -> i128
     sum - old + new
 }
 
-// Whether at most an eighth of the prices differ. It shows which way of pricing is faster, and nothing rests on it.
-fn are_near(old: &[u64], new: &[u64]) -> bool {
-    let changes = old
-        .iter()
-        .zip(new)
-        .filter(|pair| *pair.0 != *pair.1)
-        .count();
-    changes <= old.len() / 8
+// What needs are worth where the price of one of them changes.
+fn mended(worth: u128, need: Cents, old: u64, new: u64) -> u128
+    requires need { need.0 ≤ AMOUNT_LIMIT }
+    requires worth { worth ≤ 2 * 10 ^ 25 }
+    requires part { need.0 * old ≤ worth }
+    ensures { result + need.0 * old ≡ worth + need.0 * new }
+{
+    worth - u128::from(need.0) * u128::from(old) + u128::from(need.0) * u128::from(new)
+}
+
+// Takes over the prices of another leaf at some need dates, which are all that differ; what the needs are worth then.
+fn take_prices(needs: &[Flow], worth: u128, own: &mut Prices, new: &[u64], dates: &[usize]) -> u128
+    requires needs { total needs.now ≤ AMOUNT_LIMIT }
+    requires long { length needs.now ≡ length own.old }
+    requires same { length own.old ≡ length new.now }
+    requires own { All (λ price. price ≤ 2 * PRICE_SCALE) own.old }
+    requires new { All (λ price. price ≤ 2 * PRICE_SCALE) new.now }
+    requires few { length new.now ≤ 65_535 }
+    requires dates { AreChanges own.old new.now dates.now }
+    requires worth { worth ≡ priced_needs_of needs.now own.old }
+    ensures worth { result ≡ priced_needs_of needs.now new.now }
+    ensures prices { own.new ≡ new.now }
+{
+    let mut worth = worth;
+    for date in dates {
+        worth = mended(worth, needs[*date].cents, own.as_slice()[*date], new[*date]);
+        own.put(*date as u16, new[*date]);
+    }
+    worth
 }
 
 impl Priced {
@@ -133,11 +158,13 @@ impl Priced {
         ensures leaf { IfOk result (λ copy. copy.leaf ≡ self.now.leaf) }
         ensures worths { IfOk result (λ copy. copy.worths.items ≡ self.now.worths.items) }
         ensures sums { IfOk result (λ copy. copy.sums.items ≡ self.now.sums.items) }
+        ensures needs { IfOk result (λ copy. copy.needs ≡ self.now.needs) }
     {
         Ok(Priced {
             leaf: self.leaf.copy(alloc)?,
             worths: self.worths.to_vec(alloc)?,
             sums: self.sums.to_vec(alloc)?,
+            needs: self.needs,
         })
     }
 }
@@ -165,18 +192,24 @@ impl Tableau {
             columns.as_slice(),
         )?;
         let sums = sums_of(alloc, series.stops.as_slice(), worths.as_slice())?;
+        let needs = priced_needs(book.needs(), leaf.prices.as_slice());
         Ok(Tableau {
             yield_units: powers.yield_units(),
             days: table.days,
             date_days,
             columns,
             series,
-            priced: Priced { leaf, worths, sums },
+            priced: Priced {
+                leaf,
+                worths,
+                sums,
+                needs,
+            },
         })
     }
 
-    // Prices the days at another leaf.
-    fn price_anew(&mut self, book: &Book, leaf: &Leaf)
+    /// Prices the days at another leaf.
+    pub(crate) fn price_anew(&mut self, book: &Book, leaf: &Leaf)
         requires leaf { IsLeaf (length book.now.needs) leaf.now }
         requires tableau { IsTableau book.now self.old }
         ensures tableau { IsTableau book.now self.new }
@@ -194,14 +227,16 @@ impl Tableau {
             self.priced.sums.as_mut_slice(),
         );
         self.priced.leaf.whole = leaf.whole;
+        self.priced.needs = priced_needs(book.needs(), leaf.prices.as_slice());
         self.priced.leaf.mu = leaf.mu;
         self.priced.leaf.prices.copy(&leaf.prices);
     }
 
     // Prices the days of those need dates whose prices change at another leaf, with the multiplier of the limit as it is.
-    fn price_changes(&mut self, book: &Book, leaf: &Leaf)
+    fn price_changes(&mut self, book: &Book, leaf: &Leaf, dates: &[usize])
         requires leaf { IsLeaf (length book.now.needs) leaf.now }
         requires limit { self.old.priced.leaf.mu ≡ leaf.now.mu }
+        requires dates { AreChanges self.old.priced.leaf.prices leaf.now.prices dates.now }
         requires tableau { IsTableau book.now self.old }
         ensures tableau { IsTableau book.now self.new }
         ensures leaf { self.new.priced.leaf ≡ leaf.now }
@@ -209,7 +244,7 @@ impl Tableau {
     {
         price_dates(
             leaf,
-            self.priced.leaf.prices.as_slice(),
+            dates,
             self.date_days.as_slice(),
             self.days.as_slice(),
             self.priced.worths.as_mut_slice(),
@@ -219,30 +254,30 @@ impl Tableau {
             self.priced.worths.as_slice(),
             self.priced.sums.as_mut_slice(),
             self.series.date_stops.as_slice(),
-            self.priced.leaf.prices.as_slice(),
+            dates,
+        );
+        self.priced.needs = take_prices(
+            book.needs(),
+            self.priced.needs,
+            &mut self.priced.leaf.prices,
             leaf.prices.as_slice(),
+            dates,
         );
         self.priced.leaf.whole = leaf.whole;
-        self.priced.leaf.prices.copy(&leaf.prices);
     }
 
-    /// Prices the days at a leaf: nothing where its prices and the multiplier of the limit are those of the leaf before, and where
-    /// the multiplier is and only some prices differ, the days of those need dates.
-    pub(crate) fn price(&mut self, book: &Book, leaf: &Leaf)
+    /// Prices the days at a leaf, where only these need dates' prices differ from those of the leaf before: where the multiplier of
+    /// the limit is as it was, their days alone.
+    pub(crate) fn price(&mut self, book: &Book, leaf: &Leaf, dates: &[usize])
         requires leaf { IsLeaf (length book.now.needs) leaf.now }
+        requires dates { AreChanges self.old.priced.leaf.prices leaf.now.prices dates.now }
         requires tableau { IsTableau book.now self.old }
         ensures tableau { IsTableau book.now self.new }
         ensures leaf { self.new.priced.leaf ≡ leaf.now }
         ensures frame { self.new ≡ record self.old { priced = self.new.priced } }
     {
-        if self.priced.leaf.mu == leaf.mu
-            && self.priced.leaf.prices.as_slice() == leaf.prices.as_slice()
-        {
-            self.priced.leaf.whole = leaf.whole;
-        } else if self.priced.leaf.mu == leaf.mu
-            && are_near(self.priced.leaf.prices.as_slice(), leaf.prices.as_slice())
-        {
-            self.price_changes(book, leaf);
+        if self.priced.leaf.mu == leaf.mu {
+            self.price_changes(book, leaf, dates);
         } else {
             self.price_anew(book, leaf);
         }
@@ -257,6 +292,12 @@ impl Tableau {
         ensures leaf { self.new.priced.leaf ≡ with_price self.old.priced.leaf place price }
         ensures frame { self.new ≡ record self.old { priced = self.new.priced } }
     {
+        self.priced.needs = mended(
+            self.needs_worth(book),
+            book.needs()[usize::from(place)].cents,
+            self.priced.leaf.prices.as_slice()[usize::from(place)],
+            price,
+        );
         self.priced.leaf.prices.put(place, price);
         price_days_at(
             &self.priced.leaf,
@@ -270,6 +311,15 @@ impl Tableau {
             self.priced.sums.as_mut_slice(),
             self.series.date_stops[usize::from(place)].places.as_slice(),
         );
+    }
+
+    /// What the needs are worth at the leaf, in cents over `PRICE_SCALE`.
+    pub(crate) fn needs_worth(&self, book: &Book) -> u128
+        requires { IsTableau book.now self.now }
+        ensures value { result ≡ priced_needs_of book.now.needs self.now.priced.leaf.prices }
+        ensures size { result ≤ 2 * 10 ^ 25 }
+    {
+        self.priced.needs
     }
 
     // What a cent on each regular day of a line is worth, together: a difference of two sums.

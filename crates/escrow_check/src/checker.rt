@@ -35,7 +35,8 @@ impl<'a> Model for Checker<'a> {
 
 impl<'a> Checker<'a> {
     /// A checker of a certificate for a case, which has heard nothing yet. All memory is taken here, but that of the line of
-    /// the gap: for the reader, the portfolio, the ranges, the discount factors and the open splits.
+    /// the gap, and of rooms for the vectors of version 2: for the reader, the portfolio, the ranges, the discount factors and
+    /// the open splits.
     ///
     /// # Errors
     ///
@@ -58,7 +59,8 @@ impl<'a> Checker<'a> {
     ///
     /// # Errors
     ///
-    /// Where memory ran out, which only the line of the gap takes; and in every call after such a one.
+    /// Where memory ran out for the line of the gap; and in every call after such a one. Where it runs out for rooms, leaves are
+    /// checked without.
     pub fn feed(&mut self, alloc: Global, piece: &[u8]) -> Result<(), NoMemory>
         requires { length piece.now ≤ 65_536 }
         ensures case { self.new.case ≡ self.old.case }

@@ -22,7 +22,7 @@ pub(crate) struct Hearing<'a> {
 }
 
 impl<'a> Hearing<'a> {
-    /// Nothing was heard yet. All memory is taken here but that of the gap's line.
+    /// Nothing was heard yet. All memory is taken here but that of the gap's line, and of rooms for vectors.
     pub fn make(alloc: Global, case: &'a Case) -> Result<Hearing<'a>, NoMemory>
         requires { HasTerms (case_view case.now) }
         ensures heard { IfOk result (λ hearing. HasHeard (case_view case.now) hearing []) }
@@ -39,7 +39,7 @@ impl<'a> Hearing<'a> {
     ///
     /// # Errors
     ///
-    /// Where memory ran out, which only the gap's line takes.
+    /// Where memory ran out for the gap's line.
     pub fn feed(&mut self, alloc: Global, case: &Case, piece: &[u8]) -> Result<(), NoMemory>
         requires heard { (bytes : List ℕ) × HasHeard (case_view case.now) self.old bytes }
         requires piece { length piece.now ≤ 65_536 }

@@ -4,4 +4,5 @@ pub invariant_of-self : goal.invariant_of-self
 invariant_of-self c = record {
   known = c.self.invariant.known;
   besides = c.grow.ensures c.self.inside.book.now c.self.invariant.known c.self.invariant.besides;
+  room = c.self.invariant.room;
 }

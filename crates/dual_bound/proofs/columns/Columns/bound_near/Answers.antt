@@ -4,4 +4,5 @@ pub invariant_of-self : goal.invariant_of-self
 invariant_of-self c = record {
   known = c.enter.ensures.known c.self.inside.book.now c.self.invariant.known c.self.invariant.besides;
   besides = c.enter.ensures.rooms c.self.inside.book.now c.self.invariant.known c.self.invariant.besides;
+  room = c.self.invariant.room;
 }

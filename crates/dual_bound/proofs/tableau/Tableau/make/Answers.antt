@@ -42,4 +42,5 @@ returns-clause-tableau c = record {
   worths = rw (← c.as_slice-2.ensures.value) c.in_ok-worths.ensures;
   series = rw (← c.need_count-3.ensures.value, ← c.as_slice-3.ensures.value, ← c.as_slice-4.ensures.value) c.in_ok-series.ensures.laid;
   sums = rw (← c.as_slice-5.ensures.value, ← c.as_slice-6.ensures.value) c.in_ok-sums.ensures;
+  needs = rw (← c.needs.ensures.value, ← c.as_slice-7.ensures) c.priced_needs-needs.ensures.value;
 }
