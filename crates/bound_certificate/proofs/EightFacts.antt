@@ -1,24 +1,13 @@
 -- Eight digits read together.
-use Rattle.std.proofs.Common.{◌≡◌, ◌∙◌, ℕ, map, subst, length-take, replicate, cond, ltb, false, ltb-false, w8, ◌+◌, ◌-◌, ◌*◌, ◌/◌, ◌%◌, ◌<◌, ◌≤◌, ◌^◌, Bool, not, List, [], ◌∷◌, ◌++◌, All, length, take, drop, get_or, bit_and, w64, Some, refl, sym, ap, arith}
-use Rattle.std.specs.Int.{from_le_bytes}
+use Rattle.std.proofs.Common.{◌≡◌, ◌∙◌, ℕ, subst, length-take, ◌+◌, ◌-◌, ◌*◌, ◌/◌, ◌%◌, ◌<◌, ◌≤◌, ◌^◌, List, [], ◌∷◌, All, length, take, get_or, bit_and, refl, sym, ap, arith, inl, inr}
+use Rattle.std.specs.Int.{from_le_bytes, w128}
 use Rattle.std.specs.Int.Digits.{number_from_digits}
-use Rattle.std.specs.Char.{digit_value}
-use Rattle.std.specs.Str.Parse.{AllDigits, digits_value, digits_value_after}
-use lib.Lanes.{mask_l, top, zip2}
-use Rattle.std.proofs.Math.Seq.{take-add, take-suc}
-use Rattle.std.proofs.lemmas.Bool.{not-true}
-use Rattle.std.proofs.lemmas.Int.Digits.{digits_value-lt, digits_value_is}
-use Rattle.std.proofs.lemmas.List.{get_or-map, length-map}
-use Rattle.std.proofs.lemmas.List.Elements.{All-head, All-tail}
-use Rattle.std.proofs.lemmas.List.Sums.{prefix_len_passes}
-use Rattle.std.proofs.lemmas.Nat.{and_mask}
-use Rattle.std.proofs.lemmas.Simd.{leading_from_mask_l, mask_l-mod, tops_compared, zip2_splat, zip2_splat_left}
-use Rattle.std.proofs.lemmas.Str.{digit_value_digit}
-use Rattle.bound_certificate.specs.declared.digits.Digits.{Digits}
-use Rattle.bound_certificate.specs.declared.limits.TheConstants.{GREATEST_GAP}
-use Rattle.bound_certificate.specs.Digits.{IsEightDigits, IsFirstDigit, IsFirstNumber}
-use Rattle.bound_certificate.proofs.DigitFacts.{Digit}
-use Rattle.bound_certificate.proofs.NumberFacts.{digits-written}
+use Rattle.std.proofs.lemmas.Bool.{cases_eq}
+use Rattle.std.proofs.lemmas.Int.Digits.{number_more}
+use Rattle.std.proofs.lemmas.List.{get_or-take, take_all}
+use Rattle.std.proofs.lemmas.List.Elements.{All-cons, All-nil}
+use Rattle.std.proofs.lemmas.Nat.{and_block, and_mask}
+use Rattle.bound_certificate.specs.Digits.{HoldsDigits}
 
 -- ---- pairs of digits
 -- a number of two bytes or more
@@ -35,150 +24,260 @@ shifted a b c d e f g h word small is =
     let rest : word / 256 ≡ b + 256 * (c + 256 * (d + 256 * (e + 256 * (f + 256 * (g + 256 * h))))) = omega (arith, is, small) in
     omega (arith, is, rest)
 
+-- each second byte of two that a word's first four have behind each other
+masked : (p q r s t : ℕ) → p < 256 → q < 256 → r < 256 → s < 256 → bit_and (p + 256 * (q + 256 * (r + 256 * (s + 256 * t)))) 1095216660735 ≡ p + 4294967296 * (t % 256)
+masked p q r s t pl ql rl sl =
+    let low : ℕ = p + 256 * (q + 256 * (r + 256 * s)) in
+    let split : p + 256 * (q + 256 * (r + 256 * (s + 256 * t))) ≡ t * 2 ^ 32 + low = omega arith in
+    ap (λ n. bit_and n 1095216660735) split
+    ∙ and_block 32 t 255 low 255 (omega (arith, pl, ql, rl, sl)) (omega arith)
+    ∙ omega (arith, and_mask t 8, and_mask low 8, pl)
+
+-- a product of two numbers in a word and two weights: the upper half
+weighed : (p r t v : ℕ) → p < 100 → r < 100 → t < 100 → v < 100
+    → ((p + 4294967296 * t) * 4294967296000100 % 18446744073709551616 + (r + 4294967296 * v) * 42949672960001 % 18446744073709551616) % 18446744073709551616 / 4294967296
+    ≡ 1000000 * p + 10000 * r + 100 * t + v
+weighed p r t v pl rl tl vl =
+    let first : (p + 4294967296 * t) * 4294967296000100 % 18446744073709551616 ≡ 100 * p + 4294967296 * (1000000 * p + 100 * t) = omega (arith, pl, tl) in
+    let second : (r + 4294967296 * v) * 42949672960001 % 18446744073709551616 ≡ r + 4294967296 * (10000 * r + v) = omega (arith, rl, vl) in
+    omega (arith, first, second, pl, rl, tl, vl)
+
 -- what the pairs write
 abbrev pub paired : ℕ → ℕ
-paired pairs = 1000000 * bit_and pairs 255 + 10000 * bit_and (pairs / 65536) 255 + 100 * bit_and (pairs / 4294967296) 255 + bit_and (pairs / 281474976710656) 255
+paired pairs =
+    (bit_and pairs 1095216660735 * 4294967296000100 % 18446744073709551616 + bit_and (pairs / 65536) 1095216660735 * 42949672960001 % 18446744073709551616) % 18446744073709551616 / 4294967296
 
-pairs_are : (p q r s t u v w pairs : ℕ) → p < 256 → q < 256 → r < 256 → s < 256 → t < 256 → u < 256 → v < 256
+pairs_are : (p q r s t u v w pairs : ℕ) → p < 100 → q < 256 → r < 100 → s < 256 → t < 100 → u < 256 → v < 100
     → pairs ≡ p + 256 * (q + 256 * (r + 256 * (s + 256 * (t + 256 * (u + 256 * (v + 256 * w)))))) → paired pairs ≡ 1000000 * p + 10000 * r + 100 * t + v
 pairs_are p q r s t u v w pairs pl ql rl sl tl ul vl is =
-    let after_v : ℕ = v + 256 * w in
-    let after_t : ℕ = t + 256 * (u + 256 * after_v) in
+    let after_t : ℕ = t + 256 * (u + 256 * (v + 256 * w)) in
     let after_r : ℕ = r + 256 * (s + 256 * after_t) in
-    let one : pairs / 65536 ≡ after_r = ap (λ n. n / 65536) is ∙ high p q after_r pl ql in
-    let two : pairs / 4294967296 ≡ after_t = omega (arith, one, high r s after_t rl sl) in
-    let three : pairs / 281474976710656 ≡ after_v = omega (arith, two, high t u after_v tl ul) in
-    let first : bit_and pairs 255 ≡ p = and_mask pairs 8 ∙ ap (λ n. n % 256) is ∙ low p (q + 256 * after_r) pl in
-    let second : bit_and (pairs / 65536) 255 ≡ r = and_mask (pairs / 65536) 8 ∙ ap (λ n. n % 256) one ∙ low r (s + 256 * after_t) rl in
-    let third : bit_and (pairs / 4294967296) 255 ≡ t = and_mask (pairs / 4294967296) 8 ∙ ap (λ n. n % 256) two ∙ low t (u + 256 * after_v) tl in
-    let fourth : bit_and (pairs / 281474976710656) 255 ≡ v = and_mask (pairs / 281474976710656) 8 ∙ ap (λ n. n % 256) three ∙ low v w vl in
-    omega (arith, first, second, third, fourth)
+    let one : pairs / 65536 ≡ after_r = ap (λ n. n / 65536) is ∙ high p q after_r (omega (arith, pl)) ql in
+    let first : bit_and pairs 1095216660735 ≡ p + 4294967296 * t =
+    ap (λ n. bit_and n 1095216660735) is ∙ masked p q r s after_t (omega (arith, pl)) ql (omega (arith, rl)) sl ∙ ap (λ n. p + 4294967296 * n) (low t (u + 256 * (v + 256 * w)) (omega (arith, tl))) in
+    let second : bit_and (pairs / 65536) 1095216660735 ≡ r + 4294967296 * v =
+    ap (λ n. bit_and n 1095216660735) one ∙ masked r s t u (v + 256 * w) (omega (arith, rl)) sl (omega (arith, tl)) ul ∙ ap (λ n. r + 4294967296 * n) (low v w (omega (arith, vl))) in
+    ap (λ n. (n * 4294967296000100 % 18446744073709551616 + bit_and (pairs / 65536) 1095216660735 * 42949672960001 % 18446744073709551616) % 18446744073709551616 / 4294967296) first
+    ∙ ap (λ n. ((p + 4294967296 * t) * 4294967296000100 % 18446744073709551616 + n * 42949672960001 % 18446744073709551616) % 18446744073709551616 / 4294967296) second
+    ∙ weighed p r t v pl rl tl vl
+
+-- the number that digits write, by one more
+step : (digits : List ℕ) (k : ℕ) → k < length digits → number_from_digits 10 (take (k + 1) digits) ≡ number_from_digits 10 (take k digits) * 10 + get_or digits k 0
+step digits k few = number_more 10 digits k few
+
+-- eight digits and their number
+pub eight-written : (digits : List ℕ) → 8 ≤ length digits → number_from_digits 10 (take 8 digits)
+    ≡ 10000000 * get_or digits 0 0 + 1000000 * get_or digits 1 0 + 100000 * get_or digits 2 0 + 10000 * get_or digits 3 0
+    + 1000 * get_or digits 4 0 + 100 * get_or digits 5 0 + 10 * get_or digits 6 0 + get_or digits 7 0
+eight-written digits long =
+    let front : number_from_digits 10 (take 4 digits) ≡ 1000 * get_or digits 0 0 + 100 * get_or digits 1 0 + 10 * get_or digits 2 0 + get_or digits 3 0 =
+    omega (arith, step digits 0 (omega (arith, long)), step digits 1 (omega (arith, long)), step digits 2 (omega (arith, long)), step digits 3 (omega (arith, long))) in
+    omega (arith, front, step digits 4 (omega (arith, long)), step digits 5 (omega (arith, long)), step digits 6 (omega (arith, long)), step digits 7 (omega (arith, long)))
 
 -- the number that eight digits write, by their pairs
-pub by_pairs : (digits : List ℕ) (word : ℕ) → length digits ≡ 8 → All (λ digit. digit ≤ 9) digits → word ≡ from_le_bytes w64 digits → paired (10 * word + word / 256) ≡ number_from_digits 10 digits
-by_pairs (a ∷ b ∷ c ∷ d ∷ e ∷ f ∷ g ∷ h ∷ []) word long all is =
-    let al : a ≤ 9 = all 0 0 (omega arith) in
-    let bl : b ≤ 9 = all 1 0 (omega arith) in
-    let cl : c ≤ 9 = all 2 0 (omega arith) in
-    let dl : d ≤ 9 = all 3 0 (omega arith) in
-    let el : e ≤ 9 = all 4 0 (omega arith) in
-    let fl : f ≤ 9 = all 5 0 (omega arith) in
-    let gl : g ≤ 9 = all 6 0 (omega arith) in
-    let hl : h ≤ 9 = all 7 0 (omega arith) in
-    let nested : word ≡ a + 256 * (b + 256 * (c + 256 * (d + 256 * (e + 256 * (f + 256 * (g + 256 * h)))))) = omega (arith, is) in
-    let pairs = shifted a b c d e f g h word (omega (arith, al)) nested in
-    let parts = pairs_are (10 * a + b) (10 * b + c) (10 * c + d) (10 * d + e) (10 * e + f) (10 * f + g) (10 * g + h) (10 * h) (10 * word + word / 256) (omega (arith, al, bl)) (omega (arith, bl, cl))
-    (omega (arith, cl, dl)) (omega (arith, dl, el)) (omega (arith, el, fl)) (omega (arith, fl, gl)) (omega (arith, gl, hl)) pairs in
-    omega (arith, parts)
-by_pairs [] word long all is = absurd (cc)
-by_pairs (a ∷ []) word long all is = absurd (omega (arith, long))
-by_pairs (a ∷ b ∷ []) word long all is = absurd (omega (arith, long))
-by_pairs (a ∷ b ∷ c ∷ []) word long all is = absurd (omega (arith, long))
-by_pairs (a ∷ b ∷ c ∷ d ∷ []) word long all is = absurd (omega (arith, long))
-by_pairs (a ∷ b ∷ c ∷ d ∷ e ∷ []) word long all is = absurd (omega (arith, long))
-by_pairs (a ∷ b ∷ c ∷ d ∷ e ∷ f ∷ []) word long all is = absurd (omega (arith, long))
-by_pairs (a ∷ b ∷ c ∷ d ∷ e ∷ f ∷ g ∷ []) word long all is = absurd (omega (arith, long))
-by_pairs (a ∷ b ∷ c ∷ d ∷ e ∷ f ∷ g ∷ h ∷ i ∷ more) word long all is = absurd (omega (arith, long))
+pub by_pairs : (digits : List ℕ) (word : ℕ) → HoldsDigits word digits → paired (10 * word + word / 256) ≡ number_from_digits 10 digits
+by_pairs digits word holds =
+    let small : (k : ℕ) → k < 8 → get_or digits k 0 ≤ 9 = λ k few. holds.each k 0 (omega (arith, holds.count, few)) in
+    let al = small 0 (omega arith) in
+    let bl = small 1 (omega arith) in
+    let cl = small 2 (omega arith) in
+    let dl = small 3 (omega arith) in
+    let el = small 4 (omega arith) in
+    let fl = small 5 (omega arith) in
+    let gl = small 6 (omega arith) in
+    let hl = small 7 (omega arith) in
+    let nested : word ≡ get_or digits 0 0 + 256 * (get_or digits 1 0 + 256 * (get_or digits 2 0 + 256 * (get_or digits 3 0 + 256 * (get_or digits 4 0 + 256 * (get_or digits 5 0 + 256 * (get_or digits 6 0 + 256 * get_or digits 7 0)))))) =
+    omega (arith, holds.is) in
+    let pairs = shifted (get_or digits 0 0) (get_or digits 1 0) (get_or digits 2 0) (get_or digits 3 0) (get_or digits 4 0) (get_or digits 5 0) (get_or digits 6 0) (get_or digits 7 0) word (omega (arith, al)) nested in
+    let parts =
+    pairs_are (10 * get_or digits 0 0 + get_or digits 1 0) (10 * get_or digits 1 0 + get_or digits 2 0) (10 * get_or digits 2 0 + get_or digits 3 0) (10 * get_or digits 3 0 + get_or digits 4 0)
+    (10 * get_or digits 4 0 + get_or digits 5 0) (10 * get_or digits 5 0 + get_or digits 6 0) (10 * get_or digits 6 0 + get_or digits 7 0) (10 * get_or digits 7 0) (10 * word + word / 256)
+    (omega (arith, al, bl)) (omega (arith, bl, cl)) (omega (arith, cl, dl)) (omega (arith, dl, el)) (omega (arith, el, fl)) (omega (arith, fl, gl)) (omega (arith, gl, hl)) pairs in
+    let whole : take 8 digits ≡ digits = take_all 8 digits (omega (arith, holds.count)) in
+    parts ∙ omega (arith, eight-written digits (omega (arith, holds.count))) ∙ ap (number_from_digits 10) whole
 
--- ---- lanes
--- a byte without the zero's
-abbrev pub less : ℕ → ℕ → ℕ
-less a b = (a + (2 ^ 8 - b)) % 2 ^ 8
+-- ---- sixteen lanes, of which more than eight are digits
+-- what a multiple of a number's room leaves
+drop_high : (whole low high : ℕ) → low < 18446744073709551616 → whole ≡ low + 18446744073709551616 * high → whole % 18446744073709551616 ≡ low
+drop_high whole low high small is = omega (arith, is, small)
 
-digit_lane : (byte : ℕ) → byte < 256 → ltb 9 (less byte 48) ≡ false → Digit byte
-digit_lane byte fits within =
-    let small : less byte 48 ≤ 9 = omega (arith, ltb-false 9 (less byte 48) within) in
-    let least : 48 ≤ byte = omega (arith, fits, small) in
-    let most : byte ≤ 57 = omega (arith, fits, small) in
-    grind (arith, least, most)
+abbrev Nine : ℕ → Type 0
+Nine digit = digit ≤ 9
 
--- where the mask of lanes is empty no lane passes
-none_passes : (p : ℕ → Bool) (lanes : List ℕ) → mask_l (map p lanes) ≡ 0 → (k d : ℕ) → k < length lanes → p (get_or lanes k d) ≡ false
-none_passes p lanes empty k d inside =
-    not-true (p (get_or lanes k d)) (prefix_len_passes (λ x. not (p x)) lanes k d (omega (arith, leading_from_mask_l p lanes empty, inside)))
+-- eight digits in a word
+eight-held : (a b c d e f g h word : ℕ) → a ≤ 9 → b ≤ 9 → c ≤ 9 → d ≤ 9 → e ≤ 9 → f ≤ 9 → g ≤ 9 → h ≤ 9
+    → word ≡ a + 256 * (b + 256 * (c + 256 * (d + 256 * (e + 256 * (f + 256 * (g + 256 * h)))))) → HoldsDigits word (a ∷ b ∷ c ∷ d ∷ e ∷ f ∷ g ∷ h ∷ [])
+eight-held a b c d e f g h word al bl cl dl el fl gl hl is = record {
+  count = refl;
+  each =
+      All-cons Nine a (b ∷ c ∷ d ∷ e ∷ f ∷ g ∷ h ∷ []) al (All-cons Nine b (c ∷ d ∷ e ∷ f ∷ g ∷ h ∷ []) bl (All-cons Nine c (d ∷ e ∷ f ∷ g ∷ h ∷ []) cl
+      (All-cons Nine d (e ∷ f ∷ g ∷ h ∷ []) dl (All-cons Nine e (f ∷ g ∷ h ∷ []) el (All-cons Nine f (g ∷ h ∷ []) fl (All-cons Nine g (h ∷ []) gl (All-cons Nine h [] hl (All-nil Nine))))))));
+  is = omega (arith, is);
+}
 
--- eight bytes, of which the lanes of none is above 9 without the zero's, are digits
-pub digits_by_lanes : (bytes : List ℕ) → length bytes ≡ 8 → All (λ byte. byte < 256) bytes
-    → mask_l (map (top 7) (zip2 (λ a b. cond (ltb a b) 255 0) (replicate 8 9) (zip2 less bytes (replicate 8 48)))) % 2 ^ 64 ≡ 0 → All Digit bytes
-digits_by_lanes bytes long fit empty = λ k d inside.
-    let lanes : List ℕ = map (λ x. less x 48) bytes in
-    let many : length lanes ≡ 8 = length-map bytes (λ x. less x 48) ∙ long in
-    let shown : mask_l (map (λ x. ltb 9 x) lanes) ≡ 0 =
-    sym (mask_l-mod (map (λ x. ltb 9 x) lanes) 64 (omega (arith, length-map lanes (λ x. ltb 9 x), many)))
-    ∙ ap (λ (ms : List Bool). mask_l ms % 2 ^ 64) (sym (tops_compared w8 ltb (replicate 8 9) lanes ∙ zip2_splat_left ltb 9 8 lanes many))
-    ∙ ap (λ (xs : List ℕ). mask_l (map (top 7) (zip2 (λ a b. cond (ltb a b) 255 0) (replicate 8 9) xs)) % 2 ^ 64) (sym (zip2_splat less bytes 8 48 long)) ∙ empty in
-    let within = none_passes (λ x. ltb 9 x) lanes shown k (less d 48) (omega (arith, many, long, inside)) in
-    digit_lane (get_or bytes k d) (fit k d inside) (ap (λ x. ltb 9 x) (sym (get_or-map (λ x. less x 48) bytes k d (less d 48) inside)) ∙ within)
+-- a word that holds digits leaves room
+pub holds-fits : (word : ℕ) (digits : List ℕ) → HoldsDigits word digits → 11 * word < 18446744073709551616
+holds-fits word digits holds =
+    let small : (k : ℕ) → k < 8 → get_or digits k 0 ≤ 9 = λ k few. holds.each k 0 (omega (arith, holds.count, few)) in
+    omega (arith, holds.is, small 0 (omega arith), small 1 (omega arith), small 2 (omega arith), small 3 (omega arith), small 4 (omega arith), small 5 (omega arith), small 6 (omega arith), small 7 (omega arith))
 
-digit_lanes : (bytes : List ℕ) → All Digit bytes → map (λ x. less x 48) bytes ≡ map digit_value bytes
-digit_lanes [] all = refl
-digit_lanes (byte ∷ bytes) all =
-    let digit : Digit byte = All-head Digit byte bytes all in
-    let least : 48 ≤ byte = grind (arith, digit) in
-    let most : byte ≤ 57 = grind (arith, digit) in
-    let same : less byte 48 ≡ digit_value byte = omega (arith, least, most, digit_value_digit byte (least, most)) in
-    ap (λ (n : ℕ). n ∷ map (λ x. less x 48) bytes) same ∙ ap (λ (ns : List ℕ). digit_value byte ∷ ns) (digit_lanes bytes (All-tail Digit byte bytes all))
+-- the powers of ten
+abbrev pub powers : List ℕ
+powers = 1 ∷ 10 ∷ 100 ∷ 1000 ∷ 10000 ∷ 100000 ∷ 1000000 ∷ 10000000 ∷ []
 
--- what digits without the zero's write
-pub value_of_lanes : (bytes : List ℕ) → length bytes ≡ 8 → All Digit bytes → number_from_digits 10 (zip2 less bytes (replicate 8 48)) ≡ digits_value 10 bytes
-value_of_lanes bytes long all =
-    ap (number_from_digits 10) (zip2_splat less bytes 8 48 long ∙ digit_lanes bytes all) ∙ sym (digits_value_is 10 bytes)
+-- what the digits behind the first eight write, from the end of a word
+pub record IsMoved (lanes : List ℕ) (count high : ℕ) : Type 0 where
+  pub digits : List ℕ
+  pub holds : HoldsDigits (high * 2 ^ (8 * (16 - count)) % 18446744073709551616) digits
+  pub written : number_from_digits 10 (take 8 lanes) * get_or powers (count - 8) 0 + number_from_digits 10 digits ≡ number_from_digits 10 (take count lanes)
+  pub few : number_from_digits 10 (take count lanes) < 1000000000000000
 
--- ---- digits behind a number
-digit_is : (byte : ℕ) → Digit byte → (digit_value byte ≡ byte - 48) × (byte - 48 ≤ 9)
-digit_is byte digit =
-    let least : 48 ≤ byte = grind (arith, digit) in
-    let most : byte ≤ 57 = grind (arith, digit) in
-    (omega (arith, digit_value_digit byte (least, most)), omega (arith, most))
+-- what more than eight of sixteen lanes write, which a word holds
+module _ (lanes : List ℕ) (word count : ℕ) (long : length lanes ≡ 16) (is : word ≡ from_le_bytes w128 lanes) (many : 8 < count) (few : count < 16)
+    (each : All (λ digit. digit ≤ 9) (take count lanes)) where
+  abbrev pub front : ℕ
+  front = get_or lanes 0 0 + 256 * (get_or lanes 1 0 + 256 * (get_or lanes 2 0 + 256 * (get_or lanes 3 0 + 256 * (get_or lanes 4 0 + 256 * (get_or lanes 5 0 + 256 * (get_or lanes 6 0 + 256 * (get_or lanes 7 0)))))))
 
-pub value-least : (number : ℕ) (bytes : List ℕ) → number ≤ digits_value_after 10 number bytes
-value-least number [] = omega arith
-value-least number (byte ∷ bytes) = omega (arith, value-least (number * 10 + digit_value byte) bytes)
+  abbrev pub behind : ℕ
+  behind = get_or lanes 8 0 + 256 * (get_or lanes 9 0 + 256 * (get_or lanes 10 0 + 256 * (get_or lanes 11 0 + 256 * (get_or lanes 12 0 + 256 * (get_or lanes 13 0 + 256 * (get_or lanes 14 0 + 256 * (get_or lanes 15 0)))))))
 
-all_digits : (bytes : List ℕ) → All Digit bytes → AllDigits 10 bytes
-all_digits [] all = tt
-all_digits (byte ∷ bytes) all =
-    let is = digit_is byte (All-head Digit byte bytes all) in
-    (omega (arith, is.0, is.1), all_digits bytes (All-tail Digit byte bytes all))
+  halves : word ≡ front + 18446744073709551616 * behind
+  halves = omega (arith, is)
 
--- so many digits write less than so many powers of ten
-value-most : (bytes : List ℕ) → All Digit bytes → digits_value 10 bytes < 10 ^ length bytes
-value-most bytes all = digits_value-lt 10 bytes (all_digits bytes all)
+  small : (k : ℕ) → k < count → get_or lanes k 0 ≤ 9
+  small k inside = subst (λ n. n ≤ 9) (get_or-take count lanes k 0 inside) (each k 0 (omega (arith, length-take count lanes, long, few, inside)))
 
--- eight digits at the front of a piece, the first of them above 0
-module _ (piece : List ℕ) (one : Digits) (number : ℕ) (first : IsFirstDigit piece one) (eight : IsEightDigits piece number) (room : 8 ≤ length piece) where
-  abbrev first_byte : ℕ
-  first_byte = get_or piece 0 0
+  first : (k : ℕ) → k < 9 → get_or lanes k 0 ≤ 9
+  first k inside = small k (omega (arith, many, inside))
 
-  abbrev others : List ℕ
-  others = take 7 (drop 1 piece)
+  front-room : front < 18446744073709551616
+  front-room = omega (arith, first 0 (omega arith), first 1 (omega arith), first 2 (omega arith), first 3 (omega arith), first 4 (omega arith), first 5 (omega arith), first 6 (omega arith), first 7 (omega arith))
 
-  apart : take 8 piece ≡ first_byte ∷ others
-  apart = take-add 1 7 piece ∙ ap (λ (bytes : List ℕ). bytes ++ others) (take-suc piece 0 0 (omega (arith, room)))
+  pub front-is : word % 18446744073709551616 ≡ front
+  front-is = drop_high word front behind front-room halves
 
-  digits : All Digit (first_byte ∷ others)
-  digits = subst (All Digit) apart eight.all
+  pub behind-is : word / 18446744073709551616 ≡ behind
+  behind-is = omega (arith, halves, front-room)
 
-  above : 1 ≤ 0 * 10 + digit_value first_byte
-  above = omega (arith, (digit_is first_byte first.digit).0, first.number, first.some)
+  pub front-held : HoldsDigits (word % 18446744073709551616) (get_or lanes 0 0 ∷ get_or lanes 1 0 ∷ get_or lanes 2 0 ∷ get_or lanes 3 0 ∷ get_or lanes 4 0 ∷ get_or lanes 5 0 ∷ get_or lanes 6 0 ∷ get_or lanes 7 0 ∷ [])
+  front-held =
+      eight-held (get_or lanes 0 0) (get_or lanes 1 0) (get_or lanes 2 0) (get_or lanes 3 0) (get_or lanes 4 0) (get_or lanes 5 0) (get_or lanes 6 0) (get_or lanes 7 0) (word % 18446744073709551616)
+      (first 0 (omega arith)) (first 1 (omega arith)) (first 2 (omega arith)) (first 3 (omega arith)) (first 4 (omega arith)) (first 5 (omega arith)) (first 6 (omega arith)) (first 7 (omega arith)) front-is
 
-  written : number ≡ digits_value_after 10 (0 * 10 + digit_value first_byte) others
-  written = eight.written ∙ ap (digits_value 10) apart
+  eight : number_from_digits 10 (take 8 lanes) ≡ 10000000 * get_or lanes 0 0 + 1000000 * get_or lanes 1 0 + 100000 * get_or lanes 2 0 + 10000 * get_or lanes 3 0
+      + 1000 * get_or lanes 4 0 + 100 * get_or lanes 5 0 + 10 * get_or lanes 6 0 + get_or lanes 7 0
+  eight = eight-written lanes (omega (arith, long))
 
-  pub eight-some : 1 ≤ number
-  eight-some = omega (arith, written, above, value-least (0 * 10 + digit_value first_byte) others)
+  pub front-written : number_from_digits 10 (get_or lanes 0 0 ∷ get_or lanes 1 0 ∷ get_or lanes 2 0 ∷ get_or lanes 3 0 ∷ get_or lanes 4 0 ∷ get_or lanes 5 0 ∷ get_or lanes 6 0 ∷ get_or lanes 7 0 ∷ []) ≡ number_from_digits 10 (take 8 lanes)
+  front-written = omega (arith, eight)
 
-  fits : digits_value_after 10 (0 * 10 + digit_value first_byte) others ≤ GREATEST_GAP
-  fits =
-      let long : length (take 8 piece) ≡ 8 = omega (arith, length-take 8 piece, room) in
-      let most : digits_value 10 (take 8 piece) < 100000000 = subst (λ (n : ℕ). digits_value 10 (take 8 piece) < 10 ^ n) long (value-most (take 8 piece) eight.all) in
-      omega (arith, most, eight.written, written)
+  eight-few : number_from_digits 10 (take 8 lanes) ≤ 99999999
+  eight-few = omega (arith, eight, first 0 (omega arith), first 1 (omega arith), first 2 (omega arith), first 3 (omega arith), first 4 (omega arith), first 5 (omega arith), first 6 (omega arith), first 7 (omega arith))
 
-  alone : get_or (take 8 piece) 0 0 ≡ 48 → length (take 8 piece) ≡ 1
-  alone zero = absurd (omega (arith, zero, ap (λ (bytes : List ℕ). get_or bytes 0 0) apart, first.number, first.some))
+  more : (k : ℕ) → k < 16 → number_from_digits 10 (take (k + 1) lanes) ≡ number_from_digits 10 (take k lanes) * 10 + get_or lanes k 0
+  more k inside = step lanes k (omega (arith, long, inside))
 
-  pub eight-number : IsFirstNumber piece (record { number = number; count = 8 })
-  eight-number = record {
-    within = room;
-    is = digits-written (take 8 piece) eight.all (omega (arith, length-take 8 piece, room)) alone (omega (arith, fits, ap (digits_value 10) apart)) ∙ ap (λ (n : ℕ). Some n) (sym eight.written);
+  moved-9 : count ≡ 9 → IsMoved lanes 9 behind
+  moved-9 at = record {
+    digits = 0 ∷ 0 ∷ 0 ∷ 0 ∷ 0 ∷ 0 ∷ 0 ∷ get_or lanes 8 0 ∷ [];
+    holds =
+        eight-held 0 0 0 0 0 0 0 (get_or lanes 8 0) (behind * 72057594037927936 % 18446744073709551616)
+        (omega arith) (omega arith) (omega arith) (omega arith) (omega arith) (omega arith) (omega arith) (small 8 (omega (arith, at)))
+        (drop_high (behind * 72057594037927936) (0 + 256 * (0 + 256 * (0 + 256 * (0 + 256 * (0 + 256 * (0 + 256 * (0 + 256 * (get_or lanes 8 0)))))))) (get_or lanes 9 0 + 256 * (get_or lanes 10 0 + 256 * (get_or lanes 11 0 + 256 * (get_or lanes 12 0 + 256 * (get_or lanes 13 0 + 256 * (get_or lanes 14 0 + 256 * (get_or lanes 15 0))))))) (omega (arith, small 8 (omega (arith, at)))) (omega arith));
+    written = omega (arith, more 8 (omega arith));
+    few = omega (arith, eight-few, more 8 (omega arith), small 8 (omega (arith, at)));
   }
+
+  moved-10 : count ≡ 10 → IsMoved lanes 10 behind
+  moved-10 at = record {
+    digits = 0 ∷ 0 ∷ 0 ∷ 0 ∷ 0 ∷ 0 ∷ get_or lanes 8 0 ∷ get_or lanes 9 0 ∷ [];
+    holds =
+        eight-held 0 0 0 0 0 0 (get_or lanes 8 0) (get_or lanes 9 0) (behind * 281474976710656 % 18446744073709551616)
+        (omega arith) (omega arith) (omega arith) (omega arith) (omega arith) (omega arith) (small 8 (omega (arith, at))) (small 9 (omega (arith, at)))
+        (drop_high (behind * 281474976710656) (0 + 256 * (0 + 256 * (0 + 256 * (0 + 256 * (0 + 256 * (0 + 256 * (get_or lanes 8 0 + 256 * (get_or lanes 9 0)))))))) (get_or lanes 10 0 + 256 * (get_or lanes 11 0 + 256 * (get_or lanes 12 0 + 256 * (get_or lanes 13 0 + 256 * (get_or lanes 14 0 + 256 * (get_or lanes 15 0)))))) (omega (arith, small 8 (omega (arith, at)), small 9 (omega (arith, at)))) (omega arith));
+    written = omega (arith, more 8 (omega arith), more 9 (omega arith));
+    few = omega (arith, eight-few, more 8 (omega arith), more 9 (omega arith), small 8 (omega (arith, at)), small 9 (omega (arith, at)));
+  }
+
+  moved-11 : count ≡ 11 → IsMoved lanes 11 behind
+  moved-11 at = record {
+    digits = 0 ∷ 0 ∷ 0 ∷ 0 ∷ 0 ∷ get_or lanes 8 0 ∷ get_or lanes 9 0 ∷ get_or lanes 10 0 ∷ [];
+    holds =
+        eight-held 0 0 0 0 0 (get_or lanes 8 0) (get_or lanes 9 0) (get_or lanes 10 0) (behind * 1099511627776 % 18446744073709551616)
+        (omega arith) (omega arith) (omega arith) (omega arith) (omega arith) (small 8 (omega (arith, at))) (small 9 (omega (arith, at))) (small 10 (omega (arith, at)))
+        (drop_high (behind * 1099511627776) (0 + 256 * (0 + 256 * (0 + 256 * (0 + 256 * (0 + 256 * (get_or lanes 8 0 + 256 * (get_or lanes 9 0 + 256 * (get_or lanes 10 0)))))))) (get_or lanes 11 0 + 256 * (get_or lanes 12 0 + 256 * (get_or lanes 13 0 + 256 * (get_or lanes 14 0 + 256 * (get_or lanes 15 0))))) (omega (arith, small 8 (omega (arith, at)), small 9 (omega (arith, at)), small 10 (omega (arith, at)))) (omega arith));
+    written = omega (arith, more 8 (omega arith), more 9 (omega arith), more 10 (omega arith));
+    few = omega (arith, eight-few, more 8 (omega arith), more 9 (omega arith), more 10 (omega arith), small 8 (omega (arith, at)), small 9 (omega (arith, at)), small 10 (omega (arith, at)));
+  }
+
+  moved-12 : count ≡ 12 → IsMoved lanes 12 behind
+  moved-12 at = record {
+    digits = 0 ∷ 0 ∷ 0 ∷ 0 ∷ get_or lanes 8 0 ∷ get_or lanes 9 0 ∷ get_or lanes 10 0 ∷ get_or lanes 11 0 ∷ [];
+    holds =
+        eight-held 0 0 0 0 (get_or lanes 8 0) (get_or lanes 9 0) (get_or lanes 10 0) (get_or lanes 11 0) (behind * 4294967296 % 18446744073709551616)
+        (omega arith) (omega arith) (omega arith) (omega arith) (small 8 (omega (arith, at))) (small 9 (omega (arith, at))) (small 10 (omega (arith, at))) (small 11 (omega (arith, at)))
+        (drop_high (behind * 4294967296) (0 + 256 * (0 + 256 * (0 + 256 * (0 + 256 * (get_or lanes 8 0 + 256 * (get_or lanes 9 0 + 256 * (get_or lanes 10 0 + 256 * (get_or lanes 11 0)))))))) (get_or lanes 12 0 + 256 * (get_or lanes 13 0 + 256 * (get_or lanes 14 0 + 256 * (get_or lanes 15 0)))) (omega (arith, small 8 (omega (arith, at)), small 9 (omega (arith, at)), small 10 (omega (arith, at)), small 11 (omega (arith, at)))) (omega arith));
+    written = omega (arith, more 8 (omega arith), more 9 (omega arith), more 10 (omega arith), more 11 (omega arith));
+    few = omega (arith, eight-few, more 8 (omega arith), more 9 (omega arith), more 10 (omega arith), more 11 (omega arith), small 8 (omega (arith, at)), small 9 (omega (arith, at)), small 10 (omega (arith, at)), small 11 (omega (arith, at)));
+  }
+
+  moved-13 : count ≡ 13 → IsMoved lanes 13 behind
+  moved-13 at = record {
+    digits = 0 ∷ 0 ∷ 0 ∷ get_or lanes 8 0 ∷ get_or lanes 9 0 ∷ get_or lanes 10 0 ∷ get_or lanes 11 0 ∷ get_or lanes 12 0 ∷ [];
+    holds =
+        eight-held 0 0 0 (get_or lanes 8 0) (get_or lanes 9 0) (get_or lanes 10 0) (get_or lanes 11 0) (get_or lanes 12 0) (behind * 16777216 % 18446744073709551616)
+        (omega arith) (omega arith) (omega arith) (small 8 (omega (arith, at))) (small 9 (omega (arith, at))) (small 10 (omega (arith, at))) (small 11 (omega (arith, at))) (small 12 (omega (arith, at)))
+        (drop_high (behind * 16777216) (0 + 256 * (0 + 256 * (0 + 256 * (get_or lanes 8 0 + 256 * (get_or lanes 9 0 + 256 * (get_or lanes 10 0 + 256 * (get_or lanes 11 0 + 256 * (get_or lanes 12 0)))))))) (get_or lanes 13 0 + 256 * (get_or lanes 14 0 + 256 * (get_or lanes 15 0))) (omega (arith, small 8 (omega (arith, at)), small 9 (omega (arith, at)), small 10 (omega (arith, at)), small 11 (omega (arith, at)), small 12 (omega (arith, at)))) (omega arith));
+    written = omega (arith, more 8 (omega arith), more 9 (omega arith), more 10 (omega arith), more 11 (omega arith), more 12 (omega arith));
+    few = omega (arith, eight-few, more 8 (omega arith), more 9 (omega arith), more 10 (omega arith), more 11 (omega arith), more 12 (omega arith), small 8 (omega (arith, at)), small 9 (omega (arith, at)), small 10 (omega (arith, at)), small 11 (omega (arith, at)), small 12 (omega (arith, at)));
+  }
+
+  moved-14 : count ≡ 14 → IsMoved lanes 14 behind
+  moved-14 at = record {
+    digits = 0 ∷ 0 ∷ get_or lanes 8 0 ∷ get_or lanes 9 0 ∷ get_or lanes 10 0 ∷ get_or lanes 11 0 ∷ get_or lanes 12 0 ∷ get_or lanes 13 0 ∷ [];
+    holds =
+        eight-held 0 0 (get_or lanes 8 0) (get_or lanes 9 0) (get_or lanes 10 0) (get_or lanes 11 0) (get_or lanes 12 0) (get_or lanes 13 0) (behind * 65536 % 18446744073709551616)
+        (omega arith) (omega arith) (small 8 (omega (arith, at))) (small 9 (omega (arith, at))) (small 10 (omega (arith, at))) (small 11 (omega (arith, at))) (small 12 (omega (arith, at))) (small 13 (omega (arith, at)))
+        (drop_high (behind * 65536) (0 + 256 * (0 + 256 * (get_or lanes 8 0 + 256 * (get_or lanes 9 0 + 256 * (get_or lanes 10 0 + 256 * (get_or lanes 11 0 + 256 * (get_or lanes 12 0 + 256 * (get_or lanes 13 0)))))))) (get_or lanes 14 0 + 256 * (get_or lanes 15 0)) (omega (arith, small 8 (omega (arith, at)), small 9 (omega (arith, at)), small 10 (omega (arith, at)), small 11 (omega (arith, at)), small 12 (omega (arith, at)), small 13 (omega (arith, at)))) (omega arith));
+    written = omega (arith, more 8 (omega arith), more 9 (omega arith), more 10 (omega arith), more 11 (omega arith), more 12 (omega arith), more 13 (omega arith));
+    few = omega (arith, eight-few, more 8 (omega arith), more 9 (omega arith), more 10 (omega arith), more 11 (omega arith), more 12 (omega arith), more 13 (omega arith), small 8 (omega (arith, at)), small 9 (omega (arith, at)), small 10 (omega (arith, at)), small 11 (omega (arith, at)), small 12 (omega (arith, at)), small 13 (omega (arith, at)));
+  }
+
+  moved-15 : count ≡ 15 → IsMoved lanes 15 behind
+  moved-15 at = record {
+    digits = 0 ∷ get_or lanes 8 0 ∷ get_or lanes 9 0 ∷ get_or lanes 10 0 ∷ get_or lanes 11 0 ∷ get_or lanes 12 0 ∷ get_or lanes 13 0 ∷ get_or lanes 14 0 ∷ [];
+    holds =
+        eight-held 0 (get_or lanes 8 0) (get_or lanes 9 0) (get_or lanes 10 0) (get_or lanes 11 0) (get_or lanes 12 0) (get_or lanes 13 0) (get_or lanes 14 0) (behind * 256 % 18446744073709551616)
+        (omega arith) (small 8 (omega (arith, at))) (small 9 (omega (arith, at))) (small 10 (omega (arith, at))) (small 11 (omega (arith, at))) (small 12 (omega (arith, at))) (small 13 (omega (arith, at))) (small 14 (omega (arith, at)))
+        (drop_high (behind * 256) (0 + 256 * (get_or lanes 8 0 + 256 * (get_or lanes 9 0 + 256 * (get_or lanes 10 0 + 256 * (get_or lanes 11 0 + 256 * (get_or lanes 12 0 + 256 * (get_or lanes 13 0 + 256 * (get_or lanes 14 0)))))))) (get_or lanes 15 0) (omega (arith, small 8 (omega (arith, at)), small 9 (omega (arith, at)), small 10 (omega (arith, at)), small 11 (omega (arith, at)), small 12 (omega (arith, at)), small 13 (omega (arith, at)), small 14 (omega (arith, at)))) (omega arith));
+    written = omega (arith, more 8 (omega arith), more 9 (omega arith), more 10 (omega arith), more 11 (omega arith), more 12 (omega arith), more 13 (omega arith), more 14 (omega arith));
+    few = omega (arith, eight-few, more 8 (omega arith), more 9 (omega arith), more 10 (omega arith), more 11 (omega arith), more 12 (omega arith), more 13 (omega arith), more 14 (omega arith), small 8 (omega (arith, at)), small 9 (omega (arith, at)), small 10 (omega (arith, at)), small 11 (omega (arith, at)), small 12 (omega (arith, at)), small 13 (omega (arith, at)), small 14 (omega (arith, at)));
+  }
+
+  pub moved : IsMoved lanes count behind
+  moved =
+      elim (cases_eq count 9) [
+        | inl at ↦ subst (λ n. IsMoved lanes n behind) (sym at) (moved-9 at)
+        | inr not-9 ↦
+            elim (cases_eq count 10) [
+              | inl at ↦ subst (λ n. IsMoved lanes n behind) (sym at) (moved-10 at)
+              | inr not-10 ↦
+                  elim (cases_eq count 11) [
+                    | inl at ↦ subst (λ n. IsMoved lanes n behind) (sym at) (moved-11 at)
+                    | inr not-11 ↦
+                        elim (cases_eq count 12) [
+                          | inl at ↦ subst (λ n. IsMoved lanes n behind) (sym at) (moved-12 at)
+                          | inr not-12 ↦
+                              elim (cases_eq count 13) [
+                                | inl at ↦ subst (λ n. IsMoved lanes n behind) (sym at) (moved-13 at)
+                                | inr not-13 ↦
+                                    elim (cases_eq count 14) [
+                                      | inl at ↦ subst (λ n. IsMoved lanes n behind) (sym at) (moved-14 at)
+                                      | inr not-14 ↦
+                                          let at : count ≡ 15 = omega (arith, many, few, not-9, not-10, not-11, not-12, not-13, not-14) in subst (λ n. IsMoved lanes n behind) (sym at) (moved-15 at)
+                                    ]
+                              ]
+                        ]
+                  ]
+            ]
+      ]

@@ -35,5 +35,6 @@ pub mod PackedTakenFacts
 pub mod WholeFacts
 pub mod ReadFacts
 pub mod TakeFacts
+pub mod LaneFacts
 pub mod LongFacts
 pub mod FrontFacts

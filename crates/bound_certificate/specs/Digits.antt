@@ -1,7 +1,7 @@
 -- Numbers at the front of bytes.
 use Rattle.std.specs.Prelude.{◌≡◌, ℕ, ◌-◌, ◌≤◌, true, List, All, length, take, slice_index, Some}
 use Rattle.std.specs.Char.{is_ascii_digit}
-use Rattle.std.specs.Str.Parse.{digits_value}
+use Rattle.std.specs.Int.{from_le_bytes, w64}
 use Rattle.bound_certificate.specs.declared.digits.Digits.{Digits}
 use Rattle.bound_certificate.specs.Grammar.{whole_number}
 
@@ -13,10 +13,11 @@ pub record IsFirstDigit (piece : List ℕ) (digits : Digits) : Type 0 where
   pub some : 1 ≤ digits.number
   pub count : digits.count ≡ 1
 
--- the first eight bytes of a piece are digits, and write a number
-pub record IsEightDigits (piece : List ℕ) (number : ℕ) : Type 0 where
-  pub all : All (λ byte. is_ascii_digit byte ≡ true) (take 8 piece)
-  pub written : number ≡ digits_value 10 (take 8 piece)
+-- a word holds eight digits, the first of them in its lowest byte
+pub record HoldsDigits (word : ℕ) (digits : List ℕ) : Type 0 where
+  pub count : length digits ≡ 8
+  pub each : All (λ digit. digit ≤ 9) digits
+  pub is : word ≡ from_le_bytes w64 digits
 
 -- so many bytes at the front of a piece are a number
 pub record IsFirstNumber (piece : List ℕ) (digits : Digits) : Type 0 where

@@ -1,11 +1,17 @@
 //! Numbers as they are written.
-ghost use Rattle.std.specs.Prelude.{◌≡◌, ◌≤◌, All, IfSome, length};
+ghost use Rattle.std.specs.Prelude.{◌≡◌, ◌≤◌, ◌<◌, ◌*◌, ◌^◌, ℕ, List, All, IfSome, length, take};
 ghost use Rattle.std.specs.Int.Digits.{number_from_digits};
-ghost use Rattle.bound_certificate.specs.Digits.{IsEightDigits, IsFirstDigit, IsFirstNumber};
+ghost use Rattle.bound_certificate.specs.Digits.{HoldsDigits, IsFirstDigit, IsFirstNumber};
 ghost use Rattle.bound_certificate.specs.Grammar.{whole_number as whole_number_of};
 
 use crate::limits::GREATEST_GAP;
 use std::simd::prelude::*;
+
+// How many bytes are looked at together: fifteen digits, the most of a number that is read quickly, and the one behind them.
+const TOGETHER: usize = 16;
+
+// By what fewer than eight digits move the number that stands before them.
+const POWERS_OF_TEN: [u64; 8] = [1, 10, 100, 1_000, 10_000, 100_000, 1_000_000, 10_000_000];
 
 /// Digits at the front of a piece, and the number that they write.
 #[derive(Clone, Copy, Debug, PartialEq, Eq)]
@@ -49,44 +55,79 @@ fn more_digits(piece: &[u8], begun: Digits) -> Digits
     }
 }
 
-// The number that eight digits write, the first of them the highest.
-fn eight_together(digits: [u8; 8]) -> u64
-    requires { All (λ digit. digit ≤ 9) digits }
-    ensures { result ≡ number_from_digits 10 digits }
+// The number that eight digits write, of which a word holds the first in its lowest byte.
+#[inline(always)]
+fn eight_together(word: u64) -> u64
+    requires fits { 11 * word < 2 ^ 64 }
+    ensures { (digits : List ℕ) → HoldsDigits word digits → result ≡ number_from_digits 10 digits }
 {
-    // Each second byte of the sum is the number of a pair of digits.
-    let word = u64::from_le_bytes(digits);
+    // Each second byte of the pairs is the number of two digits. A product puts two of the four into its upper half, each with its
+    // weight: what comes above that is cut off, and what stands below is less than one.
     let pairs = 10 * word + (word >> 8);
-    1_000_000 * (pairs & 0xff)
-        + 10_000 * ((pairs >> 16) & 0xff)
-        + 100 * ((pairs >> 32) & 0xff)
-        + ((pairs >> 48) & 0xff)
+    let first_and_third = pairs & 0xff_0000_00ff;
+    let second_and_fourth = (pairs >> 16) & 0xff_0000_00ff;
+    let sum = first_and_third
+        .wrapping_mul(100 + (1_000_000 << 32))
+        .wrapping_add(second_and_fourth.wrapping_mul(1 + (10_000 << 32)));
+    sum >> 32
 }
 
-// The number that the first eight bytes of a piece write, where all of them are digits.
-fn eight_digits(piece: &[u8]) -> Option<u64>
-    requires { 8 ≤ length piece.now }
-    ensures { IfSome result (IsEightDigits piece.now) }
+// How many lanes lead that are digits, where not all of them are.
+#[inline(always)]
+fn leading_digits(lanes: u8x16) -> usize
+    ensures { result < TOGETHER → All (λ digit. digit ≤ 9) (take result lanes) }
 {
-    let digits = u8x8::from_slice(piece) - u8x8::splat(b'0');
-    if digits.simd_gt(u8x8::splat(9)).to_bitmask() != 0 {
+    lanes.simd_gt(u8x16::splat(9)).to_bitmask().trailing_zeros() as usize
+}
+
+// The number that the first lanes write, more than eight of them; it doesn't matter what stands in the others.
+#[inline(always)]
+fn together(lanes: [u8; 16], count: usize) -> u64
+    requires many { 8 < count }
+    requires few { count < TOGETHER }
+    requires digits { All (λ digit. digit ≤ 9) (take count lanes) }
+    ensures number { result ≡ number_from_digits 10 (take count lanes) }
+    ensures small { result < 10 ^ 15 }
+{
+    let word = u128::from_le_bytes(lanes);
+    let front = eight_together((word % (1 << 64)) as u64);
+    // What is moved to the end of a word stands behind zeros there.
+    let behind = eight_together(((word >> 64) as u64) << (8 * (16 - count)));
+    front * POWERS_OF_TEN[count - 8] + behind
+}
+
+/// From nine to fifteen digits at the front of a piece, the first of them above 0, which are read together: where the piece goes on
+/// behind them, and has room for sixteen.
+#[inline(always)]
+pub(crate) fn many_digits(piece: &[u8]) -> Option<Digits>
+    ensures number { IfSome result (IsFirstNumber piece.now) }
+    ensures more { IfSome result (λ digits. digits.count < length piece.now) }
+{
+    if piece.len() < TOGETHER || piece[0] == b'0' {
         return None;
     }
-    Some(eight_together(digits.to_array()))
+    let lanes = u8x16::from_slice(piece) - u8x16::splat(b'0');
+    let count = leading_digits(lanes);
+    if count <= 8 || count >= TOGETHER {
+        return None;
+    }
+    Some(Digits {
+        number: together(lanes.to_array(), count),
+        count,
+    })
 }
 
-// Digits at the front of a piece that begin a number above 0: eight where so many stand there, or else one.
-fn first_digits(piece: &[u8]) -> Option<Digits>
-    ensures number { IfSome result (IsFirstNumber piece.now) }
-    ensures some { IfSome result (λ digits. 1 ≤ digits.number) }
+// The digits of the number at the front of a piece, read one by one.
+fn few_digits(piece: &[u8]) -> Option<Digits>
+    ensures { IfSome result (IsFirstNumber piece.now) }
 {
-    let one = first_digit(piece)?;
-    if piece.len() < 8 {
-        return Some(one);
-    }
-    match eight_digits(piece) {
-        Some(number) => Some(Digits { number, count: 8 }),
-        None => Some(one),
+    match first_digit(piece) {
+        Some(begun) => Some(more_digits(piece, begun)),
+        None if !piece.is_empty() && piece[0] == b'0' => Some(Digits {
+            number: 0,
+            count: 1,
+        }),
+        None => None,
     }
 }
 
@@ -94,13 +135,9 @@ fn first_digits(piece: &[u8]) -> Option<Digits>
 pub(crate) fn first_number(piece: &[u8]) -> Option<Digits>
     ensures { IfSome result (IsFirstNumber piece.now) }
 {
-    match first_digits(piece) {
-        Some(begun) => Some(more_digits(piece, begun)),
-        None if !piece.is_empty() && piece[0] == b'0' => Some(Digits {
-            number: 0,
-            count: 1,
-        }),
-        None => None,
+    match many_digits(piece) {
+        Some(digits) => Some(digits),
+        None => few_digits(piece),
     }
 }
 

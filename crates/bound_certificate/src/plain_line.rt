@@ -11,7 +11,7 @@ ghost use Rattle.bound_certificate.specs.Row.{parts_behind};
 
 use crate::certificate::Buy;
 use crate::cut::cut_at;
-use crate::digits::{first_number, whole_number};
+use crate::digits::{first_number, many_digits, whole_number};
 use crate::due::{Due, Name, range_at};
 use crate::fault::FaultKind;
 use crate::item::Item;
@@ -72,9 +72,7 @@ fn behind(due: Due, name: Name, dates: u16, line: &[u8]) -> Result<Option<&[u8]>
     Ok(words)
 }
 
-// The number at the front of bytes, where a space stands behind its digits, or nothing: what is quickly read. This and the two that
-// call it are inlined: where a leaf's prices are read, what they answer would else pass through memory.
-#[inline(always)]
+// The number at the front of bytes, where a space stands behind its digits, or nothing: what is quickly read.
 fn fast_front_number(bytes: &[u8]) -> Option<Taken<'_>>
     ensures { IfSome result (IsFrontNumber bytes.now) }
 {
@@ -108,7 +106,6 @@ fn slow_front_number(bytes: &[u8]) -> Option<Taken<'_>>
 }
 
 // The same, quickly where it can be.
-#[inline(always)]
 fn front_number(bytes: &[u8]) -> Option<Taken<'_>>
     ensures some { IfSome result (IsFrontNumber bytes.now) }
     ensures none { result ≡ None → whole_number_of (first_word bytes.now) ≡ None }
@@ -120,7 +117,6 @@ fn front_number(bytes: &[u8]) -> Option<Taken<'_>>
 }
 
 // The number that the first of the words is, at a place of the line. Where no word is left, that counts as no number.
-#[inline(always)]
 fn next_number(
     due: Due,
     name: Name,
@@ -225,8 +221,56 @@ fn split(left: u16, trees: u16, words: Option<&[u8]>) -> Result<Item, FaultKind>
     })
 }
 
+// The number at the front of bytes, where a space stands behind its digits, which are read together, or nothing.
+#[inline(always)]
+fn quick_front_number(bytes: &[u8]) -> Option<Taken<'_>>
+    ensures { IfSome result (IsFrontNumber bytes.now) }
+{
+    let digits = many_digits(bytes)?;
+    if bytes[digits.count] != b' ' {
+        return None;
+    }
+    Some(Taken {
+        number: digits.number,
+        rest: Some(&bytes[digits.count + 1..]),
+    })
+}
+
+// The price that the first of the words is, where it is quickly read.
+#[inline(always)]
+fn quick_price(due: Due, place: u16, words: Option<&[u8]>) -> Option<Taken<'_>>
+    ensures { IfSome result (IsTaken due name_of.Leaf place (parts_behind 32 words.entry)) }
+{
+    match quick_front_number(words?) {
+        Some(taken) if range_at(due, Name::Leaf, place).contains(taken.number) => Some(taken),
+        _ => None,
+    }
+}
+
+// The price that the first of the words is: what is seldom, and would take registers of the loop.
+#[inline(never)]
+fn slow_price(due: Due, place: u16, words: Option<&[u8]>) -> Result<Taken<'_>, FaultKind>
+    ensures ok { IfOk result (IsTaken due name_of.Leaf place (parts_behind 32 words.entry)) }
+    ensures err { IfErr result (λ found. 1 ≤ length (parts_behind 32 words.entry) → IsNoNumber due name_of.Leaf place (parts_behind 32 words.entry) found) }
+{
+    next_number(due, Name::Leaf, place, words)
+}
+
+// The price that the first of the words is, at a place of the line.
+#[inline(always)]
+fn next_price(due: Due, place: u16, words: Option<&[u8]>) -> Result<Taken<'_>, FaultKind>
+    ensures ok { IfOk result (IsTaken due name_of.Leaf place (parts_behind 32 words.entry)) }
+    ensures err { IfErr result (λ found. 1 ≤ length (parts_behind 32 words.entry) → IsNoNumber due name_of.Leaf place (parts_behind 32 words.entry) found) }
+{
+    match quick_price(due, place, words) {
+        Some(price) => Ok(price),
+        None => slow_price(due, place, words),
+    }
+}
+
 // Puts the prices of a leaf that the words are, from the third place of its line on. It fails where they aren't a number for each
-// price; with as many words one isn't a number then.
+// price; with as many words one isn't a number then. It isn't inlined, so that its loop has the registers.
+#[inline(never)]
 fn put_prices(due: Due, words: Option<&[u8]>, prices: &mut Prices) -> Result<(), FaultKind>
     requires { length prices.old ≤ MOST_DATES }
     ensures dates { length prices.new ≡ length prices.old }
@@ -237,7 +281,7 @@ fn put_prices(due: Due, words: Option<&[u8]>, prices: &mut Prices) -> Result<(),
     let dates = prices.as_slice().len() as u16;
     let mut rest = words;
     for place in 0..dates {
-        let price = next_number(due, Name::Leaf, 3 + place, rest)?;
+        let price = next_price(due, 3 + place, rest)?;
         prices.put(place, price.number);
         rest = price.rest;
     }
