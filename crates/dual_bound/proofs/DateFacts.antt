@@ -5,7 +5,7 @@ use Rattle.std.proofs.lemmas.Bool.{cases_eq, cases_lt}
 use Rattle.std.proofs.lemmas.List.{get_or-map, get_or-set_other, get_or-set_same, get_or_default, get_or_past, length-map}
 use Rattle.std.proofs.lemmas.List.Elements.{All-push, Contains-append_left, Contains-push}
 use Rattle.fixed_powers.specs.DiscountPowers.{one}
-use Rattle.dual_bound.specs.Changes.{AreChanges, IsListedAt}
+use Rattle.dual_bound.specs.Changes.{AreChangedDates, IsListedAt}
 use Rattle.dual_bound.specs.Columns.{AreDateDays, IsPriced, worth_at, worth_between, worth_on}
 use Rattle.dual_bound.specs.declared.date_days.DateDays.{DateDays}
 use Rattle.dual_bound.specs.declared.tree.Leaf.{Leaf}
@@ -146,7 +146,7 @@ dates-more was is from dates lists place stays done (inr ahead) =
     ]
 
 -- what a change lists is listed at one of the dates among which all changes are
-pub listed-change-at : (old new dates : List ℕ) (lists : List DateDays) (place : ℕ) → AreChanges old new dates → IsListedChange old new lists place → IsListedAt dates lists place
+pub listed-change-at : (old new dates : List ℕ) (lists : List DateDays) (place : ℕ) → AreChangedDates old new dates → IsListedChange old new lists place → IsListedAt dates lists place
 listed-change-at old new dates lists place changes change = record {
   date = change.date;
   among = changes.every change.date change.there change.changed;

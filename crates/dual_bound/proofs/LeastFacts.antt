@@ -14,7 +14,7 @@ use Rattle.offer_book.specs.declared.line.Line.{Line}
 use Rattle.offer_book.specs.declared.line.LineKind.{LineKind}
 use Rattle.offer_book.specs.declared.line.LineKind.TheVariants.{Cash, Market, Security}
 use Rattle.payment_schedule.specs.Schedule.{flow_by}
-use Rattle.dual_bound.specs.Changes.{AreChanges}
+use Rattle.dual_bound.specs.Changes.{AreChangedDates}
 use Rattle.dual_bound.specs.Columns.{IsColumn, IsOther, IsPlace, column_form, column_reduced, form_plus, is_other, is_regular, other_forms, paying, regular_form, signed_worth, worth_at, worth_on, worth_together}
 use Rattle.dual_bound.specs.LeafBound.{cost_worth, form_at, form_of, least_side, least_within, reduced_cost, signed_sum}
 use Rattle.dual_bound.specs.Leasts.{AgreeInside, AreApart, AreLeasts, IsInside, IsLeast, IsPricedBy, IsPricedInside, IsRight, IsSpanOf}
@@ -207,7 +207,7 @@ agree-without span wider leaf place price first last apart = record {
     other date inside (inr behind) at = omega (arith, inside.0, behind, last, at)
 
 -- leaves agree within a span that lies apart from all need dates whose prices differ
-pub agree-apart : (span wider : Span) (old new : Leaf) (dates : List ℕ) → old.whole ≡ new.whole → old.mu ≡ new.mu → length old.prices ≡ length new.prices → AreChanges old.prices new.prices dates
+pub agree-apart : (span wider : Span) (old new : Leaf) (dates : List ℕ) → old.whole ≡ new.whole → old.mu ≡ new.mu → length old.prices ≡ length new.prices → AreChangedDates old.prices new.prices dates
     → All (IsInside wider) dates → AreApart span wider → AgreeInside span old new
 agree-apart span wider old new dates whole limit long changes inside apart = record {
   whole = whole;

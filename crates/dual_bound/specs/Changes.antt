@@ -4,7 +4,7 @@ use Rattle.std.specs.List.{Contains}
 use Rattle.dual_bound.specs.declared.date_days.DateDays.{DateDays}
 
 -- each need date whose price differs is among these
-pub record AreChanges (old new dates : List ℕ) : Type 0 where
+pub record AreChangedDates (old new dates : List ℕ) : Type 0 where
   pub there : All (λ date. date < length old) dates
   pub every : (date : ℕ) → date < length old → ¬ (slice_index old date ≡ slice_index new date) → Contains dates date
 

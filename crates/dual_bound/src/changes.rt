@@ -1,6 +1,6 @@
 //! The need dates whose prices differ at two leaves.
 ghost use Rattle.std.specs.Prelude.{◌≡◌, ◌<◌, ◌≤◌, [], ◌∷◌, ◌++◌, IfOk, length, true, vec_capacity};
-ghost use Rattle.dual_bound.specs.Changes.{AreChanges};
+ghost use Rattle.dual_bound.specs.Changes.{AreChangedDates};
 
 use escrow_desk::NoMemory;
 use std::alloc::Global;
@@ -40,7 +40,7 @@ impl ChangedDates {
     pub(crate) fn take(&mut self, old: &[u64], new: &[u64]) -> bool
         requires same { length old.now ≡ length new.now }
         requires room { length old.now ≤ vec_capacity self.old.dates }
-        ensures changes { result ≡ true → AreChanges old.now new.now self.new.dates.items }
+        ensures changes { result ≡ true → AreChangedDates old.now new.now self.new.dates.items }
         ensures room { vec_capacity self.old.dates ≤ vec_capacity self.new.dates }
     {
         self.dates.clear();

@@ -3,7 +3,7 @@ ghost use Rattle.std.specs.Prelude.{All, ◌≡◌, ◌⊎◌, ◌+◌, ◌*◌,
 ghost use Rattle.std.specs.List.{AllZip};
 ghost use Rattle.offer_book.specs.Book.{BookContents};
 ghost use Rattle.offer_book.specs.declared.line.Line.{Line};
-ghost use Rattle.dual_bound.specs.Changes.{AreChanges};
+ghost use Rattle.dual_bound.specs.Changes.{AreChangedDates};
 ghost use Rattle.dual_bound.specs.Columns.{IsTableau};
 ghost use Rattle.dual_bound.specs.LeafBound.{bound_of, least_within};
 ghost use Rattle.dual_bound.specs.Leasts.{AgreeInside, AreApart, AreLeasts, IsInside, IsLeast, IsPricedInside, IsRight, IsSpanOf};
@@ -100,7 +100,7 @@ fn span_together(dates: &[usize]) -> Span
 // The need dates among which all lie that price a payment otherwise at another leaf, where only these need dates' prices differ.
 fn changes(old: &Leaf, new: &Leaf, dates: &[usize]) -> Span
     requires long { length old.now.prices ≡ length new.now.prices }
-    requires dates { AreChanges old.now.prices new.now.prices dates.now }
+    requires dates { AreChangedDates old.now.prices new.now.prices dates.now }
     ensures { (span : SpanOf) → span.first ≤ PAST_DATES → AreApart span result → AgreeInside span old.now new.now }
 {
     if old.whole != new.whole || old.mu != new.mu {
@@ -219,7 +219,7 @@ impl Leasts {
     /// Takes note of all that another leaf prices otherwise, where only these need dates' prices differ.
     pub(crate) fn price(&mut self, old: &Leaf, new: &Leaf, dates: &[usize])
         requires long { length old.now.prices ≡ length new.now.prices }
-        requires dates { AreChanges old.now.prices new.now.prices dates.now }
+        requires dates { AreChangedDates old.now.prices new.now.prices dates.now }
         ensures { (n : ℕ) (book : BookContents) → length old.now.prices ≡ length book.needs → AreLeasts n book old.now self.old → AreLeasts n book new.now self.new }
     {
         self.changed = self.changed.together(changes(old, new, dates));

@@ -42,12 +42,12 @@ impl Prices {
         self.prices
     }
 
-    // Takes over the prices of another list of the same length.
-    pub(crate) fn copy(&mut self, other: &Prices)
-        requires { length self.old ≡ length other.now }
-        ensures { self.new ≡ other.now }
+    /// Takes over as many prices as there are.
+    pub fn copy(&mut self, prices: &[u64])
+        requires { length self.old ≡ length prices.now }
+        ensures { self.new ≡ prices.now }
     {
-        self.prices.as_mut_slice().copy_from_slice(other.as_slice());
+        self.prices.as_mut_slice().copy_from_slice(prices);
     }
 
     /// Sets the price at a place, from 0, and changes no other.

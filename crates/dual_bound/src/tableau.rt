@@ -5,7 +5,7 @@ ghost use Rattle.fixed_powers.specs.DiscountPowers.{IsLowTable, PowerTable, one}
 ghost use Rattle.offer_book.specs.Book.{IsBook};
 ghost use Rattle.offer_book.specs.declared.line.Line.{Line};
 ghost use Rattle.escrow_units.specs.Flows.{total};
-ghost use Rattle.dual_bound.specs.Changes.{AreChanges};
+ghost use Rattle.dual_bound.specs.Changes.{AreChangedDates};
 ghost use Rattle.dual_bound.specs.Columns.{AreSums, IsColumn, IsDayTable, IsLightWorth, IsSmallColumn, IsStopWithin, IsTableau, worth_on, worth_together};
 ghost use Rattle.dual_bound.specs.declared.column.Column.{Column as ColumnOf};
 ghost use Rattle.dual_bound.specs.LeafBound.{bound_of, form_of, least_within, priced_needs as priced_needs_of, reduced_cost as reduced_cost_of};
@@ -135,7 +135,7 @@ fn take_prices(needs: &[Flow], worth: u128, own: &mut Prices, new: &[u64], dates
     requires own { All (λ price. price ≤ 2 * PRICE_SCALE) own.old }
     requires new { All (λ price. price ≤ 2 * PRICE_SCALE) new.now }
     requires few { length new.now ≤ 65_535 }
-    requires dates { AreChanges own.old new.now dates.now }
+    requires dates { AreChangedDates own.old new.now dates.now }
     requires worth { worth ≡ priced_needs_of needs.now own.old }
     ensures worth { result ≡ priced_needs_of needs.now new.now }
     ensures prices { own.new ≡ new.now }
@@ -229,14 +229,14 @@ impl Tableau {
         self.priced.leaf.whole = leaf.whole;
         self.priced.needs = priced_needs(book.needs(), leaf.prices.as_slice());
         self.priced.leaf.mu = leaf.mu;
-        self.priced.leaf.prices.copy(&leaf.prices);
+        self.priced.leaf.prices.copy(leaf.prices.as_slice());
     }
 
     // Prices the days of those need dates whose prices change at another leaf, with the multiplier of the limit as it is.
     fn price_changes(&mut self, book: &Book, leaf: &Leaf, dates: &[usize])
         requires leaf { IsLeaf (length book.now.needs) leaf.now }
         requires limit { self.old.priced.leaf.mu ≡ leaf.now.mu }
-        requires dates { AreChanges self.old.priced.leaf.prices leaf.now.prices dates.now }
+        requires dates { AreChangedDates self.old.priced.leaf.prices leaf.now.prices dates.now }
         requires tableau { IsTableau book.now self.old }
         ensures tableau { IsTableau book.now self.new }
         ensures leaf { self.new.priced.leaf ≡ leaf.now }
@@ -270,7 +270,7 @@ impl Tableau {
     /// the limit is as it was, their days alone.
     pub(crate) fn price(&mut self, book: &Book, leaf: &Leaf, dates: &[usize])
         requires leaf { IsLeaf (length book.now.needs) leaf.now }
-        requires dates { AreChanges self.old.priced.leaf.prices leaf.now.prices dates.now }
+        requires dates { AreChangedDates self.old.priced.leaf.prices leaf.now.prices dates.now }
         requires tableau { IsTableau book.now self.old }
         ensures tableau { IsTableau book.now self.new }
         ensures leaf { self.new.priced.leaf ≡ leaf.now }
