@@ -3,10 +3,14 @@ use Rattle.std.specs.Prelude.{◌≡◌, ℕ, ◌<◌, List, All, length, slice_
 use Rattle.std.specs.List.{Contains}
 use Rattle.dual_bound.specs.declared.date_days.DateDays.{DateDays}
 
+-- of the first so many need dates, each whose price differs is among these
+pub record AreChangedOf (count : ℕ) (old new dates : List ℕ) : Type 0 where
+  pub there : All (λ date. date < count) dates
+  pub every : (date : ℕ) → date < count → ¬ (slice_index old date ≡ slice_index new date) → Contains dates date
+
 -- each need date whose price differs is among these
-pub record AreChangedDates (old new dates : List ℕ) : Type 0 where
-  pub there : All (λ date. date < length old) dates
-  pub every : (date : ℕ) → date < length old → ¬ (slice_index old date ≡ slice_index new date) → Contains dates date
+abbrev pub AreChangedDates : List ℕ → List ℕ → List ℕ → Type 0
+AreChangedDates old new dates = AreChangedOf (length old) old new dates
 
 -- a place stands in the list of one of these need dates
 pub record IsListedAt (dates : List ℕ) (lists : List DateDays) (place : ℕ) : Type 0 where

@@ -1,6 +1,6 @@
 //! The need dates whose prices differ at two leaves.
-ghost use Rattle.std.specs.Prelude.{◌≡◌, ◌<◌, ◌≤◌, [], ◌∷◌, ◌++◌, IfOk, length, true, vec_capacity};
-ghost use Rattle.dual_bound.specs.Changes.{AreChangedDates};
+ghost use Rattle.std.specs.Prelude.{◌≡◌, ◌+◌, ◌<◌, ◌≤◌, ℕ, [], ◌∷◌, ◌++◌, IfOk, length, slice_index, true, vec_capacity};
+ghost use Rattle.dual_bound.specs.Changes.{AreChangedDates, AreChangedOf};
 
 use escrow_desk::NoMemory;
 use std::alloc::Global;
@@ -10,6 +10,20 @@ use std::alloc::Global;
 pub(crate) struct ChangedDates {
     /// The need dates.
     pub dates: Vec<usize>,
+}
+
+// Whether eight prices from a need date on are the same. All are looked at, several at once.
+#[inline(always)]
+fn eight_agree(old: &[u64], new: &[u64], from: usize) -> bool
+    requires old { from + 8 ≤ length old.now }
+    requires new { from + 8 ≤ length new.now }
+    ensures { result ≡ true → (date : ℕ) → from ≤ date → date < from + 8 → slice_index old.now date ≡ slice_index new.now date }
+{
+    let mut differences = 0;
+    for ahead in 0..8 {
+        differences |= old[from + ahead] ^ new[from + ahead];
+    }
+    differences == 0
 }
 
 impl ChangedDates {
@@ -35,6 +49,47 @@ impl ChangedDates {
         let _pushed = self.dates.push(date);
     }
 
+    // Takes down the need dates from one on and before another whose prices differ, so long as all are at most an eighth: whether they
+    // are.
+    fn take_between(&mut self, old: &[u64], new: &[u64], from: usize, to: usize) -> bool
+        requires same { length old.now ≡ length new.now }
+        requires order { from ≤ to }
+        requires last { to ≤ length old.now }
+        requires room { length old.now ≤ vec_capacity self.old.dates }
+        requires few { length self.old.dates.items ≤ from }
+        requires changes { AreChangedOf from old.now new.now self.old.dates.items }
+        ensures changes { result ≡ true → AreChangedOf to old.now new.now self.new.dates.items }
+        ensures few { result ≡ true → length self.new.dates.items ≤ to }
+        ensures room { vec_capacity self.old.dates ≤ vec_capacity self.new.dates }
+    {
+        for date in from..to {
+            if old[date] != new[date] {
+                if self.dates.len() == old.len() / 8 {
+                    return false;
+                }
+                self.add(date);
+            }
+        }
+        true
+    }
+
+    // The same of eight need dates, which are gone through only where they aren't all the same.
+    fn take_eight(&mut self, old: &[u64], new: &[u64], from: usize) -> bool
+        requires same { length old.now ≡ length new.now }
+        requires last { from + 8 ≤ length old.now }
+        requires room { length old.now ≤ vec_capacity self.old.dates }
+        requires few { length self.old.dates.items ≤ from }
+        requires changes { AreChangedOf from old.now new.now self.old.dates.items }
+        ensures changes { result ≡ true → AreChangedOf (from + 8) old.now new.now self.new.dates.items }
+        ensures few { result ≡ true → length self.new.dates.items ≤ from + 8 }
+        ensures room { vec_capacity self.old.dates ≤ vec_capacity self.new.dates }
+    {
+        if eight_agree(old, new, from) {
+            return true;
+        }
+        self.take_between(old, new, from, from + 8)
+    }
+
     /// Takes down the need dates whose prices differ, in place of those that were, so long as they are at most an eighth: whether
     /// they are.
     pub(crate) fn take(&mut self, old: &[u64], new: &[u64]) -> bool
@@ -44,14 +99,12 @@ impl ChangedDates {
         ensures room { vec_capacity self.old.dates ≤ vec_capacity self.new.dates }
     {
         self.dates.clear();
-        for date in 0..old.len() {
-            if old[date] != new[date] {
-                if self.dates.len() == old.len() / 8 {
-                    return false;
-                }
-                self.add(date);
+        let eights = old.len() / 8;
+        for eight in 0..eights {
+            if !self.take_eight(old, new, 8 * eight) {
+                return false;
             }
         }
-        true
+        self.take_between(old, new, 8 * eights, old.len())
     }
 }
