@@ -33,6 +33,8 @@ pub mod MoveFacts
 pub mod PlainLineFacts
 pub mod PackedTakenFacts
 pub mod WholeFacts
+pub mod RangeFacts
+pub mod NearFacts
 pub mod ReadFacts
 pub mod TakeFacts
 pub mod LaneFacts

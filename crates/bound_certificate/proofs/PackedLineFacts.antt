@@ -1,5 +1,8 @@
 -- What loops over the numbers of a line find.
-use Rattle.std.proofs.Common.{◌≡◌, ◌∙◌, ℕ, suc, ◌+◌, ◌-◌, ◌<◌, ◌≤◌, Bool, true, false, ◌&&◌, ◌||◌, nat_lt, List, [], ◌∷◌, length, drop, drop-cons, get_or, refl, sym, ap, arith, length-drop}
+use Rattle.std.proofs.Common.{◌≡◌, ◌∙◌, ℕ, suc, ◌+◌, ◌-◌, ◌*◌, ◌%◌, ◌<◌, ◌≤◌, Bool, true, false, ◌&&◌, ◌||◌, nat_le, nat_lt, bit_or, ◌⊎◌, inl, inr, List, [], ◌∷◌, All, length, drop, drop-cons, get_or, refl, sym, ap, arith, length-drop}
+use Rattle.std.proofs.lemmas.Bool.{cases_lt}
+use Rattle.std.proofs.lemmas.Nat.{le_or_l, le_or_r, or_lt}
+use Rattle.dual_bound.specs.declared.prices.TheConstants.{PRICE_SCALE}
 use Rattle.bound_certificate.specs.declared.packed.Change.{Change}
 use Rattle.bound_certificate.specs.Grammar.{rises}
 use Rattle.bound_certificate.specs.PackedGrammar.{are_rising, changes_of, places_of}
@@ -23,17 +26,58 @@ one_price (x ∷ y ∷ prices) few = absurd (omega arith)
 pub rises-end : (prices : List ℕ) (place : ℕ) → length prices ≤ place → rises (drop (place - 1) prices) ≡ false
 rises-end prices place over = one_price (drop (place - 1) prices) (omega (arith, length-drop (place - 1) prices))
 
-pub rises-here : (prices : List ℕ) (place : ℕ) → 1 ≤ place → place < length prices → get_or prices (place - 1) 0 < get_or prices place 0 →
-    rises (drop (place - 1) prices) ≡ true
-rises-here prices place some inside up =
-    let here : nat_lt (get_or prices (place - 1) 0) (get_or prices place 0) ≡ true = grind (arith, up) in
-    rises-more prices place some inside ∙ ap (λ (b : Bool). b || rises (drop place prices)) here
+-- ---- differences, of which the highest bit is set where they are below 0
+abbrev pub TOP : ℕ
+TOP = 9223372036854775808
 
-pub rises-on : (prices : List ℕ) (place : ℕ) → 1 ≤ place → place < length prices → get_or prices place 0 ≤ get_or prices (place - 1) 0 →
-    rises (drop (place - 1) prices) ≡ rises (drop place prices)
-rises-on prices place some inside down =
-    let here : nat_lt (get_or prices (place - 1) 0) (get_or prices place 0) ≡ false = grind (arith, down) in
-    rises-more prices place some inside ∙ ap (λ (b : Bool). b || rises (drop place prices)) here
+reaches : (n : ℕ) → TOP ≤ n → nat_le TOP n ≡ true
+reaches n high = grind (arith, high)
+
+misses : (n : ℕ) → n < TOP → nat_le TOP n ≡ false
+misses n low = grind (arith, low)
+
+-- the highest bit of either
+pub top-either : (x y : ℕ) → nat_le TOP (bit_or x y) ≡ (nat_le TOP x || nat_le TOP y)
+top-either x y = by (cases_lt x TOP) (cases_lt y TOP)
+  where
+    by : (x < TOP) ⊎ (TOP ≤ x) → (y < TOP) ⊎ (TOP ≤ y) → nat_le TOP (bit_or x y) ≡ (nat_le TOP x || nat_le TOP y)
+    by (inl first) (inl second) =
+        misses (bit_or x y) (or_lt 63 x y first second)
+        ∙ sym (ap (λ (b : Bool). b || nat_le TOP y) (misses x first) ∙ misses y second)
+    by (inl first) (inr second) =
+        reaches (bit_or x y) (omega (arith, second, le_or_r x y))
+        ∙ sym (ap (λ (b : Bool). b || nat_le TOP y) (misses x first) ∙ reaches y second)
+    by (inr first) second = reaches (bit_or x y) (omega (arith, first, le_or_l x y)) ∙ sym (ap (λ (b : Bool). b || nat_le TOP y) (reaches x first))
+
+either_after : (a b c : Bool) → ((a || b) || c) ≡ (a || (b || c))
+either_after true b c = refl
+either_after false b c = refl
+
+-- the difference of prices
+pub top-difference : (first second : ℕ) → first ≤ 2 * PRICE_SCALE → second ≤ 2 * PRICE_SCALE
+    → nat_le TOP ((first + (18446744073709551616 - second)) % 18446744073709551616) ≡ nat_lt first second
+top-difference first second few also = by (cases_lt first second)
+  where
+    difference : ℕ
+    difference = (first + (18446744073709551616 - second)) % 18446744073709551616
+
+    by : (first < second) ⊎ (second ≤ first) → nat_le TOP difference ≡ nat_lt first second
+    by (inl up) = reaches difference (omega (arith, up, few, also)) ∙ sym (grind (arith, up))
+    by (inr down) = misses difference (omega (arith, down, few, also)) ∙ sym (grind (arith, down))
+
+-- the difference of a price and the one before, besides those before it
+pub rises-next : (prices : List ℕ) (place differences : ℕ) → 1 ≤ place → place < length prices → All (λ price. price ≤ 2 * PRICE_SCALE) prices
+    → (nat_le TOP (bit_or differences ((get_or prices (place - 1) 0 + (18446744073709551616 - get_or prices place 0)) % 18446744073709551616)) || rises (drop (place + 1 - 1) prices))
+    ≡ (nat_le TOP differences || rises (drop (place - 1) prices))
+rises-next prices place differences some inside few =
+    let first : ℕ = get_or prices (place - 1) 0 in
+    let second : ℕ = get_or prices place 0 in
+    let next : place + 1 - 1 ≡ place = omega arith in
+    ap (λ (k : ℕ). nat_le TOP (bit_or differences ((first + (18446744073709551616 - second)) % 18446744073709551616)) || rises (drop k prices)) next
+    ∙ ap (λ (b : Bool). b || rises (drop place prices))
+    (top-either differences ((first + (18446744073709551616 - second)) % 18446744073709551616)
+    ∙ ap (λ (b : Bool). nat_le TOP differences || b) (top-difference first second (few (place - 1) 0 (omega (arith, inside))) (few place 0 inside)))
+    ∙ either_after (nat_le TOP differences) (nat_lt first second) (rises (drop place prices)) ∙ ap (λ (b : Bool). nat_le TOP differences || b) (sym (rises-more prices place some inside))
 
 -- a place and the next one
 abbrev pub no_change : Change

@@ -16,7 +16,7 @@ use Rattle.bound_certificate.specs.PackedText.{change_numbers}
 use Rattle.bound_certificate.specs.Row.{AreRowNumbers, InRanges, leaf_range, row_fits}
 use Rattle.bound_certificate.proofs.FoundFacts.{in_range}
 use Rattle.bound_certificate.proofs.RowFacts.{AreWritten}
-use Rattle.bound_certificate.proofs.SaidFacts.{IsPrice, within}
+use Rattle.bound_certificate.proofs.SaidFacts.{IsPrice, within, neither}
 
 -- ---- changes as numbers
 -- a change in range
@@ -153,10 +153,6 @@ few-changes dates changes all rising = let few = few_above dates 0 changes (omeg
 -- ---- changes to the vector's own price
 abbrev Other : List ℕ → Change → Type 0
 Other vector change = change.price ≢ slice_index vector (change.place - 1)
-
-neither : (a b : Bool) → (a || b) ≡ false → (a ≡ false) × (b ≡ false)
-neither true b h = absurd (cc)
-neither false b h = (refl, h)
 
 differs : (x y : ℕ) → (x == y) ≡ false → x ≢ y
 differs x y h same = absurd (grind (arith, h, same))

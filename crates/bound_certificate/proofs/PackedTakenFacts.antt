@@ -1,6 +1,7 @@
 -- What the numbers of a leaf say.
-use Rattle.std.proofs.Common.{◌≡◌, ◌∙◌, ℕ, ◌-◌, ◌≤◌, ◌==◌, List, [], ◌∷◌, drop, get_or, length, take, sym, ap, arith, Ok}
+use Rattle.std.proofs.Common.{◌≡◌, ◌∙◌, ℕ, ◌-◌, ◌≤◌, ◌==◌, List, [], ◌∷◌, drop, get_or, length, take, sym, ap, arith, Ok, Err}
 use Rattle.std.proofs.lemmas.List.{take_all}
+use Rattle.bound_certificate.specs.declared.fault.FaultKind.{FaultKind}
 use Rattle.bound_certificate.specs.declared.item.Item.TheVariants as item
 use Rattle.bound_certificate.specs.declared.limits.TheConstants.{MOST_DATES, MOST_VECTORS}
 use Rattle.bound_certificate.specs.declared.packed.Change.{Change}
@@ -45,3 +46,19 @@ pub leaf-numbers : (dates : ℕ) (vectors : List (List ℕ)) (numbers prices : L
 leaf-numbers dates vectors numbers prices changes short few are same changes_are said =
     let of_leaf : AreOfLeaf numbers = leaf_row dates (length vectors) numbers short few are in
     record { is = leaf_is vectors numbers prices changes of_leaf.some same changes_are said; leaf = λ _. of_leaf }
+
+leaf_by : (vectors : List (List ℕ)) (numbers prices : List ℕ) → 3 ≤ length numbers → prices ≡ vector_of vectors (get_or numbers 2 0) →
+    said_by vectors row.Leaf numbers ≡ leaf_said prices (get_or numbers 0 0) (get_or numbers 1 0) (get_or numbers 2 0) (changes_of (take (length numbers - 3) (drop 3 numbers)))
+leaf_by vectors [] prices some same = absurd (omega (arith, some))
+leaf_by vectors (rho ∷ []) prices some same = absurd (omega (arith, some))
+leaf_by vectors (rho ∷ mu ∷ []) prices some same = absurd (omega (arith, some))
+leaf_by vectors (rho ∷ mu ∷ vector ∷ numbers) prices some same =
+    ap (λ (ps : List ℕ). leaf_said ps rho mu vector (changes_of numbers)) (sym same)
+    ∙ ap (λ (ns : List ℕ). leaf_said prices rho mu vector (changes_of ns)) (sym (take_all (length (rho ∷ mu ∷ vector ∷ numbers) - 3) numbers (omega arith)))
+
+-- numbers that are no leaf
+pub leaf-fault : (dates : ℕ) (vectors : List (List ℕ)) (numbers prices : List ℕ) (found : FaultKind) → AreRowNumbers dates (length vectors) row.Leaf numbers →
+    prices ≡ vector_of vectors (get_or numbers 2 0) → ((rho mu number : ℕ) → leaf_said prices rho mu number (changes_of (take (length numbers - 3) (drop 3 numbers))) ≡ Err found) →
+    said_by vectors row.Leaf numbers ≡ Err found
+leaf-fault dates vectors numbers prices found are same fault =
+    leaf_by vectors numbers prices (leaf_three dates (length numbers) are.fits).0 same ∙ fault (get_or numbers 0 0) (get_or numbers 1 0) (get_or numbers 2 0)

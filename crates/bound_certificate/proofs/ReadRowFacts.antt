@@ -1,5 +1,5 @@
 -- What the code finds of a line of a word and numbers.
-use Rattle.std.proofs.Common.{◌≡◌, ◌∙◌, ℕ, ◌+◌, ◌*◌, ◌≤◌, Bool, true, false, ◌&&◌, not, nat_eq, if◌then◌else◌, List, ◌∷◌, length, count_by, refl, sym, ap, arith, Option, Some, None, Result, Ok, Err, MatchResult}
+use Rattle.std.proofs.Common.{◌≡◌, ◌∙◌, ℕ, ◌+◌, ◌*◌, ◌≤◌, Bool, true, false, ◌&&◌, not, nat_eq, if◌then◌else◌, List, [], ◌∷◌, length, count_by, refl, sym, ap, arith, slice_index_or, Option, Some, None, option_and_then, option_map, Result, Ok, Err, MatchResult}
 use denote.Ref.{Bor}
 use lib.Pointwise.{pointwise, bytes_decides}
 use Rattle.std.proofs.lemmas.List.Splits.{length-slice_split}
@@ -8,7 +8,8 @@ use Rattle.bound_certificate.specs.declared.fault.FaultKind.TheVariants as kind
 use Rattle.bound_certificate.specs.declared.row.Row.{Row}
 use Rattle.bound_certificate.specs.declared.row.Row.TheVariants as row
 use Rattle.bound_certificate.specs.declared.limits.TheConstants.{MOST_DATES, MOST_NUMBERS}
-use Rattle.bound_certificate.specs.Grammar.{is_space, words_of}
+use Rattle.bound_certificate.specs.declared.due.Range.{Range}
+use Rattle.bound_certificate.specs.Grammar.{is_space, number_in, words_of}
 use Rattle.bound_certificate.specs.Row.{numbers_by, numbers_or, parts_behind, row_fits, row_range, row_said, row_word, row_words}
 
 -- a line begins with a row's word
@@ -90,3 +91,9 @@ pub begun-row : (r : Row) (line first word : List ℕ) (rest : Option (Bor (List
     ne ≡ not (pointwise nat_eq first word) → ne ≡ false → Begins r line first rest
 begun-row r line first word rest ne words written compared equal =
     record { words = words; named = (bytes_decides first word).0 (same_by _ ne compared equal) ∙ written }
+
+-- a word that is no number of its place's range
+pub no-number : (range : ℕ → Range) (place : ℕ) (words : List (List ℕ)) → 1 ≤ length words → number_in (range place) (slice_index_or words 0 []) ≡ None → numbers_by range place words ≡ None
+no-number range place [] some none = absurd (omega (arith, some))
+no-number range place (word ∷ words) some none =
+    ap (λ (o : Option ℕ). option_and_then (λ number. option_map (λ numbers. number ∷ numbers) (numbers_by range (place + 1) words)) o) none

@@ -246,7 +246,7 @@ falling-order (x ∷ y ∷ prices) h =
 below : (x y : ℕ) (prices : List ℕ) → y ≤ x → All (NotAbove y) prices → All (NotAbove x) prices
 below x y prices low all i d inside = let here = all i d inside in omega (arith, here, low)
 
-neither : (a b : Bool) → (a || b) ≡ false → (a ≡ false) × (b ≡ false)
+pub neither : (a b : Bool) → (a || b) ≡ false → (a ≡ false) × (b ≡ false)
 neither true b h = absurd (cc)
 neither false b h = (refl, h)
 

@@ -5,13 +5,14 @@ use Rattle.dual_bound.specs.declared.tree.Leaf.{Leaf}
 use Rattle.bound_certificate.specs.declared.due.Due.{Due}
 use Rattle.bound_certificate.specs.declared.due.Name.{Name}
 use Rattle.bound_certificate.specs.declared.due.Name.TheVariants as name
+use Rattle.bound_certificate.specs.declared.due.Range.{Range}
 use Rattle.bound_certificate.specs.declared.fault.FaultKind.{FaultKind}
 use Rattle.bound_certificate.specs.declared.fault.FaultKind.TheVariants as kind
 use Rattle.bound_certificate.specs.declared.item.Item.{Item}
 use Rattle.bound_certificate.specs.declared.plain_line.Pair.{Pair}
-use Rattle.bound_certificate.specs.declared.plain_line.Taken.{Taken}
+use Rattle.bound_certificate.specs.declared.front.Taken.{Taken}
 use Rattle.bound_certificate.specs.Due.{is_closed_early, is_in, range_at, width_of}
-use Rattle.bound_certificate.specs.Grammar.{is_name, leaf_of, line_numbers, name_in, numbers_fault, numbers_in, numbers_item, whole_number, words_fault, words_item, words_numbers, words_of}
+use Rattle.bound_certificate.specs.Grammar.{is_name, leaf_of, line_numbers, name_in, number_in, numbers_fault, numbers_in, numbers_item, whole_number, words_fault, words_item, words_numbers, words_of}
 use Rattle.bound_certificate.specs.Row.{parts_behind}
 
 -- the first word of a line may only be this name
@@ -38,6 +39,11 @@ pub record IsBegun (dates : ℕ) (d : Due) (n : Name) (line : List ℕ) (rest : 
 pub record IsFrontNumber (bytes : List ℕ) (taken : Taken) : Type 0 where
   pub words : words_of bytes ≡ first_word bytes ∷ parts_behind 32 taken.rest
   pub number : whole_number (first_word bytes) ≡ Some taken.number
+
+-- the same, where the number is one of a range
+pub record IsFrontOf (range : Range) (bytes : List ℕ) (taken : Taken) : Type 0 where
+  pub words : words_of bytes ≡ first_word bytes ∷ parts_behind 32 taken.rest
+  pub number : number_in range (first_word bytes) ≡ Some taken.number
 
 -- the first of the words behind a name is a number of its range
 pub record IsTaken (d : Due) (n : Name) (place : ℕ) (words : List (List ℕ)) (taken : Taken) : Type 0 where

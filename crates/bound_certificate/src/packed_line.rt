@@ -1,5 +1,5 @@
 //! The lines of a packed certificate: what may stand on each, and what it says.
-ghost use Rattle.std.specs.Prelude.{◌≡◌};
+ghost use Rattle.std.specs.Prelude.{◌≡◌, ◌≤◌, ◌*◌, All};
 ghost use Rattle.bound_certificate.specs.Grammar.{rises as rises_of};
 ghost use Rattle.bound_certificate.specs.PackedGrammar.{begins_with as begins_with_of, buys_due as buys_due_of, is_over as is_over_of, node_row as node_row_of, nodes_due as nodes_due_of, vectors_due as vectors_due_of};
 
@@ -8,7 +8,7 @@ use crate::cut::cut_at;
 use crate::limits::GREATEST_GAP;
 use crate::packed::PackedNode;
 use crate::row::Row;
-use dual_bound::Prices;
+use dual_bound::{PRICE_SCALE, Prices};
 
 /// What may stand on the next line.
 #[derive(Clone, Copy, Debug, PartialEq, Eq)]
@@ -58,15 +58,17 @@ pub(crate) enum PackedLine {
     End,
 }
 
-// Whether a price is above the one before. All are looked at, whatever was found: several at once then.
+// Whether a price is above the one before. All are looked at, several at once: where one rises, the difference goes below 0 and its
+// highest bit is set.
 pub(crate) fn rises(prices: &[u64]) -> bool
+    requires { All (λ price. price ≤ 2 * PRICE_SCALE) prices.now }
     ensures { result ≡ rises_of prices.now }
 {
-    let mut found = false;
+    let mut differences = 0;
     for place in 1..prices.len() {
-        found |= prices[place - 1] < prices[place];
+        differences |= prices[place - 1].wrapping_sub(prices[place]);
     }
-    found
+    differences >= 1 << 63
 }
 
 // Whether the first word of a line is this one.

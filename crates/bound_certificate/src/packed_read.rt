@@ -63,7 +63,7 @@ fn leaf_node(alloc: Global, numbers: &[u64]) -> Result<PackedNode, NoMemory>
     requires { AreOfLeaf numbers.now }
     ensures { IfOk result (λ said. line.Node said ≡ line_with item_of.Leaf numbers.now) }
 {
-    let changes = list_changes(&numbers[3..]);
+    let changes = list_changes::<MOST_DATES>(&numbers[3..]);
     Ok(PackedNode::Closed {
         whole: numbers[0] == 1,
         mu: numbers[1],

@@ -1,5 +1,5 @@
 //! The lines of a packed certificate, each taken without memory.
-ghost use Rattle.std.specs.Prelude.{◌≡◌, ◌≢◌, ◌≤◌, ◌+◌, ◌*◌, All, IfOk, IfErr, Ok, Err, List, ℕ, ◌==◌, ◌<◌, length, slice_index, false, true};
+ghost use Rattle.std.specs.Prelude.{◌≡◌, ◌≢◌, ◌≤◌, ◌+◌, ◌*◌, All, AllPairs, IfOk, IfErr, Ok, Err, List, ℕ, ◌==◌, ◌<◌, length, slice_index, false, true};
 ghost use Rattle.dual_bound.specs.declared.tree.Leaf.{Leaf as LeafOf};
 ghost use Rattle.bound_certificate.specs.declared.item.Item.TheVariants as item_of;
 ghost use Rattle.bound_certificate.specs.declared.packed.PackedNode.TheVariants as node_of;
@@ -17,17 +17,21 @@ use crate::certificate::Buy;
 use crate::fault::FaultKind;
 use crate::item::Item;
 use crate::limits::{MOST_DATES, MOST_VECTORS};
+use crate::near::rises_near;
 use crate::packed::Change;
 use crate::packed_line::{PackedDue, buys_due, node_row, nodes_due, rises, vectors_due};
 use crate::row::{Numbers, Row, read_row};
 use crate::vector_room::VectorRoom;
 use arrayvec::ArrayVec;
-use dual_bound::{Leaf, Prices};
+use dual_bound::{Leaf, PRICE_SCALE, Prices};
 
-/// The changes that numbers are by turns: place and price of each.
-pub(crate) fn list_changes(numbers: &[u64]) -> ArrayVec<Change, MOST_DATES>
+// So many changes are listed in a small room, which is sooner cleared: most leaves have few.
+const FEW_CHANGES: usize = 16;
+
+/// The changes that numbers are by turns, in room for so many: place and price of each.
+pub(crate) fn list_changes<const MOST: usize>(numbers: &[u64]) -> ArrayVec<Change, MOST>
     requires places { ArePlaces 65_535 (changes_of numbers.now) }
-    requires few { length numbers.now ≤ 2 * MOST_DATES }
+    requires few { length numbers.now ≤ 2 * MOST }
     ensures { result.items ≡ changes_of numbers.now }
 {
     let mut changes = ArrayVec::new();
@@ -67,18 +71,6 @@ fn restates(vector: &[u64], changes: &[Change]) -> bool
     false
 }
 
-// Takes these prices over.
-fn copy_prices(prices: &mut Prices, vector: &[u64])
-    requires same { length prices.old ≡ length vector.now }
-    requires few { length vector.now ≤ MOST_DATES }
-    ensures { prices.new ≡ vector.now }
-{
-    let dates = vector.len() as u16;
-    for place in 0..dates {
-        prices.put(place, vector[usize::from(place)]);
-    }
-}
-
 /// Puts the price of each change to its place.
 pub(crate) fn put_changes(prices: &mut Prices, changes: &[Change])
     requires { ArePlaces (length prices.old) changes.now }
@@ -92,7 +84,7 @@ pub(crate) fn put_changes(prices: &mut Prices, changes: &[Change])
 // Takes over the prices that a vector has after changes.
 fn take_prices(prices: &mut Prices, vector: &[u64], changes: &[Change]) -> Result<(), FaultKind>
     requires same { length prices.old ≡ length vector.now }
-    requires few { length vector.now ≤ MOST_DATES }
+    requires falling { AllPairs (λ earlier later. later ≤ earlier) vector.now }
     requires places { ArePlaces (length vector.now) changes.now }
     ensures dates { length prices.new ≡ length prices.old }
     ensures ok { IfOk result (λ _. prices.new ≡ changed vector.now changes.now) }
@@ -105,12 +97,33 @@ fn take_prices(prices: &mut Prices, vector: &[u64], changes: &[Change]) -> Resul
     if !places_rise(changes) {
         return Err(FaultKind::Order);
     }
-    copy_prices(prices, vector);
+    prices.copy(vector);
     put_changes(prices, changes);
-    if rises(prices.as_slice()) {
+    if rises_near(prices.as_slice(), changes) {
         return Err(FaultKind::Order);
     }
     Ok(())
+}
+
+// Takes over the prices that a vector has after the changes that numbers are.
+fn take_changed(prices: &mut Prices, vector: &[u64], numbers: &[u64]) -> Result<(), FaultKind>
+    requires same { length prices.old ≡ length vector.now }
+    requires falling { AllPairs (λ earlier later. later ≤ earlier) vector.now }
+    requires dates { length vector.now ≤ MOST_DATES }
+    requires places { ArePlaces (length vector.now) (changes_of numbers.now) }
+    requires few { length numbers.now ≤ 2 * MOST_DATES }
+    ensures dates { length prices.new ≡ length prices.old }
+    ensures ok { IfOk result (λ _. prices.new ≡ changed vector.now (changes_of numbers.now)) }
+    ensures said { IfOk result (λ _. (rho mu number : ℕ) → leaf_said vector.now rho mu number (changes_of numbers.now) ≡ Ok (line_of.Node (node_of.Closed (rho == 1) mu number (changes_of numbers.now)))) }
+    ensures err { IfErr result (λ found. (rho mu number : ℕ) → leaf_said vector.now rho mu number (changes_of numbers.now) ≡ Err found) }
+{
+    if numbers.len() <= 2 * FEW_CHANGES {
+        let few = list_changes::<FEW_CHANGES>(numbers);
+        take_prices(prices, vector, few.as_slice())
+    } else {
+        let many = list_changes::<MOST_DATES>(numbers);
+        take_prices(prices, vector, many.as_slice())
+    }
 }
 
 // A leaf, by all its numbers.
@@ -132,8 +145,7 @@ fn take_leaf(
     ensures err { IfErr result (λ found. said_by vectors.now row_of.Leaf numbers.now ≡ Err found) }
 {
     let vector = vectors.at(numbers[2] as usize - 1);
-    let changes = list_changes(&numbers[3..]);
-    take_prices(&mut leaf.prices, vector, changes.as_slice())?;
+    take_changed(&mut leaf.prices, vector, &numbers[3..])?;
     leaf.whole = numbers[0] == 1;
     leaf.mu = numbers[1];
     Ok(Item::Leaf)
@@ -160,6 +172,7 @@ fn take_purchase(least: u32, numbers: &[u64]) -> Result<Item, FaultKind>
 fn take_vector(vectors: &mut VectorRoom, numbers: &[u64]) -> Result<Item, FaultKind>
     requires room { length vectors.old < MOST_VECTORS }
     requires few { length numbers.now ≤ MOST_DATES }
+    requires prices { All (λ price. price ≤ 2 * PRICE_SCALE) numbers.now }
     ensures ok { IfOk result (λ item. (leaf : LeafOf) → IsGiven (said_by vectors.old row_of.Vector numbers.now) vectors.old vectors.new leaf item) }
     ensures numbers { IfOk result (IsOfNumbers (said_by vectors.old row_of.Vector numbers.now) numbers.now) }
     ensures err { IfErr result (λ found. said_by vectors.old row_of.Vector numbers.now ≡ Err found) }

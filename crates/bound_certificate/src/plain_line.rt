@@ -5,27 +5,20 @@ ghost use Rattle.bound_certificate.specs.declared.due.Name.TheVariants as name_o
 ghost use Rattle.bound_certificate.specs.declared.item.Item.TheVariants as item_of;
 ghost use Rattle.bound_certificate.specs.Due.{width_of};
 ghost use Rattle.bound_certificate.specs.Faults.{whole_fault};
-ghost use Rattle.bound_certificate.specs.Grammar.{is_space, leaf_of, line_item, line_leaf, numbers_in, whole_number as whole_number_of, words_fault, words_item, words_numbers, words_of};
-ghost use Rattle.bound_certificate.specs.PlainLine.{AreWeights, IsBegun, IsFaultOf, IsFrontNumber, IsNamed, IsNoNumber, IsOne, IsOnlyName, IsSaidAs, IsTaken, IsTwo, first_word};
+ghost use Rattle.bound_certificate.specs.Grammar.{is_space, leaf_of, line_item, line_leaf, numbers_in, words_fault, words_item, words_numbers, words_of};
+ghost use Rattle.bound_certificate.specs.PlainLine.{AreWeights, IsBegun, IsFaultOf, IsNamed, IsNoNumber, IsOne, IsOnlyName, IsSaidAs, IsTaken, IsTwo};
 ghost use Rattle.bound_certificate.specs.Row.{parts_behind};
 
 use crate::certificate::Buy;
 use crate::cut::cut_at;
-use crate::digits::{first_number, many_digits, whole_number};
 use crate::due::{Due, Name, range_at};
 use crate::fault::FaultKind;
+use crate::front::{Taken, front_number, quick_front_number};
 use crate::item::Item;
 use crate::limits::MOST_DATES;
 use crate::packed_line::{begins_with, rises};
 use crate::row::count_spaces;
 use dual_bound::{Leaf, Prices};
-
-// A number behind the first word of a line, and the words behind it.
-#[derive(Clone, Copy, Debug)]
-struct Taken<'a> {
-    number: u64,
-    rest: Option<&'a [u8]>,
-}
 
 // The two numbers of a line.
 #[derive(Clone, Copy, Debug)]
@@ -70,50 +63,6 @@ fn behind(due: Due, name: Name, dates: u16, line: &[u8]) -> Result<Option<&[u8]>
         return Err(FaultKind::Count);
     }
     Ok(words)
-}
-
-// The number at the front of bytes, where a space stands behind its digits, or nothing: what is quickly read.
-fn fast_front_number(bytes: &[u8]) -> Option<Taken<'_>>
-    ensures { IfSome result (IsFrontNumber bytes.now) }
-{
-    let digits = first_number(bytes)?;
-    if digits.count == bytes.len() {
-        return Some(Taken {
-            number: digits.number,
-            rest: None,
-        });
-    }
-    if bytes[digits.count] != b' ' {
-        return None;
-    }
-    Some(Taken {
-        number: digits.number,
-        rest: Some(&bytes[digits.count + 1..]),
-    })
-}
-
-// The number that the first word of bytes is.
-fn slow_front_number(bytes: &[u8]) -> Option<Taken<'_>>
-    ensures some { IfSome result (IsFrontNumber bytes.now) }
-    ensures none { result ≡ None → whole_number_of (first_word bytes.now) ≡ None }
-{
-    let word = cut_at(bytes, b' ');
-    let number = whole_number(word.front)?;
-    Some(Taken {
-        number,
-        rest: word.rest,
-    })
-}
-
-// The same, quickly where it can be.
-fn front_number(bytes: &[u8]) -> Option<Taken<'_>>
-    ensures some { IfSome result (IsFrontNumber bytes.now) }
-    ensures none { result ≡ None → whole_number_of (first_word bytes.now) ≡ None }
-{
-    match fast_front_number(bytes) {
-        Some(taken) => Some(taken),
-        None => slow_front_number(bytes),
-    }
 }
 
 // The number that the first of the words is, at a place of the line. Where no word is left, that counts as no number.
@@ -218,21 +167,6 @@ fn split(left: u16, trees: u16, words: Option<&[u8]>) -> Result<Item, FaultKind>
     Ok(Item::Split {
         line: pair.first as u16,
         at: pair.second,
-    })
-}
-
-// The number at the front of bytes, where a space stands behind its digits, which are read together, or nothing.
-#[inline(always)]
-fn quick_front_number(bytes: &[u8]) -> Option<Taken<'_>>
-    ensures { IfSome result (IsFrontNumber bytes.now) }
-{
-    let digits = many_digits(bytes)?;
-    if bytes[digits.count] != b' ' {
-        return None;
-    }
-    Some(Taken {
-        number: digits.number,
-        rest: Some(&bytes[digits.count + 1..]),
     })
 }
 

@@ -1,13 +1,12 @@
 //! A line of a word and numbers, at hand whole.
 ghost use Rattle.std.specs.Prelude.{◌≡◌, ◌≤◌, ◌+◌, ◌==◌, [], MatchResult, Ok, Err, None, Some, length, count_by};
 ghost use Rattle.bound_certificate.specs.declared.fault.FaultKind.TheVariants as kind;
-ghost use Rattle.bound_certificate.specs.Grammar.{number_in as number_in_of};
 ghost use Rattle.bound_certificate.specs.Row.{leaf_range as leaf_range_of, numbers_by, parts_behind, row_fits, row_range, row_said, row_word};
 
 use crate::cut::cut_at;
-use crate::digits::whole_number;
 use crate::due::Range;
 use crate::fault::FaultKind;
+use crate::front::front_number_in;
 use crate::limits::{
     GREATEST_UNITS, MOST_DATES, MOST_NODES, MOST_NUMBERS, MOST_PACKED_BUYS, MOST_VECTORS,
 };
@@ -109,16 +108,6 @@ impl Row {
     }
 }
 
-// The number of a range that a word is.
-pub(crate) fn number_in(range: Range, word: &[u8]) -> Option<u64>
-    ensures { result ≡ number_in_of range word.now }
-{
-    match whole_number(word) {
-        Some(number) if range.contains(number) => Some(number),
-        _ => None,
-    }
-}
-
 // Reads the numbers that words are.
 fn read_numbers(
     row: Row,
@@ -134,13 +123,12 @@ fn read_numbers(
 {
     let mut rest = words;
     while let Some(bytes) = rest {
-        let part = cut_at(bytes, b' ');
         let range = row.range(dates, vectors, numbers.len() + 1);
-        let Some(number) = number_in(range, part.front) else {
+        let Some(taken) = front_number_in(range, bytes) else {
             return Err(FaultKind::Number);
         };
-        numbers.push(number);
-        rest = part.rest;
+        numbers.push(taken.number);
+        rest = taken.rest;
     }
     Ok(())
 }

@@ -10,7 +10,7 @@ abbrev IsPlace : Change → Type 0
 IsPlace change = (1 ≤ change.place) × (change.place ≤ 65_535)
 
 pub overflow_cast-numbers : goal.overflow_cast-numbers
-overflow_cast-numbers c =
+overflow_cast-numbers g c =
     let numbers : List ℕ = c.args.numbers.now in
     let place : ℕ = c.loop-place.place in
     let P : List Change → Type 0 = λ cs. ArePlaces 65_535 cs in
@@ -20,7 +20,7 @@ overflow_cast-numbers c =
     omega (arith, here.1)
 
 pub loop-place-preserved : goal.loop-place-preserved
-loop-place-preserved c =
+loop-place-preserved g c =
     let i = c.loop-place.invariant in
     let numbers : List ℕ = c.args.numbers.now in
     let place : ℕ = c.loop-place.place in
@@ -37,7 +37,7 @@ loop-place-preserved c =
     }
 
 pub returns : goal.returns
-returns c =
+returns g c =
     let numbers : List ℕ = c.args.numbers.now in
     sym (append-nil c.loop-place.changes.items)
     ∙ ap (λ (cs : List Change). c.loop-place.changes.items ++ cs) (sym (changes-end numbers c.loop-place.place (omega (arith, c.loop-place-test.false))))

@@ -4,7 +4,7 @@ use Rattle.bound_certificate.specs.PackedGrammar.{ArePlaces, changes_of}
 use Rattle.bound_certificate.proofs.packed_taken.list_changes.Given as goal
 
 abbrev pub invariant-loop-place : goal.invariant-loop-place
-invariant-loop-place l = record {
+invariant-loop-place g l = record {
   room : 2 * array_vec_len l.changes ≤ l.place;
   within : l.place ≤ length l.numbers;
   few : ArePlaces 65_535 (changes_of (drop l.place l.numbers));
@@ -12,4 +12,4 @@ invariant-loop-place l = record {
 }
 
 abbrev pub decreases-loop-place : goal.decreases-loop-place
-decreases-loop-place l = length l.numbers - l.place
+decreases-loop-place g l = length l.numbers - l.place

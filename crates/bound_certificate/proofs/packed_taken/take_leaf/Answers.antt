@@ -1,26 +1,33 @@
-use Rattle.std.proofs.Common.{◌≡◌, ◌∙◌, ◌-◌, List, ℕ, [], ap, arith, get_or, length, subst, sym}
-use Rattle.bound_certificate.specs.declared.packed.Change.{Change}
+use Rattle.std.proofs.Common.{◌≡◌, ◌∙◌, ◌-◌, ℕ, [], AllPairs, ap, arith, get_or, length, subst, sym, refl}
+use Rattle.std.proofs.lemmas.Result.{err_from_is_err_and}
 use Rattle.bound_certificate.specs.Packed.{IsVector}
-use Rattle.bound_certificate.specs.PackedGrammar.{ArePlaces}
 use Rattle.bound_certificate.proofs.PackedSaidFacts.{leaf-places, leaf-vector}
-use Rattle.bound_certificate.proofs.PackedTakenFacts.{leaf-numbers}
+use Rattle.bound_certificate.proofs.PackedTakenFacts.{leaf-fault, leaf-numbers}
+use Rattle.bound_certificate.proofs.SaidFacts.{NotAbove}
 use Rattle.bound_certificate.proofs.packed_taken.take_leaf.Goals as goal
 
-pub list_changes-changes-requires-clause-places : goal.list_changes-changes-requires-clause-places
-list_changes-changes-requires-clause-places c =
-    leaf-places c.args.dates (length c.args.vectors.now) 65_535 c.args.numbers.now (omega (arith, c.requires.dates)) c.requires.numbers
+pub take_changed-requires-clause-falling : goal.take_changed-requires-clause-falling
+take_changed-requires-clause-falling c =
+    let place : ℕ = get_or c.args.numbers.now 2 0 - 1 in
+    let there = leaf-vector c.args.dates (length c.args.vectors.now) c.args.numbers.now c.requires.numbers in
+    let is : IsVector c.args.dates (get_or c.args.vectors.now place []) = c.requires.vectors place [] (omega (arith, there.0, there.1)) in
+    subst (AllPairs NotAbove) (sym c.at-vector.ensures) is.falling
 
-pub take_prices-requires-clause-places : goal.take_prices-requires-clause-places
-take_prices-requires-clause-places c =
+pub take_changed-requires-clause-places : goal.take_changed-requires-clause-places
+take_changed-requires-clause-places c =
     let place : ℕ = get_or c.args.numbers.now 2 0 - 1 in
     let there = leaf-vector c.args.dates (length c.args.vectors.now) c.args.numbers.now c.requires.numbers in
     let is : IsVector c.args.dates (get_or c.args.vectors.now place []) = c.requires.vectors place [] (omega (arith, there.0, there.1)) in
     let same : length c.at-vector.result.now ≡ c.args.dates = ap length c.at-vector.ensures ∙ is.every_date in
-    let P : List Change → Type 0 = λ cs. ArePlaces (length c.at-vector.result.now) cs in
-    subst P (sym (c.as_slice.ensures.value ∙ c.list_changes-changes.ensures))
-    (leaf-places c.args.dates (length c.args.vectors.now) (length c.at-vector.result.now) c.args.numbers.now (omega (arith, same)) c.requires.numbers)
+    leaf-places c.args.dates (length c.args.vectors.now) (length c.at-vector.result.now) c.args.numbers.now (omega (arith, same)) c.requires.numbers
+
+pub returns-in_err-take_changed-clause-err : goal.returns-in_err-take_changed-clause-err
+returns-in_err-take_changed-clause-err c =
+    let p = err_from_is_err_and c.from_residual.result c.from_residual.ensures.1 in
+    rw (p.1, p.2)
+    (leaf-fault c.args.dates c.args.vectors.now c.args.numbers.now c.at-vector.result.now c.in_err-take_changed.field-0.0 c.requires.numbers c.at-vector.ensures c.in_err-take_changed.ensures.err)
 
 pub returns-clause-numbers : goal.returns-clause-numbers
 returns-clause-numbers c =
-    leaf-numbers c.args.dates c.args.vectors.now c.args.numbers.now c.at-vector.result.now c.as_slice.result.now c.requires.dates c.requires.few c.requires.numbers
-    c.at-vector.ensures (c.as_slice.ensures.value ∙ c.list_changes-changes.ensures) c.in_ok-take_prices.ensures.said
+    leaf-numbers c.args.dates c.args.vectors.now c.args.numbers.now c.at-vector.result.now _ c.requires.dates c.requires.few c.requires.numbers
+    c.at-vector.ensures refl c.in_ok-take_changed.ensures.said

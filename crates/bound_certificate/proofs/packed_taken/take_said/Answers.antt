@@ -5,11 +5,17 @@ use Rattle.bound_certificate.specs.declared.row.Row.TheVariants as row
 use Rattle.bound_certificate.specs.PackedGrammar.{said_by}
 use Rattle.bound_certificate.specs.PackedTaken.{IsOfNumbers}
 use Rattle.bound_certificate.specs.Row.{AreRowNumbers}
+use Rattle.bound_certificate.proofs.RangeFacts.{vector-range}
 use Rattle.bound_certificate.proofs.packed_taken.take_said.Goals as goal
 
 pub take_leaf-requires-clause-numbers : goal.take_leaf-requires-clause-numbers
 take_leaf-requires-clause-numbers c =
     let P : Row → Type 0 = λ r. AreRowNumbers c.args.dates (length c.args.vectors.now) r c.args.numbers.now in subst P c.in-Leaf.is c.requires.numbers
+
+pub take_vector-requires-clause-prices : goal.take_vector-requires-clause-prices
+take_vector-requires-clause-prices c =
+    let P : Row → Type 0 = λ r. AreRowNumbers c.args.dates (length c.args.vectors.now) r c.args.numbers.now in
+    vector-range c.args.dates (length c.args.vectors.now) c.args.numbers.now (subst P c.in-Vector.is c.requires.numbers)
 
 pub returns-in-Buy-clause-err : goal.returns-in-Buy-clause-err
 returns-in-Buy-clause-err c =

@@ -1,10 +1,17 @@
-use Rattle.std.proofs.Common.{arith}
+use Rattle.std.proofs.Common.{◌*◌, ◌≤◌, All, arith, subst, sym}
+use Rattle.dual_bound.specs.declared.prices.TheConstants.{PRICE_SCALE}
 use Rattle.bound_certificate.specs.declared.due.Due.{Due}
 use Rattle.bound_certificate.specs.declared.due.Due.TheVariants as due
 use Rattle.bound_certificate.specs.declared.due.Name.TheVariants as name
 use Rattle.bound_certificate.specs.PlainLine.{IsBegun}
 use Rattle.bound_certificate.proofs.PlainLineFacts.{begun-line, fit-width, leaf-number, unfit-line}
+use Rattle.bound_certificate.proofs.RangeFacts.{leaf-range}
 use Rattle.bound_certificate.proofs.plain_line.leaf_line.Goals as goal
+
+pub rises-requires : goal.rises-requires
+rises-requires c =
+    subst (All (λ price. price ≤ 2 * PRICE_SCALE)) (sym c.as_slice.ensures)
+    (leaf-range (due.Node c.args.left c.args.trees) _ c.put_weights.new.leaf c.in-Ok.ensures.ok)
 
 pub returns-in-Err-clause-err : goal.returns-in-Err-clause-err
 returns-in-Err-clause-err c =

@@ -1,0 +1,90 @@
+//! The number at the front of the words of a line.
+ghost use Rattle.std.specs.Prelude.{◌≡◌, ◌<◌, IfSome, None, length};
+ghost use Rattle.bound_certificate.specs.Digits.{IsFirstNumber};
+ghost use Rattle.bound_certificate.specs.Grammar.{number_in, whole_number as whole_number_of};
+ghost use Rattle.bound_certificate.specs.PlainLine.{IsFrontNumber, IsFrontOf, first_word};
+
+use crate::cut::cut_at;
+use crate::digits::{Digits, first_number, many_digits, whole_number};
+use crate::due::Range;
+
+/// A number at the front of words, and the words behind it.
+#[derive(Clone, Copy, Debug)]
+pub(crate) struct Taken<'a> {
+    pub number: u64,
+    pub rest: Option<&'a [u8]>,
+}
+
+// The number that digits at the front of bytes write, where a space stands behind them.
+#[inline(always)]
+fn before_space(bytes: &[u8], digits: Digits) -> Option<Taken<'_>>
+    requires number { IsFirstNumber bytes.now digits }
+    requires more { digits.count < length bytes.now }
+    ensures { IfSome result (IsFrontNumber bytes.now) }
+{
+    if bytes[digits.count] != b' ' {
+        return None;
+    }
+    Some(Taken {
+        number: digits.number,
+        rest: Some(&bytes[digits.count + 1..]),
+    })
+}
+
+/// The number at the front of bytes, where a space stands behind its digits, which are read together, or nothing.
+#[inline(always)]
+pub(crate) fn quick_front_number(bytes: &[u8]) -> Option<Taken<'_>>
+    ensures { IfSome result (IsFrontNumber bytes.now) }
+{
+    let digits = many_digits(bytes)?;
+    before_space(bytes, digits)
+}
+
+// The same, where a space stands behind the digits, or nothing.
+fn fast_front_number(bytes: &[u8]) -> Option<Taken<'_>>
+    ensures { IfSome result (IsFrontNumber bytes.now) }
+{
+    let digits = first_number(bytes)?;
+    if digits.count == bytes.len() {
+        return Some(Taken {
+            number: digits.number,
+            rest: None,
+        });
+    }
+    before_space(bytes, digits)
+}
+
+// The number that the first word of bytes is.
+fn slow_front_number(bytes: &[u8]) -> Option<Taken<'_>>
+    ensures some { IfSome result (IsFrontNumber bytes.now) }
+    ensures none { result ≡ None → whole_number_of (first_word bytes.now) ≡ None }
+{
+    let word = cut_at(bytes, b' ');
+    let number = whole_number(word.front)?;
+    Some(Taken {
+        number,
+        rest: word.rest,
+    })
+}
+
+/// The number that the first word of bytes is, quickly where it can be.
+pub(crate) fn front_number(bytes: &[u8]) -> Option<Taken<'_>>
+    ensures some { IfSome result (IsFrontNumber bytes.now) }
+    ensures none { result ≡ None → whole_number_of (first_word bytes.now) ≡ None }
+{
+    match fast_front_number(bytes) {
+        Some(taken) => Some(taken),
+        None => slow_front_number(bytes),
+    }
+}
+
+/// The number of a range that the first word of bytes is.
+pub(crate) fn front_number_in(range: Range, bytes: &[u8]) -> Option<Taken<'_>>
+    ensures some { IfSome result (IsFrontOf range bytes.now) }
+    ensures none { result ≡ None → number_in range (first_word bytes.now) ≡ None }
+{
+    match front_number(bytes) {
+        Some(taken) if range.contains(taken.number) => Some(taken),
+        _ => None,
+    }
+}
