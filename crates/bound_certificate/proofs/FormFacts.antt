@@ -99,7 +99,7 @@ there (first ∷ nodes) zero d few = refl
 there (first ∷ nodes) (suc k) d few = there nodes k d (omega (arith, few))
 
 packed-to : (dates : ℕ) (cert : Certificate) (count : ℕ) → IsPackable dates cert → count ≤ length cert.nodes → IsPackedTo cert count
-packed-to dates cert zero able few = record { vectors = []; nodes = []; one = omega arith; are = none-packed cert [] [] refl refl }
+packed-to dates cert zero able few = record { vectors = []; nodes = []; one = omega arith; are = none-packed cert [] [] (λ k d inside. absurd (omega (arith, inside))) (omega arith) refl }
 packed-to dates cert (suc count) able few =
     let before = packed-to dates cert count able (omega (arith, few)) in
     let told : TreeNode = get_or cert.nodes count tree.Point in

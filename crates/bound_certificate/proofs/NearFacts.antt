@@ -1,6 +1,7 @@
 -- Where prices rise after changes to a vector whose prices never rise: beside a change alone.
 use Rattle.std.proofs.Common.{◌≡◌, ◌≢◌, ◌∙◌, ℕ, zero, suc, ◌+◌, ◌-◌, ◌<◌, ◌≤◌, Bool, true, false, ◌||◌, nat_lt, ◌⊎◌, inl, inr, List, [], ◌∷◌, AllPairs, length, get_or, get_or-set_other, slice_set, refl, sym, subst, ap, arith}
 use Rattle.std.proofs.lemmas.Bool.{cases_lt}
+use Rattle.std.proofs.lemmas.List.{get_or_past}
 use Rattle.std.proofs.lemmas.List.Elements.{All-head, All-tail}
 use Rattle.bound_certificate.specs.declared.packed.Change.{Change}
 use Rattle.bound_certificate.specs.Grammar.{rises}
@@ -25,11 +26,6 @@ either : (a b : Bool) → (a || b) ≡ true → (a ≡ true) ⊎ (b ≡ true)
 either true b h = inl refl
 either false b h = inr h
 
-past : (prices : List ℕ) (place : ℕ) → length prices ≤ place → get_or prices place 0 ≡ 0
-past [] place over = refl
-past (x ∷ prices) zero over = absurd (omega (arith, over))
-past (x ∷ prices) (suc place) over = past prices place (omega (arith, over))
-
 -- ---- where a price rises
 there : (prices : List ℕ) (place : ℕ) → suc place < length prices → get_or prices place 0 < get_or prices (suc place) 0 → rises prices ≡ true
 there prices place inside up = by (rises prices) refl
@@ -50,7 +46,7 @@ behind_it prices place up = by (cases_lt (suc place) (length prices))
   where
     by : (suc place < length prices) ⊎ (length prices ≤ suc place) → rises prices ≡ true
     by (inl inside) = there prices place inside up
-    by (inr over) = let none : get_or prices (suc place) 0 ≡ 0 = past prices (suc place) over in absurd (omega (arith, up, none))
+    by (inr over) = let none : get_or prices (suc place) 0 ≡ 0 = get_or_past prices (suc place) 0 over in absurd (omega (arith, up, none))
 
 at_true : (prices : List ℕ) (place : ℕ) → place < length prices → at_place prices place ≡ true → rises prices ≡ true
 at_true prices place inside is = by (either (nat_lt (get_or prices (place - 1) 0) (get_or prices place 0)) (nat_lt (get_or prices place 0) (get_or prices (place + 1) 0)) is)
@@ -90,7 +86,7 @@ vector_falls vector falling place = by (cases_lt (suc place) (length vector))
   where
     by : (suc place < length vector) ⊎ (length vector ≤ suc place) → Falls vector place
     by (inl inside) = falling place (suc place) 0 (omega arith) inside
-    by (inr over) = let none : get_or vector (suc place) 0 ≡ 0 = past vector (suc place) over in omega (arith, none)
+    by (inr over) = let none : get_or vector (suc place) 0 ≡ 0 = get_or_past vector (suc place) 0 over in omega (arith, none)
 
 -- what fell before a change falls after it, or isn't above its neighbours in the end
 once : (before after : List ℕ) (at price : ℕ) → at_place after at ≡ false → (place : ℕ) → Falls before place ⊎ Falls after place

@@ -16,7 +16,7 @@ use Rattle.bound_certificate.specs.declared.packed.PackedNode.{PackedNode}
 use Rattle.bound_certificate.specs.declared.packed.PackedNode.TheVariants as node
 use Rattle.bound_certificate.specs.declared.limits.TheConstants.{MOST_DATES, MOST_VECTORS}
 use Rattle.bound_certificate.specs.Certificate.{IsNode, IsPortfolio, IsWellFormed}
-use Rattle.bound_certificate.specs.Packed.{AreChanges, HaveLength, IsChange, IsDifference, IsLeafPacked, IsNodePacked, IsPackable, IsPackedNode, IsPackedOf, IsPackedPortfolio, IsPackedWellFormed, IsPackingAt, IsVector, KeepsVector, KeepsVectorOf, changed, leaf_with, unpacked, unpacked_node, vector_of}
+use Rattle.bound_certificate.specs.Packed.{AreLeafPrices, IsLeafNode, node_prices, AreChanges, HaveLength, IsChange, IsDifference, IsLeafPacked, IsNodePacked, IsPackable, IsPackedNode, IsPackedOf, IsPackedPortfolio, IsPackedWellFormed, IsPackingAt, IsVector, KeepsVector, KeepsVectorOf, changed, leaf_with, unpacked, unpacked_node, vector_of}
 
 -- ---- more vectors
 pub vector-before : (vectors more : List (List ℕ)) (number : ℕ) → 1 ≤ number → number ≤ length vectors → vector_of (vectors ++ more) number ≡ vector_of vectors number
@@ -133,17 +133,26 @@ pub record ArePacked (cert : Certificate) (count : ℕ) (vectors : List (List �
   pub vectors_are : (dates : ℕ) → IsPackable dates cert → All (IsVector dates) vectors
   pub nodes_are : (dates : ℕ) → IsPackable dates cert → All (IsPackedNode dates vectors) nodes
 
-pub none-packed : (cert : Certificate) (vectors : List (List ℕ)) (nodes : List PackedNode) → vectors ≡ [] → nodes ≡ [] → ArePacked cert 0 vectors nodes
-none-packed cert vectors nodes no_vectors no_nodes =
-    let P : List (List ℕ) → Type 0 = λ vs. ArePacked cert 0 vs nodes in
-    let Q : List PackedNode → Type 0 = λ ns. ArePacked cert 0 [] ns in
-    subst P (sym no_vectors) (subst Q (sym no_nodes) (record {
-      few = omega arith;
+vector_at : (dates : ℕ) (told : TreeNode) → IsNode dates told → IsLeafNode told → IsVector dates (node_prices told)
+vector_at dates (tree.Split number at) is leaf = absurd leaf
+vector_at dates tree.Point is leaf = absurd leaf
+vector_at dates (tree.Closed own) is leaf = record { every_date = is.every_date; range = is.range; falling = is.falling }
+
+-- vectors that are prices of leaves, before the first node
+pub none-packed : (cert : Certificate) (vectors : List (List ℕ)) (nodes : List PackedNode) → AreLeafPrices cert.nodes vectors → length vectors ≤ MOST_VECTORS → nodes ≡ [] →
+    ArePacked cert 0 vectors nodes
+none-packed cert vectors nodes prices few no_nodes =
+    let Q : List PackedNode → Type 0 = λ ns. ArePacked cert 0 vectors ns in
+    subst Q (sym no_nodes) (record {
+      few = few;
       same = refl;
-      there = All-nil (IsThere []);
-      vectors_are = λ dates is. All-nil (IsVector dates);
-      nodes_are = λ dates is. All-nil (IsPackedNode dates []);
-    }))
+      there = All-nil (IsThere vectors);
+      vectors_are = λ dates able k d inside. (
+          let own = prices k d inside in
+          let R : List ℕ → Type 0 = λ ps. IsVector dates ps in
+          subst R (sym (own.2 tree.Point)) (vector_at dates (get_or cert.nodes own.0 tree.Point) (able.nodes_are own.0 tree.Point own.1.0) (own.1.1 tree.Point)));
+      nodes_are = λ dates able. All-nil (IsPackedNode dates vectors);
+    })
 
 pub one-packed : (cert : Certificate) (count : ℕ) (vectors after : List (List ℕ)) (nodes others : List PackedNode) (told : TreeNode) (said : PackedNode) →
     ArePacked cert count vectors nodes → count < length cert.nodes → told ≡ get_or cert.nodes count told → KeepsVectorOf vectors told after → length after ≤ MOST_VECTORS →

@@ -16,7 +16,7 @@ use Rattle.bound_certificate.specs.PackedText.{change_numbers}
 use Rattle.bound_certificate.specs.Row.{AreRowNumbers, InRanges, leaf_range, row_fits}
 use Rattle.bound_certificate.proofs.FoundFacts.{in_range}
 use Rattle.bound_certificate.proofs.RowFacts.{AreWritten}
-use Rattle.bound_certificate.proofs.SaidFacts.{IsPrice, within, neither}
+use Rattle.bound_certificate.proofs.SaidFacts.{IsPrice, neither, within}
 
 -- ---- changes as numbers
 -- a change in range

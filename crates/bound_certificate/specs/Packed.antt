@@ -12,6 +12,7 @@ use Rattle.bound_certificate.specs.declared.packed.Change.{Change}
 use Rattle.bound_certificate.specs.declared.packed.Packed.{Packed}
 use Rattle.bound_certificate.specs.declared.packed.PackedNode.{PackedNode}
 use Rattle.bound_certificate.specs.declared.packed.PackedNode.TheVariants as node
+use Rattle.bound_certificate.specs.declared.vector_choice.Candidate.{Candidate}
 use Rattle.bound_certificate.specs.declared.limits.TheConstants.{GREATEST_GAP, GREATEST_UNITS, MOST_DATES, MOST_NODES, MOST_PACKED_BUYS, MOST_VECTORS}
 use Rattle.bound_certificate.specs.Certificate.{IsBuy, IsNode}
 
@@ -136,6 +137,29 @@ IsLeafPacked vectors leaf (node.Closed whole mu vector changes) =
 IsLeafPacked vectors leaf other = ⊥
 
 -- ---- packing, node by node
+-- the prices of a leaf; another node has none
+abbrev pub node_prices : TreeNode → List ℕ
+node_prices (tree.Closed leaf) = leaf.prices
+node_prices other = []
+
+-- a node is a leaf
+abbrev pub IsLeafNode : TreeNode → Type 0
+IsLeafNode (tree.Closed leaf) = Unit {0}
+IsLeafNode other = ⊥
+
+-- a leaf stands at a place among the nodes
+abbrev pub IsLeafPlace : List TreeNode → ℕ → Type 0
+IsLeafPlace nodes place = (place < length nodes) × ((d : TreeNode) → IsLeafNode (slice_index_or nodes place d))
+
+-- a candidate is of one of these leaves
+abbrev pub IsCandidateOf : List TreeNode → Candidate → Type 0
+IsCandidateOf nodes candidate = IsLeafPlace nodes candidate.leaf
+
+-- vectors are prices of these leaves
+abbrev pub AreLeafPrices : List TreeNode → List (List ℕ) → Type 0
+AreLeafPrices nodes vectors =
+    All (λ prices. (place : ℕ) × IsLeafPlace nodes place × ((d : TreeNode) → prices ≡ node_prices (slice_index_or nodes place d))) vectors
+
 -- the vectors so far are few, and as long as the prices of a node's leaf
 abbrev pub IsPackingAt : List (List ℕ) → TreeNode → Type 0
 IsPackingAt vectors (tree.Closed leaf) = HaveLength (length leaf.prices) vectors × (length vectors ≤ MOST_VECTORS) × (length leaf.prices ≤ MOST_DATES)

@@ -32,6 +32,7 @@ mod test_rows;
 mod tests;
 mod text_reading;
 mod unpacked;
+mod vector_choice;
 mod vector_room;
 mod write;
 

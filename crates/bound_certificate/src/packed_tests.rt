@@ -192,6 +192,23 @@ fn a_certificate_is_packed_and_unpacked(rt: HostRuntime) -> Result<(), Fail> {
     Ok(())
 }
 
+// Five leaves: the first differs from the next two at one place, and the last two from all others at each.
+const PLAIN_LEAVES: &[u8] =
+    b"escrow-certificate 1\nportfolio none\ngap 0\nnodes 9\ns 1 1\nl 0 3 9 8 7 6\ns 1 2\nl 0 3 9 8 7 5\ns 1 3\nl 0 3 9 8 7 5\ns 1 4\nl 0 3 4 3 2 1\nl 0 3 4 3 2 1\nend\n";
+
+// Those prices are vectors that save more changes than they have prices.
+const PACKED_LEAVES: &[u8] =
+    b"escrow-certificate 2\nportfolio none\ngap 0\nvectors 2\nv 9 8 7 5\nv 4 3 2 1\nnodes 9\ns 1 1\nl 0 3 1 4 6\ns 1 2\nl 0 3 1\ns 1 3\nl 0 3 1\ns 1 4\nl 0 3 2\nl 0 3 2\nend\n";
+
+#[test]
+fn leaves_share_prices(rt: HostRuntime) -> Result<(), Fail> {
+    let alloc = rt.alloc();
+    let whole = read_cert(alloc, PLAIN_LEAVES, 4)?;
+    let packed = pack(alloc, &whole)?;
+    assert_eq!(rt; write_packed(alloc, &packed)?.as_slice(), PACKED_LEAVES);
+    Ok(())
+}
+
 // The text of a leaf of 480 need dates, each with another price than its vector's.
 fn long_text(alloc: Global) -> Result<Vec<u8>, Fail> {
     let mut text = Vec::from_slice(

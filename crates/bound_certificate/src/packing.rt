@@ -6,6 +6,7 @@ use crate::certificate::Certificate;
 use crate::limits::{MOST_DATES, MOST_VECTORS};
 use crate::packed::{Change, Changes, Packed, PackedNode, PackedNodes, Vectors};
 use crate::unpacked::copied_buys;
+use crate::vector_choice::choose_vectors;
 use dual_bound::{Leaf, Prices, TreeNode};
 use escrow_desk::NoMemory;
 use std::alloc::Global;
@@ -74,9 +75,7 @@ fn nearest(vectors: &[Prices], prices: &[u64]) -> Near
     nearest
 }
 
-// The vector that a leaf of these prices is to take, from 0: the nearest one; or a new one, where there is room and the nearest differs
-// at too many places. How many that is grows with the vectors, from none to a quarter of the places: so early leaves, which later ones are
-// like, have vectors of their own, and there is room left for those that are unlike all of them.
+// The vector that a leaf of these prices is to take, from 0: the nearest one, or where there is none its own prices, as the first.
 fn choose(alloc: Global, vectors: &mut Vectors, prices: &[u64]) -> Result<usize, NoMemory>
     requires same { HaveLength (length prices.now) vectors.old }
     requires few { length vectors.old ≤ MOST_VECTORS }
@@ -85,14 +84,11 @@ fn choose(alloc: Global, vectors: &mut Vectors, prices: &[u64]) -> Result<usize,
     ensures few { OnOk result (length vectors.new ≤ MOST_VECTORS) }
     ensures there { IfOk result (λ vector. vector < length vectors.new) }
 {
-    let count = vectors.as_slice().len();
-    let near = nearest(vectors.as_slice(), prices);
-    let full = count == MOST_VECTORS as usize;
-    if full || count > 0 && near.changes <= count * prices.len() / 256 {
-        return Ok(near.vector);
+    if !vectors.as_slice().is_empty() {
+        return Ok(nearest(vectors.as_slice(), prices).vector);
     }
     vectors.push(Prices::new(prices.to_vec(alloc)?))?;
-    Ok(count)
+    Ok(0)
 }
 
 // A leaf with changes from a vector.
@@ -133,7 +129,7 @@ fn pack_node(alloc: Global, vectors: &mut Vectors, node: &TreeNode) -> Result<Pa
 }
 
 /// Packs a certificate: its leaves share at most 64 vectors of prices, and each has its own price at the places at which it differs.
-/// It takes time in proportion to the prices times the vectors.
+/// It takes time in proportion to the prices times the leaves that are tried as vectors, at most 256.
 ///
 /// # Errors
 ///
@@ -142,7 +138,7 @@ pub fn pack(alloc: Global, cert: &Certificate) -> Result<Packed, NoMemory>
     requires { IsPackableCert cert.now }
     ensures { IfOk result (IsPackedOf cert.now) }
 {
-    let mut vectors = Vectors::new(Vec::new(alloc));
+    let mut vectors = choose_vectors(alloc, cert.nodes.as_slice())?;
     let mut nodes = Vec::with_capacity(alloc, cert.nodes.as_slice().len())?;
     for node in cert.nodes.as_slice() {
         nodes.push(pack_node(alloc, &mut vectors, node)?)?;

@@ -9,7 +9,7 @@ const CAP: [&str; 5] = ["cap", "i", "r", "p", "c"];
 
 // One purchase of one unit, and the split of the root at 0.
 const ONE_UNIT: &[u8] =
-    b"escrow-certificate 2\nportfolio 1\nbuy 1 1\ngap 0\nvectors 2\nv 2000000000000\nv 0\nnodes 3\ns 1 0\nl 1 0 1\nl 1 0 2\nend\n";
+    b"escrow-certificate 2\nportfolio 1\nbuy 1 1\ngap 0\nvectors 1\nv 2000000000000\nnodes 3\ns 1 0\nl 1 0 1\nl 1 0 1 1 0\nend\n";
 
 const FIRST_SAID: &[u8] =
     b"cap 0.000\ncost 5000.00\nyield 0.00000000 0.00000000\nlimit 4.00100000\ngap 0.00\nnext none\n";

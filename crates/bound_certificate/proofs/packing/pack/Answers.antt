@@ -1,11 +1,13 @@
 use Rattle.std.proofs.Common.{◌∙◌, ◌≤◌, List, ap, arith, get_or, length, refl, subst, sym}
 use Rattle.dual_bound.specs.declared.tree.TreeNode.{TreeNode}
 use Rattle.bound_certificate.specs.declared.packed.PackedNode.{PackedNode}
+use Rattle.bound_certificate.specs.Packed.{AreLeafPrices}
 use Rattle.bound_certificate.proofs.PackedOfFacts.{ArePacked, all-packed, none-packed, one-packed, packing-at}
 use Rattle.bound_certificate.proofs.packing.pack.Goals as goal
 
 pub loop-node-init : goal.loop-node-init
-loop-node-init c = none-packed c.args.cert.now c.new-vectors.result c.in_ok-nodes.nodes.items (c.new-vectors.ensures ∙ c.new.ensures.items) c.in_ok-nodes.ensures.items
+loop-node-init c = none-packed c.args.cert.now c.in_ok-vectors.vectors c.in_ok-nodes.nodes.items
+    (subst (λ (ns : List TreeNode). AreLeafPrices ns c.in_ok-vectors.vectors) c.as_slice.ensures c.in_ok-vectors.ensures.prices) c.in_ok-vectors.ensures.few c.in_ok-nodes.ensures.items
 
 pub pack_node-requires : goal.pack_node-requires
 pack_node-requires c =
@@ -24,5 +26,5 @@ pub returns : goal.returns
 returns c =
     let all : length c.args.cert.now.nodes ≤ c.loop-node.node-index = omega (arith, c.loop-node-test.false, ap length c.as_slice-node-items.ensures) in
     let P : List PackedNode → Type 0 = λ ns. ArePacked c.args.cert.now c.loop-node.node-index c.loop-node.vectors ns in
-    all-packed c.args.cert.now c.loop-node.node-index (record { buys = c.in_ok-copied_buys.field-0; gap = c.args.cert.now.gap; vectors = c.loop-node.vectors; nodes = c.new-2.result })
-    (subst P (sym c.new-2.ensures) c.loop-node.invariant) all (c.in_ok-copied_buys.ensures ∙ c.as_ref.ensures.value) refl
+    all-packed c.args.cert.now c.loop-node.node-index (record { buys = c.in_ok-copied_buys.field-0; gap = c.args.cert.now.gap; vectors = c.loop-node.vectors; nodes = c.new.result })
+    (subst P (sym c.new.ensures) c.loop-node.invariant) all (c.in_ok-copied_buys.ensures ∙ c.as_ref.ensures.value) refl
