@@ -1,4 +1,4 @@
-use Rattle.std.proofs.Common.{◌≡◌, ◌+◌, ◌*◌, ◌<◌, ◌≤◌, ℕ, bit_and, bit_or, bit_xor, get_or, arith, inl, inr, subst}
+use Rattle.std.proofs.Common.{◌≡◌, ◌+◌, ℕ, bit_xor, get_or, arith, inl, inr, subst}
 use Rattle.std.specs.Int.Bits.{xor_add_and}
 use Rattle.std.proofs.lemmas.Bool.{cases_lt}
 use Rattle.std.proofs.lemmas.Nat.{and_le_l, and_le_r, le_or_l, le_or_r}
