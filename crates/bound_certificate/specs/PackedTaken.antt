@@ -1,9 +1,10 @@
 -- A line of a packed certificate, taken without memory: what comes of it. It is this project's own.
-use Rattle.std.specs.Prelude.{◌≡◌, ℕ, ◌+◌, ◌≤◌, ◌<◌, ◌==◌, List, ◌∷◌, drop, length, slice_index, Some, Result, Ok}
+use Rattle.std.specs.Prelude.{◌≡◌, ℕ, ◌+◌, ◌≤◌, ◌<◌, ◌==◌, List, ◌∷◌, drop, length, slice_index, Some, Result, Ok, Err}
 use Rattle.dual_bound.specs.declared.tree.Leaf.{Leaf}
 use Rattle.bound_certificate.specs.declared.fault.FaultKind.{FaultKind}
 use Rattle.bound_certificate.specs.declared.item.Item.{Item}
 use Rattle.bound_certificate.specs.declared.item.Item.TheVariants as item
+use Rattle.bound_certificate.specs.declared.packed.Change.{Change}
 use Rattle.bound_certificate.specs.declared.packed_line.PackedDue.{PackedDue}
 use Rattle.bound_certificate.specs.declared.packed_line.PackedDue.TheVariants as due
 use Rattle.bound_certificate.specs.declared.packed.PackedNode.TheVariants as node
@@ -12,7 +13,8 @@ use Rattle.bound_certificate.specs.declared.packed_line.PackedLine.TheVariants a
 use Rattle.bound_certificate.specs.declared.row.Row.{Row}
 use Rattle.bound_certificate.specs.declared.row.Row.TheVariants as row
 use Rattle.bound_certificate.specs.declared.limits.TheConstants.{MOST_NODES, MOST_NUMBERS, MOST_PACKED_BUYS, MOST_VECTORS}
-use Rattle.bound_certificate.specs.PackedGrammar.{ArePlaces, changes_of, vectors_with}
+use Rattle.bound_certificate.specs.Packed.{changed}
+use Rattle.bound_certificate.specs.PackedGrammar.{ArePlaces, changes_of, leaf_said, vectors_with}
 use Rattle.bound_certificate.specs.Told.{packed_item, packed_leaf}
 
 -- there is room for the vectors that are due
@@ -32,6 +34,15 @@ pub record IsGiven (told : Result PackedLine FaultKind) (before after : List (Li
   pub item_is : given ≡ packed_item said
   pub vectors_are : after ≡ vectors_with before said
   pub leaf_is : given ≡ item.Leaf → leaf ≡ packed_leaf before said
+
+-- prices are a vector's after changes that a leaf may have
+pub record ArePricesAfter (vector : List ℕ) (changes : List Change) (prices : List ℕ) : Type 0 where
+  pub are : prices ≡ changed vector changes
+  pub leaf : (rho mu number : ℕ) → leaf_said vector rho mu number changes ≡ Ok (line.Node (node.Closed (rho == 1) mu number changes))
+
+-- a leaf may not have these changes from a vector, and why
+abbrev pub AreFaulty : List ℕ → List Change → FaultKind → Type 0
+AreFaulty vector changes found = (rho mu number : ℕ) → leaf_said vector rho mu number changes ≡ Err found
 
 -- what a line says, by its item and its numbers
 abbrev pub line_with : Item → List ℕ → PackedLine

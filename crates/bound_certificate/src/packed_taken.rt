@@ -1,15 +1,13 @@
 //! The lines of a packed certificate, each taken without memory.
-ghost use Rattle.std.specs.Prelude.{◌≡◌, ◌≢◌, ◌≤◌, ◌+◌, ◌*◌, All, AllPairs, IfOk, IfErr, Ok, Err, List, ℕ, ◌==◌, ◌<◌, length, slice_index, false, true};
+ghost use Rattle.std.specs.Prelude.{◌≡◌, ◌≢◌, ◌≤◌, ◌+◌, ◌*◌, All, AllPairs, IfOk, IfErr, Ok, Err, List, ℕ, ◌<◌, length, slice_index, false, true};
 ghost use Rattle.dual_bound.specs.declared.tree.Leaf.{Leaf as LeafOf};
 ghost use Rattle.bound_certificate.specs.declared.item.Item.TheVariants as item_of;
-ghost use Rattle.bound_certificate.specs.declared.packed.PackedNode.TheVariants as node_of;
-ghost use Rattle.bound_certificate.specs.declared.packed_line.PackedLine.TheVariants as line_of;
 ghost use Rattle.bound_certificate.specs.declared.packed_line.PackedLine.{PackedLine as PackedLineOf};
 ghost use Rattle.bound_certificate.specs.declared.row.Row.TheVariants as row_of;
 ghost use Rattle.bound_certificate.specs.Packed.{IsVector, changed};
-ghost use Rattle.bound_certificate.specs.PackedGrammar.{ArePlaces, are_rising, changes_of, is_over, leaf_said, line_said, next_due, places_of, restates as restates_of, row_line, said_by};
+ghost use Rattle.bound_certificate.specs.PackedGrammar.{ArePlaces, are_rising, changes_of, is_over, line_said, next_due, places_of, restates as restates_of, row_line, said_by};
 ghost use Rattle.bound_certificate.specs.PackedDraft.{IsPackedDue, packed_lines_left};
-ghost use Rattle.bound_certificate.specs.PackedTaken.{HasRoom, HasRoomFor, IsGiven, IsItemSaid, IsOfNumbers};
+ghost use Rattle.bound_certificate.specs.PackedTaken.{AreFaulty, ArePricesAfter, HasRoom, HasRoomFor, IsGiven, IsItemSaid, IsOfNumbers};
 ghost use Rattle.bound_certificate.specs.Row.{AreRowNumbers};
 ghost use Rattle.bound_certificate.specs.Told.{packed_item};
 
@@ -87,9 +85,8 @@ fn take_prices(prices: &mut Prices, vector: &[u64], changes: &[Change]) -> Resul
     requires falling { AllPairs (λ earlier later. later ≤ earlier) vector.now }
     requires places { ArePlaces (length vector.now) changes.now }
     ensures dates { length prices.new ≡ length prices.old }
-    ensures ok { IfOk result (λ _. prices.new ≡ changed vector.now changes.now) }
-    ensures said { IfOk result (λ _. (rho mu number : ℕ) → leaf_said vector.now rho mu number changes.now ≡ Ok (line_of.Node (node_of.Closed (rho == 1) mu number changes.now))) }
-    ensures err { IfErr result (λ found. (rho mu number : ℕ) → leaf_said vector.now rho mu number changes.now ≡ Err found) }
+    ensures ok { IfOk result (λ _. ArePricesAfter vector.now changes.now prices.new) }
+    ensures err { IfErr result (AreFaulty vector.now changes.now) }
 {
     if restates(vector, changes) {
         return Err(FaultKind::Number);
@@ -113,9 +110,8 @@ fn take_changed(prices: &mut Prices, vector: &[u64], numbers: &[u64]) -> Result<
     requires places { ArePlaces (length vector.now) (changes_of numbers.now) }
     requires few { length numbers.now ≤ 2 * MOST_DATES }
     ensures dates { length prices.new ≡ length prices.old }
-    ensures ok { IfOk result (λ _. prices.new ≡ changed vector.now (changes_of numbers.now)) }
-    ensures said { IfOk result (λ _. (rho mu number : ℕ) → leaf_said vector.now rho mu number (changes_of numbers.now) ≡ Ok (line_of.Node (node_of.Closed (rho == 1) mu number (changes_of numbers.now)))) }
-    ensures err { IfErr result (λ found. (rho mu number : ℕ) → leaf_said vector.now rho mu number (changes_of numbers.now) ≡ Err found) }
+    ensures ok { IfOk result (λ _. ArePricesAfter vector.now (changes_of numbers.now) prices.new) }
+    ensures err { IfErr result (AreFaulty vector.now (changes_of numbers.now)) }
 {
     if numbers.len() <= 2 * FEW_CHANGES {
         let few = list_changes::<FEW_CHANGES>(numbers);

@@ -1,4 +1,4 @@
-use Rattle.std.proofs.Common.{◌≡◌, ◌∙◌, ◌-◌, ℕ, [], AllPairs, ap, arith, get_or, length, subst, sym, refl}
+use Rattle.std.proofs.Common.{◌≡◌, ◌∙◌, ◌-◌, ℕ, [], AllPairs, ap, arith, get_or, length, subst, sym}
 use Rattle.std.proofs.lemmas.Result.{err_from_is_err_and}
 use Rattle.bound_certificate.specs.Packed.{IsVector}
 use Rattle.bound_certificate.proofs.PackedSaidFacts.{leaf-places, leaf-vector}
@@ -29,5 +29,5 @@ returns-in_err-take_changed-clause-err c =
 
 pub returns-clause-numbers : goal.returns-clause-numbers
 returns-clause-numbers c =
-    leaf-numbers c.args.dates c.args.vectors.now c.args.numbers.now c.at-vector.result.now _ c.requires.dates c.requires.few c.requires.numbers
-    c.at-vector.ensures refl c.in_ok-take_changed.ensures.said
+    leaf-numbers c.args.dates c.args.vectors.now c.args.numbers.now c.at-vector.result.now c.take_changed.new.prices c.requires.dates c.requires.few c.requires.numbers
+    c.at-vector.ensures c.in_ok-take_changed.ensures.ok
