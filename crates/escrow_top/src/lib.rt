@@ -23,32 +23,3 @@ mod structure;
 pub use laws::case_laws;
 pub use program::run;
 pub use status::Status;
-
-#[cfg(test)]
-mod at_cap_tests;
-#[cfg(test)]
-mod bound_tests;
-#[cfg(test)]
-mod cap_tests;
-#[cfg(test)]
-mod closed_tests;
-#[cfg(test)]
-mod failing_tests;
-#[cfg(test)]
-mod holding_tests;
-#[cfg(test)]
-mod limit_tests;
-#[cfg(test)]
-mod make_tests;
-#[cfg(test)]
-mod refusal_tests;
-#[cfg(test)]
-mod rolling_tests;
-#[cfg(test)]
-mod savings_tests;
-#[cfg(test)]
-mod structure_tests;
-#[cfg(test)]
-mod test_runs;
-#[cfg(test)]
-mod tests;

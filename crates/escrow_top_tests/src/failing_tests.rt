@@ -1,7 +1,7 @@
 //! Runs of which one call of the desk fails.
 
-use crate::Status;
 use crate::test_runs::{CHECK, FIRST, FIRST_WRITTEN, Files, outcome_of};
+use escrow_top::Status;
 use std::alloc::Global;
 use std::process::Abort;
 use std::test::Fail;

@@ -1,8 +1,8 @@
 //! Whole runs of `cap` over a desk in memory.
 
-use crate::Status;
 use crate::failing_tests::try_failing_writes;
 use crate::test_runs::{FIRST, FIRST_WRITTEN, Files, outcome_of};
+use escrow_top::Status;
 use std::test::Fail;
 
 const CAP: [&str; 5] = ["cap", "i", "r", "p", "c"];

@@ -2,8 +2,8 @@
 
 use crate::failing_tests::try_failing_writes;
 use crate::test_runs::{CHECK, FIRST, FIRST_TEXT, FIRST_WRITTEN, Files, outcome_of};
-use crate::{Status, run};
 use bound_certificate::read_packed;
+use escrow_top::{Status, run};
 use std::alloc::Global;
 use std::process::Abort;
 use std::test::Fail;

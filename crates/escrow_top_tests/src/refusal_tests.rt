@@ -5,8 +5,8 @@ use crate::test_runs::{
     CHECK, CHECK_HELD, FIRST, FIRST_TEXT, Files, NOTE, Row, named, outcome_of, run_words,
     try_words, with_issue, with_rates,
 };
-use crate::{Status, run};
 use escrow_desk::{MemoryDesk, NamedBytes};
+use escrow_top::{Status, run};
 use std::alloc::Global;
 use std::process::Abort;
 use std::test::Fail;

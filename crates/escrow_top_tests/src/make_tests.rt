@@ -1,8 +1,8 @@
 //! Whole runs of `make` over a desk in memory.
 
 use crate::test_runs::{FIRST, Files, Outcome, USAGE, outcome_of};
-use crate::{Status, run};
 use case_maker::{Made, make};
+use escrow_top::{Status, run};
 use std::alloc::Global;
 use std::process::Abort;
 use std::test::Fail;

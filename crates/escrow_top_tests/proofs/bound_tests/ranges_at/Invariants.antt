@@ -1,5 +1,5 @@
 use Rattle.dual_bound.specs.Ranges.{AreTight}
-use Rattle.escrow_top.proofs.bound_tests.ranges_at.Given as goal
+use Rattle.escrow_top_tests.proofs.bound_tests.ranges_at.Given as goal
 
 abbrev pub invariant-loop-step : goal.invariant-loop-step
 invariant-loop-step g l = AreTight l.book.lines l.ranges

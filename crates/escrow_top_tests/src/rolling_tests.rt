@@ -1,8 +1,8 @@
 //! Whole runs of `roll` over a desk in memory. Yields were worked out apart, by exact decimals of 80 places.
 
-use crate::Status;
 use crate::failing_tests::try_failing_calls;
 use crate::test_runs::{FIRST, Files, NOTE, Row, try_without_portfolio, try_words};
+use escrow_top::Status;
 use std::test::Fail;
 
 // The words of `roll`.

@@ -1,8 +1,8 @@
 //! Each limit at its last good value and one past it, and a certificate that is cut off after each number of bytes.
 
 use crate::test_runs::{CHECK, FIRST, FIRST_TEXT, Files, named, outcome_of};
-use crate::{Status, run};
 use escrow_desk::MemoryDesk;
+use escrow_top::{Status, run};
 use escrow_units::{Day, print_day};
 use std::alloc::Global;
 use std::process::Abort;

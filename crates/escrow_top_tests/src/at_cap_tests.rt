@@ -1,8 +1,8 @@
 //! Whole runs of `check-cap` over a desk in memory.
 
-use crate::Status;
 use crate::failing_tests::try_failing_calls;
 use crate::test_runs::{FIRST, FIRST_TEXT, Files, NO_RIVAL, USAGE, outcome_of};
+use escrow_top::Status;
 use std::test::Fail;
 
 // What `check-cap` answers at a cap to four files.

@@ -3,7 +3,7 @@ use Rattle.std.specs.List.{AllZip}
 use Rattle.offer_book.specs.Book.{BookContents}
 use Rattle.dual_bound.specs.Ranges.{HasRoomFor}
 use Rattle.dual_bound.proofs.RangeFacts.{tight-room}
-use Rattle.escrow_top.proofs.bound_tests.is_bound.Goals as goal
+use Rattle.escrow_top_tests.proofs.bound_tests.is_bound.Goals as goal
 
 pub bound-requires-clause-ranges : goal.bound-requires-clause-ranges
 bound-requires-clause-ranges g c =

@@ -2,8 +2,8 @@
 
 ghost use Rattle.std.specs.Prelude.{◌≡◌, IfOk, string_bytes};
 
-use crate::{Status, run};
 use escrow_desk::{MemoryDesk, NamedBytes};
+use escrow_top::{Status, run};
 use std::alloc::Global;
 use std::process::Abort;
 use std::test::Fail;

@@ -4,7 +4,7 @@ use crate::test_runs::{
     CHECK, FIRST, FIRST_TEXT, Files, NO_RIVAL, NOTE, Row, USAGE, outcome_of, try_words, with_issue,
     with_rates,
 };
-use crate::{Status, case_laws};
+use escrow_top::{Status, case_laws};
 use std::alloc::Global;
 use std::process::Abort;
 use std::test::Fail;

@@ -1,7 +1,7 @@
 //! Whole runs of cases in which days are closed.
 
-use crate::Status;
 use crate::test_runs::{CHECK, FIRST, FIRST_TEXT, Files, NO_RIVAL, Row, outcome_of, try_words};
+use escrow_top::Status;
 use std::test::Fail;
 
 // The first case, in which the day is closed on which its one security matures, and the need is a day later.

@@ -1,10 +1,10 @@
 //! Whole runs of `check-held` and `structure-held` over a desk in memory.
 
-use crate::Status;
 use crate::failing_tests::{try_failing_calls, try_failing_writes};
 use crate::test_runs::{
     CHECK_HELD, FIRST, FIRST_TEXT, FIRST_WRITTEN, Files, NO_RIVAL, Row, outcome_of, try_words,
 };
+use escrow_top::Status;
 use std::test::Fail;
 
 // The words of `structure-held`.
