@@ -12,8 +12,6 @@ mod hint;
 mod parts;
 mod pointing;
 mod searching;
-#[cfg(test)]
-mod tests;
 
 pub use found::{Found, SearchEnd, Spent, found_laws, purchases_of, settled_laws};
 pub use hint::Hint;

@@ -28,6 +28,3 @@ pub use running::{covers, run_up};
 pub use security_flows::flows;
 pub use standing::{Standing, plan_standing};
 pub use yields::{plan_yield, within_limit};
-
-#[cfg(test)]
-mod tests;

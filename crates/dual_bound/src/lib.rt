@@ -4,8 +4,6 @@
 mod changes;
 mod column;
 mod columns;
-#[cfg(test)]
-mod columns_tests;
 mod date_days;
 mod day_table;
 mod form;
@@ -18,8 +16,6 @@ mod rooms;
 mod series;
 mod sums;
 mod tableau;
-#[cfg(test)]
-mod tests;
 mod tree;
 mod worth;
 

@@ -7,8 +7,6 @@ mod payers;
 mod steps;
 mod sweep;
 mod table;
-#[cfg(test)]
-mod tests;
 mod tuner;
 
 pub use tuner::{Tuner, improve};

@@ -5,8 +5,6 @@ mod checker;
 mod closing;
 mod hearing;
 mod laws;
-#[cfg(test)]
-mod tests;
 mod trial;
 mod verdict;
 mod walk;

@@ -12,8 +12,6 @@ mod lists;
 mod read;
 mod row;
 mod schedule;
-#[cfg(test)]
-mod tests;
 
 pub use issue::{Bond, Call, Issue, Restricted};
 pub use laws::{bond_laws, needs_laws};

@@ -18,10 +18,3 @@ pub use files::{book_laws, make_book};
 pub use line::{Line, LineKind};
 pub use offers::{offer_laws, slgs_lines};
 pub use payment_days::PaymentDays;
-
-#[cfg(test)]
-mod book_tests;
-#[cfg(test)]
-mod files_tests;
-#[cfg(test)]
-mod offer_tests;

@@ -29,6 +29,3 @@ pub use finder::Finder;
 pub use finding::{Proposal, find};
 pub use limit::YieldLimit;
 pub use neighbours::{Neighbours, next_to};
-
-#[cfg(test)]
-mod tests;

@@ -17,8 +17,6 @@ mod program;
 mod proposing;
 mod ratio;
 mod simplex;
-#[cfg(test)]
-mod simplex_tests;
 mod starts;
 mod sums;
 

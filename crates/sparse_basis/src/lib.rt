@@ -7,8 +7,6 @@
 mod basis;
 mod cells;
 mod factor;
-#[cfg(test)]
-mod factor_tests;
 mod factored;
 mod factoring;
 mod matrix;

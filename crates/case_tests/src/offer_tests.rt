@@ -1,0 +1,150 @@
+//! Worked figures of offers.
+
+ghost use Rattle.std.specs.Prelude.{◌≡◌, IfOk, pos};
+ghost use Rattle.escrow_units.specs.OpenDays.{no_closings};
+ghost use Rattle.rate_table.specs.Table.{IsRateFile};
+
+use escrow_desk::{CaseError, FileKind, Refusal, RefusalKind, read_rows};
+use escrow_units::{ClosedDays, Day, Rate, Slgs, SlgsKind};
+use offer_book::{Line, LineKind, PaymentDays, offer_laws, slgs_lines};
+use rate_table::{RateFile, read_rates};
+use std::alloc::Global;
+use std::test::Fail;
+
+// The rate file of a text, settled on 2025-01-15.
+fn rates_of(alloc: Global, text: &[u8]) -> Result<RateFile, Fail>
+    ensures { IfOk result IsRateFile }
+{
+    if text.len() > 1_048_576 {
+        return Err(Fail::new("too long"));
+    }
+    let Ok(rows) = read_rows(alloc, text) else {
+        return Err(Fail::new("no memory"));
+    };
+    match read_rates(alloc, Day::new(20_103), &rows) {
+        Ok(file) => Ok(file),
+        Err(_) => Err(Fail::new("refused")),
+    }
+}
+
+// Settlement on 2025-01-15, without a closed day.
+fn open_days(alloc: Global) -> PaymentDays
+    ensures { result ≡ record { settle = pos 20_103; closed = no_closings } }
+{
+    PaymentDays {
+        settle: Day::new(20_103),
+        closed: ClosedDays::none(alloc),
+    }
+}
+
+#[test]
+fn the_first_faulty_offer_is_refused(rt: HostRuntime) -> Result<(), Fail> {
+    let faults: [(&[u8], u32, RefusalKind); 6] = [
+        (
+            b"terms,1000,100\noffer,2025-04-15,0.00,,10000\noffer,2025-04-15,max,,10000",
+            3,
+            RefusalKind::NoRate,
+        ),
+        (
+            b"terms,1000,100\nrate,2025-01-15,2026-01-15,4.00\noffer,2025-04-15,4.01,,10000",
+            3,
+            RefusalKind::RateAboveTable,
+        ),
+        (
+            b"terms,1000,100\noffer,2025-01-29,0.00,,10000",
+            2,
+            RefusalKind::TooShort,
+        ),
+        (
+            b"terms,1000,100\noffer,2065-01-16,0.00,,10000\noffer,2025-01-29,0.00,,10000",
+            2,
+            RefusalKind::TooLongTerm,
+        ),
+        (
+            b"terms,1000,100\noffer,2025-04-15,0.00,2025-04-15,10000",
+            2,
+            RefusalKind::FirstDate,
+        ),
+        (
+            b"terms,1000,100\nrate,2025-01-15,2025-12-31,4.00\noffer,2025-02-13,4.00,,10000",
+            3,
+            RefusalKind::TooShort,
+        ),
+    ];
+    let days = open_days(rt.alloc());
+    for (text, row, kind) in &faults {
+        let rates = rates_of(rt.alloc(), text)?;
+        let refusal = Refusal {
+            file: FileKind::Rates,
+            row: *row,
+            kind: *kind,
+        };
+        let lines = slgs_lines(rt.alloc(), &days, &rates);
+        assert_eq!(rt;
+            lines.map(|_| ()),
+            Err(CaseError::Refused(refusal)),
+            "at {row}"
+        );
+    }
+    Ok(())
+}
+
+// A line of a security of 2025-01-15 in steps of 100 dollars.
+fn line_of(maturity: Day, rate: Rate, kind: SlgsKind, first: Day, most: u64) -> Line {
+    Line {
+        kind: LineKind::Security(Slgs {
+            settle: Day::new(20_103),
+            maturity,
+            rate,
+            kind,
+            first,
+        }),
+        step: 10_000,
+        least: 10,
+        most,
+    }
+}
+
+#[test]
+fn offers_become_lines_in_their_order(rt: HostRuntime) -> Result<(), Fail> {
+    let rates = rates_of(
+        rt.alloc(),
+        b"terms,1000,100\noffer,2025-04-15,0.00,,10000\noffer,2040-01-15,0.00,,10099\n\
+        rate,2025-01-15,2030-01-15,4.00\noffer,2027-01-15,max,2026-01-15,1000",
+    )?;
+    let lines = slgs_lines(rt.alloc(), &open_days(rt.alloc()), &rates)?;
+    let expected = [
+        line_of(
+            Day::new(20_193),
+            Rate(0),
+            SlgsKind::Certificate,
+            Day::new(20_193),
+            100,
+        ),
+        line_of(
+            Day::new(25_581),
+            Rate(0),
+            SlgsKind::Bond,
+            Day::new(20_284),
+            100,
+        ),
+        line_of(
+            Day::new(20_833),
+            Rate(4_000),
+            SlgsKind::Note,
+            Day::new(20_468),
+            10,
+        ),
+    ];
+    assert_eq!(rt; lines.as_slice(), expected.as_slice());
+    Ok(())
+}
+
+#[test]
+fn no_rows_have_no_lines(rt: HostRuntime) -> Result<(), Fail> {
+    let rates = rates_of(rt.alloc(), b"")?;
+    let lines = slgs_lines(rt.alloc(), &open_days(rt.alloc()), &rates)?;
+    assert_eq!(rt; lines.len(), 0);
+    offer_laws();
+    Ok(())
+}

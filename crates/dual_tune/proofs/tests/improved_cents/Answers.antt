@@ -1,8 +1,0 @@
-use Rattle.dual_bound.proofs.RangeFacts.{root-room}
-use Rattle.dual_tune.proofs.tests.improved_cents.Goals as goal
-
-pub improve-requires-clause-ranges : goal.improve-requires-clause-ranges
-improve-requires-clause-ranges c = rw c.in_ok-ranges.ensures (root-room c.args.book.now.lines)
-
-pub bound-requires-clause-ranges : goal.bound-requires-clause-ranges
-bound-requires-clause-ranges c = rw c.in_ok-ranges.ensures (root-room c.args.book.now.lines)

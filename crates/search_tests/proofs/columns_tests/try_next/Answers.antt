@@ -1,0 +1,33 @@
+use Rattle.std.proofs.Common.{◌≡◌, ◌∙◌, List, sym, subst, ap}
+use Rattle.std.specs.List.{AllZip}
+use Rattle.offer_book.specs.Book.{BookContents}
+use Rattle.dual_bound.specs.Columns.{ColumnsContents}
+use Rattle.dual_bound.specs.Ranges.{AreTight, HasRoomFor}
+use Rattle.dual_bound.specs.declared.ranges.Interval.{Interval}
+use Rattle.dual_bound.proofs.RangeFacts.{tight-room}
+use Rattle.search_tests.proofs.columns_tests.try_next.Goals as goal
+
+pub bound-anew-requires-clause-ranges : goal.bound-anew-requires-clause-ranges
+bound-anew-requires-clause-ranges g c = tight-room c.args.book.now.lines c.args.ranges.now c.requires.tight
+
+-- the ranges have room for the lines of columns of the same book
+room-again : (book own : BookContents) (ranges : List Interval) → own ≡ book → AreTight book.lines ranges → AllZip HasRoomFor own.lines ranges
+room-again book own ranges same tight = subst (λ (b : BookContents). AllZip HasRoomFor b.lines ranges) (sym same) (tight-room book.lines ranges tight)
+
+pub bound_near-requires-clause-ranges : goal.bound_near-requires-clause-ranges
+bound_near-requires-clause-ranges g c = room-again c.args.book.now _ c.args.ranges.now c.requires.own c.requires.tight
+
+pub bound_near-requires-2-clause-ranges : goal.bound_near-requires-2-clause-ranges
+bound_near-requires-2-clause-ranges g c =
+    room-again c.args.book.now _ c.args.ranges.now (ap (λ (v : ColumnsContents). v.book) c.bound_near.ensures.columns ∙ c.requires.own) c.requires.tight
+
+pub bound_near-requires-3-clause-ranges : goal.bound_near-requires-3-clause-ranges
+bound_near-requires-3-clause-ranges g c =
+    room-again c.args.book.now _ c.args.ranges.now
+    (ap (λ (v : ColumnsContents). v.book) c.bound_near-2.ensures.columns ∙ (ap (λ (v : ColumnsContents). v.book) c.bound_near.ensures.columns ∙ c.requires.own)) c.requires.tight
+
+pub bound-requires-clause-ranges : goal.bound-requires-clause-ranges
+bound-requires-clause-ranges g c =
+    room-again c.args.book.now _ c.args.ranges.now
+    (ap (λ (v : ColumnsContents). v.book) c.bound_near-3.ensures.columns
+    ∙ (ap (λ (v : ColumnsContents). v.book) c.bound_near-2.ensures.columns ∙ (ap (λ (v : ColumnsContents). v.book) c.bound_near.ensures.columns ∙ c.requires.own))) c.requires.tight
