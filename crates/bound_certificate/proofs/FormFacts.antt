@@ -1,6 +1,7 @@
 -- Each certificate that may be packed has a text.
-use Rattle.std.proofs.Common.{◌≡◌, ◌∙◌, ℕ, zero, suc, ◌+◌, ◌<◌, ◌≤◌, List, [], ◌∷◌, ◌++◌, length, get_or, refl, sym, subst, arith, inl, inr, add-one, ◌==◌, Bool, true, false}
-use Rattle.dual_bound.specs.declared.tree.Leaf.{Leaf}
+use Rattle.std.proofs.Common.{◌≡◌, ◌∙◌, ℕ, zero, suc, ◌+◌, ◌≤◌, List, [], ◌∷◌, ◌++◌, All, length, map, get_or, refl, sym, ap, subst, arith, add-one, replicate, ◌==◌, Bool, true, false}
+use Rattle.std.proofs.lemmas.List.{get_or-replicate, length-replicate}
+use Rattle.std.proofs.lemmas.List.Elements.{All-cons, All-head, All-nil, All-tail}
 use Rattle.dual_bound.specs.declared.tree.TreeNode.{TreeNode}
 use Rattle.dual_bound.specs.declared.tree.TreeNode.TheVariants as tree
 use Rattle.bound_certificate.specs.declared.certificate.Certificate.{Certificate}
@@ -9,11 +10,11 @@ use Rattle.bound_certificate.specs.declared.packed.Packed.{Packed}
 use Rattle.bound_certificate.specs.declared.packed.PackedNode.{PackedNode}
 use Rattle.bound_certificate.specs.declared.packed.PackedNode.TheVariants as node
 use Rattle.bound_certificate.specs.Certificate.{IsNode}
-use Rattle.bound_certificate.specs.Packed.{IsDifference, IsNodePacked, IsPackable, KeepsVectorOf}
+use Rattle.bound_certificate.specs.Packed.{IsDifference, IsNodePacked, IsPackable, IsPackedNode, IsVector, unpacked_node}
 use Rattle.bound_certificate.specs.PackedText.{packed_text_of}
 use Rattle.bound_certificate.specs.Versions.{IsPackedFormOf}
 use Rattle.bound_certificate.proofs.PackFacts.{IsSoFar, none-yet, no-change, one-change, whole-difference}
-use Rattle.bound_certificate.proofs.PackedOfFacts.{ArePacked, all-packed, none-packed, one-packed}
+use Rattle.bound_certificate.proofs.PackedOfFacts.{said-packed, said-same, unpacked-is, well-formed}
 
 -- the changes of a list from another, up to a place
 record HasSoFar (vector prices : List ℕ) (place : ℕ) : Type 0 where
@@ -50,67 +51,45 @@ difference vector prices long =
     let all = so-far vector prices (length vector) (omega arith) long in
     record { changes = all.changes; is = whole-difference vector prices (length vector) all.changes all.is long long }
 
--- nodes up to a place, packed with one vector at most: the prices of the first leaf
-record IsPackedTo (cert : Certificate) (count : ℕ) : Type 0 where
-  vectors : List (List ℕ)
-  nodes : List PackedNode
-  one : length vectors ≤ 1
-  are : ArePacked cert count vectors nodes
-
--- a node with vectors, of which it may be the first
-record IsPackedAfter (vectors : List (List ℕ)) (told : TreeNode) : Type 0 where
-  after : List (List ℕ)
+-- a node, and then several, packed with one vector
+record IsPackedBy (vectors : List (List ℕ)) (told : TreeNode) : Type 0 where
   said : PackedNode
-  one : length after ≤ 1
-  kept : KeepsVectorOf vectors told after
-  is : IsNodePacked after told said
+  is : IsNodePacked vectors told said
 
-leaf-after : (vectors : List (List ℕ)) (leaf : Leaf) → length vectors ≤ 1 → ((k : ℕ) → k < length vectors → length (get_or vectors k []) ≡ length leaf.prices) → IsPackedAfter vectors (tree.Closed leaf)
-leaf-after [] leaf one long =
-    let own = difference leaf.prices leaf.prices refl in
+record ArePackedBy (dates : ℕ) (vectors : List (List ℕ)) (nodes : List TreeNode) : Type 0 where
+  said : List PackedNode
+  same : map (unpacked_node vectors) said ≡ nodes
+  are : All (IsPackedNode dates vectors) said
+
+node-by : (dates : ℕ) (vector : List ℕ) (told : TreeNode) → length vector ≡ dates → IsNode dates told → IsPackedBy (vector ∷ []) told
+node-by dates vector (tree.Split number at) long is = record { said = node.Split number at; is = refl }
+node-by dates vector tree.Point long is = record { said = node.Point; is = refl }
+node-by dates vector (tree.Closed leaf) long is =
+    let own = difference vector leaf.prices (long ∙ sym is.every_date) in
+    record { said = node.Closed leaf.whole leaf.mu 1 own.changes; is = (refl, refl, omega arith, omega arith, own.is) }
+
+nodes-by : (dates : ℕ) (vector : List ℕ) (nodes : List TreeNode) → length vector ≡ dates → All (IsNode dates) nodes → ArePackedBy dates (vector ∷ []) nodes
+nodes-by dates vector [] long all = record { said = []; same = refl; are = All-nil (IsPackedNode dates (vector ∷ [])) }
+nodes-by dates vector (told ∷ nodes) long all =
+    let vectors : List (List ℕ) = vector ∷ [] in
+    let good = All-head (IsNode dates) told nodes all in
+    let first = node-by dates vector told long good in
+    let others = nodes-by dates vector nodes long (All-tail (IsNode dates) told nodes all) in
     record {
-      after = leaf.prices ∷ [];
-      said = node.Closed leaf.whole leaf.mu 1 own.changes;
-      one = omega arith;
-      kept = inr refl;
-      is = (refl, refl, omega arith, omega arith, own.is);
+      said = first.said ∷ others.said;
+      same =
+          ap (λ (n : TreeNode). n ∷ map (unpacked_node vectors) others.said) (said-same vectors told first.said first.is)
+          ∙ ap (λ (ns : List TreeNode). told ∷ ns) others.same;
+      are = All-cons (IsPackedNode dates vectors) first.said others.said (said-packed dates vectors told first.said good first.is) others.are;
     }
-leaf-after (vector ∷ []) leaf one long =
-    let own = difference vector leaf.prices (long 0 (omega arith)) in
-    record {
-      after = vector ∷ [];
-      said = node.Closed leaf.whole leaf.mu 1 own.changes;
-      one = omega arith;
-      kept = inl refl;
-      is = (refl, refl, omega arith, omega arith, own.is);
-    }
-leaf-after (vector ∷ next ∷ vectors) leaf one long = absurd (omega (arith, one))
 
-node-after : (dates : ℕ) (cert : Certificate) (count : ℕ) (told : TreeNode) → IsPackable dates cert → (before : IsPackedTo cert count) → IsNode dates told → IsPackedAfter before.vectors told
-node-after dates cert count (tree.Split number at) able before is =
-    record { after = before.vectors; said = node.Split number at; one = before.one; kept = refl; is = refl }
-node-after dates cert count tree.Point able before is = record { after = before.vectors; said = node.Point; one = before.one; kept = refl; is = refl }
-node-after dates cert count (tree.Closed leaf) able before is =
-    leaf-after before.vectors leaf before.one (λ k within. (before.are.vectors_are dates able k [] within).every_date ∙ sym is.every_date)
-
-there : (nodes : List TreeNode) (k : ℕ) (d : TreeNode) → suc k ≤ length nodes → get_or nodes k tree.Point ≡ get_or nodes k d
-there [] k d few = absurd (omega (arith, few))
-there (first ∷ nodes) zero d few = refl
-there (first ∷ nodes) (suc k) d few = there nodes k d (omega (arith, few))
-
-packed-to : (dates : ℕ) (cert : Certificate) (count : ℕ) → IsPackable dates cert → count ≤ length cert.nodes → IsPackedTo cert count
-packed-to dates cert zero able few = record { vectors = []; nodes = []; one = omega arith; are = none-packed cert [] [] (λ k d inside. absurd (omega (arith, inside))) (omega arith) refl }
-packed-to dates cert (suc count) able few =
-    let before = packed-to dates cert count able (omega (arith, few)) in
-    let told : TreeNode = get_or cert.nodes count tree.Point in
-    let more = node-after dates cert count told able before (able.nodes_are count tree.Point (omega (arith, few))) in
-    subst (IsPackedTo cert) (add-one count) (record {
-      vectors = more.after;
-      nodes = before.nodes ++ more.said ∷ [];
-      one = more.one;
-      are = one-packed cert count before.vectors more.after before.nodes (before.nodes ++ more.said ∷ []) told more.said before.are (omega (arith, few)) (there cert.nodes count told few) more.kept
-          (omega (arith, more.one)) more.is refl;
-    })
+-- a vector for whatever leaves there are: each price is 0
+zeros-are : (dates : ℕ) → IsVector dates (replicate dates 0)
+zeros-are dates = record {
+  every_date = length-replicate dates 0;
+  range = λ k d inside. omega (arith, get_or-replicate dates k 0 d (omega (arith, inside, length-replicate {A = ℕ} dates 0)));
+  falling = λ i j d before inside. omega (arith, get_or-replicate dates j 0 d (omega (arith, inside, length-replicate {A = ℕ} dates 0)));
+}
 
 -- a text, and that it is one
 pub record HasPackedForm (dates : ℕ) (cert : Certificate) : Type 0 where
@@ -119,7 +98,16 @@ pub record HasPackedForm (dates : ℕ) (cert : Certificate) : Type 0 where
 
 pub packed-form : (dates : ℕ) (cert : Certificate) → IsPackable dates cert → HasPackedForm dates cert
 packed-form dates cert able =
-    let all = packed-to dates cert (length cert.nodes) able (omega arith) in
-    let packed : Packed = record { buys = cert.buys; gap = cert.gap; vectors = all.vectors; nodes = all.nodes } in
-    let is = all-packed cert (length cert.nodes) packed all.are (omega arith) refl refl in
-    record { text = packed_text_of packed; is = record { packed = packed; text = record { well_formed = is.well_formed dates able; text = refl }; same = is.same } }
+    let zeros : List ℕ = replicate dates 0 in
+    let are = zeros-are dates in
+    let nodes = nodes-by dates zeros cert.nodes are.every_date able.nodes_are in
+    let packed : Packed = record { buys = cert.buys; gap = cert.gap; vectors = zeros ∷ []; nodes = nodes.said } in
+    let vectors : All (IsVector dates) packed.vectors = All-cons (IsVector dates) zeros [] are (All-nil (IsVector dates)) in
+    record {
+      text = packed_text_of packed;
+      is = record {
+        packed = packed;
+        text = record { well_formed = well-formed dates cert packed able (omega arith) vectors nodes.same nodes.are refl refl; text = refl };
+        same = unpacked-is cert packed nodes.same refl refl;
+      };
+    }

@@ -1,5 +1,5 @@
 -- Certificates whose leaves share their prices. The form and the limits are this project's own.
-use Rattle.std.specs.Prelude.{◌≡◌, ◌≢◌, ℕ, ◌-◌, ◌*◌, ◌<◌, ◌≤◌, Bool, List, [], ◌∷◌, ◌++◌, length, map, All, AllPairs, Option, Some, None, slice_index, slice_index_or, slice_set, ◌⊎◌}
+use Rattle.std.specs.Prelude.{◌≡◌, ◌≢◌, ℕ, ◌-◌, ◌*◌, ◌<◌, ◌≤◌, Bool, List, [], length, map, All, AllPairs, Option, Some, None, slice_index, slice_index_or, slice_set}
 use Rattle.std.specs.List.{fold}
 use Rattle.dual_bound.specs.Tree.{AreTrees, IsLeaf}
 use Rattle.dual_bound.specs.declared.prices.TheConstants.{PRICE_SCALE}
@@ -126,10 +126,6 @@ pub record IsDifference (vector prices : List ℕ) (changes : List Change) : Typ
 abbrev pub HaveLength : ℕ → List (List ℕ) → Type 0
 HaveLength count vectors = All (λ vector. length vector ≡ count) vectors
 
--- a list is kept as one more vector, or the vectors stay
-abbrev pub KeepsVector : List (List ℕ) → List ℕ → List (List ℕ) → Type 0
-KeepsVector before prices after = (after ≡ before) ⊎ (after ≡ before ++ prices ∷ [])
-
 -- a node is a leaf, with its differences from a vector that is there
 abbrev pub IsLeafPacked : List (List ℕ) → Leaf → PackedNode → Type 0
 IsLeafPacked vectors leaf (node.Closed whole mu vector changes) =
@@ -151,6 +147,10 @@ IsLeafNode other = ⊥
 abbrev pub IsLeafPlace : List TreeNode → ℕ → Type 0
 IsLeafPlace nodes place = (place < length nodes) × ((d : TreeNode) → IsLeafNode (slice_index_or nodes place d))
 
+-- so many are one at least, where one of these nodes is a leaf
+abbrev pub IsSomeForLeaf : List TreeNode → ℕ → Type 0
+IsSomeForLeaf nodes count = (place : ℕ) → IsLeafPlace nodes place → 0 < count
+
 -- a candidate is of one of these leaves
 abbrev pub IsCandidateOf : List TreeNode → Candidate → Type 0
 IsCandidateOf nodes candidate = IsLeafPlace nodes candidate.leaf
@@ -160,15 +160,17 @@ abbrev pub AreLeafPrices : List TreeNode → List (List ℕ) → Type 0
 AreLeafPrices nodes vectors =
     All (λ prices. (place : ℕ) × IsLeafPlace nodes place × ((d : TreeNode) → prices ≡ node_prices (slice_index_or nodes place d))) vectors
 
--- the vectors so far are few, and as long as the prices of a node's leaf
-abbrev pub IsPackingAt : List (List ℕ) → TreeNode → Type 0
-IsPackingAt vectors (tree.Closed leaf) = HaveLength (length leaf.prices) vectors × (length vectors ≤ MOST_VECTORS) × (length leaf.prices ≤ MOST_DATES)
-IsPackingAt vectors other = length vectors ≤ MOST_VECTORS
+-- vectors from which a leaf may take one: some, few, and as long as its prices
+pub record IsPackingLeaf (vectors : List (List ℕ)) (leaf : Leaf) : Type 0 where
+  pub some : 0 < length vectors
+  pub few : length vectors ≤ MOST_VECTORS
+  pub same : HaveLength (length leaf.prices) vectors
+  pub short : length leaf.prices ≤ MOST_DATES
 
--- the vectors stay, or the prices of the node's leaf are one more
-abbrev pub KeepsVectorOf : List (List ℕ) → TreeNode → List (List ℕ) → Type 0
-KeepsVectorOf before (tree.Closed leaf) after = KeepsVector before leaf.prices after
-KeepsVectorOf before other after = after ≡ before
+-- and a node, where it is a leaf
+abbrev pub IsPackingAt : List (List ℕ) → TreeNode → Type 0
+IsPackingAt vectors (tree.Closed leaf) = IsPackingLeaf vectors leaf
+IsPackingAt vectors other = Unit {0}
 
 -- a node is packed
 abbrev pub IsNodePacked : List (List ℕ) → TreeNode → PackedNode → Type 0

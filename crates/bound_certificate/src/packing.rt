@@ -1,10 +1,10 @@
 //! Packs a certificate: leaves share their prices.
-ghost use Rattle.std.specs.Prelude.{◌≡◌, ◌⊎◌, ◌≤◌, ◌<◌, ◌+◌, ◌++◌, ◌∷◌, [], All, IfOk, OnOk, ℕ, length};
-ghost use Rattle.bound_certificate.specs.Packed.{HaveLength, IsDifference, IsLeafPacked, IsNodePacked, IsPackableCert, IsPackedOf, IsPackingAt, KeepsVector, KeepsVectorOf};
+ghost use Rattle.std.specs.Prelude.{◌≡◌, ◌≤◌, ◌<◌, ◌+◌, All, IfOk, length};
+ghost use Rattle.bound_certificate.specs.Packed.{HaveLength, IsDifference, IsLeafPacked, IsNodePacked, IsPackableCert, IsPackedOf, IsPackingAt, IsPackingLeaf};
 
 use crate::certificate::Certificate;
-use crate::limits::{MOST_DATES, MOST_VECTORS};
-use crate::packed::{Change, Changes, Packed, PackedNode, PackedNodes, Vectors};
+use crate::limits::MOST_DATES;
+use crate::packed::{Change, Changes, Packed, PackedNode, PackedNodes};
 use crate::unpacked::copied_buys;
 use crate::vector_choice::choose_vectors;
 use dual_bound::{Leaf, Prices, TreeNode};
@@ -30,13 +30,6 @@ fn difference(alloc: Global, vector: &[u64], prices: &[u64]) -> Result<Vec<Chang
     Ok(changes)
 }
 
-// A vector, and at how many places it differs.
-#[derive(Clone, Copy, Debug)]
-struct Near {
-    vector: usize,
-    changes: usize,
-}
-
 // At how many places prices differ from a vector's, as far as that is at most a count: else one more than it.
 fn count_changes(vector: &[u64], prices: &[u64], most: usize) -> usize
     requires same { length vector.now ≡ length prices.now }
@@ -56,53 +49,33 @@ fn count_changes(vector: &[u64], prices: &[u64], most: usize) -> usize
     changes
 }
 
-// The vector from which prices differ at the fewest places, the last of those that tie; of no vectors the first, which isn't there.
-fn nearest(vectors: &[Prices], prices: &[u64]) -> Near
+// The vector from which prices differ at the fewest places, counted from 0, the last of those that tie.
+fn nearest(vectors: &[Prices], prices: &[u64]) -> usize
+    requires some { 0 < length vectors.now }
     requires same { HaveLength (length prices.now) vectors.now }
     requires short { length prices.now ≤ MOST_DATES }
-    ensures { 0 < length vectors.now → result.vector < length vectors.now }
+    ensures { result < length vectors.now }
 {
-    let mut nearest = Near {
-        vector: 0,
-        changes: prices.len(),
-    };
+    let mut nearest = 0;
+    let mut fewest = prices.len();
     for (vector, others) in vectors.iter().enumerate() {
-        let changes = count_changes(others.as_slice(), prices, nearest.changes);
-        if changes <= nearest.changes {
-            nearest = Near { vector, changes };
+        let changes = count_changes(others.as_slice(), prices, fewest);
+        if changes <= fewest {
+            nearest = vector;
+            fewest = changes;
         }
     }
     nearest
 }
 
-// The vector that a leaf of these prices is to take, from 0: the nearest one, or where there is none its own prices, as the first.
-fn choose(alloc: Global, vectors: &mut Vectors, prices: &[u64]) -> Result<usize, NoMemory>
-    requires same { HaveLength (length prices.now) vectors.old }
-    requires few { length vectors.old ≤ MOST_VECTORS }
-    requires short { length prices.now ≤ MOST_DATES }
-    ensures kept { OnOk result (KeepsVector vectors.old prices.now vectors.new) }
-    ensures few { OnOk result (length vectors.new ≤ MOST_VECTORS) }
-    ensures there { IfOk result (λ vector. vector < length vectors.new) }
-{
-    if !vectors.as_slice().is_empty() {
-        return Ok(nearest(vectors.as_slice(), prices).vector);
-    }
-    vectors.push(Prices::new(prices.to_vec(alloc)?))?;
-    Ok(0)
-}
-
-// A leaf with changes from a vector.
-fn pack_leaf(alloc: Global, vectors: &mut Vectors, leaf: &Leaf) -> Result<PackedNode, NoMemory>
-    requires same { HaveLength (length leaf.now.prices) vectors.old }
-    requires few { length vectors.old ≤ MOST_VECTORS }
-    requires short { length leaf.now.prices ≤ MOST_DATES }
-    ensures kept { OnOk result (KeepsVector vectors.old leaf.now.prices vectors.new) }
-    ensures few { OnOk result (length vectors.new ≤ MOST_VECTORS) }
-    ensures node { IfOk result (IsLeafPacked vectors.new leaf.now) }
+// A leaf with changes from the nearest vector.
+fn pack_leaf(alloc: Global, vectors: &[Prices], leaf: &Leaf) -> Result<PackedNode, NoMemory>
+    requires { IsPackingLeaf vectors.now leaf.now }
+    ensures { IfOk result (IsLeafPacked vectors.now leaf.now) }
 {
     let prices = leaf.prices.as_slice();
-    let number = choose(alloc, vectors, prices)?;
-    let changes = difference(alloc, vectors.as_slice()[number].as_slice(), prices)?;
+    let number = nearest(vectors, prices);
+    let changes = difference(alloc, vectors[number].as_slice(), prices)?;
     Ok(PackedNode::Closed {
         whole: leaf.whole,
         mu: leaf.mu,
@@ -112,11 +85,9 @@ fn pack_leaf(alloc: Global, vectors: &mut Vectors, leaf: &Leaf) -> Result<Packed
 }
 
 // Packs a node.
-fn pack_node(alloc: Global, vectors: &mut Vectors, node: &TreeNode) -> Result<PackedNode, NoMemory>
-    requires { IsPackingAt vectors.old node.now }
-    ensures kept { OnOk result (KeepsVectorOf vectors.old node.now vectors.new) }
-    ensures few { OnOk result (length vectors.new ≤ MOST_VECTORS) }
-    ensures node { IfOk result (IsNodePacked vectors.new node.now) }
+fn pack_node(alloc: Global, vectors: &[Prices], node: &TreeNode) -> Result<PackedNode, NoMemory>
+    requires { IsPackingAt vectors.now node.now }
+    ensures { IfOk result (IsNodePacked vectors.now node.now) }
 {
     match node {
         TreeNode::Split { line, at } => Ok(PackedNode::Split {
@@ -138,10 +109,10 @@ pub fn pack(alloc: Global, cert: &Certificate) -> Result<Packed, NoMemory>
     requires { IsPackableCert cert.now }
     ensures { IfOk result (IsPackedOf cert.now) }
 {
-    let mut vectors = choose_vectors(alloc, cert.nodes.as_slice())?;
+    let vectors = choose_vectors(alloc, cert.nodes.as_slice())?;
     let mut nodes = Vec::with_capacity(alloc, cert.nodes.as_slice().len())?;
     for node in cert.nodes.as_slice() {
-        nodes.push(pack_node(alloc, &mut vectors, node)?)?;
+        nodes.push(pack_node(alloc, vectors.as_slice(), node)?)?;
     }
     Ok(Packed {
         buys: copied_buys(alloc, cert.buys.as_ref())?,

@@ -1,6 +1,7 @@
 //! The vectors of a packed certificate: prices of some of its leaves, to which those of the others are near.
-ghost use Rattle.std.specs.Prelude.{◌≡◌, ◌≤◌, ◌<◌, All, IfOk, length};
-ghost use Rattle.bound_certificate.specs.Packed.{AreLeafPrices, IsCandidateOf, IsLeafPlace, node_prices};
+ghost use Rattle.std.specs.Prelude.{◌≡◌, ◌≤◌, ◌<◌, All, IfOk, length, true};
+ghost use Rattle.std.specs.Bool.{Decides};
+ghost use Rattle.bound_certificate.specs.Packed.{AreLeafPrices, IsCandidateOf, IsLeafNode, IsLeafPlace, IsSomeForLeaf, node_prices};
 
 use crate::limits::MOST_VECTORS;
 use crate::packed::Vectors;
@@ -37,13 +38,21 @@ fn prices_of(node: &TreeNode) -> &[u64]
     }
 }
 
+// Whether a node is a leaf.
+fn is_leaf(node: &TreeNode) -> bool
+    ensures { Decides result (IsLeafNode node.now) }
+{
+    matches!(node, TreeNode::Closed(_))
+}
+
 // The places of the leaves among the nodes.
 fn list_leaves(alloc: Global, nodes: &[TreeNode]) -> Result<Vec<usize>, NoMemory>
-    ensures { IfOk result (λ leaves. All (IsLeafPlace nodes.now) leaves.items) }
+    ensures leaves { IfOk result (λ leaves. All (IsLeafPlace nodes.now) leaves.items) }
+    ensures some { IfOk result (λ leaves. IsSomeForLeaf nodes.now (length leaves.items)) }
 {
     let mut leaves = Vec::new(alloc);
     for (place, node) in nodes.iter().enumerate() {
-        if matches!(node, TreeNode::Closed(_)) {
+        if is_leaf(node) {
             leaves.push(place)?;
         }
     }
@@ -86,6 +95,7 @@ impl Candidate {
 fn is_new(nodes: &[TreeNode], candidates: &[Candidate], leaf: usize) -> bool
     requires candidates { All (IsCandidateOf nodes.now) candidates.now }
     requires leaf { IsLeafPlace nodes.now leaf }
+    ensures { length candidates.now ≡ 0 → result ≡ true }
 {
     let prices = prices_of(&nodes[leaf]);
     for candidate in candidates {
@@ -103,7 +113,8 @@ fn list_candidates(
     leaves: &[usize],
 ) -> Result<Vec<Candidate>, NoMemory>
     requires { All (IsLeafPlace nodes.now) leaves.now }
-    ensures { IfOk result (λ candidates. All (IsCandidateOf nodes.now) candidates.items) }
+    ensures candidates { IfOk result (λ candidates. All (IsCandidateOf nodes.now) candidates.items) }
+    ensures some { IfOk result (λ candidates. 0 < length leaves.now → 0 < length candidates.items) }
 {
     let mut candidates = Vec::new(alloc);
     for leaf in leaves {
@@ -148,7 +159,8 @@ fn take_candidate(changes: &mut [u16], differences: &[u16]) {
     }
 }
 
-// Those candidates that save more changes than they have prices, each time the one that saves most, as far as there is room.
+// One candidate, and then those that save more changes than they have prices, each time the one that saves most, as far as there
+// is room.
 fn choose(
     alloc: Global,
     nodes: &[TreeNode],
@@ -159,15 +171,16 @@ fn choose(
     requires some { 0 < length candidates.now }
     ensures prices { IfOk result (AreLeafPrices nodes.now) }
     ensures few { IfOk result (λ vectors. length vectors ≤ MOST_VECTORS) }
+    ensures some { IfOk result (λ vectors. 0 < length vectors) }
 {
     let mut vectors = Vectors::new(Vec::new(alloc));
-    // Nothing is near to anything before there is a vector.
+    // Nothing is near to anything before there is a vector, and so there has to be one.
     let mut changes = vec![in alloc; u16::MAX; leaves]?;
     while vectors.as_slice().len() < MOST_VECTORS as usize {
         let best = best_of(candidates, changes.as_slice());
         let own = &candidates[best.candidate];
         let prices = prices_of(&nodes[own.leaf]);
-        if best.saved <= prices.len() as u64 {
+        if best.saved <= prices.len() as u64 && !vectors.as_slice().is_empty() {
             return Ok(vectors);
         }
         take_candidate(changes.as_mut_slice(), own.differences.as_slice());
@@ -176,7 +189,8 @@ fn choose(
     Ok(vectors)
 }
 
-/// Vectors for the leaves among nodes, at most 64: each is the prices of a leaf, and saves more changes than it has prices.
+/// Vectors for the leaves among nodes, at most 64, and one at least where there is a leaf: each is the prices of a leaf, and each but
+/// the first saves more changes than it has prices.
 ///
 /// # Errors
 ///
@@ -184,6 +198,7 @@ fn choose(
 pub(crate) fn choose_vectors(alloc: Global, nodes: &[TreeNode]) -> Result<Vectors, NoMemory>
     ensures prices { IfOk result (AreLeafPrices nodes.now) }
     ensures few { IfOk result (λ vectors. length vectors ≤ MOST_VECTORS) }
+    ensures some { IfOk result (λ vectors. IsSomeForLeaf nodes.now (length vectors)) }
 {
     let leaves = list_leaves(alloc, nodes)?;
     let candidates = list_candidates(alloc, nodes, leaves.as_slice())?;

@@ -3,6 +3,6 @@ use Rattle.bound_certificate.proofs.packing.nearest.Given as goal
 
 abbrev pub invariant-loop-vector : goal.invariant-loop-vector
 invariant-loop-vector l = record {
-  there : 0 < length l.vectors → l.nearest.vector < length l.vectors;
-  few : l.nearest.changes ≤ length l.prices;
+  there : l.nearest < length l.vectors;
+  few : l.fewest ≤ length l.prices;
 }

@@ -1,5 +1,8 @@
-use Rattle.bound_certificate.proofs.PackedOfFacts.{ArePacked}
+use Rattle.bound_certificate.proofs.PackedOfFacts.{ArePacked, AreVectorsFor}
 use Rattle.bound_certificate.proofs.packing.pack.Given as goal
 
 abbrev pub invariant-loop-node : goal.invariant-loop-node
-invariant-loop-node l = ArePacked l.cert l.node-index l.vectors l.nodes.items
+invariant-loop-node l = record {
+  vectors : AreVectorsFor l.cert l.vectors-inside.vectors.items;
+  nodes : ArePacked l.cert l.vectors-inside.vectors.items l.node-index l.nodes.items;
+}
