@@ -1,45 +1,11 @@
 //! Worked figures of books.
 
-ghost use Rattle.std.specs.Prelude.{◌≡◌, pos, IfOk};
-ghost use Rattle.escrow_units.specs.SlgsTerms.{IsSettlement};
-ghost use Rattle.escrow_units.specs.OpenDays.{no_closings};
-ghost use Rattle.offer_book.specs.Book.{IsCashLine, IsSecurityLine};
-
-use escrow_units::{AskedRate, Cents, ClosedDays, Day, Flow, Rate};
-use offer_book::{Book, Line, LineKind};
-use slgs_rules::classify;
+use crate::test_books::{Paid, opening_cash, security_line};
+use escrow_units::{Cents, ClosedDays, Day, Flow};
+use offer_book::Book;
 use std::alloc::Global;
 use std::process::Abort;
 use std::test::Fail;
-
-// Opening cash up to 1,000.00 dollars.
-fn opening_cash() -> Line
-    ensures { IsCashLine result }
-{
-    Line {
-        kind: LineKind::Cash,
-        step: 1,
-        least: 1,
-        most: 100_000,
-    }
-}
-
-// A security of 1,000 to 1,000,000 dollars in steps of 100.
-fn security_line(rt: &impl Abort, settle: Day, maturity: Day, rate: u32) -> Result<Line, Fail>
-    requires { IsSettlement settle }
-    ensures { IfOk result (λ line. IsSecurityLine (record { settle = settle; closed = no_closings }) line) }
-{
-    let asked = AskedRate::At(Rate(rate));
-    let slgs = classify(settle, maturity, asked, None, Some(Rate(rate)))?;
-    assert_eq!(rt; slgs.settle, settle);
-    assert!(rt; slgs.rate.0 <= 30_000);
-    Ok(Line {
-        kind: LineKind::Security(slgs),
-        step: 10_000,
-        least: 10,
-        most: 10_000,
-    })
-}
 
 // A need on the settlement day 2025-01-15, and the note of 2026-01-16 at 4 percent.
 fn sample(rt: &impl Abort, alloc: Global) -> Result<Book, Fail> {
@@ -50,16 +16,9 @@ fn sample(rt: &impl Abort, alloc: Global) -> Result<Book, Fail> {
             cents: Cents(100)
         },
     ]?;
-    let note = security_line(rt, settle, Day::new(20_469), 4_000)?;
+    let note = security_line(rt, settle, Day::new(20_469), 4_000, 10_000)?;
     let lines = vec![in alloc; opening_cash(), note]?;
     Ok(Book::make(settle, needs, lines, ClosedDays::none(alloc)))
-}
-
-// A payment by its day number and cents.
-#[derive(Clone, Copy)]
-struct Paid {
-    day: i32,
-    cents: u64,
 }
 
 // Units of a line, what they cost, and what they pay.

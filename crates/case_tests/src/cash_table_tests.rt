@@ -6,54 +6,20 @@ ghost use Rattle.escrow_units.specs.DayNumber.{IsDayNumber};
 ghost use Rattle.escrow_units.specs.OpenDays.{no_closings};
 ghost use Rattle.offer_book.specs.Book.{IsCashLine, IsSecurityLine};
 
+use crate::test_books::{Paid, book_in, opening_cash, security_line};
 use cash_table::{
     Balance, Plan, Standing, balances, bounds, cost, cost_parts, empty_flows, excluded_laws,
     first_short, first_unpermitted, flow_days, flows, line_receipts, meets_cost, out_of_reach,
     plan_standing, plan_yield, point_excluded, receipts, security_cost, within_limit,
     zero_interest_total, zero_yield,
 };
-use escrow_desk::{FILE_LIMIT, read_rows};
-use escrow_units::{
-    AskedRate, Cents, ClosedDays, Day, Flow, GREATEST_INDEX, GREATEST_YIELD, Rate, YieldUnits,
-};
+use escrow_units::{Cents, ClosedDays, Day, Flow, GREATEST_INDEX, GREATEST_YIELD, YieldUnits};
 use fixed_powers::{Powers, Side};
-use issue_schedule::read_issue;
-use market_notes::read_notes;
-use offer_book::{Book, Line, LineKind, make_book};
-use rate_table::read_rates;
-use slgs_rules::classify;
+use offer_book::Book;
 use std::alloc::Global;
 use std::process::Abort;
 use std::test::Fail;
 use yield_enclosure::YieldAnswer;
-
-// Opening cash up to 1,000.00 dollars.
-fn opening_cash() -> Line
-    ensures { IsCashLine result }
-{
-    Line {
-        kind: LineKind::Cash,
-        step: 1,
-        least: 1,
-        most: 100_000,
-    }
-}
-
-// A security without interest, of 1,000 to 10,000 dollars in steps of 100.
-fn security_line(rt: &impl Abort, settle: Day, maturity: Day) -> Result<Line, Fail>
-    requires { IsSettlement settle }
-    ensures { IfOk result (λ line. IsSecurityLine (record { settle = settle; closed = no_closings }) line) }
-{
-    let slgs = classify(settle, maturity, AskedRate::At(Rate(0)), None, None)?;
-    assert_eq!(rt; slgs.settle, settle);
-    assert_eq!(rt; slgs.rate, Rate(0));
-    Ok(Line {
-        kind: LineKind::Security(slgs),
-        step: 10_000,
-        least: 10,
-        most: 100,
-    })
-}
 
 // Settlement on 2025-01-15, needs 30, 60 and 90 days after it and on 2040-01-15, and securities that mature 30, 61 and
 // again 61 days after it, on 2026-01-16 (a note) and on 2040-01-15 (a bond).
@@ -77,20 +43,13 @@ fn sample(rt: &impl Abort, alloc: Global) -> Result<Book, Fail> {
             cents: Cents(100_000)
         },
     ]?;
-    let early = security_line(rt, settle, Day::new(20_133))?;
-    let late = security_line(rt, settle, Day::new(20_164))?;
-    let again = security_line(rt, settle, Day::new(20_164))?;
-    let note = security_line(rt, settle, Day::new(20_469))?;
-    let bond = security_line(rt, settle, Day::new(25_581))?;
+    let early = security_line(rt, settle, Day::new(20_133), 0, 100)?;
+    let late = security_line(rt, settle, Day::new(20_164), 0, 100)?;
+    let again = security_line(rt, settle, Day::new(20_164), 0, 100)?;
+    let note = security_line(rt, settle, Day::new(20_469), 0, 100)?;
+    let bond = security_line(rt, settle, Day::new(25_581), 0, 100)?;
     let lines = vec![in alloc; opening_cash(), early, late, again, note, bond]?;
     Ok(Book::make(settle, needs, lines, ClosedDays::none(alloc)))
-}
-
-// A day's flow, by its number.
-#[derive(Clone, Copy)]
-struct Paid {
-    day: i32,
-    cents: u64,
 }
 
 // Units of the lines, and what the calls answer: the first line that isn't permitted, else the first short day, the cost,
@@ -333,37 +292,9 @@ fn receipts_by_need_date(rt: HostRuntime) -> Result<(), Fail> {
     Ok(())
 }
 
-// The book of an issue file, a rate file and a price file.
-fn book_of(
-    rt: &impl Abort,
-    alloc: Global,
-    issue: &[u8],
-    rates: &[u8],
-    prices: &[u8],
-) -> Result<Book, Fail> {
-    assert!(rt;
-        issue.len() as u64 <= FILE_LIMIT
-            && rates.len() as u64 <= FILE_LIMIT
-            && prices.len() as u64 <= FILE_LIMIT
-    );
-    let Ok(issue) = read_issue(alloc, &read_rows(alloc, issue)?) else {
-        return Err(Fail::new("no issue"));
-    };
-    let Ok(rates) = read_rates(alloc, issue.settle, &read_rows(alloc, rates)?) else {
-        return Err(Fail::new("no rates"));
-    };
-    let Ok(notes) = read_notes(alloc, issue.settle, &read_rows(alloc, prices)?) else {
-        return Err(Fail::new("no prices"));
-    };
-    let Ok(book) = make_book(alloc, &issue, &rates, &notes) else {
-        return Err(Fail::new("no book"));
-    };
-    Ok(book)
-}
-
 // The first day that is out of reach, by its number.
-fn reach(rt: &impl Abort, alloc: Global, issue: &[u8], rates: &[u8]) -> Result<Option<i32>, Fail> {
-    let book = book_of(rt, alloc, issue, rates, b"")?;
+fn reach(alloc: Global, issue: &[u8], rates: &[u8]) -> Result<Option<i32>, Fail> {
+    let book = book_in(alloc, issue, rates, b"")??;
     Ok(out_of_reach(&book).map(|day| day.number()))
 }
 
@@ -371,13 +302,13 @@ fn reach(rt: &impl Abort, alloc: Global, issue: &[u8], rates: &[u8]) -> Result<O
 fn most_is_in_reach_or_not(rt: HostRuntime) -> Result<(), Fail> {
     // Only 50.00 dollars of opening cash are there on 2025-01-20.
     let early = b"settle,2025-01-15\ncash,50.00\nneed,2025-01-20,100.00\nrestricted,4.00\n";
-    assert!(&rt; reach(&rt, rt.alloc(), early, b"")? == Some(20_108));
+    assert!(&rt; reach(rt.alloc(), early, b"")? == Some(20_108));
     // The most of both lines is 10,050.00 dollars.
     let offer = b"terms,1000,100\noffer,2025-04-15,0.00,,10000\n";
     let all = b"settle,2025-01-15\ncash,50.00\nneed,2025-04-15,10050.00\nrestricted,4.00\n";
-    assert!(&rt; reach(&rt, rt.alloc(), all, offer)? == None);
+    assert!(&rt; reach(rt.alloc(), all, offer)? == None);
     let more = b"settle,2025-01-15\ncash,50.00\nneed,2025-04-15,10050.01\nrestricted,4.00\n";
-    assert!(&rt; reach(&rt, rt.alloc(), more, offer)? == Some(20_193));
+    assert!(&rt; reach(rt.alloc(), more, offer)? == Some(20_193));
     Ok(())
 }
 
@@ -422,7 +353,7 @@ fn try_balances(
 fn cash_is_balanced_by_day(rt: HostRuntime) -> Result<(), Fail> {
     let issue = b"settle,2025-01-15\nneed,2025-04-15,5000.00\nrestricted,4.00\n";
     let rates = b"terms,1000,100\noffer,2025-04-15,0.00,,10000\n";
-    let book = book_of(&rt, rt.alloc(), issue, rates, b"")?;
+    let book = book_in(rt.alloc(), issue, rates, b"")??;
     let plan = plan_of_line(&rt, rt.alloc(), &book, 50)?;
     let expected = [entry(20_103, 0, 0, 0), entry(20_193, 500_000, 500_000, 0)];
     try_balances(&rt, rt.alloc(), &book, &plan, &expected)?;
@@ -445,7 +376,7 @@ fn cash_is_balanced_by_day(rt: HostRuntime) -> Result<(), Fail> {
 fn notes_cost_their_price(rt: HostRuntime) -> Result<(), Fail> {
     let issue = b"settle,2025-01-15\nneed,2025-07-15,102000.00\nrestricted,4.00\n";
     let prices = b"terms,1000,1000\nnote,2025-07-15,4.000,103,200000\n";
-    let book = book_of(&rt, rt.alloc(), issue, b"", prices)?;
+    let book = book_in(rt.alloc(), issue, b"", prices)??;
     let few = plan_of_line(&rt, rt.alloc(), &book, 99)?;
     assert!(&rt; first_unpermitted(&book, &few).is_none());
     assert!(&rt; first_short(&book, &few) == Some(Day::new(20_284)));
@@ -481,7 +412,7 @@ fn due(day: i32, cents: u64) -> Flow
 fn yields_lie_in_two_units(rt: HostRuntime) -> Result<(), Fail> {
     let issue = b"settle,2025-01-15\nneed,2025-07-15,102000.00\nrestricted,4.00\n";
     let prices = b"terms,1000,1000\nnote,2025-07-15,4.000,100,200000\n";
-    let book = book_of(&rt, rt.alloc(), issue, b"", prices)?;
+    let book = book_in(rt.alloc(), issue, b"", prices)??;
     let plan = plan_of_line(&rt, rt.alloc(), &book, 100)?;
     assert!(&rt; first_unpermitted(&book, &plan).is_none());
     let answer = plan_yield(rt.alloc(), &book, &plan)?;
@@ -510,7 +441,7 @@ struct Point {
 
 fn try_point(rt: &impl Abort, alloc: Global, point: &Point) -> Result<(), Fail> {
     let issue = b"settle,2025-01-15\nneed,2025-04-15,5000.00\nrestricted,4.00\n";
-    let book = book_of(rt, alloc, issue, point.rates, b"")?;
+    let book = book_in(alloc, issue, point.rates, b"")??;
     let plan = plan_of_line(rt, alloc, &book, point.units)?;
     assert!(rt; first_unpermitted(&book, &plan).is_none());
     assert!(rt; point.n <= GREATEST_YIELD);

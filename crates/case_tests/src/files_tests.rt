@@ -3,46 +3,13 @@
 ghost use Rattle.std.specs.Prelude.{IfOk};
 ghost use Rattle.offer_book.specs.Book.{IsBook};
 
-use escrow_desk::{CaseError, FileKind, Refusal, RefusalKind, Rows, read_rows};
+use crate::test_books::{Paid, book_in};
+use escrow_desk::{CaseError, FileKind, Refusal, RefusalKind};
 use escrow_units::{Cents, Day};
-use issue_schedule::read_issue;
-use market_notes::read_notes;
-use offer_book::{Book, LineKind, PayCoefficients, book_laws, coefficient_laws, make_book};
-use rate_table::read_rates;
+use offer_book::{Book, LineKind, PayCoefficients, book_laws, coefficient_laws};
 use std::alloc::Global;
 use std::process::Abort;
 use std::test::Fail;
-
-// The rows of a text.
-fn rows_in(alloc: Global, text: &[u8]) -> Result<Rows, Fail> {
-    if text.len() > 1_048_576 {
-        return Err(Fail::new("too long"));
-    }
-    let Ok(rows) = read_rows(alloc, text) else {
-        return Err(Fail::new("no memory"));
-    };
-    Ok(rows)
-}
-
-// The book of three texts.
-fn book_in(
-    alloc: Global,
-    issue: &[u8],
-    rates: &[u8],
-    prices: &[u8],
-) -> Result<Result<Book, CaseError>, Fail> {
-    let issue = read_issue(alloc, &rows_in(alloc, issue)?)?;
-    let rates = read_rates(alloc, issue.settle, &rows_in(alloc, rates)?)?;
-    let notes = read_notes(alloc, issue.settle, &rows_in(alloc, prices)?)?;
-    Ok(make_book(alloc, &issue, &rates, &notes))
-}
-
-// A payment by its day number and cents.
-#[derive(Clone, Copy)]
-struct Paid {
-    day: i32,
-    cents: u64,
-}
 
 // Units of a line, what they cost, and what they pay.
 #[derive(Clone, Copy)]

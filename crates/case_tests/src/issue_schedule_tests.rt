@@ -4,7 +4,8 @@ ghost use Rattle.std.specs.Prelude.{◌≤◌, IfOk};
 ghost use Rattle.escrow_units.specs.DayNumber.{IsDayNumber};
 ghost use Rattle.issue_schedule.specs.IssueTerms.{IsIssue};
 
-use escrow_desk::{CaseError, FileKind, Refusal, RefusalKind, read_rows};
+use crate::test_books::rows_in;
+use escrow_desk::{CaseError, FileKind, Refusal, RefusalKind};
 use escrow_units::{Cents, Day, Flow, Price8, YieldUnits, print_day};
 use issue_schedule::{
     Bonds, Call, Flows, Issue, Restricted, bond_laws, needs, needs_laws, read_issue,
@@ -16,13 +17,7 @@ use std::test::Fail;
 fn issue_of(alloc: Global, text: &[u8]) -> Result<Result<Issue, CaseError>, Fail>
     ensures { IfOk result (λ read. IfOk read IsIssue) }
 {
-    if text.len() > 1_048_576 {
-        return Err(Fail::new("too long"));
-    }
-    let Ok(rows) = read_rows(alloc, text) else {
-        return Err(Fail::new("no memory"));
-    };
-    Ok(read_issue(alloc, &rows))
+    Ok(read_issue(alloc, &rows_in(alloc, text)?))
 }
 
 #[test]

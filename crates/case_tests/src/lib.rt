@@ -13,3 +13,5 @@ mod files_tests;
 mod issue_schedule_tests;
 #[cfg(test)]
 mod offer_tests;
+#[cfg(test)]
+mod test_books;

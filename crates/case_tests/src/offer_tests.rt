@@ -4,7 +4,8 @@ ghost use Rattle.std.specs.Prelude.{◌≡◌, IfOk, pos};
 ghost use Rattle.escrow_units.specs.OpenDays.{no_closings};
 ghost use Rattle.rate_table.specs.Table.{IsRateFile};
 
-use escrow_desk::{CaseError, FileKind, Refusal, RefusalKind, read_rows};
+use crate::test_books::rows_in;
+use escrow_desk::{CaseError, FileKind, Refusal, RefusalKind};
 use escrow_units::{ClosedDays, Day, Rate, Slgs, SlgsKind};
 use offer_book::{Line, LineKind, PaymentDays, offer_laws, slgs_lines};
 use rate_table::{RateFile, read_rates};
@@ -15,16 +16,7 @@ use std::test::Fail;
 fn rates_of(alloc: Global, text: &[u8]) -> Result<RateFile, Fail>
     ensures { IfOk result IsRateFile }
 {
-    if text.len() > 1_048_576 {
-        return Err(Fail::new("too long"));
-    }
-    let Ok(rows) = read_rows(alloc, text) else {
-        return Err(Fail::new("no memory"));
-    };
-    match read_rates(alloc, Day::new(20_103), &rows) {
-        Ok(file) => Ok(file),
-        Err(_) => Err(Fail::new("refused")),
-    }
+    Ok(read_rates(alloc, Day::new(20_103), &rows_in(alloc, text)?)?)
 }
 
 // Settlement on 2025-01-15, without a closed day.

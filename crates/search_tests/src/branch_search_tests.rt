@@ -3,12 +3,12 @@ ghost use Rattle.std.specs.Prelude.{◌≡◌, IfErr, IfOk, IfSome};
 ghost use Rattle.case_file.specs.Case.{HasTerms, case_view};
 ghost use Rattle.branch_search.specs.Search.{EndsOf, IsFound, IsOverBound};
 
+use crate::test_files::{GREATEST_OFFER, ZERO_OFFER, case_of};
 use bound_certificate::{Buy, pack, write_packed};
 use branch_search::{Found, Hint, SearchEnd, Spent, found_laws, search, search_from};
-use case_file::{Case, read_case};
+use case_file::Case;
 use cash_table::cost;
 use escrow_check::{Verdict, check};
-use escrow_desk::FILE_LIMIT;
 use escrow_units::Day;
 use std::alloc::Global;
 use std::process::Abort;
@@ -48,20 +48,9 @@ struct Row {
     told: Told,
 }
 
-const RATES_A: &[u8] = b"terms,1000,100\noffer,2025-04-15,0.00,,10000\n";
-
-const RATES_C: &[u8] =
-    b"terms,1000,1\nrate,2025-02-14,2026-01-15,4.00\noffer,2026-01-15,max,,10000\n";
-
-const RATES_D: &[u8] =
+// Two offers at the greatest rate.
+const TWO_OFFERS: &[u8] =
     b"terms,1000,1\nrate,2025-02-14,2026-01-15,4.00\noffer,2025-07-15,max,,10000000\noffer,2026-01-15,max,,10000000\n";
-
-fn case_of(rt: &impl Abort, alloc: Global, row: &Row) -> Result<Case, Fail>
-    ensures { IfOk result (λ case. HasTerms (case_view case)) }
-{
-    assert!(rt; row.issue.len() as u64 <= FILE_LIMIT && row.rates.len() as u64 <= FILE_LIMIT);
-    Ok(read_case(alloc, row.issue, row.rates, b"")?)
-}
 
 // What is found is as expected, and `check` accepts its certificate.
 fn is_found(
@@ -150,7 +139,7 @@ fn is_told(
 
 // A row comes to what is told, without a hint and with one of the row before.
 fn try_row(rt: &impl Abort, alloc: Global, row: &Row, hint: &mut Hint) -> Result<(), Fail> {
-    let case = case_of(rt, alloc, row)?;
+    let case = case_of(rt, alloc, row.issue, row.rates, b"")?;
     let ended = search(alloc, &case.book, case.limit, case.allowance, case.budget);
     is_told(rt, alloc, &case, ended, &row.told)?;
     let ended = search_from(
@@ -171,7 +160,7 @@ fn cases_close_or_end(rt: HostRuntime) -> Result<(), Fail> {
     let rows = [
         Row {
             issue: b"settle,2025-01-15\nneed,2025-04-15,5000.00\nrestricted,4.00\n",
-            rates: RATES_A,
+            rates: ZERO_OFFER,
             told: Told::Found {
                 buys: &[Buy { line: 1, units: 50 }],
                 cost: 500_000,
@@ -180,7 +169,7 @@ fn cases_close_or_end(rt: HostRuntime) -> Result<(), Fail> {
         },
         Row {
             issue: b"settle,2025-01-15\nrestricted,4.00\n",
-            rates: RATES_A,
+            rates: ZERO_OFFER,
             told: Told::Found {
                 buys: &[],
                 cost: 0,
@@ -189,7 +178,7 @@ fn cases_close_or_end(rt: HostRuntime) -> Result<(), Fail> {
         },
         Row {
             issue: b"settle,2025-01-15\nneed,2025-07-15,1000000.00\nneed,2026-01-15,2000000.00\nrestricted,5.00\nallowance,2002.33\n",
-            rates: RATES_D,
+            rates: TWO_OFFERS,
             told: Told::Found {
                 buys: &[
                     Buy {
@@ -208,7 +197,7 @@ fn cases_close_or_end(rt: HostRuntime) -> Result<(), Fail> {
         // just the gap that the leaf supports is allowed, and then a cent less
         Row {
             issue: b"settle,2025-01-15\nneed,2026-01-15,1041.03\nrestricted,5.00\nallowance,0.01\n",
-            rates: RATES_D,
+            rates: TWO_OFFERS,
             told: Told::Found {
                 buys: &[Buy {
                     line: 2,
@@ -221,7 +210,7 @@ fn cases_close_or_end(rt: HostRuntime) -> Result<(), Fail> {
         // one node shows less than a whole dollar; three do where both sides are a dollar apart
         Row {
             issue: b"settle,2025-01-15\nneed,2026-01-15,1041.03\nrestricted,5.00\nbudget,1\n",
-            rates: RATES_C,
+            rates: GREATEST_OFFER,
             told: Told::Ended(Ending::Spent {
                 nodes: 1,
                 bound: 100_099,
@@ -230,7 +219,7 @@ fn cases_close_or_end(rt: HostRuntime) -> Result<(), Fail> {
         },
         Row {
             issue: b"settle,2025-01-15\nneed,2026-01-15,1041.03\nrestricted,5.00\nbudget,3\n",
-            rates: RATES_C,
+            rates: GREATEST_OFFER,
             told: Told::Found {
                 buys: &[Buy {
                     line: 1,
@@ -259,7 +248,7 @@ fn cases_close_or_end(rt: HostRuntime) -> Result<(), Fail> {
         // nothing matures on the need date, so that there is no backward plan
         Row {
             issue: b"settle,2025-01-15\nneed,2025-04-16,5000.00\nrestricted,4.00\n",
-            rates: RATES_A,
+            rates: ZERO_OFFER,
             told: Told::Found {
                 buys: &[Buy { line: 1, units: 50 }],
                 cost: 500_000,

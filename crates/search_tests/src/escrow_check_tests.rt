@@ -1,11 +1,12 @@
 //! Certificates and their verdicts, whole and in pieces.
-ghost use Rattle.std.specs.Prelude.{◌≤◌, IfOk};
+ghost use Rattle.std.specs.Prelude.{◌≤◌};
 ghost use Rattle.case_file.specs.Case.{HasTerms, case_view};
 
+use crate::test_files::{GREATEST_OFFER, HIGH_OFFER, LOW_LIMIT, ZERO_OFFER, case_of};
 use bound_certificate::{CertFault, FaultKind};
-use case_file::{Case, read_case};
+use case_file::Case;
 use escrow_check::{Checker, Reason, Verdict, check};
-use escrow_desk::{FILE_LIMIT, NoMemory};
+use escrow_desk::NoMemory;
 use escrow_units::{Day, YieldUnits};
 use std::alloc::Global;
 use std::process::Abort;
@@ -48,8 +49,6 @@ struct Row {
 
 const ISSUE_A: &[u8] = b"settle,2025-01-15\nneed,2025-04-15,5000.00\nrestricted,4.00\n";
 
-const RATES_A: &[u8] = b"terms,1000,100\noffer,2025-04-15,0.00,,10000\n";
-
 const ISSUE_B: &[u8] =
     b"settle,2025-01-15\nneed,2025-07-15,102000.00\nrestricted,4.00\nallowance,0.01\n";
 
@@ -60,19 +59,11 @@ const CERT_B: &[u8] =
 
 const ISSUE_C: &[u8] = b"settle,2025-01-15\nneed,2026-01-15,1041.03\nrestricted,5.00\n";
 
-const RATES_C: &[u8] =
-    b"terms,1000,1\nrate,2025-02-14,2026-01-15,4.00\noffer,2026-01-15,max,,10000\n";
-
-const ISSUE_D: &[u8] = b"settle,2025-01-15\nneed,2025-07-15,1000.00\nrestricted,3.00\n";
-
-const RATES_D: &[u8] =
-    b"terms,1000,1000\nrate,2025-02-14,2026-01-15,4.00\noffer,2025-07-15,4.00,,2000\n";
-
 // Of an offer without interest, whose units are bought on the settlement day and pay what they cost on the need date.
 fn of_zero(cert: &'static [u8], told: Told) -> Row {
     Row {
         issue: ISSUE_A,
-        rates: RATES_A,
+        rates: ZERO_OFFER,
         prices: b"",
         cert,
         told,
@@ -94,7 +85,7 @@ fn of_note(issue: &'static [u8], told: Told) -> Row {
 fn of_greatest(cert: &'static [u8], told: Told) -> Row {
     Row {
         issue: ISSUE_C,
-        rates: RATES_C,
+        rates: GREATEST_OFFER,
         prices: b"",
         cert,
         told,
@@ -104,8 +95,8 @@ fn of_greatest(cert: &'static [u8], told: Told) -> Row {
 // Of an offer above the limit.
 fn of_above(cert: &'static [u8]) -> Row {
     Row {
-        issue: ISSUE_D,
-        rates: RATES_D,
+        issue: LOW_LIMIT,
+        rates: HIGH_OFFER,
         prices: b"",
         cert,
         told: Told::YesNone,
@@ -127,18 +118,6 @@ fn fault(line: u32, kind: FaultKind) -> Told {
     Told::No(Reason::Grammar(CertFault { line, kind }))
 }
 
-// The case of a row's files.
-fn case_of(rt: &impl Abort, alloc: Global, row: &Row) -> Result<Case, Fail>
-    ensures { IfOk result (λ case. HasTerms (case_view case)) }
-{
-    assert!(rt;
-        row.issue.len() as u64 <= FILE_LIMIT
-            && row.rates.len() as u64 <= FILE_LIMIT
-            && row.prices.len() as u64 <= FILE_LIMIT
-    );
-    Ok(read_case(alloc, row.issue, row.rates, row.prices)?)
-}
-
 // The verdict on a text in pieces of so many bytes.
 fn in_pieces(alloc: Global, case: &Case, text: &[u8], size: usize) -> Result<Verdict, NoMemory>
     requires terms { HasTerms (case_view case.now) }
@@ -157,7 +136,7 @@ fn in_pieces(alloc: Global, case: &Case, text: &[u8], size: usize) -> Result<Ver
 
 // However a certificate is cut, the same is told of it.
 fn is_told(rt: &impl Abort, alloc: Global, row: &Row) -> Result<(), Fail> {
-    let case = case_of(rt, alloc, row)?;
+    let case = case_of(rt, alloc, row.issue, row.rates, row.prices)?;
     assert_eq!(rt; summary(&check(alloc, &case, row.cert)?), row.told);
     assert_eq!(rt; summary(&in_pieces(alloc, &case, row.cert, 1)?), row.told);
     assert_eq!(rt; summary(&in_pieces(alloc, &case, row.cert, 2)?), row.told);
@@ -251,7 +230,7 @@ fn certificates_are_judged(rt: HostRuntime) -> Result<(), Fail> {
         ),
         Row {
             issue: b"settle,2025-01-15\nrestricted,4.00\n",
-            rates: RATES_A,
+            rates: ZERO_OFFER,
             prices: b"",
             cert: b"escrow-certificate 1\nportfolio 0\ngap 0\nnodes 1\nl 1 0\nend\n",
             told: Told::Yes {

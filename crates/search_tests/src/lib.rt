@@ -19,3 +19,5 @@ mod plan_finder_tests;
 mod price_lp_tests;
 #[cfg(test)]
 mod sparse_basis_tests;
+#[cfg(test)]
+mod test_files;

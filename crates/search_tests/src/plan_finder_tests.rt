@@ -2,9 +2,8 @@
 ghost use Rattle.std.specs.Prelude.{◌≡◌, IfOk};
 ghost use Rattle.dual_bound.specs.Ranges.{AreTight};
 
-use case_file::{Case, read_case};
+use crate::test_files::case_of;
 use dual_bound::{Ranges, range_laws};
-use escrow_desk::FILE_LIMIT;
 use escrow_units::{Cents, GREATEST_YIELD, YieldUnits};
 use offer_book::Book;
 use plan_finder::{Finder, YieldLimit, find};
@@ -25,13 +24,8 @@ struct Row {
 const ISSUE: &[u8] =
     b"settle,2025-01-15\nneed,2025-07-15,1000000.00\nneed,2026-01-15,2000000.00\nrestricted,5.00\n";
 
-fn case_of(rt: &impl Abort, alloc: Global, row: &Row) -> Result<Case, Fail> {
-    assert!(rt; row.issue.len() as u64 <= FILE_LIMIT && row.rates.len() as u64 <= FILE_LIMIT);
-    Ok(read_case(alloc, row.issue, row.rates, b"")?)
-}
-
 fn found_cost(rt: &impl Abort, alloc: Global, row: &Row) -> Result<Option<u64>, Fail> {
-    let case = case_of(rt, alloc, row)?;
+    let case = case_of(rt, alloc, row.issue, row.rates, b"")?;
     assert!(rt; 1 <= row.limit && row.limit <= GREATEST_YIELD);
     let limit = YieldLimit::make(alloc, YieldUnits(row.limit))?;
     match find(alloc, &case.book, &limit, 40, Cents(0))? {
@@ -132,7 +126,7 @@ fn dives_go_by_their_ranges(rt: HostRuntime) -> Result<(), Fail> {
             cost: 100_000_000,
         },
     ];
-    let case = case_of(&rt, rt.alloc(), &row)?;
+    let case = case_of(&rt, rt.alloc(), row.issue, row.rates, b"")?;
     let basis = Basis::with_room(rt.alloc(), case.book.line_count(), case.book.need_count())?;
     let limit = YieldLimit::make(rt.alloc(), YieldUnits(row.limit))?;
     let mut finder = Finder::make(rt.alloc(), &case.book, &limit)?;

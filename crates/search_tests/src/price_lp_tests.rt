@@ -2,7 +2,8 @@
 
 ghost use Rattle.std.specs.Prelude.{◌≡◌, IfOk, length};
 
-use case_file::{Case, read_case};
+use crate::test_files::{FOUR_OFFERS, TWO_NEEDS, case_of};
+use case_file::Case;
 use dual_bound::{Interval, Leaf};
 use escrow_units::{Cents, Day, Flow, GREATEST_INDEX, YieldUnits};
 use fixed_powers::{Powers, Side};
@@ -10,17 +11,6 @@ use price_lp::{Holding, Purpose, Simplex, SolveEnd};
 use sparse_basis::LineState;
 use std::alloc::Global;
 use std::test::Fail;
-
-const ISSUE: &[u8] =
-    b"settle,2025-01-15\nneed,2025-07-15,1000000.00\nneed,2027-01-15,2000000.00\nrestricted,3.50\n";
-
-const RATES: &[u8] =
-    b"terms,1000,1\nrate,2025-02-14,2027-01-15,4.00\noffer,2025-07-15,max,,10000000\noffer,2025-07-15,3.00,,10000000\noffer,2027-01-15,max,,10000000\noffer,2027-01-15,3.00,,10000000\n";
-
-// Opening cash, and for each need date two lines, of 4 and of 3 percent.
-fn case_of(alloc: Global) -> Result<Case, Fail> {
-    Ok(read_case(alloc, ISSUE, RATES, b"")?)
-}
 
 fn simplex_of<'a>(alloc: Global, case: &'a Case) -> Result<Simplex<'a>, Fail>
     ensures { IfOk result (λ simplex. simplex.dates ≡ length case.now.book.needs) }
@@ -45,7 +35,7 @@ fn cents_of(simplex: &Simplex) -> i128 {
 
 #[test]
 fn a_solve_keeps_to_the_yield_limit(rt: HostRuntime) -> Result<(), Fail> {
-    let case = case_of(rt.alloc())?;
+    let case = case_of(&rt, rt.alloc(), TWO_NEEDS, FOUR_OFFERS, b"")?;
     let mut simplex = simplex_of(rt.alloc(), &case)?;
     simplex.start_greedily();
     assert_eq!(rt; simplex.solve(100, None), SolveEnd::Optimal);
@@ -77,7 +67,7 @@ fn a_solve_keeps_to_the_yield_limit(rt: HostRuntime) -> Result<(), Fail> {
 
 #[test]
 fn a_fixed_line_pays_exactly_until_it_is_free(rt: HostRuntime) -> Result<(), Fail> {
-    let case = case_of(rt.alloc())?;
+    let case = case_of(&rt, rt.alloc(), TWO_NEEDS, FOUR_OFFERS, b"")?;
     let mut simplex = simplex_of(rt.alloc(), &case)?;
     let half_a_year = [Flow {
         day: Day::new(20284),
@@ -111,7 +101,7 @@ fn a_fixed_line_pays_exactly_until_it_is_free(rt: HostRuntime) -> Result<(), Fai
 
 #[test]
 fn a_solve_starts_from_a_leaf_or_a_basis(rt: HostRuntime) -> Result<(), Fail> {
-    let case = case_of(rt.alloc())?;
+    let case = case_of(&rt, rt.alloc(), TWO_NEEDS, FOUR_OFFERS, b"")?;
     let mut simplex = simplex_of(rt.alloc(), &case)?;
     let mut basis = simplex.new_basis(rt.alloc())?;
     assert_eq!(rt; simplex.solve(100, None), SolveEnd::Optimal);

@@ -4,7 +4,7 @@ use Rattle.escrow_units.specs.OpenDays.{no_closings}
 use Rattle.escrow_units.specs.SlgsTerms.{IsSlgs}
 use Rattle.escrow_units.specs.declared.security.Slgs.{Slgs}
 use Rattle.offer_book.specs.Book.{OpensInTime}
-use Rattle.case_tests.proofs.cash_table_tests.security_line.Goals as goal
+use Rattle.case_tests.proofs.test_books.security_line.Goals as goal
 
 -- where no day is closed, a maturity opens in time
 opens : (settle : ℤ) (slgs : Slgs) → slgs.settle ≡ settle → IsSlgs slgs → OpensInTime (record { settle = settle; closed = no_closings }) slgs.maturity
