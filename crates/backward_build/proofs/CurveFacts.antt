@@ -35,7 +35,7 @@ use Rattle.offer_book.specs.declared.line.LineKind.TheVariants.{Cash, Market, Se
 use Rattle.offer_book.proofs.LineFacts.{is_paid}
 use Rattle.cash_table.proofs.ZipFacts.{sum_by-at_more}
 use Rattle.dual_bound.specs.LeafBound.{price_on}
-use Rattle.dual_bound.specs.declared.prices.TheConstants.{PRICE_SCALE}
+use Rattle.proof_tree.specs.declared.prices.TheConstants.{PRICE_SCALE}
 use Rattle.dual_bound.proofs.PriceFacts.{price_on-here, price_on-later, price_on-past}
 use Rattle.dual_bound.proofs.Sizes.{cost-sized, pays-sized}
 use Rattle.backward_build.specs.OwnOffer.{ends_on, need_at}

@@ -17,7 +17,7 @@ use Rattle.offer_book.specs.Coefficients.{cost_coefficients, pay_coefficients}
 use Rattle.offer_book.specs.declared.coefficients.PayCoefficients.{PayCoefficients}
 use Rattle.offer_book.specs.declared.line.Line.{Line}
 use Rattle.dual_bound.specs.LeafBound.{price_on}
-use Rattle.dual_bound.specs.declared.prices.TheConstants.{PRICE_SCALE}
+use Rattle.proof_tree.specs.declared.prices.TheConstants.{PRICE_SCALE}
 use Rattle.backward_build.specs.CurveLaws.{BootstrappedAreFair, IsFairAfter}
 use Rattle.backward_build.specs.OwnOffer.{line_at, need_at}
 use Rattle.backward_build.specs.PriceCurve.{fair_price, first_prices, last_price, next_price, not_above, unit_paid_in, with_next_price, worth_at}

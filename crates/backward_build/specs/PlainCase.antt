@@ -5,7 +5,7 @@ use Rattle.offer_book.specs.Coefficients.{cost_coefficients, pay_coefficients}
 use Rattle.offer_book.specs.Portfolio.{line_cost, payments}
 use Rattle.offer_book.specs.Rival.{IsRival}
 use Rattle.offer_book.specs.declared.line.Line.{Line}
-use Rattle.dual_bound.specs.declared.prices.TheConstants.{PRICE_SCALE}
+use Rattle.proof_tree.specs.declared.prices.TheConstants.{PRICE_SCALE}
 use Rattle.backward_build.specs.BackwardPlan.{backward_plan}
 use Rattle.backward_build.specs.OwnOffer.{line_at, need_at, own_offer_of}
 use Rattle.backward_build.specs.PlanLaws.{IsOwnOfferAt}

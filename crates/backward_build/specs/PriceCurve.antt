@@ -8,8 +8,8 @@ use Rattle.offer_book.specs.Coefficients.{cost_coefficients, pay_coefficients}
 use Rattle.offer_book.specs.declared.coefficients.PayCoefficients.{PayCoefficients}
 use Rattle.offer_book.specs.declared.line.Line.{Line}
 use Rattle.dual_bound.specs.LeafBound.{price_on}
-use Rattle.dual_bound.specs.declared.prices.TheConstants.{PRICE_SCALE}
-use Rattle.dual_bound.specs.declared.tree.Leaf.{Leaf}
+use Rattle.proof_tree.specs.declared.prices.TheConstants.{PRICE_SCALE}
+use Rattle.proof_tree.specs.declared.tree.Leaf.{Leaf}
 use Rattle.backward_build.specs.OwnOffer.{line_at, need_at, own_offer_of}
 use Rattle.backward_build.specs.Span.{falls_in, span_of}
 use Rattle.backward_build.specs.declared.span.Span.{Span}

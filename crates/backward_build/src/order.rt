@@ -6,10 +6,11 @@ ghost use Rattle.escrow_units.specs.Flows.{Rise};
 ghost use Rattle.offer_book.specs.declared.line.Line.{Line};
 ghost use Rattle.backward_build.specs.Order.{AreCandidates, ArePrices, IsOrder, saving_of, worth_of};
 
-use dual_bound::{PRICE_SCALE, Prices, price_on};
+use dual_bound::price_on;
 use escrow_desk::NoMemory;
 use escrow_units::Flow;
 use offer_book::{Book, PayCoefficients};
+use proof_tree::{PRICE_SCALE, Prices};
 use std::alloc::Global;
 use std::cmp::Reverse;
 

@@ -2,16 +2,17 @@
 ghost use Rattle.std.specs.Prelude.{All, ◌≡◌, ◌*◌, ◌^◌, ◌<◌, ◌≤◌, length, IfOk, IfSome, option_map, true};
 ghost use Rattle.escrow_units.specs.Flows.{Rise};
 ghost use Rattle.offer_book.specs.Book.{IsBook, IsSecurityLine};
-ghost use Rattle.dual_bound.specs.Tree.{IsLeaf};
+ghost use Rattle.proof_tree.specs.Tree.{IsLeaf};
 ghost use Rattle.backward_build.specs.OwnOffer.{ends_on, need_at};
 ghost use Rattle.backward_build.specs.PriceCurve.{bootstrapped_prices, fair_price as fair_price_of, last_price as last_price_of, leaf_of_prices, next_price as next_price_of, shared as shared_of, unit_paid_in, worth_at};
 
 use crate::offers::own_offer;
 use crate::span::Span;
-use dual_bound::{Leaf, PRICE_SCALE, Prices, price_on};
+use dual_bound::price_on;
 use escrow_desk::NoMemory;
 use escrow_units::Flow;
 use offer_book::{Book, Line, PayCoefficients};
+use proof_tree::{Leaf, PRICE_SCALE, Prices};
 use std::alloc::Global;
 
 // The payments of one unit of a line, scaled.

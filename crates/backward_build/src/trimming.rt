@@ -13,10 +13,10 @@ use crate::order::{Candidate, order};
 use crate::price_curve::bootstrap;
 use crate::spare::{pay_less, put_paid, spare_of, suffices, take_spare};
 use cash_table::Plan;
-use dual_bound::Prices;
 use escrow_desk::NoMemory;
 use escrow_units::MOST_NEED_DATES;
 use offer_book::Book;
+use proof_tree::Prices;
 use std::alloc::Global;
 
 // The fewest units of a line that pay what is due by each need date, from its least purchase on, where so many do. By

@@ -5,16 +5,16 @@ use Rattle.std.proofs.lemmas.List.{append-nil, map-append}
 use Rattle.std.proofs.lemmas.List.Sums.{fold-append}
 use Rattle.std.proofs.lemmas.List.Elements.{All-append, All-cons, All-head, All-nil, All-tail}
 use Rattle.std.proofs.lemmas.List.Quantifiers.{all_pairs_push}
-use Rattle.dual_bound.specs.declared.tree.Leaf.{Leaf}
-use Rattle.dual_bound.specs.declared.tree.TreeNode.{TreeNode}
-use Rattle.dual_bound.specs.declared.tree.TreeNode.TheVariants as node
-use Rattle.dual_bound.specs.Tree.{AreTrees}
+use Rattle.proof_tree.specs.declared.tree.Leaf.{Leaf}
+use Rattle.proof_tree.specs.declared.tree.TreeNode.{TreeNode}
+use Rattle.proof_tree.specs.declared.tree.TreeNode.TheVariants as node
+use Rattle.proof_tree.specs.Tree.{AreTrees, IsNode}
 use Rattle.bound_certificate.specs.declared.certificate.Buy.{Buy}
 use Rattle.bound_certificate.specs.declared.certificate.Certificate.{Certificate}
 use Rattle.bound_certificate.specs.declared.due.Due.{Due}
 use Rattle.bound_certificate.specs.declared.due.Due.TheVariants as due
 use Rattle.bound_certificate.specs.declared.limits.TheConstants.{GREATEST_GAP, MOST_NODES}
-use Rattle.bound_certificate.specs.Certificate.{AreBuys, IsBuy, IsNode, IsPortfolio, IsWellFormed}
+use Rattle.bound_certificate.specs.Certificate.{AreBuys, IsBuy, IsPortfolio, IsWellFormed}
 use Rattle.bound_certificate.specs.Draft.{no_lines, with_item}
 use Rattle.bound_certificate.specs.Due.{buys_due, is_over, next_due, nodes_due}
 use Rattle.bound_certificate.specs.Text.{Line, lines_of, portfolio_lines}

@@ -2,19 +2,19 @@
 use Rattle.std.proofs.Common.{◌≡◌, ◌∙◌, ℕ, zero, suc, ◌+◌, ◌≤◌, List, [], ◌∷◌, ◌++◌, All, length, map, get_or, refl, sym, ap, subst, arith, add-one, replicate, ◌==◌, Bool, true, false}
 use Rattle.std.proofs.lemmas.List.{get_or-replicate, length-replicate}
 use Rattle.std.proofs.lemmas.List.Elements.{All-cons, All-head, All-nil, All-tail}
-use Rattle.dual_bound.specs.declared.tree.TreeNode.{TreeNode}
-use Rattle.dual_bound.specs.declared.tree.TreeNode.TheVariants as tree
+use Rattle.proof_tree.specs.declared.tree.TreeNode.{TreeNode}
+use Rattle.proof_tree.specs.declared.tree.TreeNode.TheVariants as tree
 use Rattle.bound_certificate.specs.declared.certificate.Certificate.{Certificate}
 use Rattle.bound_certificate.specs.declared.packed.Change.{Change}
 use Rattle.bound_certificate.specs.declared.packed.Packed.{Packed}
 use Rattle.bound_certificate.specs.declared.packed.PackedNode.{PackedNode}
 use Rattle.bound_certificate.specs.declared.packed.PackedNode.TheVariants as node
-use Rattle.bound_certificate.specs.Certificate.{IsNode}
 use Rattle.bound_certificate.specs.Packed.{IsDifference, IsNodePacked, IsPackable, IsPackedNode, IsVector, unpacked_node}
 use Rattle.bound_certificate.specs.PackedText.{packed_text_of}
 use Rattle.bound_certificate.specs.Versions.{IsPackedFormOf}
 use Rattle.bound_certificate.proofs.PackFacts.{IsSoFar, none-yet, no-change, one-change, whole-difference}
 use Rattle.bound_certificate.proofs.PackedOfFacts.{said-packed, said-same, unpacked-is, well-formed}
+use Rattle.proof_tree.specs.Tree.{IsNode}
 
 -- the changes of a list from another, up to a place
 record HasSoFar (vector prices : List ℕ) (place : ℕ) : Type 0 where

@@ -4,20 +4,21 @@ use lib.Pointwise.{bytes_decides}
 use Rattle.std.specs.List.{find, join_with_byte}
 use Rattle.std.proofs.lemmas.List.{length-map}
 use Rattle.std.proofs.lemmas.List.Splits.{join_with_byte-slice_split}
-use Rattle.dual_bound.specs.declared.prices.TheConstants.{PRICE_SCALE}
-use Rattle.dual_bound.specs.declared.tree.TreeNode.TheVariants as node
+use Rattle.proof_tree.specs.declared.prices.TheConstants.{PRICE_SCALE}
+use Rattle.proof_tree.specs.declared.tree.TreeNode.TheVariants as node
 use Rattle.bound_certificate.specs.declared.due.Due.{Due}
 use Rattle.bound_certificate.specs.declared.due.Due.TheVariants as due
 use Rattle.bound_certificate.specs.declared.due.Name.{Name}
 use Rattle.bound_certificate.specs.declared.due.Name.TheVariants as name
 use Rattle.bound_certificate.specs.declared.fault.FaultKind.TheVariants as kind
-use Rattle.bound_certificate.specs.declared.limits.TheConstants.{GREATEST_UNITS, MOST_BUYS, MOST_NODES}
+use Rattle.bound_certificate.specs.declared.limits.TheConstants.{MOST_BUYS, MOST_NODES}
 use Rattle.bound_certificate.specs.Due.{first_names, is_closed_early, is_in, is_title, is_unclosed, width_of, word_of}
 use Rattle.bound_certificate.specs.Grammar.{are_disordered, is_name, later_fault, line_fault, line_numbers, name_in, named_fault, numbers_fault, numbers_in, rises, words_fault, words_of}
 use Rattle.bound_certificate.specs.Text.{Line}
 use Rattle.bound_certificate.specs.Text as text
 use Rattle.bound_certificate.proofs.RowFacts.{AreInRange, AreNumbers, AreWritten, numbers-found, words-row}
 use Rattle.bound_certificate.proofs.SaidFacts.{Fits, body, order-falling, prices-found, row, weight-found}
+use Rattle.proof_tree.specs.declared.tree.TheConstants.{GREATEST_UNITS}
 
 -- a name that may stand alone is the one found
 only_name : (n m : Name) (b : Bool) → cond b (Some n) None ≡ Some m → m ≡ n

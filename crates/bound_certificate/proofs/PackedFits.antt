@@ -1,8 +1,8 @@
 -- Lines of a packed certificate that may stand where something is due.
 use Rattle.std.proofs.Common.{◌≡◌, ◌∙◌, ℕ, ◌+◌, ◌-◌, ◌*◌, ◌%◌, ◌≤◌, Bool, true, false, ◌==◌, ◌||◌, not, nat_lt, if◌then◌else◌, List, [], ◌∷◌, ◌++◌, length, All, refl, sym, subst, ap, arith, Some, None, Result, Ok, Err, codes}
 use Rattle.std.proofs.lemmas.List.Elements.{All-cons, All-head, All-tail}
-use Rattle.dual_bound.specs.declared.prices.TheConstants.{PRICE_SCALE}
-use Rattle.dual_bound.specs.Tree.{IsLeaf}
+use Rattle.proof_tree.specs.declared.prices.TheConstants.{PRICE_SCALE}
+use Rattle.proof_tree.specs.Tree.{IsLeaf}
 use Rattle.bound_certificate.specs.declared.certificate.Buy.{Buy}
 use Rattle.bound_certificate.specs.declared.fault.FaultKind.{FaultKind}
 use Rattle.bound_certificate.specs.declared.fault.FaultKind.TheVariants as kind
@@ -12,7 +12,7 @@ use Rattle.bound_certificate.specs.declared.packed_line.PackedLine.{PackedLine}
 use Rattle.bound_certificate.specs.declared.packed_line.PackedLine.TheVariants as line
 use Rattle.bound_certificate.specs.declared.row.Row.{Row}
 use Rattle.bound_certificate.specs.declared.row.Row.TheVariants as row
-use Rattle.bound_certificate.specs.declared.limits.TheConstants.{GREATEST_GAP, GREATEST_UNITS, MOST_DATES, MOST_NODES, MOST_PACKED_BUYS, MOST_VECTORS}
+use Rattle.bound_certificate.specs.declared.limits.TheConstants.{GREATEST_GAP, MOST_DATES, MOST_NODES, MOST_PACKED_BUYS, MOST_VECTORS}
 use Rattle.bound_certificate.specs.Certificate.{IsBuy}
 use Rattle.bound_certificate.specs.Grammar.{rises}
 use Rattle.bound_certificate.specs.Packed.{IsPackedLeaf, IsVector, changed, leaf_with, vector_of}
@@ -26,6 +26,7 @@ use Rattle.bound_certificate.proofs.PackedRowFacts.{IsRowOf, row-found, row-one,
 use Rattle.bound_certificate.proofs.PackedSaidFacts.{InChange, are-changes, change-count, changed-length, changed-range, changes-back, changes-in, changes-ranges, changes-written, few-changes, in-changes, numbers-back, other-changes, others-found, others-read, places-rising, rising-places}
 use Rattle.bound_certificate.proofs.RowFacts.{AreWritten}
 use Rattle.bound_certificate.proofs.SaidFacts.{IsPrice, falling-order, order-falling, prices-written, weight-found, weight_read, weight_within, weight_written, within}
+use Rattle.proof_tree.specs.declared.tree.TheConstants.{GREATEST_UNITS}
 
 -- the word and the numbers of a line
 abbrev pub word_of_line : PackedLine → List ℕ

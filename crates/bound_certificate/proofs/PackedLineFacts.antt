@@ -2,7 +2,7 @@
 use Rattle.std.proofs.Common.{◌≡◌, ◌∙◌, ℕ, suc, ◌+◌, ◌-◌, ◌*◌, ◌%◌, ◌<◌, ◌≤◌, Bool, true, false, ◌&&◌, ◌||◌, nat_le, nat_lt, bit_or, ◌⊎◌, inl, inr, List, [], ◌∷◌, All, length, drop, drop-cons, get_or, refl, sym, ap, arith, length-drop}
 use Rattle.std.proofs.lemmas.Bool.{cases_lt}
 use Rattle.std.proofs.lemmas.Nat.{le_or_l, le_or_r, or_lt}
-use Rattle.dual_bound.specs.declared.prices.TheConstants.{PRICE_SCALE}
+use Rattle.proof_tree.specs.declared.prices.TheConstants.{PRICE_SCALE}
 use Rattle.bound_certificate.specs.declared.packed.Change.{Change}
 use Rattle.bound_certificate.specs.Grammar.{rises}
 use Rattle.bound_certificate.specs.PackedGrammar.{are_rising, changes_of, places_of}

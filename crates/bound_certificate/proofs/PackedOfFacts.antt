@@ -2,11 +2,11 @@
 use Rattle.std.proofs.Common.{◌≡◌, ◌∙◌, ℕ, ◌+◌, ◌-◌, ◌*◌, ◌<◌, ◌≤◌, Bool, List, [], ◌∷◌, ◌++◌, Some, None, length, map, take, get_or, All, refl, sym, subst, ap, arith, Option}
 use Rattle.std.proofs.lemmas.List.{get_or_default, length-map, map-append, take_all, take_more}
 use Rattle.std.proofs.lemmas.List.Elements.{All-cons, All-head, All-nil, All-push, All-tail}
-use Rattle.dual_bound.specs.declared.prices.TheConstants.{PRICE_SCALE}
-use Rattle.dual_bound.specs.declared.tree.Leaf.{Leaf}
-use Rattle.dual_bound.specs.declared.tree.TreeNode.{TreeNode}
-use Rattle.dual_bound.specs.declared.tree.TreeNode.TheVariants as tree
-use Rattle.dual_bound.specs.Tree.{AreTrees, IsLeaf}
+use Rattle.proof_tree.specs.declared.prices.TheConstants.{PRICE_SCALE}
+use Rattle.proof_tree.specs.declared.tree.Leaf.{Leaf}
+use Rattle.proof_tree.specs.declared.tree.TreeNode.{TreeNode}
+use Rattle.proof_tree.specs.declared.tree.TreeNode.TheVariants as tree
+use Rattle.proof_tree.specs.Tree.{AreTrees, IsLeaf, IsNode}
 use Rattle.bound_certificate.specs.declared.certificate.Buy.{Buy}
 use Rattle.bound_certificate.specs.declared.certificate.Certificate.{Certificate}
 use Rattle.bound_certificate.specs.declared.packed.Change.{Change}
@@ -14,7 +14,7 @@ use Rattle.bound_certificate.specs.declared.packed.Packed.{Packed}
 use Rattle.bound_certificate.specs.declared.packed.PackedNode.{PackedNode}
 use Rattle.bound_certificate.specs.declared.packed.PackedNode.TheVariants as node
 use Rattle.bound_certificate.specs.declared.limits.TheConstants.{MOST_DATES, MOST_VECTORS}
-use Rattle.bound_certificate.specs.Certificate.{IsNode, IsPortfolio, IsWellFormed}
+use Rattle.bound_certificate.specs.Certificate.{IsPortfolio, IsWellFormed}
 use Rattle.bound_certificate.specs.Packed.{AreLeafPrices, HaveLength, IsChange, IsDifference, IsLeafNode, IsLeafPacked, IsNodePacked, IsPackable, IsPackedNode, IsPackedOf, IsPackedPortfolio, IsPackedWellFormed, IsPackingAt, IsSomeForLeaf, IsVector, changed, leaf_with, node_prices, unpacked, unpacked_node, vector_of}
 
 -- ---- one node

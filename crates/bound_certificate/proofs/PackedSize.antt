@@ -7,8 +7,8 @@ use Rattle.std.proofs.lemmas.List.{length-append}
 use Rattle.std.proofs.lemmas.List.Concat.{flat_map-append}
 use Rattle.std.proofs.lemmas.List.Elements.{All-head, All-tail, All-weaker}
 use Rattle.escrow_desk.specs.declared.limits.TheConstants.{CERTIFICATE_LIMIT}
-use Rattle.dual_bound.specs.declared.prices.TheConstants.{PRICE_SCALE}
-use Rattle.dual_bound.specs.Tree.{AreTrees}
+use Rattle.proof_tree.specs.declared.prices.TheConstants.{PRICE_SCALE}
+use Rattle.proof_tree.specs.Tree.{AreTrees}
 use Rattle.bound_certificate.specs.Certificate.{IsBuy}
 use Rattle.bound_certificate.specs.Packed.{AreChanges, IsChange, IsPackedLeaf, IsPackedNode, IsPackedPortfolio, IsPackedWellFormed, IsVector, unpacked_node, vector_of}
 use Rattle.bound_certificate.specs.PackedText.{change_numbers, packed_portfolio_lines, packed_text, packed_text_of}

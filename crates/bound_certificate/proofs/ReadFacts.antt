@@ -8,7 +8,7 @@ use Rattle.std.proofs.lemmas.List.Elements.{All-append, All-nil}
 use Rattle.std.proofs.lemmas.List.Splits.{join_with_byte-slice_split, slice_split_none}
 use Rattle.std.proofs.lemmas.List.Sums.{fold-append}
 use Rattle.std.proofs.Math.Seq.{take-append_seam}
-use Rattle.dual_bound.specs.declared.tree.Leaf.{Leaf}
+use Rattle.proof_tree.specs.declared.tree.Leaf.{Leaf}
 use Rattle.bound_certificate.specs.declared.certificate.Certificate.{Certificate}
 use Rattle.bound_certificate.specs.declared.due.Due.{Due}
 use Rattle.bound_certificate.specs.declared.due.Due.TheVariants as due

@@ -6,10 +6,10 @@ use Rattle.std.proofs.lemmas.Bool.{and_parts}
 use Rattle.std.proofs.lemmas.List.{length-map}
 use Rattle.std.proofs.lemmas.List.Elements.{All-append, All-cons, All-head, All-nil, All-tail}
 use Rattle.std.proofs.lemmas.List.Kept.{AllPairs-cons}
-use Rattle.dual_bound.specs.declared.prices.TheConstants.{PRICE_SCALE}
-use Rattle.dual_bound.specs.declared.tree.Leaf.{Leaf}
-use Rattle.dual_bound.specs.declared.tree.TreeNode.TheVariants as node
-use Rattle.dual_bound.specs.Tree.{IsLeaf}
+use Rattle.proof_tree.specs.declared.prices.TheConstants.{PRICE_SCALE}
+use Rattle.proof_tree.specs.declared.tree.Leaf.{Leaf}
+use Rattle.proof_tree.specs.declared.tree.TreeNode.TheVariants as node
+use Rattle.proof_tree.specs.Tree.{IsLeaf, IsNode}
 use Rattle.bound_certificate.specs.declared.due.Due.{Due}
 use Rattle.bound_certificate.specs.declared.due.Due.TheVariants as due
 use Rattle.bound_certificate.specs.declared.due.Name.{Name}
@@ -17,14 +17,15 @@ use Rattle.bound_certificate.specs.declared.due.Name.TheVariants as name
 use Rattle.bound_certificate.specs.declared.fault.FaultKind.TheVariants as kind
 use Rattle.bound_certificate.specs.declared.item.Item.{Item}
 use Rattle.bound_certificate.specs.declared.item.Item.TheVariants as item
-use Rattle.bound_certificate.specs.declared.limits.TheConstants.{GREATEST_GAP, GREATEST_UNITS, MOST_BUYS, MOST_NODES}
-use Rattle.bound_certificate.specs.Certificate.{IsBuy, IsNode}
+use Rattle.bound_certificate.specs.declared.limits.TheConstants.{GREATEST_GAP, MOST_BUYS, MOST_NODES}
+use Rattle.bound_certificate.specs.Certificate.{IsBuy}
 use Rattle.bound_certificate.specs.Due.{is_closed_early, is_in, is_title, is_unclosed, weight_range, width_of, word_of}
 use Rattle.bound_certificate.specs.Grammar.{are_disordered, is_name, is_space, later_fault, leaf_of, line_fault, line_item, line_leaf, line_numbers, name_in, named_fault, named_item, numbers_fault, numbers_in, numbers_item, rises, said_by, words_fault, words_item, words_numbers, words_of}
 use Rattle.bound_certificate.specs.Text.{Line, line_text, numbered, spaced_numbers}
 use Rattle.bound_certificate.specs.Text as text
 use Rattle.bound_certificate.specs.Lines.{IsOneLine, NotFeed}
 use Rattle.bound_certificate.proofs.RowFacts.{AreInRange, AreWritten, IsDigit, IsWord, decimal-digits, numbers-read, row-words}
+use Rattle.proof_tree.specs.declared.tree.TheConstants.{GREATEST_UNITS}
 
 -- what a line says, as an item
 abbrev pub item_of_line : Line → Item

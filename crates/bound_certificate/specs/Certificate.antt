@@ -1,11 +1,10 @@
 -- Well-formed certificates. The limits are this project's own.
 use Rattle.std.specs.Prelude.{◌≡◌, ℕ, ◌≤◌, ◌<◌, List, length, All, AllPairs, Option, Some, None}
-use Rattle.dual_bound.specs.Tree.{AreTrees, IsLeaf}
-use Rattle.dual_bound.specs.declared.tree.TreeNode.{TreeNode}
-use Rattle.dual_bound.specs.declared.tree.TreeNode.TheVariants as node
+use Rattle.proof_tree.specs.Tree.{AreTrees, IsNode}
 use Rattle.bound_certificate.specs.declared.certificate.Buy.{Buy}
 use Rattle.bound_certificate.specs.declared.certificate.Certificate.{Certificate}
-use Rattle.bound_certificate.specs.declared.limits.TheConstants.{GREATEST_GAP, GREATEST_UNITS, MOST_BUYS, MOST_DATES, MOST_NODES}
+use Rattle.bound_certificate.specs.declared.limits.TheConstants.{GREATEST_GAP, MOST_BUYS, MOST_DATES, MOST_NODES}
+use Rattle.proof_tree.specs.declared.tree.TheConstants.{GREATEST_UNITS}
 
 -- at least one unit of a line
 abbrev pub IsBuy : Buy → Type 0
@@ -21,12 +20,6 @@ pub record AreBuys (buys : List Buy) : Type 0 where
 abbrev pub IsPortfolio : Option (List Buy) → ℕ → Type 0
 IsPortfolio None gap = gap ≡ 0
 IsPortfolio (Some buys) gap = AreBuys buys × (gap ≤ GREATEST_GAP)
-
--- a node, whose leaf has one price for each need date
-abbrev pub IsNode : ℕ → TreeNode → Type 0
-IsNode dates (node.Split line at) = (line ≤ 65_535) × (at ≤ GREATEST_UNITS)
-IsNode dates node.Point = Unit {0}
-IsNode dates (node.Closed leaf) = IsLeaf dates leaf
 
 -- a certificate for so many need dates: its portfolio, and the nodes of one tree, from 1 to 10,000
 pub record IsWellFormed (dates : ℕ) (cert : Certificate) : Type 0 where

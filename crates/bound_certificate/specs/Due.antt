@@ -1,6 +1,6 @@
 -- What may stand on a line of a certificate, after the lines before it. The order is this project's own.
 use Rattle.std.specs.Prelude.{ℕ, ◌+◌, ◌-◌, ◌*◌, ◌≤◌, Bool, true, false, ◌==◌, nat_lt, nat_le, ◌&&◌, if◌then◌else◌, List, [], ◌∷◌, Some, codes}
-use Rattle.dual_bound.specs.declared.prices.TheConstants.{PRICE_SCALE}
+use Rattle.proof_tree.specs.declared.prices.TheConstants.{PRICE_SCALE}
 use Rattle.bound_certificate.specs.declared.due.Due.{Due}
 use Rattle.bound_certificate.specs.declared.due.Due.TheVariants as due
 use Rattle.bound_certificate.specs.declared.due.Name.{Name}
@@ -8,7 +8,8 @@ use Rattle.bound_certificate.specs.declared.due.Name.TheVariants as name
 use Rattle.bound_certificate.specs.declared.due.Range.{Range}
 use Rattle.bound_certificate.specs.declared.item.Item.{Item}
 use Rattle.bound_certificate.specs.declared.item.Item.TheVariants as item
-use Rattle.bound_certificate.specs.declared.limits.TheConstants.{GREATEST_GAP, GREATEST_UNITS, MOST_BUYS, MOST_NODES}
+use Rattle.bound_certificate.specs.declared.limits.TheConstants.{GREATEST_GAP, MOST_BUYS, MOST_NODES}
+use Rattle.proof_tree.specs.declared.tree.TheConstants.{GREATEST_UNITS}
 
 -- how a name is written
 abbrev pub word_of : Name → List ℕ

@@ -1,13 +1,13 @@
 -- A certificate whose text comes line by line: what came of it before something is due. It is this project's own.
 use Rattle.std.specs.Prelude.{◌≡◌, ◌≢◌, ℕ, ◌+◌, ◌<◌, ◌≤◌, List, [], ◌∷◌, ◌++◌, length, map, All, AllPairs, Option, Some, None}
-use Rattle.dual_bound.specs.declared.tree.TreeNode.{TreeNode}
-use Rattle.dual_bound.specs.Tree.{AreTrees}
+use Rattle.proof_tree.specs.declared.tree.TreeNode.{TreeNode}
+use Rattle.proof_tree.specs.Tree.{AreTrees, IsNode}
 use Rattle.bound_certificate.specs.declared.certificate.Buy.{Buy}
 use Rattle.bound_certificate.specs.declared.certificate.Certificate.{Certificate}
 use Rattle.bound_certificate.specs.declared.due.Due.{Due}
 use Rattle.bound_certificate.specs.declared.due.Due.TheVariants as due
 use Rattle.bound_certificate.specs.declared.limits.TheConstants.{GREATEST_GAP, MOST_BUYS, MOST_NODES}
-use Rattle.bound_certificate.specs.Certificate.{AreBuys, IsBuy, IsNode, IsPortfolio, IsWellFormed}
+use Rattle.bound_certificate.specs.Certificate.{AreBuys, IsBuy, IsPortfolio, IsWellFormed}
 use Rattle.bound_certificate.specs.Text.{Line, lines_of, portfolio_lines}
 use Rattle.bound_certificate.specs.Text as text
 

@@ -1,11 +1,11 @@
 -- Certificates whose leaves share their prices. The form and the limits are this project's own.
 use Rattle.std.specs.Prelude.{◌≡◌, ◌≢◌, ℕ, ◌-◌, ◌*◌, ◌<◌, ◌≤◌, Bool, List, [], length, map, All, AllPairs, Option, Some, None, slice_index, slice_index_or, slice_set}
 use Rattle.std.specs.List.{fold}
-use Rattle.dual_bound.specs.Tree.{AreTrees, IsLeaf}
-use Rattle.dual_bound.specs.declared.prices.TheConstants.{PRICE_SCALE}
-use Rattle.dual_bound.specs.declared.tree.Leaf.{Leaf}
-use Rattle.dual_bound.specs.declared.tree.TreeNode.{TreeNode}
-use Rattle.dual_bound.specs.declared.tree.TreeNode.TheVariants as tree
+use Rattle.proof_tree.specs.Tree.{AreTrees, IsLeaf, IsNode}
+use Rattle.proof_tree.specs.declared.prices.TheConstants.{PRICE_SCALE}
+use Rattle.proof_tree.specs.declared.tree.Leaf.{Leaf}
+use Rattle.proof_tree.specs.declared.tree.TreeNode.{TreeNode}
+use Rattle.proof_tree.specs.declared.tree.TreeNode.TheVariants as tree
 use Rattle.bound_certificate.specs.declared.certificate.Buy.{Buy}
 use Rattle.bound_certificate.specs.declared.certificate.Certificate.{Certificate}
 use Rattle.bound_certificate.specs.declared.packed.Change.{Change}
@@ -13,8 +13,9 @@ use Rattle.bound_certificate.specs.declared.packed.Packed.{Packed}
 use Rattle.bound_certificate.specs.declared.packed.PackedNode.{PackedNode}
 use Rattle.bound_certificate.specs.declared.packed.PackedNode.TheVariants as node
 use Rattle.bound_certificate.specs.declared.vector_choice.Candidate.{Candidate}
-use Rattle.bound_certificate.specs.declared.limits.TheConstants.{GREATEST_GAP, GREATEST_UNITS, MOST_DATES, MOST_NODES, MOST_PACKED_BUYS, MOST_VECTORS}
-use Rattle.bound_certificate.specs.Certificate.{IsBuy, IsNode}
+use Rattle.bound_certificate.specs.declared.limits.TheConstants.{GREATEST_GAP, MOST_DATES, MOST_NODES, MOST_PACKED_BUYS, MOST_VECTORS}
+use Rattle.bound_certificate.specs.Certificate.{IsBuy}
+use Rattle.proof_tree.specs.declared.tree.TheConstants.{GREATEST_UNITS}
 
 -- prices, with another price at each of some places, which count from 1
 abbrev pub changed : List ℕ → List Change → List ℕ

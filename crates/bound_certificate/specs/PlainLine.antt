@@ -1,7 +1,7 @@
 -- A line of a certificate, read whole: what comes of its words one by one.
 use Rattle.std.specs.Prelude.{◌≡◌, ℕ, ◌+◌, true, false, if◌then◌else◌, List, [], ◌∷◌, length, Option, Some, None, option_map, slice_index_or}
 use denote.Ref.{Bor}
-use Rattle.dual_bound.specs.declared.tree.Leaf.{Leaf}
+use Rattle.proof_tree.specs.declared.tree.Leaf.{Leaf}
 use Rattle.bound_certificate.specs.declared.due.Due.{Due}
 use Rattle.bound_certificate.specs.declared.due.Name.{Name}
 use Rattle.bound_certificate.specs.declared.due.Name.TheVariants as name

@@ -3,15 +3,16 @@ use Rattle.std.specs.Prelude.{◌≡◌, ℕ, ◌+◌, ◌*◌, ◌%◌, Bool, t
 use Rattle.std.specs.List.{slice_split}
 use lib.Pointwise.{pointwise}
 use denote.Ref.{Bor}
-use Rattle.dual_bound.specs.declared.prices.TheConstants.{PRICE_SCALE}
+use Rattle.proof_tree.specs.declared.prices.TheConstants.{PRICE_SCALE}
 use Rattle.bound_certificate.specs.declared.due.Range.{Range}
 use Rattle.bound_certificate.specs.declared.row.Row.{Row}
 use Rattle.bound_certificate.specs.declared.row.Row.TheVariants as row
 use Rattle.bound_certificate.specs.declared.fault.FaultKind.{FaultKind}
 use Rattle.bound_certificate.specs.declared.fault.FaultKind.TheVariants as kind
-use Rattle.bound_certificate.specs.declared.limits.TheConstants.{GREATEST_UNITS, MOST_NODES, MOST_PACKED_BUYS, MOST_VECTORS}
+use Rattle.bound_certificate.specs.declared.limits.TheConstants.{MOST_NODES, MOST_PACKED_BUYS, MOST_VECTORS}
 use Rattle.bound_certificate.specs.Due.{from_to, is_in}
 use Rattle.bound_certificate.specs.Grammar.{number_in, words_of}
+use Rattle.proof_tree.specs.declared.tree.TheConstants.{GREATEST_UNITS}
 
 -- how the first word of a line is written
 abbrev pub row_word : Row → List ℕ

@@ -1,11 +1,10 @@
 //! What a certificate says.
 ghost use Rattle.std.specs.Prelude.{◌≡◌, ◌++◌, ◌∷◌, [], IfOk, OnOk, length};
-ghost use Rattle.dual_bound.specs.declared.tree.TreeNode.TheVariants as node;
 ghost use Rattle.bound_certificate.specs.Draft.{no_lines, with_item};
 
 use crate::item::Item;
-use dual_bound::{Leaf, Prices, TreeNode};
 use escrow_desk::NoMemory;
+use proof_tree::{Leaf, Nodes, Prices, TreeNode};
 use std::alloc::Global;
 use std::marker::Model;
 
@@ -61,59 +60,6 @@ impl Buys {
     {
         self.buys.push(buy)?;
         Ok(())
-    }
-}
-
-/// The nodes of a tree in preorder. Contracts see the list of them.
-#[derive(Debug, Drop)]
-pub struct Nodes {
-    nodes: Vec<TreeNode>,
-}
-
-impl Model for Nodes {
-    ghost use Rattle.std.specs.Prelude.{List};
-    ghost use Rattle.dual_bound.specs.declared.tree.TreeNode.{TreeNode};
-
-    ghost Value = { List TreeNode };
-
-    ghost view = { λ n. n.nodes.items };
-}
-
-impl Nodes {
-    /// These nodes.
-    pub fn new(nodes: Vec<TreeNode>) -> Nodes
-        ensures { result ≡ nodes.items }
-    {
-        Nodes { nodes }
-    }
-
-    /// The nodes as a slice.
-    pub fn as_slice(&self) -> &[TreeNode]
-        ensures { result.now ≡ self.now }
-    {
-        self.nodes.as_slice()
-    }
-
-    /// The nodes as they were given.
-    pub fn into_vec(self) -> Vec<TreeNode>
-        ensures { result.items ≡ self }
-    {
-        self.nodes
-    }
-
-    // One more.
-    fn push(&mut self, node: TreeNode) -> Result<(), NoMemory>
-        ensures { OnOk result (self.new ≡ self.old ++ node ∷ []) }
-    {
-        self.nodes.push(node)?;
-        Ok(())
-    }
-
-    // One more leaf, copied.
-    fn push_leaf(&mut self, alloc: Global, leaf: &Leaf) -> Result<(), NoMemory>
-        ensures { OnOk result (self.new ≡ self.old ++ node.Closed leaf.now ∷ []) }
-    {
-        self.push(TreeNode::Closed(leaf.copy(alloc)?))
     }
 }
 

@@ -3,8 +3,8 @@ ghost use Rattle.std.specs.Prelude.{◌≡◌, ◌+◌, ◌≤◌, false};
 ghost use Rattle.bound_certificate.specs.Due.{IsDue, IsSaid, buys_due as buys_due_of, from_to, next_due, nodes_due as nodes_due_of, is_closed_early, is_in, is_over, lines_left, most_gap, range_at as range_at_of, weight_range as weight_range_of, width_of, word_of};
 
 use crate::item::Item;
-use crate::limits::{GREATEST_GAP, GREATEST_UNITS, MOST_BUYS, MOST_DATES, MOST_NODES};
-use dual_bound::PRICE_SCALE;
+use crate::limits::{GREATEST_GAP, MOST_BUYS, MOST_DATES, MOST_NODES};
+use proof_tree::{GREATEST_UNITS, PRICE_SCALE};
 
 /// What may stand on the next line.
 #[derive(Clone, Copy, Debug, PartialEq, Eq)]

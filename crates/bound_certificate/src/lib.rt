@@ -36,13 +36,11 @@ mod vector_choice;
 mod vector_room;
 mod write;
 
-pub use certificate::{Buy, Buys, Certificate, Nodes};
+pub use certificate::{Buy, Buys, Certificate};
 pub use fault::{CertError, CertFault, FaultKind};
 pub use item::{Fed, Item};
 pub use laws::{certificate_laws, packed_text_laws, text_laws};
-pub use limits::{
-    GREATEST_GAP, GREATEST_UNITS, MOST_BUYS, MOST_DATES, MOST_NODES, MOST_PACKED_BUYS, MOST_VECTORS,
-};
+pub use limits::{GREATEST_GAP, MOST_BUYS, MOST_DATES, MOST_NODES, MOST_PACKED_BUYS, MOST_VECTORS};
 pub use packed::{Change, Changes, Packed, PackedNode, PackedNodes, Vectors};
 pub use packed_read::read_packed;
 pub use packed_write::write_packed;

@@ -3,9 +3,6 @@
 /// The most purchases of a certificate of version 1.
 pub const MOST_BUYS: u64 = 257;
 
-/// The greatest number of units of a purchase or a split.
-pub const GREATEST_UNITS: u64 = 10_000_000_000_000;
-
 /// The greatest gap, in cents.
 pub const GREATEST_GAP: u64 = 1_000_000_000_000_000;
 

@@ -20,7 +20,7 @@ use crate::plain_line::read_plain_line;
 use crate::row::Numbers;
 use crate::text_reading::Stage;
 use crate::vector_room::VectorRoom;
-use dual_bound::Leaf;
+use proof_tree::Leaf;
 
 /// What a line says, and what may stand behind it.
 #[derive(Clone, Copy, Debug, PartialEq, Eq)]

@@ -2,8 +2,8 @@
 ghost use Rattle.std.specs.Prelude.{◌≡◌, ◌++◌, ◌∷◌, [], OnOk};
 
 use crate::certificate::Buys;
-use dual_bound::Prices;
 use escrow_desk::NoMemory;
+use proof_tree::Prices;
 use std::marker::Model;
 
 /// Another price than a vector's own, on one need date.

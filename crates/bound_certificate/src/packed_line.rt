@@ -8,7 +8,7 @@ use crate::cut::cut_at;
 use crate::limits::GREATEST_GAP;
 use crate::packed::PackedNode;
 use crate::row::Row;
-use dual_bound::{PRICE_SCALE, Prices};
+use proof_tree::{PRICE_SCALE, Prices};
 
 /// What may stand on the next line.
 #[derive(Clone, Copy, Debug, PartialEq, Eq)]

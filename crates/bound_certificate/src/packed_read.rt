@@ -19,8 +19,8 @@ use crate::packed_line::{PackedDue, PackedLine};
 use crate::packed_taken::{list_changes, take_packed_line};
 use crate::vector_room::VectorRoom;
 use arrayvec::ArrayVec;
-use dual_bound::Prices;
 use escrow_desk::NoMemory;
+use proof_tree::Prices;
 use std::alloc::Global;
 
 impl Packed {

@@ -1,6 +1,6 @@
 //! The lines of a packed certificate, each taken without memory.
 ghost use Rattle.std.specs.Prelude.{◌≡◌, ◌≢◌, ◌≤◌, ◌+◌, ◌*◌, All, AllPairs, IfOk, IfErr, Ok, Err, List, ℕ, ◌<◌, length, slice_index, false, true};
-ghost use Rattle.dual_bound.specs.declared.tree.Leaf.{Leaf as LeafOf};
+ghost use Rattle.proof_tree.specs.declared.tree.Leaf.{Leaf as LeafOf};
 ghost use Rattle.bound_certificate.specs.declared.item.Item.TheVariants as item_of;
 ghost use Rattle.bound_certificate.specs.declared.packed_line.PackedLine.{PackedLine as PackedLineOf};
 ghost use Rattle.bound_certificate.specs.declared.row.Row.TheVariants as row_of;
@@ -21,7 +21,7 @@ use crate::packed_line::{PackedDue, buys_due, node_row, nodes_due, rises, vector
 use crate::row::{Numbers, Row, read_row};
 use crate::vector_room::VectorRoom;
 use arrayvec::ArrayVec;
-use dual_bound::{Leaf, PRICE_SCALE, Prices};
+use proof_tree::{Leaf, PRICE_SCALE, Prices};
 
 // So many changes are listed in a small room, which is sooner cleared: most leaves have few.
 const FEW_CHANGES: usize = 16;

@@ -8,8 +8,8 @@ ghost use Rattle.bound_certificate.specs.declared.packed_line.PackedLine.TheVari
 
 use crate::packed::{Change, Packed, PackedNode};
 use crate::write::{push_line, push_number, push_numbers, push_portfolio};
-use dual_bound::Prices;
 use escrow_desk::NoMemory;
+use proof_tree::Prices;
 use std::alloc::Global;
 
 // Adds the place and the price of each change.

@@ -7,8 +7,8 @@ use crate::limits::MOST_DATES;
 use crate::packed::{Change, Changes, Packed, PackedNode, PackedNodes};
 use crate::unpacked::copied_buys;
 use crate::vector_choice::choose_vectors;
-use dual_bound::{Leaf, Prices, TreeNode};
 use escrow_desk::NoMemory;
+use proof_tree::{Leaf, Prices, TreeNode};
 use std::alloc::Global;
 
 // The places at which prices differ from a vector's, with the prices there.

@@ -18,7 +18,7 @@ use crate::item::Item;
 use crate::limits::MOST_DATES;
 use crate::packed_line::{begins_with, rises};
 use crate::row::count_spaces;
-use dual_bound::{Leaf, Prices};
+use proof_tree::{Leaf, Prices};
 
 // The two numbers of a line.
 #[derive(Clone, Copy, Debug)]

@@ -14,8 +14,8 @@ use crate::row::Numbers;
 use crate::text_reading::{Stage, TextReading};
 use crate::vector_room::VectorRoom;
 use arrayvec::ArrayVec;
-use dual_bound::Leaf;
 use escrow_desk::NoMemory;
+use proof_tree::Leaf;
 use std::alloc::Global;
 use std::marker::Model;
 

@@ -7,11 +7,9 @@ use crate::cut::cut_at;
 use crate::due::Range;
 use crate::fault::FaultKind;
 use crate::front::front_number_in;
-use crate::limits::{
-    GREATEST_UNITS, MOST_DATES, MOST_NODES, MOST_NUMBERS, MOST_PACKED_BUYS, MOST_VECTORS,
-};
+use crate::limits::{MOST_DATES, MOST_NODES, MOST_NUMBERS, MOST_PACKED_BUYS, MOST_VECTORS};
 use arrayvec::ArrayVec;
-use dual_bound::PRICE_SCALE;
+use proof_tree::{GREATEST_UNITS, PRICE_SCALE};
 
 /// The numbers of a line.
 pub(crate) type Numbers = ArrayVec<u64, MOST_NUMBERS>;

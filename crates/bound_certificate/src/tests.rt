@@ -5,7 +5,7 @@ use crate::test_rows::{Row, bad, fault_of, good};
 use crate::{
     Buy, Buys, CertError, CertReader, Certificate, FaultKind, Item, Nodes, read_cert, write_cert,
 };
-use dual_bound::{Leaf, Prices, TreeNode};
+use proof_tree::{Leaf, Prices, TreeNode};
 use std::alloc::Global;
 use std::process::Abort;
 use std::test::Fail;

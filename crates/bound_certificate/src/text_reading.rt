@@ -17,7 +17,7 @@ use crate::packed_line::PackedDue;
 use crate::part::Part;
 use crate::row::Numbers;
 use crate::vector_room::VectorRoom;
-use dual_bound::Leaf;
+use proof_tree::Leaf;
 
 /// What may stand on the next line.
 #[derive(Clone, Copy, Debug, PartialEq, Eq)]

@@ -3,11 +3,11 @@ ghost use Rattle.std.specs.Prelude.{◌≡◌, ℕ, IfOk, length, option_map};
 ghost use Rattle.bound_certificate.specs.Packed.{IsPackable, IsPackedWellFormed, IsPackedWritable, IsUnpackable, changed, unpacked, unpacked_node as unpacked_node_of};
 ghost use Rattle.bound_certificate.specs.PackedGrammar.{ArePlaces};
 
-use crate::certificate::{Buys, Certificate, Nodes};
+use crate::certificate::{Buys, Certificate};
 use crate::packed::{Change, Packed, PackedNode};
 use crate::packed_taken::put_changes;
-use dual_bound::{Leaf, Prices, TreeNode};
 use escrow_desk::NoMemory;
+use proof_tree::{Leaf, Nodes, Prices, TreeNode};
 use std::alloc::Global;
 
 /// A copy of the purchases of a portfolio.

@@ -5,8 +5,8 @@ ghost use Rattle.bound_certificate.specs.Packed.{AreLeafPrices, IsCandidateOf, I
 
 use crate::limits::MOST_VECTORS;
 use crate::packed::Vectors;
-use dual_bound::{Prices, TreeNode};
 use escrow_desk::NoMemory;
+use proof_tree::{Prices, TreeNode};
 use std::alloc::Global;
 
 // The prices of at most so many leaves are tried as vectors: of the first that differ from each other.

@@ -6,9 +6,9 @@ ghost use Rattle.bound_certificate.specs.Certificate.{IsWritable};
 ghost use Rattle.bound_certificate.specs.Text.{Node as node_line, Purchase as buy_line, line_text, numbered, portfolio_lines, spaced_numbers, text_of};
 
 use crate::certificate::{Buy, Buys, Certificate};
-use dual_bound::{Leaf, TreeNode};
 use escrow_desk::NoMemory;
 use itoa::Buffer;
+use proof_tree::{Leaf, TreeNode};
 use std::alloc::Global;
 
 /// Adds a space and a number.

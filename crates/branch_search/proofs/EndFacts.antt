@@ -4,10 +4,10 @@ use Rattle.std.proofs.lemmas.Int.{ints}
 use Rattle.std.proofs.lemmas.List.Elements.{All-get_or}
 use Rattle.case_file.specs.Case.{CaseContents}
 use Rattle.dual_bound.proofs.BoundSizes.{bound-small}
-use Rattle.dual_bound.proofs.RangeFacts.{tight-ordered, tight-room}
-use Rattle.dual_bound.specs.Ranges.{AreTight, root_of}
-use Rattle.dual_bound.specs.declared.ranges.Interval.{Interval}
-use Rattle.dual_bound.specs.declared.tree.TreeNode.{TreeNode}
+use Rattle.node_ranges.proofs.RangeFacts.{tight-ordered, tight-room}
+use Rattle.node_ranges.specs.Ranges.{AreTight, root_of}
+use Rattle.proof_tree.specs.declared.interval.Interval.{Interval}
+use Rattle.proof_tree.specs.declared.tree.TreeNode.{TreeNode}
 use Rattle.node_pool.specs.Pool.{IsOneTree, SplitsAreWhole, state_at}
 use Rattle.node_pool.specs.Way.{IsWay, Step, ranges_at}
 use Rattle.node_pool.specs.declared.node.NodeId.{NodeId}

@@ -4,7 +4,7 @@ use Rattle.std.specs.Prelude.{nat_le}
 use Rattle.std.proofs.lemmas.Bool.Decides.{leb_tells}
 use Rattle.std.proofs.lemmas.Bool.{cases_lt}
 use Rattle.std.proofs.lemmas.Int.{ints}
-use Rattle.escrow_check.specs.Acceptance.{bears_out}
+use Rattle.node_ranges.specs.Claims.{bears_out}
 use Rattle.search_tree.specs.Growing.{node_of}
 use Rattle.search_tree.specs.Tree.{IsBorneBy, IsLeastGap, IsNeededFor, SomeNeeds}
 use Rattle.search_tree.specs.declared.node.SearchNode.{SearchNode}

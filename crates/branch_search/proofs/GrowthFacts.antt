@@ -8,11 +8,11 @@ use Rattle.std.proofs.lemmas.List.Elements.{All-from_get_or}
 use Rattle.std.proofs.lemmas.List.Sums.{sum_by-append}
 use Rattle.case_file.specs.Case.{CaseContents}
 use Rattle.dual_bound.proofs.BoundSizes.{bound-small}
-use Rattle.dual_bound.proofs.RangeFacts.{tight-ordered, tight-room}
-use Rattle.dual_bound.proofs.RangeLaws.{root_is_tight, sides_are_tight}
+use Rattle.node_ranges.proofs.RangeFacts.{tight-ordered, tight-room}
+use Rattle.node_ranges.proofs.RangeLaws.{root_is_tight, sides_are_tight}
 use Rattle.dual_bound.specs.LeafBound.{bound_of}
-use Rattle.dual_bound.specs.Ranges.{AreTight, is_proper, narrowed}
-use Rattle.dual_bound.specs.declared.ranges.Interval.{Interval}
+use Rattle.node_ranges.specs.Ranges.{AreTight, is_proper, narrowed}
+use Rattle.proof_tree.specs.declared.interval.Interval.{Interval}
 use Rattle.halving_tree.specs.Halving.{IsHalved}
 use Rattle.node_pool.proofs.PoolFacts.{count-set, one_if}
 use Rattle.node_pool.proofs.WayFacts.{ways-tight}

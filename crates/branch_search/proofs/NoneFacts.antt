@@ -12,13 +12,13 @@ use Rattle.cash_table.proofs.PointFacts.{beyond_no_rival}
 use Rattle.cash_table.specs.Points.{is_within_limit}
 use Rattle.cash_table.specs.Reach.{IsInReach}
 use Rattle.dual_bound.specs.LeafBound.{bound_of}
-use Rattle.dual_bound.specs.Ranges.{is_single, root_of}
-use Rattle.dual_bound.specs.Tree.{AreTrees}
-use Rattle.dual_bound.specs.declared.prices.TheConstants.{PRICE_SCALE}
-use Rattle.dual_bound.specs.declared.ranges.Interval.{Interval}
-use Rattle.dual_bound.specs.declared.tree.Leaf.{Leaf}
-use Rattle.dual_bound.specs.declared.tree.TreeNode.{TreeNode}
-use Rattle.escrow_check.specs.Acceptance.{Claim, bears_out, placed_nodes}
+use Rattle.node_ranges.specs.Ranges.{is_single, root_of}
+use Rattle.node_ranges.specs.Claims.{Claim, bears_out, placed_nodes}
+use Rattle.proof_tree.specs.Tree.{AreTrees}
+use Rattle.proof_tree.specs.declared.prices.TheConstants.{PRICE_SCALE}
+use Rattle.proof_tree.specs.declared.interval.Interval.{Interval}
+use Rattle.proof_tree.specs.declared.tree.Leaf.{Leaf}
+use Rattle.proof_tree.specs.declared.tree.TreeNode.{TreeNode}
 use Rattle.escrow_units.specs.declared.limits.TheConstants.{GREATEST_YIELD}
 use Rattle.halving_tree.specs.Base.{base_leaf}
 use Rattle.halving_tree.specs.Halving.{End, IsUpperPart, Split as Halved, Splits, claim_within, is_borne_out, is_end, is_unreached, node_count}

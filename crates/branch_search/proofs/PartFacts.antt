@@ -11,13 +11,13 @@ use Rattle.cash_table.proofs.PointFacts.{beyond_limit, excluded_tells}
 use Rattle.cash_table.specs.Points.{IsExcluded, is_excluded, is_within_limit}
 use Rattle.day_sums.specs.Summed.{total_by}
 use Rattle.dual_bound.specs.LeafBound.{bound_of}
-use Rattle.dual_bound.proofs.RangeFacts.{narrowed-set, tight-length}
-use Rattle.dual_bound.specs.Ranges.{AreTight, is_single, narrowed, side_of}
-use Rattle.dual_bound.specs.declared.ranges.Interval.{Interval}
-use Rattle.dual_bound.specs.declared.tree.Leaf.{Leaf}
+use Rattle.node_ranges.proofs.RangeFacts.{narrowed-set, tight-length}
+use Rattle.node_ranges.specs.Ranges.{AreTight, is_single, narrowed, side_of}
+use Rattle.node_ranges.specs.Claims.{costs_enough, low_ends}
+use Rattle.proof_tree.specs.declared.interval.Interval.{Interval}
+use Rattle.proof_tree.specs.declared.tree.Leaf.{Leaf}
 use Rattle.dual_tune.specs.Steps.{HasNoGreater, IsImproved, zeros_like}
 use Rattle.dual_tune.specs.Tuner.{TunerContents}
-use Rattle.escrow_check.specs.Acceptance.{costs_enough, low_ends}
 use Rattle.halving_tree.specs.Base.{base_leaf, reach_leaf}
 use Rattle.halving_tree.specs.Halving.{high_ends, is_short_by, is_unreached}
 use Rattle.offer_book.specs.Book.{BookContents, IsBook}

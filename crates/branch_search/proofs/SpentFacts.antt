@@ -8,11 +8,13 @@ use Rattle.case_file.specs.Case.{CaseContents}
 use Rattle.cash_table.specs.Points.{is_excluded}
 use Rattle.cash_table.specs.Reach.{IsInReach}
 use Rattle.dual_bound.specs.LeafBound.{bound_of}
-use Rattle.dual_bound.specs.Ranges.{is_single}
-use Rattle.dual_bound.specs.declared.ranges.Interval.{Interval}
-use Rattle.dual_bound.specs.declared.tree.TreeNode.{TreeNode}
-use Rattle.dual_bound.specs.declared.tree.TreeNode.TheVariants as node
-use Rattle.escrow_check.specs.Acceptance.{Claim, bears_out, claim_of, costs_enough, is_weak, low_ends, placed_nodes}
+use Rattle.dual_bound.specs.Closing.{is_weak}
+use Rattle.node_ranges.specs.Ranges.{is_single}
+use Rattle.node_ranges.specs.Claims.{Claim, bears_out, costs_enough, low_ends, placed_nodes}
+use Rattle.proof_tree.specs.declared.interval.Interval.{Interval}
+use Rattle.proof_tree.specs.declared.tree.TreeNode.{TreeNode}
+use Rattle.proof_tree.specs.declared.tree.TreeNode.TheVariants as node
+use Rattle.escrow_check.specs.Acceptance.{claim_of}
 use Rattle.escrow_units.specs.declared.limits.TheConstants.{AMOUNT_LIMIT}
 use Rattle.halving_tree.specs.Halving.{HasMoreNodes}
 use Rattle.halving_tree.specs.declared.rule.SplitRule.{SplitRule}

@@ -1,7 +1,7 @@
 -- The node that is taken, before and after it is tried.
 use Rattle.std.proofs.Common.{◌≡◌, ℕ, List, sym, subst}
 use Rattle.case_file.specs.Case.{CaseContents}
-use Rattle.dual_bound.specs.declared.ranges.Interval.{Interval}
+use Rattle.proof_tree.specs.declared.interval.Interval.{Interval}
 use Rattle.halving_tree.specs.declared.rule.SplitRule.{SplitRule}
 use Rattle.node_pool.specs.Way.{AreProper, IsWay, Step, ranges_at}
 use Rattle.node_pool.specs.declared.node.State.{State}

@@ -3,9 +3,9 @@ use Rattle.std.specs.Prelude.{◌≡◌, ℕ, ◌+◌, ◌-◌, ◌*◌, ◌<◌
 use Rattle.std.specs.List.{count_by}
 use Rattle.case_file.specs.Case.{CaseContents}
 use Rattle.dual_bound.specs.LeafBound.{bound_of}
-use Rattle.dual_bound.specs.Ranges.{narrowed, root_of}
-use Rattle.dual_bound.specs.declared.ranges.Interval.{Interval}
-use Rattle.dual_bound.specs.declared.tree.Leaf.{Leaf}
+use Rattle.node_ranges.specs.Ranges.{narrowed, root_of}
+use Rattle.proof_tree.specs.declared.interval.Interval.{Interval}
+use Rattle.proof_tree.specs.declared.tree.Leaf.{Leaf}
 use Rattle.node_pool.specs.Pool.{PoolContents, is_waiting}
 use Rattle.node_pool.specs.Tree.{AreEnded}
 use Rattle.search_tree.specs.Growing.{HasGrown, IsPriced, IsStuck}

@@ -2,10 +2,10 @@
 use Rattle.std.specs.Prelude.{◌≡◌, ℕ, ◌-◌, true, List, length, Option, option_map, IfSome}
 use Rattle.case_file.specs.Case.{CaseContents}
 use Rattle.cash_table.specs.Points.{is_within_limit}
-use Rattle.dual_bound.specs.Ranges.{AreTight}
-use Rattle.dual_bound.specs.Tree.{IsLeaf}
-use Rattle.dual_bound.specs.declared.ranges.Interval.{Interval}
-use Rattle.dual_bound.specs.declared.tree.Leaf.{Leaf}
+use Rattle.node_ranges.specs.Ranges.{AreTight}
+use Rattle.proof_tree.specs.Tree.{IsLeaf}
+use Rattle.proof_tree.specs.declared.interval.Interval.{Interval}
+use Rattle.proof_tree.specs.declared.tree.Leaf.{Leaf}
 use Rattle.dual_tune.specs.Tuner.{TunerContents}
 use Rattle.halving_tree.specs.Base.{base_leaf}
 use Rattle.offer_book.specs.Portfolio.{Meets, cost}

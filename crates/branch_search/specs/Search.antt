@@ -3,17 +3,16 @@
 use Rattle.std.specs.Prelude.{◌≡◌, ℕ, ◌+◌, ◌<◌, ◌≤◌, false, true, List, All, length, Option, Result, Err, Ok, Some, None, IfSome, MatchOption}
 use Rattle.backward_build.specs.BackwardPlan.{backward_plan}
 use Rattle.backward_build.specs.Trim.{HasNoMore, IsTrimmed}
-use Rattle.bound_certificate.specs.Certificate.{IsNode}
 use Rattle.bound_certificate.specs.Packed.{IsPackable}
 use Rattle.bound_certificate.specs.declared.limits.TheConstants.{MOST_NODES}
 use Rattle.case_file.specs.Case.{CaseContents}
 use Rattle.cash_table.specs.First.{first_short_of}
 use Rattle.cash_table.specs.Points.{is_within_limit}
 use Rattle.cash_table.specs.Reach.{AreAllShort, IsInReach, plan_of_most}
-use Rattle.dual_bound.specs.Ranges.{root_of}
-use Rattle.dual_bound.specs.Tree.{AreTrees}
-use Rattle.dual_bound.specs.declared.tree.TreeNode.{TreeNode}
-use Rattle.escrow_check.specs.Acceptance.{placed_nodes}
+use Rattle.node_ranges.specs.Ranges.{root_of}
+use Rattle.node_ranges.specs.Claims.{placed_nodes}
+use Rattle.proof_tree.specs.Tree.{AreTrees, IsNode}
+use Rattle.proof_tree.specs.declared.tree.TreeNode.{TreeNode}
 use Rattle.escrow_check.specs.Reasons.{IsSoundTree, IsUnopposed}
 use Rattle.escrow_units.specs.declared.limits.TheConstants.{AMOUNT_LIMIT, GREATEST_YIELD}
 use Rattle.halving_tree.specs.Halving.{HasMoreNodes}

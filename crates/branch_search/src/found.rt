@@ -4,11 +4,12 @@ ghost use Rattle.branch_search.specs.Accepted.{FoundAreAccepted, NoneFoundAreAcc
 ghost use Rattle.branch_search.specs.Plain.{PlainAreSettled};
 ghost use Rattle.branch_search.specs.Purchases.{certificate_of, purchases_of as purchases_of_plan};
 
-use bound_certificate::{Buy, Buys, Certificate, Nodes};
+use bound_certificate::{Buy, Buys, Certificate};
 use cash_table::Plan;
 use escrow_desk::NoMemory;
 use escrow_units::{Cents, Day};
 use offer_book::Book;
+use proof_tree::Nodes;
 use std::alloc::{AllocError, Global};
 
 /// A plan that is permitted, meets the needs and is within the limit.

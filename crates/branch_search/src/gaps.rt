@@ -1,13 +1,13 @@
 //! The least gap that a bound or a tree supports, and the greatest cost that a bound supports with a gap.
 
 ghost use Rattle.std.specs.Prelude.{All, ◌≡◌, ◌⊎◌, ℕ, length, ◌*◌, ◌^◌, ◌<◌, ◌≤◌, true, Some, pos, ◌-ℤ◌, unsigned_abs};
-ghost use Rattle.escrow_check.specs.Acceptance.{bears_out};
+ghost use Rattle.node_ranges.specs.Claims.{bears_out};
 ghost use Rattle.search_tree.specs.Tree.{IsBorneBy, IsLeastGap, IsNeededFor};
 
-use dual_bound::PRICE_SCALE;
 use escrow_units::{AMOUNT_LIMIT, Cents};
 use node_pool::NodeId;
 use offer_book::COEFFICIENT_SCALE;
+use proof_tree::PRICE_SCALE;
 use search_tree::{Closing, SearchNode, SearchTree};
 
 // A cent of cost, as a bound weighs it.

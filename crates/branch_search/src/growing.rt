@@ -1,8 +1,8 @@
 //! How the trees of a search grow: in each run one grows from the root by one rule.
 ghost use Rattle.std.specs.Prelude.{◌≡◌, ◌≤◌, ◌<◌, ◌+◌, ◌-◌, ◌≤ℤ◌, ◌⊎◌, true, false, length, ℕ, None, IfOk, IfSome, IsTrue, OnOk};
 ghost use Rattle.dual_bound.specs.LeafBound.{bound_of};
-ghost use Rattle.dual_bound.specs.Ranges.{is_proper, is_single, narrowed};
-ghost use Rattle.dual_bound.specs.Tree.{IsLeaf};
+ghost use Rattle.node_ranges.specs.Ranges.{is_proper, is_single, narrowed};
+ghost use Rattle.proof_tree.specs.Tree.{IsLeaf};
 ghost use Rattle.search_tree.specs.Growing.{GoesOn, HasGrown, IsHeld, IsPopped, node_of, obeys};
 ghost use Rattle.branch_search.specs.Parts.{AreSameBut, best_cents};
 ghost use Rattle.search_tree.specs.Best.{CoversBackward, IsNoDearer};
@@ -10,12 +10,11 @@ ghost use Rattle.branch_search.specs.Growth.{IsGrowth, IsSide, IsTakenTo, left_t
 
 use crate::found::Found;
 use crate::parts::Search;
-use bound_certificate::Nodes;
-use dual_bound::Leaf;
 use escrow_desk::NoMemory;
 use escrow_units::Cents;
 use halving_tree::{Split, SplitRule};
 use node_pool::NodeId;
+use proof_tree::{Leaf, Nodes};
 use search_tree::{Closing, Priced, SearchTree};
 use std::alloc::Global;
 

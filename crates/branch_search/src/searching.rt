@@ -2,7 +2,7 @@
 ghost use Rattle.std.specs.Prelude.{◌≡◌, ◌≤◌, ◌↔◌, ◌⊎◌, ◌<◌, ◌-◌, ◌^◌, None, IsNone, unsigned_abs, IfOk, IfSome, IfErr, OnOk};
 ghost use Rattle.cash_table.specs.First.{first_short_of};
 ghost use Rattle.cash_table.specs.Reach.{AreAllShort, IsInReach, plan_of_most};
-ghost use Rattle.dual_bound.specs.Ranges.{root_of};
+ghost use Rattle.node_ranges.specs.Ranges.{root_of};
 ghost use Rattle.branch_search.specs.Plain.{IsPlainWithin};
 ghost use Rattle.branch_search.specs.Growth.{IsBegun, IsClosedTree, IsFullTree};
 ghost use Rattle.search_tree.specs.Best.{IsNoDearer};
@@ -19,13 +19,14 @@ use crate::hint::{Hint, best_of};
 use crate::parts::Search;
 use bound_certificate::MOST_NODES;
 use cash_table::{Plan, cost, out_of_reach};
-use dual_bound::{Leaf, Ranges};
 use dual_tune::Tuner;
 use escrow_desk::NoMemory;
 use escrow_units::{AMOUNT_LIMIT, Cents, Day, GREATEST_YIELD, YieldUnits};
 use halving_tree::{SplitRule, base_leaf};
+use node_ranges::Ranges;
 use offer_book::Book;
 use plan_finder::{Finder, YieldLimit, find};
+use proof_tree::Leaf;
 use search_tree::SearchTree;
 use std::alloc::Global;
 

@@ -1,10 +1,10 @@
 //! What the search of the greatest cap comes to.
 
-use bound_certificate::Nodes;
 use branch_search::{Found, SearchEnd, Spent};
 use case_file::Case;
 use escrow_desk::NoMemory;
 use escrow_units::{Day, Rate};
+use proof_tree::Nodes;
 
 /// An escrow that was found for a case at a cap.
 #[derive(Drop)]

@@ -20,12 +20,12 @@ use Rattle.offer_book.specs.Portfolio.{line_cost, line_payments}
 use Rattle.offer_book.specs.declared.coefficients.TheConstants.{COEFFICIENT_SCALE}
 use Rattle.offer_book.specs.declared.line.Line.{Line}
 use Rattle.dual_bound.specs.LeafBound.{bound_of, cost_worth, form_at, form_of, least_side, least_within, paid_worth, priced_needs, reduced_cost, signed_sum}
-use Rattle.dual_bound.specs.Ranges.{HasRoomFor}
-use Rattle.dual_bound.specs.Tree.{IsLeaf}
+use Rattle.node_ranges.specs.Ranges.{HasRoomFor}
+use Rattle.proof_tree.specs.Tree.{IsLeaf}
 use Rattle.dual_bound.specs.declared.form.Form.{Form}
-use Rattle.dual_bound.specs.declared.prices.TheConstants.{PRICE_SCALE}
-use Rattle.dual_bound.specs.declared.ranges.Interval.{Interval}
-use Rattle.dual_bound.specs.declared.tree.Leaf.{Leaf}
+use Rattle.proof_tree.specs.declared.prices.TheConstants.{PRICE_SCALE}
+use Rattle.proof_tree.specs.declared.interval.Interval.{Interval}
+use Rattle.proof_tree.specs.declared.tree.Leaf.{Leaf}
 use Rattle.dual_bound.proofs.FormFacts.{form_of-is}
 use Rattle.dual_bound.proofs.Signed.{signed_sum_more}
 use Rattle.dual_bound.proofs.Sizes.{IsLight, abs-sum, cash-once, cost-sized, cost_worth-light, paid_worth-light, pays-few, pays-sized, pays_slack-small, pays_slope, pays_slope-small, pays_slope-units, side-small}

@@ -23,7 +23,7 @@ use Rattle.dual_bound.specs.Columns.{IsColumn, IsOther, IsPlace, column_form, co
 use Rattle.dual_bound.specs.LeafBound.{cost_worth, form_of, least_side, limit_price, limit_multiplier, paid_worth, price_on, reduced_cost, signed_sum}
 use Rattle.dual_bound.specs.declared.column.Column.{Column}
 use Rattle.dual_bound.specs.declared.column.OtherPayment.{OtherPayment}
-use Rattle.dual_bound.specs.declared.tree.Leaf.{Leaf}
+use Rattle.proof_tree.specs.declared.tree.Leaf.{Leaf}
 use Rattle.dual_bound.specs.declared.worth.PricedDay.{PricedDay}
 use Rattle.dual_bound.specs.declared.worth.Worth.{Worth}
 use Rattle.dual_bound.proofs.FormFacts.{form_of-is}

@@ -8,7 +8,7 @@ use Rattle.fixed_powers.specs.DiscountPowers.{one}
 use Rattle.dual_bound.specs.Changes.{AreChangedDates, IsListedAt}
 use Rattle.dual_bound.specs.Columns.{AreDateDays, IsPriced, worth_at, worth_between, worth_on}
 use Rattle.dual_bound.specs.declared.date_days.DateDays.{DateDays}
-use Rattle.dual_bound.specs.declared.tree.Leaf.{Leaf}
+use Rattle.proof_tree.specs.declared.tree.Leaf.{Leaf}
 use Rattle.dual_bound.specs.declared.worth.PricedDay.{PricedDay}
 use Rattle.dual_bound.specs.declared.worth.Worth.{Worth}
 

@@ -21,7 +21,7 @@ use Rattle.offer_book.specs.declared.line.Line.{Line}
 use Rattle.payment_schedule.specs.declared.schedule.ScheduledPayment.{ScheduledPayment}
 use Rattle.dual_bound.specs.LeafBound.{cost_worth, form_of, least_side, paid_worth}
 use Rattle.dual_bound.specs.declared.form.Form.{Form}
-use Rattle.dual_bound.specs.declared.tree.Leaf.{Leaf}
+use Rattle.proof_tree.specs.declared.tree.Leaf.{Leaf}
 use Rattle.dual_bound.proofs.Signed.{signed_sum_more}
 use Rattle.dual_bound.proofs.Sizes.{abs-neg, pay_slack, pays_slope}
 use Rattle.offer_book.specs.declared.payment_days.PaymentDays.{PaymentDays}

@@ -18,16 +18,16 @@ use Rattle.dual_bound.specs.Changes.{AreChangedDates}
 use Rattle.dual_bound.specs.Columns.{IsColumn, IsOther, IsPlace, column_form, column_reduced, form_plus, is_other, is_regular, other_forms, paying, regular_form, signed_worth, worth_at, worth_on, worth_together}
 use Rattle.dual_bound.specs.LeafBound.{cost_worth, form_at, form_of, least_side, least_within, reduced_cost, signed_sum}
 use Rattle.dual_bound.specs.Leasts.{AgreeInside, AreApart, AreLeasts, IsInside, IsLeast, IsPricedBy, IsPricedInside, IsRight, IsSpanOf}
-use Rattle.dual_bound.specs.Tree.{with_price}
+use Rattle.proof_tree.specs.Tree.{with_price}
 use Rattle.dual_bound.specs.declared.column.Column.{Column}
 use Rattle.dual_bound.specs.declared.column.OtherPayment.{OtherPayment}
 use Rattle.dual_bound.specs.declared.leasts.Least.{Least}
 use Rattle.dual_bound.specs.declared.leasts.Leasts.{Leasts}
 use Rattle.dual_bound.specs.declared.leasts.Span.{Span}
 use Rattle.dual_bound.specs.declared.leasts.TheConstants.{PAST_DATES}
-use Rattle.dual_bound.specs.declared.prices.TheConstants.{PRICE_SCALE}
-use Rattle.dual_bound.specs.declared.ranges.Interval.{Interval}
-use Rattle.dual_bound.specs.declared.tree.Leaf.{Leaf}
+use Rattle.proof_tree.specs.declared.prices.TheConstants.{PRICE_SCALE}
+use Rattle.proof_tree.specs.declared.interval.Interval.{Interval}
+use Rattle.proof_tree.specs.declared.tree.Leaf.{Leaf}
 use Rattle.dual_bound.specs.declared.worth.PricedDay.{PricedDay}
 use Rattle.dual_bound.specs.declared.worth.Worth.{Worth}
 use Rattle.dual_bound.proofs.ColumnLinks.{column-form, column-reduced}

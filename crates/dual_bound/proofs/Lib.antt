@@ -12,11 +12,10 @@ pub mod LineBound
 pub mod NeedsFacts
 pub mod PayingFacts
 pub mod PriceFacts
-pub mod RangeFacts
-pub mod RangeLaws
 pub mod Signed
 pub mod Sizes
 pub mod Soundness
 pub mod SumFacts
 pub mod TableFacts
 pub mod TableauFacts
+pub mod TreeFacts

@@ -16,10 +16,10 @@ use Rattle.offer_book.specs.declared.coefficients.PayCoefficients.{PayCoefficien
 use Rattle.offer_book.specs.declared.coefficients.TheConstants.{COEFFICIENT_SCALE}
 use Rattle.offer_book.specs.declared.line.Line.{Line}
 use Rattle.dual_bound.specs.LeafBound.{cost_worth, form_at, form_of, least_side, least_within, paid_worth, reduced_cost, signed_sum}
-use Rattle.dual_bound.specs.Ranges.{LieIn}
+use Rattle.node_ranges.specs.Ranges.{LieIn}
 use Rattle.dual_bound.specs.declared.form.Form.{Form}
-use Rattle.dual_bound.specs.declared.ranges.Interval.{Interval}
-use Rattle.dual_bound.specs.declared.tree.Leaf.{Leaf}
+use Rattle.proof_tree.specs.declared.interval.Interval.{Interval}
+use Rattle.proof_tree.specs.declared.tree.Leaf.{Leaf}
 use Rattle.dual_bound.proofs.Sizes.{abs-neg, pay_slack, pays_slope}
 use Rattle.dual_bound.proofs.Signed.{add-mul, mul-add, mul-comm, mul-neg, mul-sub, neg-mul, pos-mul, scale-in}
 

@@ -33,9 +33,9 @@ use Rattle.offer_book.proofs.CoefficientBounds.{IsClose}
 use Rattle.offer_book.proofs.LineFacts.{cash-at_most, rate-low, schedule-few, security-at_most}
 use Rattle.offer_book.proofs.ScheduleFacts.{schedule-short}
 use Rattle.dual_bound.specs.LeafBound.{cost_weight, cost_worth, least_side, limit_price, limit_multiplier, paid_worth, price_on, signed_sum}
-use Rattle.dual_bound.specs.Tree.{IsLeaf}
-use Rattle.dual_bound.specs.declared.prices.TheConstants.{PRICE_SCALE}
-use Rattle.dual_bound.specs.declared.tree.Leaf.{Leaf}
+use Rattle.proof_tree.specs.Tree.{IsLeaf}
+use Rattle.proof_tree.specs.declared.prices.TheConstants.{PRICE_SCALE}
+use Rattle.proof_tree.specs.declared.tree.Leaf.{Leaf}
 use Rattle.offer_book.specs.declared.payment_days.PaymentDays.{PaymentDays}
 
 -- ---- weights

@@ -26,10 +26,10 @@ use Rattle.offer_book.specs.declared.line.LineKind.{LineKind}
 use Rattle.offer_book.specs.declared.line.LineKind.TheVariants.{Cash, Market, Security}
 use Rattle.dual_bound.specs.Duality.{BoundsAll, BoundsRivals, CostsAtLeast}
 use Rattle.dual_bound.specs.LeafBound.{bound_of, cost_weight, least_within, limit_price, limit_multiplier, price_on, priced_needs, reduced_cost, signed_sum}
-use Rattle.dual_bound.specs.Ranges.{IsWithin}
-use Rattle.dual_bound.specs.Tree.{IsLeaf}
-use Rattle.dual_bound.specs.declared.ranges.Interval.{Interval}
-use Rattle.dual_bound.specs.declared.tree.Leaf.{Leaf}
+use Rattle.node_ranges.specs.Ranges.{IsWithin}
+use Rattle.proof_tree.specs.Tree.{IsLeaf}
+use Rattle.proof_tree.specs.declared.interval.Interval.{Interval}
+use Rattle.proof_tree.specs.declared.tree.Leaf.{Leaf}
 use Rattle.dual_bound.proofs.Coverage.{covered-worth, paid_at}
 use Rattle.dual_bound.proofs.LineBound.{least-le}
 use Rattle.dual_bound.proofs.Signed.{add-mul, mul-sub, neg-mul, pos-mul, signed_sum-difference, signed_sum-scaled}

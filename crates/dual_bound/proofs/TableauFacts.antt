@@ -14,14 +14,14 @@ use Rattle.offer_book.specs.declared.line.Line.{Line}
 use Rattle.offer_book.specs.declared.line.LineKind.TheVariants.{Cash}
 use Rattle.dual_bound.specs.Columns.{Extends, IsColumn, IsLightWorth, IsOther, IsPlace, IsRun, IsRunOf, IsSmallColumn, IsTableau, is_other, is_regular, paying, worth_at, worth_between, worth_on, worth_together}
 use Rattle.dual_bound.specs.LeafBound.{bound_of, least_within, priced_needs, signed_sum}
-use Rattle.dual_bound.specs.Tree.{IsLeaf}
+use Rattle.proof_tree.specs.Tree.{IsLeaf}
 use Rattle.dual_bound.specs.declared.column.Column.{Column}
 use Rattle.dual_bound.specs.declared.column.OtherPayment.{OtherPayment}
-use Rattle.dual_bound.specs.declared.prices.TheConstants.{PRICE_SCALE}
-use Rattle.dual_bound.specs.declared.ranges.Interval.{Interval}
+use Rattle.proof_tree.specs.declared.prices.TheConstants.{PRICE_SCALE}
+use Rattle.proof_tree.specs.declared.interval.Interval.{Interval}
 use Rattle.dual_bound.specs.declared.series.Run.{Run}
 use Rattle.dual_bound.specs.declared.tableau.Tableau.{Tableau}
-use Rattle.dual_bound.specs.declared.tree.Leaf.{Leaf}
+use Rattle.proof_tree.specs.declared.tree.Leaf.{Leaf}
 use Rattle.dual_bound.specs.declared.worth.PricedDay.{PricedDay}
 use Rattle.dual_bound.specs.declared.worth.Worth.{Worth}
 use Rattle.dual_bound.proofs.ColumnMade.{column-stays, zip-push, zip-weaker}

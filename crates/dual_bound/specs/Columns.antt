@@ -17,7 +17,7 @@ use Rattle.payment_schedule.specs.declared.schedule.ScheduledPayment.{ScheduledP
 use Rattle.payment_schedule.specs.Schedule.{IsShort, flow_by, half_year_accrual}
 use Rattle.offer_book.specs.declared.coefficients.TheConstants.{COEFFICIENT_SCALE}
 use Rattle.dual_bound.specs.LeafBound.{least_side, price_on, priced_needs, signed_sum}
-use Rattle.dual_bound.specs.Tree.{IsLeaf}
+use Rattle.proof_tree.specs.Tree.{IsLeaf}
 use Rattle.dual_bound.specs.declared.column.Column.{Column}
 use Rattle.dual_bound.specs.declared.column.OtherPayment.{OtherPayment}
 use Rattle.dual_bound.specs.declared.date_days.DateDays.{DateDays}
@@ -28,9 +28,9 @@ use Rattle.dual_bound.specs.declared.series.Stop.{Stop}
 use Rattle.dual_bound.specs.declared.series.Stop.TheVariants.{Day, Start}
 use Rattle.dual_bound.specs.declared.worth.PricedDay.{PricedDay}
 use Rattle.dual_bound.specs.declared.form.Form.{Form}
-use Rattle.dual_bound.specs.declared.prices.TheConstants.{PRICE_SCALE}
+use Rattle.proof_tree.specs.declared.prices.TheConstants.{PRICE_SCALE}
 use Rattle.dual_bound.specs.declared.tableau.Tableau.{Tableau}
-use Rattle.dual_bound.specs.declared.tree.Leaf.{Leaf}
+use Rattle.proof_tree.specs.declared.tree.Leaf.{Leaf}
 use Rattle.dual_bound.specs.declared.worth.Worth.{Worth}
 
 -- what columns are for: a book, the yield of the powers, and the leaf by which their days are priced

@@ -6,10 +6,10 @@ use Rattle.offer_book.specs.Portfolio.{IsPermitted, Meets, cost}
 use Rattle.offer_book.specs.Rival.{IsRival}
 use Rattle.offer_book.specs.declared.coefficients.TheConstants.{COEFFICIENT_SCALE}
 use Rattle.dual_bound.specs.LeafBound.{bound_of, cost_weight}
-use Rattle.dual_bound.specs.Ranges.{IsWithin}
-use Rattle.dual_bound.specs.Tree.{IsLeaf}
-use Rattle.dual_bound.specs.declared.ranges.Interval.{Interval}
-use Rattle.dual_bound.specs.declared.tree.Leaf.{Leaf}
+use Rattle.node_ranges.specs.Ranges.{IsWithin}
+use Rattle.proof_tree.specs.Tree.{IsLeaf}
+use Rattle.proof_tree.specs.declared.interval.Interval.{Interval}
+use Rattle.proof_tree.specs.declared.tree.Leaf.{Leaf}
 
 -- the cost of a portfolio, weighted and scaled, is at least a bound
 abbrev pub CostsAtLeast : ℤ → BookContents → Leaf → List ℕ → Type 0

@@ -10,8 +10,8 @@ use Rattle.dual_bound.specs.declared.leasts.Least.{Least}
 use Rattle.dual_bound.specs.declared.leasts.Leasts.{Leasts}
 use Rattle.dual_bound.specs.declared.leasts.Span.{Span}
 use Rattle.dual_bound.specs.declared.leasts.TheConstants.{PAST_DATES}
-use Rattle.dual_bound.specs.declared.ranges.Interval.{Interval}
-use Rattle.dual_bound.specs.declared.tree.Leaf.{Leaf}
+use Rattle.proof_tree.specs.declared.interval.Interval.{Interval}
+use Rattle.proof_tree.specs.declared.tree.Leaf.{Leaf}
 use Rattle.dual_bound.specs.declared.worth.PricedDay.{PricedDay}
 
 -- a need date lies inside of a span

@@ -1,8 +1,7 @@
 pub mod Changes
+pub mod Closing
 pub mod Columns
 pub mod Duality
 pub mod LeafBound
 pub mod Leasts
-pub mod Ranges
 pub mod Rooms
-pub mod Tree

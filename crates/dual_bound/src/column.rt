@@ -16,7 +16,6 @@ ghost use Rattle.dual_bound.specs.declared.worth.Worth.{Worth as WorthOf};
 use crate::day_table::DayTable;
 use crate::form::Form;
 use crate::leaf_bound::{scaled_difference, weighed};
-use crate::prices::PRICE_SCALE;
 use crate::worth::Worth;
 use arrayvec::ArrayVec;
 use escrow_desk::NoMemory;
@@ -24,6 +23,7 @@ use escrow_units::{Accrual, Cents, Day, GREATEST_RATE, Rate, Slgs, earned};
 use fixed_powers::Powers;
 use offer_book::{Book, Line, LineKind, PayCoefficients, PaymentDays as Days};
 use payment_schedule::{HALF_YEAR, ScheduledPayment};
+use proof_tree::PRICE_SCALE;
 use std::alloc::Global;
 
 /// A payment of a line that isn't regular: its first interest, or with the principal.

@@ -4,19 +4,19 @@ ghost use Rattle.std.specs.List.{AllZip};
 ghost use Rattle.fixed_powers.specs.DiscountPowers.{IsLowTable, PowerTable};
 ghost use Rattle.offer_book.specs.declared.line.Line.{Line};
 ghost use Rattle.dual_bound.specs.LeafBound.{bound_of, form_of, least_within};
-ghost use Rattle.dual_bound.specs.Ranges.{HasRoomFor};
-ghost use Rattle.dual_bound.specs.Tree.{IsLeaf, with_price};
+ghost use Rattle.node_ranges.specs.Ranges.{HasRoomFor};
+ghost use Rattle.proof_tree.specs.Tree.{IsLeaf, with_price};
 
 use crate::changes::ChangedDates;
 use crate::form::Form;
 use crate::leasts::Leasts;
-use crate::ranges::{Interval, Ranges};
 use crate::rooms::Rooms;
 use crate::tableau::Tableau;
-use crate::tree::Leaf;
 use escrow_desk::NoMemory;
 use fixed_powers::Powers;
+use node_ranges::Ranges;
 use offer_book::Book;
+use proof_tree::{Interval, Leaf};
 use std::alloc::Global;
 use std::marker::Model;
 

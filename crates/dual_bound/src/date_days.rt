@@ -5,10 +5,9 @@ ghost use Rattle.dual_bound.specs.Changes.{IsListedAt};
 ghost use Rattle.dual_bound.specs.Columns.{AreDateDays, IsPriced, worth_on};
 ghost use Rattle.dual_bound.specs.declared.date_days.DateDays.{DateDays, DateDays as DateDaysOf};
 
-use crate::prices::PRICE_SCALE;
-use crate::tree::Leaf;
 use crate::worth::{PricedDay, Worth, price_days_at};
 use escrow_desk::NoMemory;
+use proof_tree::{Leaf, PRICE_SCALE};
 use std::alloc::Global;
 
 /// The days whose first need date is a given one.

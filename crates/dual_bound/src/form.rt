@@ -2,8 +2,8 @@
 ghost use Rattle.std.specs.Prelude.{◌≡◌, ◌*◌, ◌*ℤ◌, ◌^◌, ◌≤◌, pos, unsigned_abs};
 ghost use Rattle.dual_bound.specs.LeafBound.{form_at, least_side as least_side_of};
 
-use crate::ranges::Interval;
 use offer_book::{Line, PayCoefficients};
+use proof_tree::Interval;
 
 /// An affine form of a number of units: `slope * units - slack`.
 #[derive(Clone, Copy, Debug, PartialEq, Eq)]
@@ -43,7 +43,7 @@ impl Form {
     ghost use Rattle.std.specs.Prelude.{◌+◌, ◌+ℤ◌, ◌≢◌, ℕ, neg_ℤ};
     ghost use Rattle.offer_book.specs.Book.{BookContents};
     ghost use Rattle.dual_bound.specs.LeafBound.{form_of, least_within as least_within_of};
-    ghost use Rattle.dual_bound.specs.declared.tree.Leaf.{Leaf};
+    ghost use Rattle.proof_tree.specs.declared.tree.Leaf.{Leaf};
 
     /// The least that a weight times an amount can be, where the amount lies from `low * units - slack` to
     /// `high * units + slack`. The weight is at most 2 * 10^12, and the coefficients are at most 10^18 and the slack at most

@@ -7,18 +7,17 @@ ghost use Rattle.escrow_units.specs.SlgsTerms.{IsSettlement};
 ghost use Rattle.fixed_powers.specs.DiscountPowers.{IsLowTable, PowerTable};
 ghost use Rattle.offer_book.specs.Book.{BookContents, IsBook, IsLine};
 ghost use Rattle.dual_bound.specs.LeafBound.{bound_of, cost_weight as cost_weight_of, cost_worth as cost_worth_of, form_of, least_within, limit_price as limit_price_of, limit_multiplier as limit_multiplier_of, paid_worth as paid_worth_of, priced_needs as priced_needs_of, price_on as price_on_date, reduced_cost as reduced_cost_of};
-ghost use Rattle.dual_bound.specs.Ranges.{HasRoomFor};
-ghost use Rattle.dual_bound.specs.Tree.{IsLeaf};
+ghost use Rattle.node_ranges.specs.Ranges.{HasRoomFor};
+ghost use Rattle.proof_tree.specs.Tree.{IsLeaf};
 
 use crate::form::Form;
-use crate::prices::PRICE_SCALE;
-use crate::ranges::{Interval, Ranges};
-use crate::tree::Leaf;
 use crate::worth::price_at;
 use cash_table::place_of;
 use escrow_units::{AMOUNT_LIMIT, Cents, Day, Flow, index360};
 use fixed_powers::{ONE, Powers};
+use node_ranges::Ranges;
 use offer_book::{Book, COEFFICIENT_SCALE, Line, LineKind};
+use proof_tree::{Interval, Leaf, PRICE_SCALE};
 
 /// The price of a day, by binary search: that of the first need date on or after it, and 0 where there is none. There are as
 /// many prices as need dates, which strictly rise.

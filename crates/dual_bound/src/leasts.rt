@@ -7,20 +7,20 @@ ghost use Rattle.dual_bound.specs.Changes.{AreChangedDates};
 ghost use Rattle.dual_bound.specs.Columns.{IsTableau};
 ghost use Rattle.dual_bound.specs.LeafBound.{bound_of, least_within};
 ghost use Rattle.dual_bound.specs.Leasts.{AgreeInside, AreApart, AreLeasts, IsInside, IsLeast, IsPricedInside, IsRight, IsSpanOf};
-ghost use Rattle.dual_bound.specs.Ranges.{HasRoomFor};
-ghost use Rattle.dual_bound.specs.Tree.{with_price};
+ghost use Rattle.node_ranges.specs.Ranges.{HasRoomFor};
+ghost use Rattle.proof_tree.specs.Tree.{with_price};
 ghost use Rattle.dual_bound.specs.declared.column.OtherPayment.{OtherPayment};
 ghost use Rattle.dual_bound.specs.declared.leasts.Least.{Least as LeastOf};
 ghost use Rattle.dual_bound.specs.declared.leasts.Span.{Span as SpanOf};
-ghost use Rattle.dual_bound.specs.declared.tree.Leaf.{Leaf as LeafOf};
+ghost use Rattle.proof_tree.specs.declared.tree.Leaf.{Leaf as LeafOf};
 
 use crate::column::Column;
-use crate::ranges::{Interval, Ranges};
 use crate::tableau::Tableau;
-use crate::tree::Leaf;
 use crate::worth::PricedDay;
 use escrow_desk::NoMemory;
+use node_ranges::Ranges;
 use offer_book::{Book, COEFFICIENT_SCALE};
+use proof_tree::{Interval, Leaf};
 use std::alloc::Global;
 
 /// A place behind every need date: they are counted by a `u16`.

@@ -1,4 +1,4 @@
-//! Trees of lower bounds on the cost of a portfolio: their nodes, and the prices of a leaf.
+//! The lower bound on the cost of a portfolio that the weights of a leaf give.
 #![tactic(auto)]
 
 mod changes;
@@ -10,19 +10,13 @@ mod form;
 mod laws;
 mod leaf_bound;
 mod leasts;
-mod prices;
-mod ranges;
 mod rooms;
 mod series;
 mod sums;
 mod tableau;
-mod tree;
 mod worth;
 
 pub use columns::Columns;
 pub use form::Form;
-pub use laws::{bound_laws, range_laws};
+pub use laws::bound_laws;
 pub use leaf_bound::{bound, price_on, priced_needs};
-pub use prices::{PRICE_SCALE, Prices};
-pub use ranges::{Interval, Ranges};
-pub use tree::{Leaf, TreeNode};

@@ -6,9 +6,9 @@ ghost use Rattle.dual_bound.specs.Columns.{AreSmallSums, AreSums, IsLightWorth, 
 ghost use Rattle.dual_bound.specs.declared.date_days.DateDays.{DateDays as DateDaysOf};
 
 use crate::date_days::DateDays;
-use crate::prices::PRICE_SCALE;
 use crate::series::Stop;
 use crate::worth::Worth;
+use proof_tree::PRICE_SCALE;
 
 // The sum at a stop, from the sum before it.
 fn sum_after(worths: &[Worth], before: Worth, stop: Stop) -> Worth

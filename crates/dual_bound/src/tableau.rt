@@ -9,24 +9,23 @@ ghost use Rattle.dual_bound.specs.Changes.{AreChangedDates};
 ghost use Rattle.dual_bound.specs.Columns.{AreSums, IsColumn, IsDayTable, IsLightWorth, IsSmallColumn, IsStopWithin, IsTableau, worth_on, worth_together};
 ghost use Rattle.dual_bound.specs.declared.column.Column.{Column as ColumnOf};
 ghost use Rattle.dual_bound.specs.LeafBound.{bound_of, form_of, least_within, priced_needs as priced_needs_of, reduced_cost as reduced_cost_of};
-ghost use Rattle.dual_bound.specs.Ranges.{HasRoomFor};
-ghost use Rattle.dual_bound.specs.Tree.{IsLeaf, with_price};
+ghost use Rattle.node_ranges.specs.Ranges.{HasRoomFor};
+ghost use Rattle.proof_tree.specs.Tree.{IsLeaf, with_price};
 
 use crate::column::Column;
 use crate::date_days::{DateDays, days_by_date, price_dates};
 use crate::day_table::DayTable;
 use crate::form::Form;
 use crate::leaf_bound::{cost_worth, priced_needs};
-use crate::prices::{PRICE_SCALE, Prices};
-use crate::ranges::{Interval, Ranges};
 use crate::series::{Series, Stop};
 use crate::sums::{mend_at, mend_dates, sum_up};
-use crate::tree::Leaf;
 use crate::worth::{PricedDay, Worth, price_day, price_days, price_days_at};
 use escrow_desk::NoMemory;
 use escrow_units::{AMOUNT_LIMIT, Cents, Flow, YieldUnits};
 use fixed_powers::Powers;
+use node_ranges::Ranges;
 use offer_book::Book;
+use proof_tree::{Interval, Leaf, PRICE_SCALE, Prices};
 use std::alloc::Global;
 
 /// What the days of a tableau are worth at a leaf.

@@ -3,13 +3,12 @@ ghost use Rattle.std.specs.Prelude.{All, ◌≡◌, ◌⊎◌, ◌+◌, ◌*◌,
 ghost use Rattle.std.specs.List.{AllZip, Contains};
 ghost use Rattle.fixed_powers.specs.DiscountPowers.{one};
 ghost use Rattle.dual_bound.specs.Columns.{IsPriced, signed_worth, worth_between as worth_between_of, worth_on};
-ghost use Rattle.dual_bound.specs.Tree.{IsLeaf};
+ghost use Rattle.proof_tree.specs.Tree.{IsLeaf};
 ghost use Rattle.dual_bound.specs.declared.worth.PricedDay.{PricedDay as PricedDayOf};
 ghost use Rattle.dual_bound.specs.declared.worth.Worth.{Worth as WorthOf};
 
-use crate::prices::PRICE_SCALE;
-use crate::tree::Leaf;
 use fixed_powers::ONE;
+use proof_tree::{Leaf, PRICE_SCALE};
 
 /// A day on which lines pay, by what prices it.
 #[derive(Clone, Copy, Debug, PartialEq, Eq)]

@@ -16,9 +16,9 @@ use Rattle.offer_book.specs.declared.line.LineKind.{LineKind}
 use Rattle.payment_schedule.specs.Schedule.{flow_by}
 use Rattle.offer_book.specs.declared.line.LineKind.TheVariants.{Cash, Market, Security}
 use Rattle.dual_bound.specs.LeafBound.{cost_weight, cost_worth, form_at, form_of, least_side, least_within, limit_price, limit_multiplier, paid_worth, price_on, reduced_cost, signed_sum}
-use Rattle.dual_bound.specs.declared.ranges.Interval.{Interval}
-use Rattle.dual_bound.specs.declared.tree.Leaf.{Leaf}
-use Rattle.dual_bound.specs.Tree.{with_price}
+use Rattle.proof_tree.specs.declared.interval.Interval.{Interval}
+use Rattle.proof_tree.specs.declared.tree.Leaf.{Leaf}
+use Rattle.proof_tree.specs.Tree.{with_price}
 use Rattle.dual_tune.specs.Payers.{IsAside, IsElsewhere}
 use Rattle.offer_book.specs.declared.payment_days.PaymentDays.{PaymentDays}
 

@@ -12,12 +12,12 @@ use Rattle.escrow_units.specs.declared.security.Flow.{Flow}
 use Rattle.offer_book.specs.declared.coefficients.TheConstants.{COEFFICIENT_SCALE}
 use Rattle.offer_book.specs.declared.line.Line.{Line}
 use Rattle.dual_bound.specs.LeafBound.{bound_of, least_within, priced_needs, signed_sum}
-use Rattle.dual_bound.specs.declared.prices.TheConstants.{PRICE_SCALE}
-use Rattle.dual_bound.specs.declared.ranges.Interval.{Interval}
-use Rattle.dual_bound.specs.declared.tree.Leaf.{Leaf}
+use Rattle.proof_tree.specs.declared.prices.TheConstants.{PRICE_SCALE}
+use Rattle.proof_tree.specs.declared.interval.Interval.{Interval}
+use Rattle.proof_tree.specs.declared.tree.Leaf.{Leaf}
 use Rattle.dual_bound.proofs.BoundSizes.{bound-more, room-length}
 use Rattle.dual_bound.proofs.TableauFacts.{some-line}
-use Rattle.dual_bound.specs.Tree.{IsLeaf, with_price}
+use Rattle.proof_tree.specs.Tree.{IsLeaf, with_price}
 use Rattle.dual_tune.specs.Steps.{IsBetter, IsImproved, price_after, price_before, price_beside, with_multiplier}
 use Rattle.dual_tune.specs.Sweep.{AreReached, IsStepOf, bound_at, lines_worth, stepped}
 use Rattle.dual_tune.specs.declared.given.Given.{Given}

@@ -15,10 +15,10 @@ use Rattle.offer_book.specs.declared.coefficients.TheConstants.{COEFFICIENT_SCAL
 use Rattle.offer_book.specs.declared.line.Line.{Line}
 use Rattle.dual_bound.specs.LeafBound.{cost_worth, least_within, paid_worth, priced_needs, reduced_cost, signed_sum}
 use Rattle.dual_bound.specs.declared.form.Form.{Form}
-use Rattle.dual_bound.specs.declared.prices.TheConstants.{PRICE_SCALE}
-use Rattle.dual_bound.specs.declared.ranges.Interval.{Interval}
-use Rattle.dual_bound.specs.declared.tree.Leaf.{Leaf}
-use Rattle.dual_bound.specs.Tree.{IsLeaf, with_price}
+use Rattle.proof_tree.specs.declared.prices.TheConstants.{PRICE_SCALE}
+use Rattle.proof_tree.specs.declared.interval.Interval.{Interval}
+use Rattle.proof_tree.specs.declared.tree.Leaf.{Leaf}
+use Rattle.proof_tree.specs.Tree.{IsLeaf, with_price}
 use Rattle.dual_bound.proofs.BoundSizes.{form-slack, form-times, least-one, priced-small, room-length}
 use Rattle.dual_bound.proofs.Soundness.{all-lines}
 use Rattle.dual_bound.proofs.TableauFacts.{some-line}

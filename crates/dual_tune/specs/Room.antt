@@ -3,8 +3,8 @@ use Rattle.std.specs.Prelude.{List, [], ◌∷◌}
 use Rattle.std.specs.List.{AllZip}
 use Rattle.std.specs.Coded.{×_prop, Unit-prop, le_prop}
 use Rattle.offer_book.specs.declared.line.Line.{Line}
-use Rattle.dual_bound.specs.Ranges.{HasRoomFor}
-use Rattle.dual_bound.specs.declared.ranges.Interval.{Interval}
+use Rattle.node_ranges.specs.Ranges.{HasRoomFor}
+use Rattle.proof_tree.specs.declared.interval.Interval.{Interval}
 
 pub room-prop : (lines : List Line) (ranges : List Interval) → IsProp (AllZip HasRoomFor lines ranges)
 room-prop [] [] = Unit-prop

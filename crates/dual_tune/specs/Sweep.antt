@@ -6,10 +6,10 @@ use Rattle.offer_book.specs.Book.{BookContents}
 use Rattle.offer_book.specs.declared.line.Line.{Line}
 use Rattle.dual_bound.specs.Columns.{ColumnsContents}
 use Rattle.dual_bound.specs.LeafBound.{bound_of, form_of, least_within, signed_sum}
-use Rattle.dual_bound.specs.Tree.{IsLeaf, with_price}
+use Rattle.proof_tree.specs.Tree.{IsLeaf, with_price}
 use Rattle.dual_bound.specs.declared.form.Form.{Form}
-use Rattle.dual_bound.specs.declared.ranges.Interval.{Interval}
-use Rattle.dual_bound.specs.declared.tree.Leaf.{Leaf}
+use Rattle.proof_tree.specs.declared.interval.Interval.{Interval}
+use Rattle.proof_tree.specs.declared.tree.Leaf.{Leaf}
 use Rattle.dual_tune.specs.Payers.{ArePayers}
 use Rattle.dual_tune.specs.Steps.{price_after, price_before, with_multiplier}
 use Rattle.dual_tune.specs.Table.{AreFormsOf, IsTable}

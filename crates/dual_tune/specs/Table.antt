@@ -5,9 +5,9 @@ use Rattle.offer_book.specs.Book.{BookContents}
 use Rattle.offer_book.specs.declared.coefficients.TheConstants.{COEFFICIENT_SCALE}
 use Rattle.offer_book.specs.declared.line.Line.{Line}
 use Rattle.dual_bound.specs.LeafBound.{form_of, priced_needs}
-use Rattle.dual_bound.specs.Tree.{IsLeaf, with_price}
+use Rattle.proof_tree.specs.Tree.{IsLeaf, with_price}
 use Rattle.dual_bound.specs.declared.form.Form.{Form}
-use Rattle.dual_bound.specs.declared.tree.Leaf.{Leaf}
+use Rattle.proof_tree.specs.declared.tree.Leaf.{Leaf}
 use Rattle.dual_tune.specs.Payers.{ArePayersByDate}
 use Rattle.dual_tune.specs.Steps.{mu_of_multiplier, price_beside, with_multiplier}
 use Rattle.dual_tune.specs.declared.payers.Payers.{Payers}

@@ -1,7 +1,7 @@
 -- What a tuner is for, and what it keeps.
 use Rattle.std.specs.Prelude.{◌≡◌, ℕ, length}
 use Rattle.offer_book.specs.Book.{BookContents}
-use Rattle.dual_bound.specs.Tree.{IsLeaf}
+use Rattle.proof_tree.specs.Tree.{IsLeaf}
 use Rattle.dual_tune.specs.Steps.{zeros_like}
 use Rattle.dual_tune.specs.Sweep.{IsSweep}
 use Rattle.dual_tune.specs.declared.given.Given.{Given}

@@ -1,13 +1,14 @@
 //! The given leaf.
 ghost use Rattle.std.specs.Prelude.{All, length, ◌≤◌};
 ghost use Rattle.std.specs.List.{AllZip};
-ghost use Rattle.dual_bound.specs.Ranges.{HasRoomFor};
-ghost use Rattle.dual_bound.specs.Tree.{IsLeaf};
+ghost use Rattle.node_ranges.specs.Ranges.{HasRoomFor};
+ghost use Rattle.proof_tree.specs.Tree.{IsLeaf};
 ghost use Rattle.dual_tune.specs.Room.{room-prop};
 
-use dual_bound::{Leaf, Ranges};
 use escrow_units::YieldUnits;
+use node_ranges::Ranges;
 use offer_book::Book;
+use proof_tree::Leaf;
 
 /// The leaf of a node over the node's ranges, of a book, at the yield of its limit. Each interval is in order and one of its line, and
 /// the leaf has a price for each need date.

@@ -1,18 +1,20 @@
 //! The parts of a tuner: the steps, the linear program, and what it proposes.
 ghost use Rattle.std.specs.Prelude.{◌≡◌, length, IfOk, IfSome};
 ghost use Rattle.fixed_powers.specs.DiscountPowers.{IsLowTable};
-ghost use Rattle.dual_bound.specs.Tree.{IsLeaf};
+ghost use Rattle.proof_tree.specs.Tree.{IsLeaf};
 ghost use Rattle.dual_tune.specs.Steps.{HasNoGreater, IsBetter, IsImproved, zeros_like};
 ghost use Rattle.dual_tune.specs.Sweep.{AreColumnsOf, IsPlaced, bound_at, stepped};
 ghost use Rattle.dual_tune.specs.Tuner.{AreParts, ArePartsFor};
 
 use crate::given::Given;
 use crate::sweep::{Step, Sweep, copy_leaf};
-use dual_bound::{Columns, Leaf, Ranges};
+use dual_bound::Columns;
 use escrow_desk::NoMemory;
 use fixed_powers::Powers;
+use node_ranges::Ranges;
 use offer_book::Book;
 use price_lp::{Basis, COLD_ITERATIONS, Purpose, Simplex, SolveEnd};
+use proof_tree::Leaf;
 use std::alloc::Global;
 
 // The most iterations of a solve that starts from a basis. Ranges near by take one to three as a rule; where steps are coarse and the

@@ -2,7 +2,7 @@
 ghost use Rattle.std.specs.Prelude.{◌≡◌, ◌<◌, ◌≤◌, ◌*◌, length, slice_index, slice_index_or};
 ghost use Rattle.dual_tune.specs.Steps.{price_after as price_after_of, price_before as price_before_of, mu_of_multiplier, price_beside as price_beside_of};
 
-use dual_bound::PRICE_SCALE;
+use proof_tree::PRICE_SCALE;
 
 /// Which price a price becomes in a step.
 #[derive(Clone, Copy)]

@@ -4,9 +4,9 @@ ghost use Rattle.fixed_powers.specs.DiscountPowers.{IsLowTable};
 ghost use Rattle.offer_book.specs.Book.{IsBook};
 ghost use Rattle.offer_book.specs.declared.line.Line.{Line};
 ghost use Rattle.dual_bound.specs.LeafBound.{least_within, priced_needs};
-ghost use Rattle.dual_bound.specs.Tree.{IsLeaf, with_price};
-ghost use Rattle.dual_bound.specs.declared.ranges.Interval.{Interval as IntervalOf};
-ghost use Rattle.dual_bound.specs.declared.tree.Leaf.{Leaf as LeafOf};
+ghost use Rattle.proof_tree.specs.Tree.{IsLeaf, with_price};
+ghost use Rattle.proof_tree.specs.declared.interval.Interval.{Interval as IntervalOf};
+ghost use Rattle.proof_tree.specs.declared.tree.Leaf.{Leaf as LeafOf};
 ghost use Rattle.dual_tune.specs.Steps.{IsStep, IsTriedMultiplier, mu_of_multiplier, price_beside as price_beside_of, with_multiplier};
 ghost use Rattle.dual_tune.specs.Sweep.{AreColumnsOf, AreLeasts, AreReached, IsBest, IsFormAt, IsPoint, IsPricedFor, IsReached, IsReadyFor, IsStepOf, IsSweep, IsSweepOf, bound_at, lines_worth};
 ghost use Rattle.dual_tune.specs.Table.{AreLineForms};
@@ -14,11 +14,13 @@ ghost use Rattle.dual_tune.specs.Table.{AreLineForms};
 use crate::given::Given;
 use crate::steps::{Multiplier, Side, mu_of, price_beside};
 use crate::table::Table;
-use dual_bound::{Columns, Form, Leaf, PRICE_SCALE, Ranges};
+use dual_bound::{Columns, Form};
 use escrow_desk::NoMemory;
 use escrow_units::Cents;
 use fixed_powers::Powers;
+use node_ranges::Ranges;
 use offer_book::{Book, COEFFICIENT_SCALE};
+use proof_tree::{Leaf, PRICE_SCALE};
 use std::alloc::Global;
 
 /// The least that a line adds at the given leaf, scaled.

@@ -1,7 +1,7 @@
 //! The forms of lines at a leaf and at its steps.
 ghost use Rattle.std.specs.Prelude.{All, ◌≡◌, ◌*◌, ◌<◌, ◌≤◌, pos, IfOk, true, length, slice_index_or};
 ghost use Rattle.dual_bound.specs.LeafBound.{priced_needs as priced_needs_of};
-ghost use Rattle.dual_bound.specs.Tree.{IsLeaf, with_price};
+ghost use Rattle.proof_tree.specs.Tree.{IsLeaf, with_price};
 ghost use Rattle.dual_tune.specs.Payers.{ArePayersByDate};
 ghost use Rattle.dual_tune.specs.Steps.{mu_of_multiplier, price_beside as price_beside_of, with_multiplier};
 ghost use Rattle.dual_tune.specs.Table.{AreDateForms, AreFormsOf, AreLineForms, AreStepForms, HasRoomForLines, HasRoomForPayers, HasTableRoom, HasMultiplierRoom, IsTable, forms_beside, multiplier_forms as multiplier_forms_of};
@@ -12,9 +12,10 @@ ghost use Rattle.dual_tune.specs.declared.table.DateForms.{DateForms as DateForm
 use crate::payers::{Payers, payers_by_date};
 use crate::steps::{Multiplier, Side, mu_of, price_beside};
 use crate::sweep::copy_leaf;
-use dual_bound::{Columns, Form, Leaf, PRICE_SCALE, priced_needs};
+use dual_bound::{Columns, Form, priced_needs};
 use escrow_desk::NoMemory;
 use offer_book::{Book, COEFFICIENT_SCALE};
+use proof_tree::{Leaf, PRICE_SCALE};
 use std::alloc::Global;
 
 /// The form of each line at a leaf, and with each multiplier of the limit that is tried.

@@ -3,18 +3,19 @@ ghost use Rattle.std.specs.Prelude.{◌≡◌, ◌<◌, ◌^◌, length, unsigne
 ghost use Rattle.std.specs.List.{AllZip};
 ghost use Rattle.fixed_powers.specs.DiscountPowers.{IsLowTable};
 ghost use Rattle.dual_bound.specs.LeafBound.{bound_of};
-ghost use Rattle.dual_bound.specs.Ranges.{HasRoomFor};
-ghost use Rattle.dual_bound.specs.Tree.{IsLeaf};
+ghost use Rattle.node_ranges.specs.Ranges.{HasRoomFor};
+ghost use Rattle.proof_tree.specs.Tree.{IsLeaf};
 ghost use Rattle.dual_tune.specs.Steps.{HasNoGreater, IsImproved, zeros_like};
 
 use crate::given::Given;
 use crate::parts::{Parts, solve};
-use dual_bound::{Leaf, Ranges};
 use escrow_desk::NoMemory;
 use escrow_units::YieldUnits;
 use fixed_powers::Powers;
+use node_ranges::Ranges;
 use offer_book::Book;
 use price_lp::Basis;
+use proof_tree::Leaf;
 use std::alloc::Global;
 use std::marker::Model;
 

@@ -13,13 +13,15 @@ use Rattle.bound_certificate.specs.declared.limits.TheConstants.{GREATEST_GAP, M
 use Rattle.case_file.specs.Case.{CaseContents}
 use Rattle.cash_table.specs.Points.{plan_yield}
 use Rattle.cash_table.proofs.CostFacts.{cost_at_most}
-use Rattle.dual_bound.specs.Ranges.{root_of}
-use Rattle.dual_bound.specs.declared.ranges.Interval.{Interval}
-use Rattle.dual_bound.specs.declared.tree.TreeNode.{TreeNode}
+use Rattle.dual_bound.specs.Closing.{is_weak}
+use Rattle.node_ranges.specs.Ranges.{root_of}
+use Rattle.node_ranges.specs.Claims.{is_bad_split, placed_nodes}
+use Rattle.proof_tree.specs.declared.interval.Interval.{Interval}
+use Rattle.proof_tree.specs.declared.tree.TreeNode.{TreeNode}
 use Rattle.offer_book.specs.Book.{BookContents, IsBook}
 use Rattle.offer_book.specs.Portfolio.{IsPermitted, cost}
 use Rattle.offer_book.specs.declared.line.Line.{Line}
-use Rattle.escrow_check.specs.Acceptance.{claim_of, first_not_offered, is_bad_split, is_offered, is_weak, judged, numbered, placed_nodes, plan_of, portfolio_reason, reason_by, reason_of, tree_reason, yes_of}
+use Rattle.escrow_check.specs.Acceptance.{claim_of, first_not_offered, is_offered, judged, numbered, plan_of, portfolio_reason, reason_by, reason_of, tree_reason, yes_of}
 use Rattle.escrow_check.specs.Acceptance as accept
 use Rattle.escrow_check.specs.Knows.{IsBuying, IsGoing, IsJudging, buys_in, still_waiting}
 use Rattle.escrow_check.specs.Trial.{AreColumnsOf, IsClaim, IsNew, last_verdict, plan_reason, verdict_by, verdict_on, with_buy, with_gap}

@@ -2,15 +2,15 @@
 use Rattle.std.proofs.Common.{◌≡◌, ◌∙◌, ℕ, suc, ◌+◌, ◌<◌, List, [], ◌∷◌, length, get_or, set, refl, sym, ap, arith, inl, inr}
 use Rattle.std.specs.List.{All, zip}
 use Rattle.std.proofs.lemmas.List.Elements.{All-cons, All-nil}
-use Rattle.dual_bound.proofs.RangeFacts.{tight-length}
+use Rattle.node_ranges.proofs.RangeFacts.{tight-length}
+use Rattle.node_ranges.specs.Claims.{low_ends}
 use Rattle.offer_book.specs.Book.{BookContents}
 use Rattle.offer_book.specs.Portfolio.{IsPermitted, IsPermittedUnits}
 use Rattle.std.proofs.lemmas.Bool.{cases_lt}
 use Rattle.std.proofs.lemmas.List.{get_or-set_same, get_or-set_other, length-map, length-set}
-use Rattle.dual_bound.specs.Ranges.{AreTight}
-use Rattle.dual_bound.specs.declared.ranges.Interval.{Interval}
+use Rattle.node_ranges.specs.Ranges.{AreTight}
+use Rattle.proof_tree.specs.declared.interval.Interval.{Interval}
 use Rattle.offer_book.specs.declared.line.Line.{Line}
-use Rattle.escrow_check.specs.Acceptance.{low_ends}
 
 abbrev IsPair : Line × ℕ → Type 0
 IsPair p = IsPermittedUnits p.0 p.1

@@ -23,8 +23,10 @@ use Rattle.bound_certificate.proofs.ToldFacts.{with_told}
 use Rattle.case_file.specs.Case.{CaseContents}
 use Rattle.cash_table.specs.First.{first_short_of}
 use Rattle.cash_table.specs.Points.{is_within_limit}
-use Rattle.dual_bound.specs.declared.tree.Leaf.{Leaf}
-use Rattle.escrow_check.specs.Acceptance.{IsVerdict, claim_of, first_not_offered, is_bad_split, is_weak, judged, numbered, placed_nodes, plan_of, portfolio_reason, reason_by, reason_of, tree_reason}
+use Rattle.dual_bound.specs.Closing.{is_weak}
+use Rattle.node_ranges.specs.Claims.{is_bad_split, placed_nodes}
+use Rattle.proof_tree.specs.declared.tree.Leaf.{Leaf}
+use Rattle.escrow_check.specs.Acceptance.{IsVerdict, claim_of, first_not_offered, judged, numbered, plan_of, portfolio_reason, reason_by, reason_of, tree_reason}
 use Rattle.escrow_check.specs.Acceptance as accept
 use Rattle.escrow_check.specs.Heard.{HasHeard, cert_in, is_before_gap}
 use Rattle.escrow_check.specs.Knows.{Comes, IsJudging, Knows}

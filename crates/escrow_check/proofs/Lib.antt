@@ -8,6 +8,5 @@ pub mod CloseFacts
 pub mod WalkFacts
 pub mod PurchaseFacts
 pub mod ReasonFacts
-pub mod TreeFacts
 pub mod VerdictFacts
 pub mod TextFacts

@@ -10,13 +10,15 @@ use Rattle.bound_certificate.specs.declared.limits.TheConstants.{MOST_NODES}
 use Rattle.case_file.specs.Case.{CaseContents}
 use Rattle.cash_table.specs.Points.{plan_yield}
 use Rattle.dual_bound.specs.Columns.{ColumnsContents}
-use Rattle.dual_bound.specs.Ranges.{is_proper, narrowed, root_of}
-use Rattle.dual_bound.specs.declared.ranges.Interval.{Interval}
-use Rattle.dual_bound.specs.declared.tree.TreeNode.{TreeNode}
-use Rattle.dual_bound.specs.declared.tree.TreeNode.TheVariants as node
+use Rattle.dual_bound.specs.Closing.{is_weak}
+use Rattle.node_ranges.specs.Ranges.{is_proper, narrowed, root_of}
+use Rattle.node_ranges.specs.Claims.{Claim, is_bad_split, placed, placed_nodes}
+use Rattle.proof_tree.specs.declared.interval.Interval.{Interval}
+use Rattle.proof_tree.specs.declared.tree.TreeNode.{TreeNode}
+use Rattle.proof_tree.specs.declared.tree.TreeNode.TheVariants as node
 use Rattle.offer_book.specs.Portfolio.{IsPermitted}
 use Rattle.offer_book.specs.declared.line.Line.{Line}
-use Rattle.escrow_check.specs.Acceptance.{Claim, claim_of, is_bad_split, is_weak, numbered, placed, placed_nodes, portfolio_reason, reason_by, reason_of, tree_reason}
+use Rattle.escrow_check.specs.Acceptance.{claim_of, numbered, portfolio_reason, reason_by, reason_of, tree_reason}
 use Rattle.escrow_check.specs.Knows.{IsGoing, IsJudging, still_waiting}
 use Rattle.escrow_check.specs.Trial.{AreColumnsOf, Ends, IsClaim, SplitsWell, TakesEnd, TakesSplit, may_go}
 use Rattle.escrow_check.specs.Walk.{IsWalk, after_subtree, waiting_of}

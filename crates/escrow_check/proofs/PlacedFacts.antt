@@ -4,12 +4,12 @@ use Rattle.std.specs.List.{position, position_or_len}
 use Rattle.std.specs.Option.{option_or}
 use Rattle.std.proofs.lemmas.Bool.{cases_lt}
 use Rattle.std.proofs.lemmas.Bool.Decides.{nat_tests}
-use Rattle.dual_bound.specs.Ranges.{narrowed}
-use Rattle.dual_bound.specs.declared.ranges.Interval.{Interval}
-use Rattle.dual_bound.specs.declared.tree.TreeNode.{TreeNode}
-use Rattle.dual_bound.specs.declared.tree.TreeNode.TheVariants as node
+use Rattle.node_ranges.specs.Ranges.{narrowed}
+use Rattle.node_ranges.specs.Claims.{placed}
+use Rattle.proof_tree.specs.declared.interval.Interval.{Interval}
+use Rattle.proof_tree.specs.declared.tree.TreeNode.{TreeNode}
+use Rattle.proof_tree.specs.declared.tree.TreeNode.TheVariants as node
 use Rattle.offer_book.specs.declared.line.Line.{Line}
-use Rattle.escrow_check.specs.Acceptance.{placed}
 use Rattle.escrow_check.specs.Knows.{still_waiting}
 
 -- ---- first places

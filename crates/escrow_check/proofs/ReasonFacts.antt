@@ -14,12 +14,14 @@ use Rattle.cash_table.proofs.DayFacts.{first_short_is}
 use Rattle.cash_table.proofs.PermitFacts.{position_fails, position_none}
 use Rattle.cash_table.specs.First.{first_short_of}
 use Rattle.cash_table.specs.Points.{is_within_limit}
-use Rattle.dual_bound.specs.declared.ranges.Interval.{Interval}
-use Rattle.dual_bound.specs.declared.tree.TreeNode.{TreeNode}
-use Rattle.dual_bound.specs.declared.tree.TreeNode.TheVariants as node
+use Rattle.dual_bound.specs.Closing.{is_weak}
+use Rattle.node_ranges.specs.Claims.{is_bad_split, placed_nodes}
+use Rattle.proof_tree.specs.declared.interval.Interval.{Interval}
+use Rattle.proof_tree.specs.declared.tree.TreeNode.{TreeNode}
+use Rattle.proof_tree.specs.declared.tree.TreeNode.TheVariants as node
 use Rattle.offer_book.specs.Book.{BookContents, IsBook}
 use Rattle.offer_book.specs.Portfolio.{IsFirstShort, Meets}
-use Rattle.escrow_check.specs.Acceptance.{claim_of, first_not_offered, is_bad_split, is_offered, is_weak, judged, numbered, placed_nodes, plan_of, portfolio_reason, reason_by, reason_of, tree_reason, verdict_by, yes_of}
+use Rattle.escrow_check.specs.Acceptance.{claim_of, first_not_offered, is_offered, judged, numbered, plan_of, portfolio_reason, reason_by, reason_of, tree_reason, verdict_by, yes_of}
 use Rattle.escrow_check.specs.Meaning.{IsHeard, IsOffered}
 use Rattle.escrow_check.specs.Reasons.{HasSound, IsAllowed, IsFirstNode, IsFirstNotOffered, IsSound, IsSoundTree, IsUnopposed, Makes, NoNamesReason, OfBuys, Stands, YesWhereUnopposed}
 use Rattle.escrow_check.specs.declared.verdict.Reason.{Reason}

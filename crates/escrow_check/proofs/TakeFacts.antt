@@ -9,15 +9,16 @@ use Rattle.bound_certificate.specs.declared.due.Due.TheVariants as due
 use Rattle.bound_certificate.specs.declared.item.Item.TheVariants as item
 use Rattle.bound_certificate.specs.declared.limits.TheConstants.{GREATEST_GAP, MOST_NODES}
 use Rattle.case_file.specs.Case.{CaseContents}
-use Rattle.dual_bound.specs.Ranges.{narrowed, root_of}
-use Rattle.dual_bound.specs.Tree.{IsLeaf}
-use Rattle.dual_bound.specs.declared.ranges.Interval.{Interval}
-use Rattle.dual_bound.specs.declared.tree.Leaf.{Leaf}
-use Rattle.dual_bound.specs.declared.tree.TreeNode.{TreeNode}
-use Rattle.dual_bound.specs.declared.tree.TreeNode.TheVariants as node
+use Rattle.dual_bound.specs.Closing.{is_closed_leaf, is_closed_point}
+use Rattle.node_ranges.specs.Ranges.{narrowed, root_of}
+use Rattle.node_ranges.specs.Claims.{placed}
+use Rattle.proof_tree.specs.Tree.{IsLeaf}
+use Rattle.proof_tree.specs.declared.interval.Interval.{Interval}
+use Rattle.proof_tree.specs.declared.tree.Leaf.{Leaf}
+use Rattle.proof_tree.specs.declared.tree.TreeNode.{TreeNode}
+use Rattle.proof_tree.specs.declared.tree.TreeNode.TheVariants as node
 use Rattle.offer_book.specs.Book.{IsBook}
 use Rattle.offer_book.specs.declared.line.Line.{Line}
-use Rattle.escrow_check.specs.Acceptance.{is_closed_leaf, is_closed_point, placed}
 use Rattle.escrow_check.specs.Knows.{Comes, IsBuying, IsGoing, IsJudging, Knows}
 use Rattle.escrow_check.specs.Trial.{IsReady, TakesEnd, TakesSplit, closed_leaf, closed_point, with_buy, with_gap}
 use Rattle.escrow_check.specs.declared.trial.Trial.{Trial}

@@ -6,11 +6,14 @@ use Rattle.std.specs.List.{position}
 use Rattle.std.specs.Option.{option_or}
 use Rattle.std.proofs.lemmas.Bool.{ltb-false, leb-true}
 use Rattle.std.proofs.lemmas.Int.{ints}
+use Rattle.dual_bound.specs.Closing.{is_weak}
+use Rattle.dual_bound.proofs.TreeFacts.{priced-bears_out, rival-bears_out}
 use Rattle.escrow_units.specs.Flows.{indexed}
 use Rattle.escrow_units.specs.PresentValue.{IndexedFlow, last_index}
 use Rattle.fixed_powers.specs.DiscountPowers.{one}
 use Rattle.fixed_powers.specs.PresentValues.{present_value, total_cents}
 use Rattle.fixed_powers.specs.declared.side.Side.TheVariants.{Low}
+use Rattle.node_ranges.specs.Claims.{is_bad_split, placed_nodes}
 use Rattle.yield_enclosure.specs.YieldAnswers.{answer_of_covered, is_within, is_worth, lower_end, upper_end, yield_answer_of}
 use Rattle.yield_enclosure.specs.declared.answer.YieldAnswer.TheVariants.{Empty, Negative, Between, Above}
 use Rattle.yield_enclosure.proofs.EndFacts.{ends_are, last_index-le, lower_end-is, upper_end-is}
@@ -25,14 +28,13 @@ use Rattle.cash_table.specs.First.{first_short_of}
 use Rattle.cash_table.specs.Points.{is_within_limit}
 use Rattle.offer_book.specs.Book.{BookContents, IsBook}
 use Rattle.offer_book.specs.Portfolio.{IsFirstShort, Meets, cost, security_cost, security_flows}
-use Rattle.escrow_check.specs.Acceptance.{claim_of, first_not_offered, is_bad_split, is_weak, judged, numbered, placed_nodes, plan_of, portfolio_of, portfolio_reason, reason_by, reason_of, tree_reason, verdict_by, yes_of}
+use Rattle.escrow_check.specs.Acceptance.{claim_of, first_not_offered, judged, numbered, plan_of, portfolio_of, portfolio_reason, reason_by, reason_of, tree_reason, verdict_by, yes_of}
 use Rattle.escrow_check.specs.Meaning.{IsHeard, IsRightPortfolio, LiesInEnds, NoRivalSaves, YesIsRight, YesNoneIsRight, YieldsWithin}
 use Rattle.escrow_check.specs.declared.verdict.Portfolio.{Portfolio}
 use Rattle.escrow_check.specs.declared.verdict.Reason.{Reason}
 use Rattle.escrow_check.specs.declared.verdict.Reason.TheVariants as reason
 use Rattle.escrow_check.specs.declared.verdict.Verdict.TheVariants as verdict
 use Rattle.escrow_check.proofs.PurchaseFacts.{plan-buys, plan_permitted, rise-pairs}
-use Rattle.escrow_check.proofs.TreeFacts.{priced-bears_out, rival-bears_out}
 
 -- ---- where no reason stands, each test passes
 pub option_or-none : {A : Type 0} (first second : Option A) → option_or first second ≡ None → (first ≡ None) × (second ≡ None)

@@ -3,9 +3,9 @@ use Rattle.std.proofs.Common.{◌≡◌, ◌∙◌, ℕ, zero, suc, ◌<◌, ◌
 use Rattle.std.specs.Prelude.{IsOk, IsTrue}
 use Rattle.std.proofs.lemmas.List.{append-nil}
 use Rattle.offer_book.specs.declared.line.Line.{Line}
-use Rattle.dual_bound.specs.Ranges.{AreTight, is_proper, narrowed, root_of}
-use Rattle.dual_bound.specs.declared.ranges.Interval.{Interval}
-use Rattle.dual_bound.proofs.RangeFacts.{sides-tight, splits-at, tight-ordered}
+use Rattle.node_ranges.specs.Ranges.{AreTight, is_proper, narrowed, root_of}
+use Rattle.proof_tree.specs.declared.interval.Interval.{Interval}
+use Rattle.node_ranges.proofs.RangeFacts.{sides-tight, splits-at, tight-ordered}
 use Rattle.escrow_check.specs.declared.walk.OpenSplit.{OpenSplit}
 use Rattle.escrow_check.specs.Walk.{AreSplitsOf, IsSplitOf, right_side, side_under_way, to_come, within_splits}
 

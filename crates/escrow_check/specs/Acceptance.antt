@@ -1,5 +1,5 @@
 -- When a certificate is accepted for a case. The form of the proof that a tree gives is this project's own.
-use Rattle.std.specs.Prelude.{◌≡◌, ℕ, ◌+◌, ◌*◌, Bool, true, false, not, ◌&&◌, ◌||◌, nat_lt, if◌then◌else◌, List, [], ◌∷◌, length, map, replicate, slice_index_or, slice_set, Option, Some, None, option_map, ℤ, pos, ◌-ℤ◌, ◌*ℤ◌, int_le, int_lt, ◌-◌}
+use Rattle.std.specs.Prelude.{◌≡◌, ℕ, ◌+◌, Bool, not, ◌&&◌, nat_lt, if◌then◌else◌, List, length, replicate, slice_index_or, slice_set, Option, Some, None, option_map, pos, ◌-ℤ◌, ◌-◌}
 use Rattle.std.specs.Bool.{then_some}
 use Rattle.std.specs.List.{find, fold, position}
 use Rattle.std.specs.Option.{option_or}
@@ -8,24 +8,18 @@ use Rattle.bound_certificate.specs.declared.certificate.Certificate.{Certificate
 use Rattle.bound_certificate.specs.Versions.{IsCertificateText, certificate_fault}
 use Rattle.case_file.specs.Case.{CaseContents}
 use Rattle.cash_table.specs.First.{first_short_of}
-use Rattle.cash_table.specs.Points.{is_excluded, is_within_limit, plan_yield}
-use Rattle.dual_bound.specs.LeafBound.{bound_of}
-use Rattle.dual_bound.specs.Ranges.{is_proper, is_single, narrowed, root_of}
-use Rattle.dual_bound.specs.declared.prices.TheConstants.{PRICE_SCALE}
-use Rattle.dual_bound.specs.declared.ranges.Interval.{Interval}
-use Rattle.dual_bound.specs.declared.tree.Leaf.{Leaf}
-use Rattle.dual_bound.specs.declared.tree.TreeNode.{TreeNode}
-use Rattle.dual_bound.specs.declared.tree.TreeNode.TheVariants as node
+use Rattle.cash_table.specs.Points.{is_within_limit, plan_yield}
 use Rattle.offer_book.specs.Book.{BookContents}
 use Rattle.offer_book.specs.CaseBook.{cash_line}
 use Rattle.offer_book.specs.Portfolio.{cost, permits}
-use Rattle.offer_book.specs.declared.coefficients.TheConstants.{COEFFICIENT_SCALE}
 use Rattle.offer_book.specs.declared.line.Line.{Line}
 use Rattle.escrow_check.specs.declared.verdict.Reason.{Reason}
 use Rattle.escrow_check.specs.declared.verdict.Reason.TheVariants as reason
 use Rattle.escrow_check.specs.declared.verdict.Portfolio.{Portfolio}
 use Rattle.escrow_check.specs.declared.verdict.Verdict.{Verdict}
 use Rattle.escrow_check.specs.declared.verdict.Verdict.TheVariants as verdict
+use Rattle.node_ranges.specs.Claims.{Claim, is_bad_split, placed_nodes}
+use Rattle.dual_bound.specs.Closing.{is_weak}
 
 -- ---- the portfolio
 -- a purchase names a line of the book, and its units are permitted
@@ -48,64 +42,9 @@ portfolio_reason case buys =
     (then_some (not (is_within_limit case.limit case.book (plan_of case.book buys))) reason.YieldAbove))
 
 -- ---- the tree
--- what a tree has to show: that no rival costs less than this, in cents; without a portfolio, that there is no rival at all
-abbrev pub Claim : Type 0
-Claim = Option ℤ
-
 -- a portfolio claims that no rival costs less than its cost less the gap
 abbrev pub claim_of : BookContents → Certificate → Claim
 claim_of book cert = option_map (λ buys. pos (cost book (plan_of book buys)) -ℤ pos cert.gap) cert.buys
-
--- each node with its ranges: a split narrows those of the subtrees that follow it, first the left one; `waiting` are the ranges of
--- the subtrees that are to come
-abbrev pub placed : List Line → List (List Interval) → List TreeNode → List (TreeNode × List Interval)
-placed lines waiting [] = []
-placed lines [] (next ∷ nodes) = []
-placed lines (ranges ∷ waiting) (node.Split line at ∷ nodes) =
-    (node.Split line at, ranges) ∷ placed lines (narrowed lines ranges line at false ∷ narrowed lines ranges line at true ∷ waiting) nodes
-placed lines (ranges ∷ waiting) (node.Point ∷ nodes) = (node.Point, ranges) ∷ placed lines waiting nodes
-placed lines (ranges ∷ waiting) (node.Closed leaf ∷ nodes) = (node.Closed leaf, ranges) ∷ placed lines waiting nodes
-
--- the nodes of a tree over a book, whose root has all units up to each line's most
-abbrev pub placed_nodes : BookContents → List TreeNode → List (TreeNode × List Interval)
-placed_nodes book nodes = placed book.lines (root_of book.lines ∷ []) nodes
-
--- a split that isn't proper
-abbrev pub is_bad_split : TreeNode × List Interval → Bool
-is_bad_split (node.Split line at, ranges) = not (is_proper ranges line at)
-is_bad_split (node.Point, ranges) = false
-is_bad_split (node.Closed leaf, ranges) = false
-
--- a leaf that weighs the cost bears out a claim where its bound is more than that of a cent less
-abbrev pub bears_out : ℤ → Claim → Bool
-bears_out bound None = false
-bears_out bound (Some least) = int_lt (pos (COEFFICIENT_SCALE * PRICE_SCALE) *ℤ (least -ℤ pos 1)) bound
-
--- a leaf is closed: it bears out the claim; or it doesn't weigh the cost, and its bound above 0 shows that there is no rival
-abbrev pub is_closed_leaf : CaseContents → Claim → List Interval → Leaf → Bool
-is_closed_leaf case claim ranges leaf =
-    if leaf.whole then bears_out (bound_of (case.limit - 1) case.book ranges leaf) claim
-    else int_lt (pos 0) (bound_of (case.limit - 1) case.book ranges leaf)
-
--- the portfolio of the low ends, which is the one that single ranges hold
-abbrev pub low_ends : List Interval → List ℕ
-low_ends ranges = map (λ interval. interval.low) ranges
-
--- a single portfolio costs no less than is claimed
-abbrev pub costs_enough : BookContents → Claim → List ℕ → Bool
-costs_enough book None plan = false
-costs_enough book (Some least) plan = int_le least (pos (cost book plan))
-
--- a point is closed: its ranges hold one portfolio, which is no rival, or costs no less than is claimed
-abbrev pub is_closed_point : CaseContents → Claim → List Interval → Bool
-is_closed_point case claim ranges =
-    is_single ranges && (is_excluded case.book (case.limit - 1) (low_ends ranges) || costs_enough case.book claim (low_ends ranges))
-
--- a leaf or a point that isn't closed
-abbrev pub is_weak : CaseContents → Claim → TreeNode × List Interval → Bool
-is_weak case claim (node.Split line at, ranges) = false
-is_weak case claim (node.Point, ranges) = not (is_closed_point case claim ranges)
-is_weak case claim (node.Closed leaf, ranges) = not (is_closed_leaf case claim ranges leaf)
 
 -- nodes count from 1
 abbrev pub numbered : Option ℕ → Option ℕ

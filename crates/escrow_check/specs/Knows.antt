@@ -10,14 +10,16 @@ use Rattle.bound_certificate.specs.declared.item.Item.{Item}
 use Rattle.bound_certificate.specs.declared.limits.TheConstants.{MOST_NODES}
 use Rattle.case_file.specs.Case.{CaseContents}
 use Rattle.cash_table.specs.Points.{plan_yield}
-use Rattle.dual_bound.specs.Ranges.{narrowed, root_of}
-use Rattle.dual_bound.specs.declared.ranges.Interval.{Interval}
-use Rattle.dual_bound.specs.declared.tree.Leaf.{Leaf}
-use Rattle.dual_bound.specs.declared.tree.TreeNode.{TreeNode}
-use Rattle.dual_bound.specs.declared.tree.TreeNode.TheVariants as node
+use Rattle.dual_bound.specs.Closing.{is_weak}
+use Rattle.node_ranges.specs.Ranges.{narrowed, root_of}
+use Rattle.node_ranges.specs.Claims.{is_bad_split, placed_nodes}
+use Rattle.proof_tree.specs.declared.interval.Interval.{Interval}
+use Rattle.proof_tree.specs.declared.tree.Leaf.{Leaf}
+use Rattle.proof_tree.specs.declared.tree.TreeNode.{TreeNode}
+use Rattle.proof_tree.specs.declared.tree.TreeNode.TheVariants as node
 use Rattle.offer_book.specs.Portfolio.{IsPermitted}
 use Rattle.offer_book.specs.declared.line.Line.{Line}
-use Rattle.escrow_check.specs.Acceptance.{claim_of, first_not_offered, is_bad_split, is_weak, numbered, placed_nodes, plan_of, portfolio_reason, reason_of}
+use Rattle.escrow_check.specs.Acceptance.{claim_of, first_not_offered, numbered, plan_of, portfolio_reason, reason_of}
 use Rattle.escrow_check.specs.Trial.{AreColumnsOf, ArePowersOf, IsClaim}
 use Rattle.escrow_check.specs.Walk.{IsWalk, waiting_of}
 use Rattle.escrow_check.specs.declared.trial.Trial.{Trial}

@@ -9,8 +9,6 @@ use Rattle.bound_certificate.specs.declared.certificate.Buy.{Buy}
 use Rattle.bound_certificate.specs.declared.certificate.Certificate.{Certificate}
 use Rattle.case_file.specs.Case.{CaseContents, HasTerms}
 use Rattle.cash_table.specs.Points.{plan_yield}
-use Rattle.dual_bound.specs.declared.tree.TreeNode.{TreeNode}
-use Rattle.dual_bound.specs.declared.tree.TreeNode.TheVariants as node
 use Rattle.offer_book.specs.Book.{BookContents, IsBook}
 use Rattle.offer_book.specs.Portfolio.{IsPermitted, IsPermittedUnits, Meets, cost, security_cost, security_flows}
 use Rattle.offer_book.specs.Rival.{IsRival}
@@ -18,6 +16,7 @@ use Rattle.offer_book.specs.declared.line.Line.{Line}
 use Rattle.escrow_check.specs.Acceptance.{judged}
 use Rattle.escrow_check.specs.declared.verdict.Portfolio.{Portfolio}
 use Rattle.escrow_check.specs.declared.verdict.Verdict.TheVariants as verdict
+use Rattle.proof_tree.specs.Tree.{IsPriced}
 
 -- a purchase is of a line on offer, in a permitted number of units
 pub record IsOffered (lines : List Line) (buy : Buy) : Type 0 where
@@ -50,12 +49,6 @@ NoRivalSaves limit gap book plan = (rival : List ℕ) → IsRival limit book riv
 -- no permitted portfolio that meets the needs costs less by more than the gap, whatever its yield
 abbrev pub NoneSaves : ℕ → BookContents → List ℕ → Type 0
 NoneSaves gap book plan = (other : List ℕ) → IsPermitted book other → Meets book other → cost book plan ≤ cost book other + gap
-
--- a tree bears out its claim by prices alone: it has no point, and no leaf gives the limit a multiplier
-abbrev pub IsPriced : TreeNode → Type 0
-IsPriced (node.Split line at) = Unit {0}
-IsPriced node.Point = ⊥
-IsPriced (node.Closed leaf) = leaf.mu ≡ 0
 
 -- an escrow is right, with a gap: its units are permitted, its cash balance is negative on no date, its exact yield lies in its
 -- interval and within the limit, no rival costs less by more than the gap, and the issue allows the gap

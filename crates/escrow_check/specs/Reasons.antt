@@ -4,11 +4,13 @@ use Rattle.bound_certificate.specs.declared.certificate.Buy.{Buy}
 use Rattle.bound_certificate.specs.declared.certificate.Certificate.{Certificate}
 use Rattle.case_file.specs.Case.{CaseContents}
 use Rattle.cash_table.specs.Points.{is_within_limit}
-use Rattle.dual_bound.specs.declared.ranges.Interval.{Interval}
-use Rattle.dual_bound.specs.declared.tree.TreeNode.{TreeNode}
+use Rattle.dual_bound.specs.Closing.{is_weak}
+use Rattle.node_ranges.specs.Claims.{IsProper, placed_nodes}
+use Rattle.proof_tree.specs.declared.interval.Interval.{Interval}
+use Rattle.proof_tree.specs.declared.tree.TreeNode.{TreeNode}
 use Rattle.offer_book.specs.Book.{BookContents}
 use Rattle.offer_book.specs.Portfolio.{IsFirstShort, IsPermitted, Meets}
-use Rattle.escrow_check.specs.Acceptance.{claim_of, is_bad_split, is_weak, judged, placed_nodes, reason_of}
+use Rattle.escrow_check.specs.Acceptance.{claim_of, judged, reason_of}
 use Rattle.escrow_check.specs.Meaning.{Bought, IsHeard, IsOffered}
 use Rattle.escrow_check.specs.declared.verdict.Reason.{Reason}
 use Rattle.escrow_check.specs.declared.verdict.Reason.TheVariants as reason
@@ -38,9 +40,6 @@ HasSound case (Some buys) = IsSound case buys
 -- the nodes of a tree with their ranges
 abbrev pub nodes_of : CaseContents → Certificate → List (TreeNode × List Interval)
 nodes_of case cert = placed_nodes case.book cert.nodes
-
-abbrev pub IsProper : TreeNode × List Interval → Type 0
-IsProper p = is_bad_split p ≡ false
 
 abbrev pub IsClosed : CaseContents → Certificate → TreeNode × List Interval → Type 0
 IsClosed case cert p = is_weak case (claim_of case.book cert) p ≡ false

@@ -2,6 +2,7 @@
 use Rattle.std.specs.Prelude.{◌≡◌, ℕ, ◌+◌, ◌-◌, ◌^◌, ◌*◌, ◌≤◌, ◌<◌, Bool, true, false, not, ◌&&◌, ◌||◌, nat_lt, if◌then◌else◌, List, [], ◌∷◌, length, replicate, slice_set, is_some, is_none, Option, Some, None, option_map, pos, ◌-ℤ◌, unsigned_abs, vec_len, vec_capacity}
 use Rattle.std.specs.Bool.{then_some}
 use Rattle.std.specs.Option.{option_or}
+use Rattle.dual_bound.specs.Closing.{is_closed_leaf, is_closed_point}
 use Rattle.fixed_powers.specs.DiscountPowers.{PowerTable}
 use Rattle.fixed_powers.specs.declared.side.Side.TheVariants as side
 use Rattle.escrow_units.specs.declared.limits.TheConstants.{GREATEST_INDEX}
@@ -11,15 +12,16 @@ use Rattle.case_file.specs.Case.{CaseContents}
 use Rattle.cash_table.specs.First.{first_short_of}
 use Rattle.cash_table.specs.Points.{plan_yield}
 use Rattle.dual_bound.specs.Columns.{ColumnsContents}
-use Rattle.dual_bound.specs.Ranges.{is_proper, narrowed, root_of}
-use Rattle.dual_bound.specs.declared.ranges.Interval.{Interval}
-use Rattle.dual_bound.specs.declared.tree.Leaf.{Leaf}
+use Rattle.node_ranges.specs.Ranges.{is_proper, narrowed, root_of}
+use Rattle.node_ranges.specs.Claims.{Claim}
+use Rattle.proof_tree.specs.declared.interval.Interval.{Interval}
+use Rattle.proof_tree.specs.declared.tree.Leaf.{Leaf}
 use Rattle.offer_book.specs.Book.{BookContents}
 use Rattle.offer_book.specs.Portfolio.{cost}
 use Rattle.offer_book.specs.declared.line.Line.{Line}
 use Rattle.yield_enclosure.specs.YieldAnswers.{is_within}
 use Rattle.yield_enclosure.specs.declared.answer.YieldAnswer.{YieldAnswer}
-use Rattle.escrow_check.specs.Acceptance.{Claim, is_closed_leaf, is_closed_point, is_offered}
+use Rattle.escrow_check.specs.Acceptance.{is_offered}
 use Rattle.escrow_check.specs.Walk.{IsWalk, after_subtree, waiting_of}
 use Rattle.escrow_check.specs.declared.trial.Trial.{Trial}
 use Rattle.escrow_check.specs.declared.verdict.Reason.{Reason}

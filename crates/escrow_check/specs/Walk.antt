@@ -1,8 +1,8 @@
 -- Where a tree stands as its nodes come: the ranges that are waiting, of the node that comes next and of the right sides after it.
 use Rattle.std.specs.Prelude.{◌≡◌, if◌then◌else◌, IsTrue, true, List, [], ◌∷◌, ◌++◌, slice_index_or}
 use Rattle.offer_book.specs.declared.line.Line.{Line}
-use Rattle.dual_bound.specs.Ranges.{AreTight, is_proper, narrowed, root_of}
-use Rattle.dual_bound.specs.declared.ranges.Interval.{Interval}
+use Rattle.node_ranges.specs.Ranges.{AreTight, is_proper, narrowed, root_of}
+use Rattle.proof_tree.specs.declared.interval.Interval.{Interval}
 use Rattle.escrow_check.specs.declared.walk.OpenSplit.{OpenSplit}
 use Rattle.escrow_check.specs.declared.walk.Walk.{Walk}
 

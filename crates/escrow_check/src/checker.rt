@@ -45,6 +45,7 @@ impl<'a> Checker<'a> {
         requires { HasTerms (case_view case.now) }
         ensures case { IfOk result (λ checker. checker.case ≡ case_view case.now) }
         ensures book { IfOk result (λ checker. IsBook checker.case.book) }
+        ensures going { IfOk result (λ checker. checker.failed ≡ false) }
         ensures heard { IfOk result (λ checker. Heard checker []) }
     {
         let hearing = Hearing::make(alloc, case)?;

@@ -1,18 +1,21 @@
 //! Whether a leaf or a point is closed.
 ghost use Rattle.std.specs.Prelude.{◌≡◌, ◌*◌, ◌^◌, ◌-◌, ◌≤◌, ◌<◌, ◌-ℤ◌, ◌*ℤ◌, int_lt, length, pos, unsigned_abs};
 ghost use Rattle.case_file.specs.Case.{case_view};
-ghost use Rattle.dual_bound.specs.Ranges.{AreTight};
+ghost use Rattle.dual_bound.specs.Closing.{is_closed_leaf as is_closed_leaf_of, is_closed_point as is_closed_point_of};
+ghost use Rattle.node_ranges.specs.Ranges.{AreTight};
+ghost use Rattle.node_ranges.specs.Claims.{bears_out as bears_out_of, costs_enough as costs_enough_of, low_ends};
 ghost use Rattle.offer_book.specs.Portfolio.{IsPermitted};
-ghost use Rattle.dual_bound.specs.Tree.{IsLeaf};
+ghost use Rattle.proof_tree.specs.Tree.{IsLeaf};
 ghost use Rattle.fixed_powers.specs.declared.side.Side.TheVariants as side;
-ghost use Rattle.escrow_check.specs.Acceptance.{bears_out as bears_out_of, costs_enough as costs_enough_of, is_closed_leaf as is_closed_leaf_of, is_closed_point as is_closed_point_of, low_ends};
 ghost use Rattle.escrow_check.specs.Trial.{AreColumnsOf, ArePowersOf, IsClaim};
 
 use case_file::Case;
 use cash_table::{Plan, cost, point_excluded};
-use dual_bound::{Columns, Leaf, PRICE_SCALE, Ranges};
+use dual_bound::Columns;
 use fixed_powers::Powers;
+use node_ranges::Ranges;
 use offer_book::{Book, COEFFICIENT_SCALE};
+use proof_tree::{Leaf, PRICE_SCALE};
 
 // A leaf that weighs the cost bears out a claim where its bound is more than that of a cent less.
 fn bears_out(bound: i128, claim: Option<i128>) -> bool

@@ -2,7 +2,7 @@
 ghost use Rattle.std.specs.Prelude.{◌≡◌, ◌+◌, ◌<◌, IfErr, IfOk, List, OnOk, false, length, true, ℕ};
 ghost use Rattle.case_file.specs.Case.{HasTerms, case_view};
 ghost use Rattle.cash_table.specs.First.{first_short_of};
-ghost use Rattle.dual_bound.specs.Tree.{IsLeaf};
+ghost use Rattle.proof_tree.specs.Tree.{IsLeaf};
 ghost use Rattle.offer_book.specs.Book.{IsBook};
 ghost use Rattle.offer_book.specs.Portfolio.{IsPermitted};
 ghost use Rattle.yield_enclosure.specs.YieldAnswers.{is_within as is_within_of};
@@ -22,11 +22,12 @@ use crate::walk::Walk;
 use bound_certificate::{Buy, Item, MOST_NODES};
 use case_file::Case;
 use cash_table::{Plan, Standing, cost, plan_standing};
-use dual_bound::{Columns, Leaf};
+use dual_bound::Columns;
 use escrow_desk::NoMemory;
 use escrow_units::{Cents, Day, GREATEST_INDEX, YieldUnits};
 use fixed_powers::{Powers, Side};
 use offer_book::Book;
+use proof_tree::Leaf;
 use std::alloc::Global;
 use yield_enclosure::YieldAnswer;
 

@@ -1,14 +1,15 @@
 //! Where a tree stands as its nodes come.
 ghost use Rattle.std.specs.Prelude.{◌≡◌, ◌+◌, ◌<◌, ◌≤◌, [], ◌∷◌, IfOk, IsTrue, false, true, length, slice_index_or, vec_capacity, vec_len};
 ghost use Rattle.offer_book.specs.Book.{IsBook};
-ghost use Rattle.dual_bound.specs.declared.ranges.Interval.{Interval};
-ghost use Rattle.dual_bound.specs.Ranges.{is_proper, narrowed, root_of};
+ghost use Rattle.proof_tree.specs.declared.interval.Interval.{Interval};
+ghost use Rattle.node_ranges.specs.Ranges.{is_proper, narrowed, root_of};
 ghost use Rattle.escrow_check.specs.Walk.{IsWalk, after_subtree, waiting_of};
 
 use bound_certificate::MOST_NODES;
-use dual_bound::{Interval, Ranges};
 use escrow_desk::NoMemory;
+use node_ranges::Ranges;
 use offer_book::Book;
+use proof_tree::Interval;
 use std::alloc::Global;
 
 /// A split whose two sides aren't both done.

@@ -20,7 +20,7 @@ use Rattle.cap_finder.specs.declared.ends.Obstacle.{Obstacle}
 use Rattle.cap_finder.specs.declared.ends.Obstacle.TheVariants as obstacle
 use Rattle.cap_finder.specs.declared.ends.Unfound.{Unfound}
 use Rattle.case_file.specs.Case.{CaseContents, HasTerms, case_view}
-use Rattle.dual_bound.specs.declared.tree.TreeNode.{TreeNode}
+use Rattle.proof_tree.specs.declared.tree.TreeNode.{TreeNode}
 use Rattle.escrow_check.proofs.VerdictFacts.{yes_is_right, yes_none_is_right}
 use Rattle.halving_tree.specs.Halving.{PartsAreFew, PartsAreWithin}
 use Rattle.offer_book.specs.Book.{IsBook}

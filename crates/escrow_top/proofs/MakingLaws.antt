@@ -7,7 +7,7 @@ use Rattle.branch_search.proofs.FoundFacts.{found_are_accepted, none_found_are_a
 use Rattle.branch_search.specs.Purchases.{certificate_of, certificate_of_none}
 use Rattle.branch_search.specs.Search.{IsFound, IsFoundBy, IsNoneFound}
 use Rattle.case_file.specs.Case.{CaseContents, HasTerms}
-use Rattle.dual_bound.specs.declared.tree.TreeNode.{TreeNode}
+use Rattle.proof_tree.specs.declared.tree.TreeNode.{TreeNode}
 use Rattle.offer_book.specs.Book.{IsBook}
 use Rattle.escrow_top.specs.Answer.{Answer, case_of}
 use Rattle.escrow_top.specs.Covered.{IsCovered}

@@ -15,7 +15,7 @@ use Rattle.cash_table.specs.Reach.{AreAllShort, IsInReach, plan_of_most}
 use Rattle.cash_table.proofs.DayFacts.{first_short_is}
 use Rattle.halving_tree.specs.Halving.{PartsAreFew, PartsAreWithin}
 use Rattle.case_file.specs.Case.{CaseContents, HasTerms}
-use Rattle.dual_bound.specs.declared.tree.TreeNode.{TreeNode}
+use Rattle.proof_tree.specs.declared.tree.TreeNode.{TreeNode}
 use Rattle.escrow_check.proofs.OneVerdict.{one_verdict}
 use Rattle.escrow_check.specs.Verdicts.{verdict_of}
 use Rattle.escrow_check.specs.declared.verdict.Verdict.TheVariants as verdict

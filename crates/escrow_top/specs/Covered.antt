@@ -3,7 +3,7 @@ use Rattle.std.specs.Prelude.{◌⊎◌, ℕ, ◌*◌, ◌≤◌, List, length}
 use Rattle.std.specs.List.{Contains}
 use Rattle.case_file.specs.Case.{CaseContents}
 use Rattle.cash_table.specs.Reach.{IsInReach}
-use Rattle.dual_bound.specs.Ranges.{root_of}
+use Rattle.node_ranges.specs.Ranges.{root_of}
 use Rattle.halving_tree.specs.Halving.{IsHalvingTree, Splits, node_count}
 use Rattle.offer_book.specs.Portfolio.{IsPermitted}
 

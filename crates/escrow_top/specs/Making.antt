@@ -8,7 +8,7 @@ use Rattle.branch_search.specs.Purchases.{certificate_of, certificate_of_none}
 use Rattle.branch_search.specs.Search.{IsFound, IsFoundBy, IsNoneFound}
 use Rattle.case_file.specs.Case.{CaseContents}
 use Rattle.case_maker.specs.Files.{issue_text, prices_text, rates_text}
-use Rattle.dual_bound.specs.declared.tree.TreeNode.{TreeNode}
+use Rattle.proof_tree.specs.declared.tree.TreeNode.{TreeNode}
 use Rattle.verification_report.specs.Report.{figures_of}
 use Rattle.verification_report.specs.Summary.{summary_text, text_line}
 use Rattle.escrow_top.specs.Answer.{Answer, case_of, certificate_answer, refused}

@@ -10,7 +10,7 @@ use Rattle.branch_search.specs.Search.{IsFound, IsFoundBy, IsNoneFound, IsSpent}
 use Rattle.branch_search.specs.declared.found.Spent.{Spent}
 use Rattle.case_file.specs.Case.{CaseContents}
 use Rattle.cash_table.specs.Reach.{AreAllShort, plan_of_most}
-use Rattle.dual_bound.specs.declared.tree.TreeNode.{TreeNode}
+use Rattle.proof_tree.specs.declared.tree.TreeNode.{TreeNode}
 use Rattle.escrow_units.specs.Digits.{fixed}
 use Rattle.offer_book.specs.Book.{BookContents}
 use Rattle.offer_book.specs.Portfolio.{IsFirstShort, cost}

@@ -18,7 +18,6 @@ use crate::answer::{Answer, budget_spent, infeasible, none_within, push_nodes, r
 use crate::files::InputFiles;
 use crate::judging::given_case;
 use crate::status::Status;
-use bound_certificate::Nodes;
 use branch_search::{Found, SearchEnd, search};
 use case_file::Case;
 use case_maker::make;
@@ -26,6 +25,7 @@ use escrow_desk::{CaseError, NoMemory};
 use escrow_units::Cents;
 use halving_tree::halving_laws;
 use itoa::Buffer;
+use proof_tree::Nodes;
 use std::alloc::Global;
 use verification_report::{push_line, summary};
 

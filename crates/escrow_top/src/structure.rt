@@ -19,12 +19,13 @@ use crate::files::{FileNames, InputFiles, Inputs, read_inputs};
 use crate::inquiry::Inquiry;
 use crate::judging::judged_case;
 use crate::stop::Stop;
-use bound_certificate::{Certificate, Nodes};
+use bound_certificate::Certificate;
 use branch_search::{Found, SearchEnd, search};
 use case_file::Case;
 use escrow_desk::{CaseError, Desk, NoMemory};
 use escrow_units::Cents;
 use halving_tree::halving_laws;
+use proof_tree::Nodes;
 use std::alloc::Global;
 use verification_report::{report, summary};
 

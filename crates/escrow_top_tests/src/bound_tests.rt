@@ -1,15 +1,17 @@
 //! Bounds of leaves over books of each kind of line, compared with figures of exact whole numbers, got apart from this program.
 ghost use Rattle.std.specs.Prelude.{length, IfOk};
-ghost use Rattle.dual_bound.specs.Ranges.{AreTight};
-ghost use Rattle.dual_bound.specs.Tree.{IsLeaf};
+ghost use Rattle.node_ranges.specs.Ranges.{AreTight};
+ghost use Rattle.proof_tree.specs.Tree.{IsLeaf};
 
 use bound_certificate::read_cert;
 use case_file::{Case, read_case};
-use dual_bound::{Columns, Leaf, Ranges, TreeNode, bound, range_laws};
+use dual_bound::{Columns, bound};
 use escrow_desk::FILE_LIMIT;
 use escrow_units::{GREATEST_INDEX, YieldUnits};
 use fixed_powers::{Powers, Side};
+use node_ranges::{Ranges, range_laws};
 use offer_book::Book;
+use proof_tree::{Leaf, TreeNode};
 use std::alloc::Global;
 use std::process::Abort;
 use std::test::Fail;

@@ -3,10 +3,10 @@ use Rattle.std.proofs.Common.{◌≡◌, ◌∙◌, inl, inr, ℕ, zero, suc, �
 use Rattle.std.proofs.Math.Nat.{le-mul_of_pos_right}
 use Rattle.std.proofs.lemmas.Bool.Decides.{nat_tests}
 use Rattle.std.specs.Prelude.{IsTrue, nat_le, nat_lt}
-use Rattle.dual_bound.proofs.RangeFacts.{proper-at, tight-at, tight-length}
+use Rattle.node_ranges.proofs.RangeFacts.{proper-at, tight-at, tight-length}
 use Rattle.dual_bound.proofs.Soundness.{all-lines}
-use Rattle.dual_bound.specs.Ranges.{AreTight, is_proper, is_single}
-use Rattle.dual_bound.specs.declared.ranges.Interval.{Interval}
+use Rattle.node_ranges.specs.Ranges.{AreTight, is_proper, is_single}
+use Rattle.proof_tree.specs.declared.interval.Interval.{Interval}
 use Rattle.offer_book.specs.Book.{AreLines, BookContents, IsBook, IsLine}
 use Rattle.offer_book.specs.CaseBook.{cash_line}
 use Rattle.offer_book.specs.declared.line.Line.{Line}

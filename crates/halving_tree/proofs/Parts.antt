@@ -3,10 +3,10 @@ use Rattle.std.proofs.Common.{◌≡◌, ◌∙◌, ◌⊎◌, inl, inr, ℕ, su
 use Rattle.std.specs.Prelude.{IsTrue}
 use Rattle.std.proofs.lemmas.Bool.{cases_lt}
 use Rattle.case_file.specs.Case.{CaseContents}
-use Rattle.dual_bound.proofs.RangeFacts.{sides-tight}
-use Rattle.dual_bound.proofs.RangeLaws.{root_holds_all, root_is_tight, splits_cover, tight_hold}
-use Rattle.dual_bound.specs.Ranges.{AreTight, Hold, is_proper, is_single, narrowed, root_of}
-use Rattle.dual_bound.specs.declared.ranges.Interval.{Interval}
+use Rattle.node_ranges.proofs.RangeFacts.{sides-tight}
+use Rattle.node_ranges.proofs.RangeLaws.{root_holds_all, root_is_tight, splits_cover, tight_hold}
+use Rattle.node_ranges.specs.Ranges.{AreTight, Hold, is_proper, is_single, narrowed, root_of}
+use Rattle.proof_tree.specs.declared.interval.Interval.{Interval}
 use Rattle.offer_book.specs.Book.{IsBook}
 use Rattle.offer_book.specs.Portfolio.{IsPermitted}
 use Rattle.offer_book.specs.declared.line.Line.{Line}

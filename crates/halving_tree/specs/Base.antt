@@ -1,8 +1,8 @@
 -- The leaf that every node of a search is measured by. It is this project's own.
 use Rattle.std.specs.Prelude.{◌≡◌, ◌*◌, ℕ, ◌-◌, ◌≤◌, List, length, map, replicate, unwrap_or, false, true, if◌then◌else◌, int_le, ℤ}
 use Rattle.backward_build.specs.PriceCurve.{bootstrapped_prices, leaf_of_prices}
-use Rattle.dual_bound.specs.declared.prices.TheConstants.{PRICE_SCALE}
-use Rattle.dual_bound.specs.declared.tree.Leaf.{Leaf}
+use Rattle.proof_tree.specs.declared.prices.TheConstants.{PRICE_SCALE}
+use Rattle.proof_tree.specs.declared.tree.Leaf.{Leaf}
 use Rattle.escrow_units.specs.declared.security.Flow.{Flow}
 use Rattle.offer_book.specs.Book.{BookContents}
 

@@ -8,9 +8,9 @@ use Rattle.case_file.specs.Case.{CaseContents}
 use Rattle.cash_table.specs.First.{first_short_of}
 use Rattle.cash_table.specs.Points.{is_within_limit}
 use Rattle.dual_bound.specs.LeafBound.{bound_of}
-use Rattle.dual_bound.specs.Ranges.{is_single, narrowed, root_of}
-use Rattle.dual_bound.specs.declared.ranges.Interval.{Interval}
-use Rattle.escrow_check.specs.Acceptance.{Claim, bears_out}
+use Rattle.node_ranges.specs.Ranges.{is_single, narrowed, root_of}
+use Rattle.node_ranges.specs.Claims.{Claim, bears_out}
+use Rattle.proof_tree.specs.declared.interval.Interval.{Interval}
 use Rattle.offer_book.specs.Book.{BookContents, IsBook}
 use Rattle.offer_book.specs.CaseBook.{cash_line}
 use Rattle.offer_book.specs.Portfolio.{IsPermitted, cost}

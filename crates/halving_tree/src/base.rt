@@ -1,13 +1,13 @@
 //! The leaf of the bootstrapped prices, and the leaf that shows that needs aren't reached.
 ghost use Rattle.std.specs.Prelude.{◌≡◌, if◌then◌else◌, int_le, IfOk, length};
-ghost use Rattle.dual_bound.specs.Tree.{IsLeaf};
+ghost use Rattle.proof_tree.specs.Tree.{IsLeaf};
 ghost use Rattle.halving_tree.specs.Base.{base_leaf as base_leaf_of, reach_leaf as reach_leaf_of};
 
 use backward_build::bootstrap;
-use dual_bound::{Leaf, PRICE_SCALE};
 use escrow_desk::NoMemory;
 use escrow_units::Day;
 use offer_book::Book;
+use proof_tree::{Leaf, PRICE_SCALE};
 use std::alloc::Global;
 
 /// The base leaf of a book, which weighs the cost: that of the bootstrapped prices, and where there are none, that of 0 for each

@@ -1,10 +1,10 @@
 //! Where a node is split.
 ghost use Rattle.std.specs.Prelude.{◌≡◌, ◌<◌, ◌*◌, ◌-◌, false, length, slice_index_or, IsTrue};
-ghost use Rattle.dual_bound.specs.Ranges.{AreTight, is_proper, is_single};
+ghost use Rattle.node_ranges.specs.Ranges.{AreTight, is_proper, is_single};
 ghost use Rattle.offer_book.specs.CaseBook.{cash_line};
 ghost use Rattle.halving_tree.specs.Halving.{IsHalved, IsWidest, width_at};
 
-use dual_bound::Ranges;
+use node_ranges::Ranges;
 use offer_book::Book;
 
 /// A split of a line's interval: its left side has the units up to a number, its right side those from the next one on.

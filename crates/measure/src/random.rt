@@ -3,10 +3,10 @@ ghost use Rattle.std.specs.Prelude.{◌≡◌, ◌≤◌, length};
 ghost use Rattle.fixed_powers.specs.DiscountPowers.{PowerTable};
 
 use crate::roots::{powers_of, starved};
-use dual_bound::{Interval, Leaf};
 use escrow_units::{GREATEST_YIELD, YieldUnits};
 use offer_book::Book;
 use price_lp::{COLD_ITERATIONS, Purpose, Simplex, SolveEnd, WARM_ITERATIONS};
+use proof_tree::{Interval, Leaf};
 use rand::RngExt;
 use rand_core::SeedableRng;
 use rand_pcg::Pcg32;

@@ -2,16 +2,18 @@
 ghost use Rattle.std.specs.Prelude.{◌≡◌, ◌≤◌, ◌^◌, IfOk, length};
 ghost use Rattle.std.specs.List.{AllZip};
 ghost use Rattle.fixed_powers.specs.DiscountPowers.{IsLowTable, PowerTable};
-ghost use Rattle.dual_bound.specs.Ranges.{HasRoomFor};
+ghost use Rattle.node_ranges.specs.Ranges.{HasRoomFor};
 
-use dual_bound::{Interval, Leaf, PRICE_SCALE, Ranges, bound};
+use dual_bound::bound;
 use dual_tune::improve;
 use escrow_desk::NoMemory;
 use escrow_units::{GREATEST_INDEX, GREATEST_YIELD, YieldUnits};
 use fixed_powers::{Powers, Side};
 use halving_tree::base_leaf;
+use node_ranges::Ranges;
 use offer_book::{Book, COEFFICIENT_SCALE};
 use price_lp::{Basis, COLD_ITERATIONS, Purpose, Simplex, WARM_ITERATIONS};
+use proof_tree::{Interval, Leaf, PRICE_SCALE};
 use std::io;
 use std::io::ErrorKind;
 use std::time::Instant;

@@ -2,8 +2,8 @@
 use Rattle.std.proofs.Common.{◌≡◌, ◌∙◌, ◌⊎◌, inl, inr, ℕ, zero, suc, ◌+◌, ◌<◌, ◌≤◌, List, [], ◌∷◌, refl, sym, ap, subst, arith, Bool, true, false, ◌&&◌, nat_lt, nat_le, IsTrue, if◌then◌else◌}
 use Rattle.offer_book.specs.Portfolio.{IsPermittedUnits}
 use Rattle.offer_book.specs.declared.line.Line.{Line}
-use Rattle.dual_bound.specs.Ranges.{AreTight, IsTight, is_proper, narrowed, root_of, side_of}
-use Rattle.dual_bound.specs.declared.ranges.Interval.{Interval}
+use Rattle.node_ranges.specs.Ranges.{AreTight, IsTight, is_proper, narrowed, root_of, side_of}
+use Rattle.proof_tree.specs.declared.interval.Interval.{Interval}
 
 -- the ranges of a node, as far as they are narrowed from below up to an ancestor: what isn't narrowed yet is as at the ancestor
 pub record AgreesAt (line : Line) (above now all : Interval) : Type 0 where

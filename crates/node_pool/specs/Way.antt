@@ -1,8 +1,8 @@
 -- The way to a node, and its ranges. This is this project's own.
 use Rattle.std.specs.Prelude.{◌≡◌, ℕ, Bool, ◌==◌, if◌then◌else◌, IsTrue, List, [], ◌∷◌}
 use Rattle.offer_book.specs.declared.line.Line.{Line}
-use Rattle.dual_bound.specs.declared.ranges.Interval.{Interval}
-use Rattle.dual_bound.specs.Ranges.{is_proper, narrowed, root_of}
+use Rattle.proof_tree.specs.declared.interval.Interval.{Interval}
+use Rattle.node_ranges.specs.Ranges.{is_proper, narrowed, root_of}
 use Rattle.node_pool.specs.declared.node.NodeId.{NodeId}
 use Rattle.node_pool.specs.declared.node.State.{State}
 use Rattle.node_pool.specs.declared.node.State.TheVariants as state

@@ -7,15 +7,15 @@ ghost use Rattle.std.specs.List.{count_by};
 ghost use Rattle.node_pool.specs.declared.node.State.TheVariants as state;
 ghost use Rattle.node_pool.specs.Pool.{IsInHand, IsLeast, IsOneTree, NoneWaits, SplitsAreWhole, is_waiting, new_pool, pool_with, split_pool};
 ghost use Rattle.node_pool.specs.Tree.{AreEnded, IsPreorderOf};
-ghost use Rattle.dual_bound.specs.Ranges.{AreTight};
+ghost use Rattle.node_ranges.specs.Ranges.{AreTight};
 ghost use Rattle.node_pool.specs.Way.{AreProper, IsWay, Step, ranges_at};
 
 use crate::node::{Full, Link, Links, Node, NodeId, State};
 use crate::queue::{insert, set_state, take_first};
 use crate::tree::preorder_of;
 use crate::way::narrow_up;
-use dual_bound::Ranges;
 use escrow_desk::NoMemory;
+use node_ranges::Ranges;
 use offer_book::Book;
 use std::alloc::Global;
 use std::marker::Model;

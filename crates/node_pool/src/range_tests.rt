@@ -1,13 +1,13 @@
 //! The ranges of the deepest node of deep trees.
 ghost use Rattle.std.specs.Prelude.{◌≡◌, ◌∷◌, [], List, IfOk, IfSome};
 ghost use Rattle.offer_book.specs.declared.line.LineKind.TheVariants as kind;
-ghost use Rattle.dual_bound.specs.Ranges.{AreTight};
+ghost use Rattle.node_ranges.specs.Ranges.{AreTight};
 ghost use Rattle.node_pool.specs.Pool.{IsInHand};
 ghost use Rattle.node_pool.specs.Way.{AreProper, IsWay, Step, ranges_at};
 
 use crate::{NodeId, Pool};
-use dual_bound::{Ranges, range_laws};
 use escrow_units::{ClosedDays, Day};
+use node_ranges::{Ranges, range_laws};
 use offer_book::{Book, Line, LineKind};
 use std::alloc::Global;
 use std::process::Abort;

@@ -1,13 +1,13 @@
 //! The ranges of a node, by the splits on its way to the root.
 ghost use Rattle.std.specs.Prelude.{◌≡◌, ◌<◌, length, List};
-ghost use Rattle.dual_bound.specs.Ranges.{AreTight, root_of};
+ghost use Rattle.node_ranges.specs.Ranges.{AreTight, root_of};
 ghost use Rattle.node_pool.specs.Heap.{node_at};
 ghost use Rattle.node_pool.specs.Pool.{SplitsAreWhole};
 ghost use Rattle.node_pool.specs.Queue.{AreParents, states_of};
 ghost use Rattle.node_pool.specs.Way.{AreProper, IsWay, Step, narrowed_by, ranges_at};
 
 use crate::node::{Node, NodeId, State};
-use dual_bound::{Ranges, range_laws};
+use node_ranges::{Ranges, range_laws};
 use offer_book::Book;
 
 // Goes to the side of a split on which a child is, where the split is proper in these ranges; where it isn't, ranges further down

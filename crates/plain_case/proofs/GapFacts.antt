@@ -10,10 +10,10 @@ use Rattle.offer_book.specs.Portfolio.{cost}
 use Rattle.offer_book.specs.declared.coefficients.TheConstants.{COEFFICIENT_SCALE}
 use Rattle.offer_book.specs.declared.line.Line.{Line}
 use Rattle.dual_bound.specs.LeafBound.{bound_of, least_within, priced_needs, signed_sum}
-use Rattle.dual_bound.specs.Ranges.{root_of}
-use Rattle.dual_bound.specs.declared.prices.TheConstants.{PRICE_SCALE}
-use Rattle.dual_bound.specs.Tree.{IsLeaf}
-use Rattle.dual_bound.proofs.RangeLaws.{root_holds_all}
+use Rattle.node_ranges.specs.Ranges.{root_of}
+use Rattle.proof_tree.specs.declared.prices.TheConstants.{PRICE_SCALE}
+use Rattle.proof_tree.specs.Tree.{IsLeaf}
+use Rattle.node_ranges.proofs.RangeLaws.{root_holds_all}
 use Rattle.dual_bound.proofs.Soundness.{bounds-all}
 use Rattle.dual_bound.proofs.Signed.{mul-sub, pos-mul}
 use Rattle.backward_build.specs.PlainCase.{IsPlain, plain_gap}

@@ -20,7 +20,7 @@ use Rattle.offer_book.specs.declared.line.LineKind.TheVariants.{Cash, Market, Se
 use Rattle.offer_book.proofs.LineFacts.{line_cost-none, line_payments-none}
 use Rattle.dual_bound.specs.LeafBound.{cost_worth, form_at, form_of, least_side, limit_price, paid_worth, price_on, reduced_cost, signed_sum}
 use Rattle.dual_bound.specs.declared.form.Form.{Form}
-use Rattle.dual_bound.specs.declared.prices.TheConstants.{PRICE_SCALE}
+use Rattle.proof_tree.specs.declared.prices.TheConstants.{PRICE_SCALE}
 use Rattle.dual_bound.proofs.FormFacts.{form_of-is, form_with}
 use Rattle.dual_bound.proofs.Signed.{pos-mul}
 use Rattle.dual_bound.proofs.Sizes.{IsSized, cost-sized, pay_slack, pays-sized, pays_slope}

@@ -7,7 +7,7 @@ use Rattle.offer_book.specs.Coefficients.{pay_coefficients}
 use Rattle.offer_book.specs.Portfolio.{IsPermitted, line_cost, line_payments}
 use Rattle.offer_book.specs.declared.coefficients.TheConstants.{COEFFICIENT_SCALE}
 use Rattle.cash_table.proofs.CostFacts.{permitted_few}
-use Rattle.dual_bound.specs.declared.prices.TheConstants.{PRICE_SCALE}
+use Rattle.proof_tree.specs.declared.prices.TheConstants.{PRICE_SCALE}
 use Rattle.backward_build.specs.OwnOffer.{line_at, need_at}
 use Rattle.backward_build.specs.PlainCase.{IsPlain}
 use Rattle.backward_build.specs.PlanLaws.{IsBackwardPlan, IsJustPaidFor, IsOwnOfferAt}

@@ -15,7 +15,7 @@ use Rattle.offer_book.specs.declared.coefficients.TheConstants.{COEFFICIENT_SCAL
 use Rattle.offer_book.specs.declared.line.Line.{Line}
 use Rattle.offer_book.proofs.LineFacts.{line_cost-none}
 use Rattle.dual_bound.specs.LeafBound.{price_on, priced_needs}
-use Rattle.dual_bound.specs.declared.prices.TheConstants.{PRICE_SCALE}
+use Rattle.proof_tree.specs.declared.prices.TheConstants.{PRICE_SCALE}
 use Rattle.backward_build.specs.OwnOffer.{line_at, need_at, own_offer_of}
 use Rattle.backward_build.specs.PlainCase.{least_and_step}
 use Rattle.backward_build.specs.PlanLaws.{IsBackwardPlan, IsOwnOfferAt}

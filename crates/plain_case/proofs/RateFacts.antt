@@ -9,7 +9,7 @@ use Rattle.escrow_units.specs.declared.security.Flow.{Flow}
 use Rattle.day_sums.proofs.RateFacts.{at_rate}
 use Rattle.offer_book.specs.declared.coefficients.PayCoefficients.{PayCoefficients}
 use Rattle.dual_bound.specs.LeafBound.{price_on}
-use Rattle.dual_bound.specs.declared.prices.TheConstants.{PRICE_SCALE}
+use Rattle.proof_tree.specs.declared.prices.TheConstants.{PRICE_SCALE}
 use Rattle.backward_build.specs.OwnOffer.{need_at}
 use Rattle.backward_build.specs.PriceCurve.{unit_paid_in}
 use Rattle.backward_build.specs.Span.{falls_in, paid_in, span_of}

@@ -19,7 +19,7 @@ use Rattle.offer_book.specs.declared.line.Line.{Line}
 use Rattle.offer_book.proofs.CoefficientFacts.{coefficients-enclose}
 use Rattle.offer_book.proofs.LineFacts.{par-at_most}
 use Rattle.dual_bound.specs.LeafBound.{price_on}
-use Rattle.dual_bound.specs.declared.prices.TheConstants.{PRICE_SCALE}
+use Rattle.proof_tree.specs.declared.prices.TheConstants.{PRICE_SCALE}
 use Rattle.dual_bound.proofs.Sizes.{IsSized, cost-sized, pays-sized}
 use Rattle.backward_build.specs.CurveLaws.{IsFairAfter, IsFairCurve}
 use Rattle.backward_build.specs.OwnOffer.{line_at, need_at, own_offer_of}

@@ -8,7 +8,7 @@ use Rattle.offer_book.specs.Portfolio.{line_cost, line_payments, payments}
 use Rattle.offer_book.specs.declared.coefficients.TheConstants.{COEFFICIENT_SCALE}
 use Rattle.offer_book.specs.declared.line.Line.{Line}
 use Rattle.dual_bound.specs.LeafBound.{price_on}
-use Rattle.dual_bound.specs.declared.prices.TheConstants.{PRICE_SCALE}
+use Rattle.proof_tree.specs.declared.prices.TheConstants.{PRICE_SCALE}
 use Rattle.backward_build.specs.OwnOffer.{line_at, need_at}
 use Rattle.backward_build.specs.PlainCase.{IsPlain}
 use Rattle.backward_build.specs.PlanLaws.{IsOwnOfferAt}

@@ -5,7 +5,7 @@ use Rattle.offer_book.specs.Book.{BookContents, IsBook}
 use Rattle.offer_book.specs.Portfolio.{cost}
 use Rattle.offer_book.specs.declared.coefficients.TheConstants.{COEFFICIENT_SCALE}
 use Rattle.dual_bound.specs.LeafBound.{priced_needs}
-use Rattle.dual_bound.specs.declared.prices.TheConstants.{PRICE_SCALE}
+use Rattle.proof_tree.specs.declared.prices.TheConstants.{PRICE_SCALE}
 use Rattle.backward_build.specs.OwnOffer.{own_offer_of}
 use Rattle.backward_build.specs.PlainCase.{IsPlain, least_and_step}
 use Rattle.plain_case.specs.OwnOfferWorth.{own_rounding}

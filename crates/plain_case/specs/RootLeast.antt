@@ -5,8 +5,8 @@ use Rattle.offer_book.specs.Coefficients.{pay_coefficients}
 use Rattle.offer_book.specs.declared.coefficients.TheConstants.{COEFFICIENT_SCALE}
 use Rattle.offer_book.specs.declared.line.Line.{Line}
 use Rattle.dual_bound.specs.LeafBound.{least_within}
-use Rattle.dual_bound.specs.Ranges.{whole_interval}
-use Rattle.dual_bound.specs.declared.prices.TheConstants.{PRICE_SCALE}
+use Rattle.node_ranges.specs.Ranges.{whole_interval}
+use Rattle.proof_tree.specs.declared.prices.TheConstants.{PRICE_SCALE}
 use Rattle.backward_build.specs.PlainCase.{AreNoBargains}
 use Rattle.backward_build.specs.PriceCurve.{leaf_of_prices}
 

@@ -14,11 +14,12 @@ use crate::neighbours::{Neighbours, next_to, permitted_below};
 use crate::order::Ranked;
 use crate::terms::Purchase;
 use cash_table::Plan;
-use dual_bound::{Interval, Ranges};
 use escrow_desk::NoMemory;
 use fixed_powers::Powers;
+use node_ranges::Ranges;
 use offer_book::{Book, Line};
 use price_lp::{Basis, Holding, Purpose, Simplex, SolveEnd};
+use proof_tree::Interval;
 use std::alloc::Global;
 use std::marker::Model;
 

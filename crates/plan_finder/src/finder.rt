@@ -2,7 +2,7 @@
 ghost use Rattle.std.specs.Prelude.{◌≡◌, ◌<◌, ◌≤◌, ◌↔◌, All, IfOk, IfSome, IsTrue, length};
 ghost use Rattle.std.specs.List.{AllZip};
 ghost use Rattle.offer_book.specs.Portfolio.{IsPermitted, Meets};
-ghost use Rattle.dual_bound.specs.Ranges.{HasRoomFor};
+ghost use Rattle.node_ranges.specs.Ranges.{HasRoomFor};
 ghost use Rattle.plan_finder.specs.Dive.{AreLinesOf};
 ghost use Rattle.plan_finder.specs.Proposal.{IsProposal};
 
@@ -13,9 +13,9 @@ use crate::ledger::Ledger;
 use crate::limit::YieldLimit;
 use crate::order::{By, Ranked, ends_of, order};
 use cash_table::Plan;
-use dual_bound::Ranges;
 use escrow_desk::NoMemory;
 use escrow_units::YieldUnits;
+use node_ranges::Ranges;
 use offer_book::Book;
 use price_lp::Basis;
 use std::alloc::Global;

@@ -6,10 +6,10 @@ use crate::aim::Aim;
 use crate::duals::Duals;
 use crate::line_ranges::{Holding, LineRanges, Range};
 use crate::program::Program;
-use dual_bound::Interval;
 use escrow_desk::NoMemory;
 use fixed_powers::Powers;
 use offer_book::Book;
+use proof_tree::Interval;
 use sparse_basis::{
     Amount, Entry, FactoredBasis, LineState, MOST_ENTRIES, Multiplier, PRICE_PLACES, Price,
     Segment, price_at,

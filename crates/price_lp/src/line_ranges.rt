@@ -3,10 +3,10 @@ ghost use Rattle.std.specs.Prelude.{◌≡◌, ◌+◌, ◌*◌, ◌^◌, ◌<�
 
 use crate::program::proper_step;
 use cash_table::place_of;
-use dual_bound::Interval;
 use escrow_desk::NoMemory;
 use escrow_units::{Cents, Flow};
 use offer_book::Book;
+use proof_tree::Interval;
 use sparse_basis::{AMOUNT_PLACES, Amount, Entry, Matrix, Total, put, read};
 use std::alloc::Global;
 

@@ -1,9 +1,9 @@
 //! Prices as those of a leaf.
 ghost use Rattle.std.specs.Prelude.{All, AllPairs, ◌≡◌, ◌*◌, ◌≤◌, length};
-ghost use Rattle.dual_bound.specs.declared.prices.TheConstants.{PRICE_SCALE};
+ghost use Rattle.proof_tree.specs.declared.prices.TheConstants.{PRICE_SCALE};
 
 use crate::duals::Duals;
-use dual_bound::{PRICE_SCALE, Prices};
+use proof_tree::{PRICE_SCALE, Prices};
 use sparse_basis::{PRICE_PLACES, Price};
 
 // A number in units of a leaf, rounded down, from 0 to a greatest number.

@@ -1,7 +1,7 @@
 //! The linear program of a book, and its solution: the bounded dual simplex.
 ghost use Rattle.std.specs.Prelude.{◌≡◌, length, IfOk};
 ghost use Rattle.fixed_powers.specs.DiscountPowers.{IsLowTable, PowerTable};
-ghost use Rattle.dual_bound.specs.Tree.{IsLeaf};
+ghost use Rattle.proof_tree.specs.Tree.{IsLeaf};
 
 use crate::aim::{Aim, Purpose};
 use crate::base::Base;
@@ -13,10 +13,10 @@ use crate::pivoting::pivot;
 use crate::primal::Primal;
 use crate::proposing::{propose_prices, proposed_multiplier};
 use crate::ratio::Breakpoints;
-use dual_bound::{Interval, Leaf};
 use escrow_desk::NoMemory;
 use fixed_powers::Powers;
 use offer_book::Book;
+use proof_tree::{Interval, Leaf};
 use sparse_basis::{AMOUNT_PLACES, Basis, Stop, TOTAL_PLACES};
 use std::alloc::Global;
 use std::marker::Model;

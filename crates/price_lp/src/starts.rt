@@ -2,7 +2,7 @@
 
 use crate::base::Base;
 use crate::duals::Duals;
-use dual_bound::{Leaf, PRICE_SCALE};
+use proof_tree::{Leaf, PRICE_SCALE};
 use sparse_basis::{LineState, Multiplier, PRICE_PLACES, Price, Stop, last_date, product};
 
 // The least that a line pays on its last date, for each cent, to make the price of that date: a half.

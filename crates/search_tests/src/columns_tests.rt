@@ -4,15 +4,17 @@ ghost use Rattle.escrow_units.specs.Calendar.{years_after_of};
 ghost use Rattle.escrow_units.specs.SlgsTerms.{IsSettlement, IsSlgs};
 ghost use Rattle.fixed_powers.specs.DiscountPowers.{IsLowTable};
 ghost use Rattle.offer_book.specs.Book.{IsCashLine};
-ghost use Rattle.dual_bound.specs.Ranges.{AreTight};
-ghost use Rattle.dual_bound.specs.Tree.{IsLeaf};
+ghost use Rattle.node_ranges.specs.Ranges.{AreTight};
+ghost use Rattle.proof_tree.specs.Tree.{IsLeaf};
 
-use dual_bound::{Columns, Leaf, PRICE_SCALE, Prices, Ranges, bound, priced_needs, range_laws};
+use dual_bound::{Columns, bound, priced_needs};
 use escrow_units::{
     Cents, ClosedDays, Day, Flow, GREATEST_INDEX, Rate, Slgs, SlgsKind, YieldUnits, years_after,
 };
 use fixed_powers::{Powers, Side};
+use node_ranges::{Ranges, range_laws};
 use offer_book::{Book, Line, LineKind};
+use proof_tree::{Leaf, PRICE_SCALE, Prices};
 use std::alloc::Global;
 use std::process::Abort;
 use std::test::Fail;

@@ -1,6 +1,6 @@
 //! Prices are kept as they are given, and a leaf of zeros has one for each need date.
 
-use dual_bound::{Leaf, PRICE_SCALE, Prices};
+use proof_tree::{Leaf, PRICE_SCALE, Prices};
 use std::test::Fail;
 
 #[test]

@@ -3,11 +3,13 @@ ghost use Rattle.std.specs.Prelude.{◌≡◌, ◌^◌, IfOk};
 ghost use Rattle.fixed_powers.specs.DiscountPowers.{IsLowTable};
 
 use crate::test_files::{FOUR_OFFERS, HIGH_OFFER, LOW_LIMIT, TWO_NEEDS, case_of};
-use dual_bound::{Leaf, PRICE_SCALE, Ranges, bound};
+use dual_bound::bound;
 use dual_tune::{Tuner, improve};
 use escrow_units::{GREATEST_INDEX, YieldUnits};
 use fixed_powers::{Powers, Side};
+use node_ranges::Ranges;
 use offer_book::{Book, COEFFICIENT_SCALE};
+use proof_tree::{Leaf, PRICE_SCALE};
 use std::alloc::Global;
 use std::test::Fail;
 

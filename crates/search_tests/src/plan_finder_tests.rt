@@ -1,10 +1,10 @@
 //! Worked figures.
 ghost use Rattle.std.specs.Prelude.{◌≡◌, IfOk};
-ghost use Rattle.dual_bound.specs.Ranges.{AreTight};
+ghost use Rattle.node_ranges.specs.Ranges.{AreTight};
 
 use crate::test_files::case_of;
-use dual_bound::{Ranges, range_laws};
 use escrow_units::{Cents, GREATEST_YIELD, YieldUnits};
+use node_ranges::{Ranges, range_laws};
 use offer_book::Book;
 use plan_finder::{Finder, YieldLimit, find};
 use price_lp::Basis;

@@ -4,10 +4,10 @@ ghost use Rattle.std.specs.Prelude.{◌≡◌, IfOk, length};
 
 use crate::test_files::{FOUR_OFFERS, TWO_NEEDS, case_of};
 use case_file::Case;
-use dual_bound::{Interval, Leaf};
 use escrow_units::{Cents, Day, Flow, GREATEST_INDEX, YieldUnits};
 use fixed_powers::{Powers, Side};
 use price_lp::{Holding, Purpose, Simplex, SolveEnd};
+use proof_tree::{Interval, Leaf};
 use sparse_basis::LineState;
 use std::alloc::Global;
 use std::test::Fail;

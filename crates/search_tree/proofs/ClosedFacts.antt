@@ -3,11 +3,12 @@ use Rattle.std.proofs.Common.{◌≡◌, ◌∙◌, ◌⊎◌, inl, inr, ℕ, �
 use Rattle.std.specs.Prelude.{int_lt, option_map}
 use Rattle.std.specs.List.{All}
 use Rattle.case_file.specs.Case.{CaseContents}
-use Rattle.dual_bound.specs.Ranges.{root_of}
-use Rattle.dual_bound.specs.declared.ranges.Interval.{Interval}
-use Rattle.dual_bound.specs.declared.tree.TreeNode.{TreeNode}
+use Rattle.dual_bound.specs.Closing.{is_closed_leaf, is_closed_point, is_weak}
+use Rattle.node_ranges.specs.Ranges.{root_of}
+use Rattle.node_ranges.specs.Claims.{Claim, bears_out, placed_nodes}
+use Rattle.proof_tree.specs.declared.interval.Interval.{Interval}
+use Rattle.proof_tree.specs.declared.tree.TreeNode.{TreeNode}
 use Rattle.dual_bound.specs.LeafBound.{bound_of}
-use Rattle.escrow_check.specs.Acceptance.{Claim, bears_out, is_closed_leaf, is_closed_point, is_weak, placed_nodes}
 use Rattle.node_pool.specs.Pool.{IsOneTree, SplitsAreWhole, state_at}
 use Rattle.node_pool.specs.Tree.{AreEnded, IsEnded, Tree}
 use Rattle.node_pool.specs.Way.{IsWay, Step, ranges_at}

@@ -6,22 +6,21 @@ use Rattle.std.proofs.lemmas.Bool.{cases_lt}
 use Rattle.std.proofs.lemmas.Int.{ints}
 use Rattle.std.proofs.lemmas.List.{append-nil, get_or_past, length-map}
 use Rattle.std.proofs.Math.Nat.{mul-le-mul_left}
-use Rattle.bound_certificate.specs.Certificate.{IsNode}
 use Rattle.case_file.specs.Case.{CaseContents}
 use Rattle.cash_table.proofs.CostFacts.{permitted_few}
 use Rattle.cash_table.proofs.PaymentFacts.{count_lines}
-use Rattle.dual_bound.proofs.RangeFacts.{splits-at, tight-at, tight-length}
-use Rattle.dual_bound.proofs.RangeLaws.{root_is_tight, sides_are_tight}
+use Rattle.dual_bound.specs.Closing.{is_closed_leaf, is_closed_point, is_weak}
+use Rattle.node_ranges.proofs.RangeFacts.{splits-at, tight-at, tight-length}
+use Rattle.node_ranges.proofs.RangeLaws.{root_is_tight, sides_are_tight}
 use Rattle.dual_bound.proofs.Soundness.{all-lines}
 use Rattle.dual_bound.specs.LeafBound.{bound_of}
-use Rattle.dual_bound.specs.Ranges.{AreTight, is_proper, root_of}
-use Rattle.dual_bound.specs.Tree.{AreTrees}
-use Rattle.dual_bound.specs.declared.ranges.Interval.{Interval}
-use Rattle.dual_bound.specs.declared.tree.Leaf.{Leaf}
-use Rattle.dual_bound.specs.declared.tree.TreeNode.{TreeNode}
-use Rattle.dual_bound.specs.declared.tree.TreeNode.TheVariants as node
-use Rattle.escrow_check.specs.Acceptance.{Claim, bears_out, is_bad_split, is_closed_leaf, is_closed_point, is_weak, placed_nodes}
-use Rattle.escrow_check.specs.Reasons.{IsProper}
+use Rattle.node_ranges.specs.Ranges.{AreTight, is_proper, root_of}
+use Rattle.node_ranges.specs.Claims.{Claim, IsProper, bears_out, is_bad_split, placed_nodes}
+use Rattle.proof_tree.specs.Tree.{AreTrees, IsNode}
+use Rattle.proof_tree.specs.declared.interval.Interval.{Interval}
+use Rattle.proof_tree.specs.declared.tree.Leaf.{Leaf}
+use Rattle.proof_tree.specs.declared.tree.TreeNode.{TreeNode}
+use Rattle.proof_tree.specs.declared.tree.TreeNode.TheVariants as node
 use Rattle.halving_tree.proofs.Reach.{reach_is_leaf}
 use Rattle.halving_tree.specs.Base.{reach_leaf}
 use Rattle.node_pool.proofs.WayFacts.{ways-tight}

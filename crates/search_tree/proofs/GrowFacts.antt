@@ -8,9 +8,9 @@ use Rattle.std.proofs.lemmas.Int.{ints}
 use Rattle.std.proofs.lemmas.List.{get_or-set_other, get_or-set_same}
 use Rattle.case_file.specs.Case.{CaseContents}
 use Rattle.cash_table.specs.Points.{is_excluded}
-use Rattle.dual_bound.specs.Ranges.{is_single, narrowed}
-use Rattle.dual_bound.specs.declared.ranges.Interval.{Interval}
-use Rattle.escrow_check.specs.Acceptance.{bears_out, costs_enough, low_ends}
+use Rattle.node_ranges.specs.Ranges.{is_single, narrowed}
+use Rattle.node_ranges.specs.Claims.{bears_out, costs_enough, low_ends}
+use Rattle.proof_tree.specs.declared.interval.Interval.{Interval}
 use Rattle.node_pool.specs.Pool.{IsLeast, SplitsAreWhole, state_at, with_state}
 use Rattle.node_pool.specs.Way.{IsWay, Step, ranges_at}
 use Rattle.node_pool.specs.declared.node.State.{State}

@@ -8,13 +8,13 @@ use Rattle.std.proofs.lemmas.Bool.Decides.{nat_tests}
 use Rattle.std.proofs.lemmas.Int.{clamps, ints}
 use Rattle.std.proofs.lemmas.List.Elements.{All-head, All-tail}
 use Rattle.dual_bound.proofs.LineBound.{least-le}
-use Rattle.dual_bound.proofs.RangeFacts.{sides-tight, splits-at}
+use Rattle.node_ranges.proofs.RangeFacts.{sides-tight, splits-at}
 use Rattle.dual_bound.proofs.Soundness.{all-lines}
 use Rattle.dual_bound.specs.LeafBound.{bound_of, form_at, form_of, least_within, reduced_cost, signed_sum}
-use Rattle.dual_bound.specs.Ranges.{AreTight, IsTight, is_proper, narrowed, side_of}
+use Rattle.node_ranges.specs.Ranges.{AreTight, IsTight, is_proper, narrowed, side_of}
 use Rattle.dual_bound.specs.declared.form.Form.{Form}
-use Rattle.dual_bound.specs.declared.ranges.Interval.{Interval}
-use Rattle.dual_bound.specs.declared.tree.Leaf.{Leaf}
+use Rattle.proof_tree.specs.declared.interval.Interval.{Interval}
+use Rattle.proof_tree.specs.declared.tree.Leaf.{Leaf}
 use Rattle.offer_book.proofs.CoefficientFacts.{coefficients-enclose}
 use Rattle.offer_book.specs.Book.{BookContents, IsBook, IsLine}
 use Rattle.offer_book.specs.Coefficients.{EnclosesUnits}

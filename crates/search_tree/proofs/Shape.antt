@@ -3,12 +3,12 @@ use Rattle.std.proofs.Common.{◌≡◌, ◌∙◌, ℕ, suc, List, [], ◌∷�
 use Rattle.std.specs.List.{All}
 use Rattle.std.proofs.lemmas.List.{append-nil, map-append}
 use Rattle.std.proofs.lemmas.List.Elements.{All-append, All-cons, All-head, All-nil, All-tail}
-use Rattle.dual_bound.specs.Ranges.{narrowed}
-use Rattle.dual_bound.specs.Tree.{AreTrees}
-use Rattle.dual_bound.specs.declared.ranges.Interval.{Interval}
-use Rattle.dual_bound.specs.declared.tree.TreeNode.{TreeNode}
-use Rattle.dual_bound.specs.declared.tree.TreeNode.TheVariants as node
-use Rattle.escrow_check.specs.Acceptance.{placed}
+use Rattle.node_ranges.specs.Ranges.{narrowed}
+use Rattle.node_ranges.specs.Claims.{placed}
+use Rattle.proof_tree.specs.Tree.{AreTrees}
+use Rattle.proof_tree.specs.declared.interval.Interval.{Interval}
+use Rattle.proof_tree.specs.declared.tree.TreeNode.{TreeNode}
+use Rattle.proof_tree.specs.declared.tree.TreeNode.TheVariants as node
 use Rattle.node_pool.specs.Pool.{state_at}
 use Rattle.node_pool.specs.Tree.{IsTreeOf, Leaf, Split, Tree, preorder}
 use Rattle.node_pool.specs.Way.{IsStep, IsWay, Step, ranges_at}

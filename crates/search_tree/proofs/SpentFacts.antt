@@ -12,12 +12,13 @@ use Rattle.case_file.specs.Case.{CaseContents}
 use Rattle.cash_table.proofs.PermitFacts.{position_none}
 use Rattle.cash_table.specs.Points.{is_excluded, is_within_limit}
 use Rattle.dual_bound.specs.LeafBound.{bound_of}
-use Rattle.dual_bound.specs.Ranges.{is_single, narrowed, root_of}
-use Rattle.dual_bound.specs.declared.ranges.Interval.{Interval}
-use Rattle.dual_bound.specs.declared.tree.TreeNode.{TreeNode}
-use Rattle.dual_bound.specs.declared.tree.TreeNode.TheVariants as node
-use Rattle.escrow_check.proofs.TreeFacts.{rival-bears_out}
-use Rattle.escrow_check.specs.Acceptance.{bears_out, costs_enough, is_bad_split, is_closed_point, is_weak, low_ends, placed_nodes}
+use Rattle.dual_bound.proofs.TreeFacts.{rival-bears_out}
+use Rattle.dual_bound.specs.Closing.{is_closed_point, is_weak}
+use Rattle.node_ranges.specs.Ranges.{is_single, narrowed, root_of}
+use Rattle.node_ranges.specs.Claims.{bears_out, costs_enough, is_bad_split, low_ends, placed_nodes}
+use Rattle.proof_tree.specs.declared.interval.Interval.{Interval}
+use Rattle.proof_tree.specs.declared.tree.TreeNode.{TreeNode}
+use Rattle.proof_tree.specs.declared.tree.TreeNode.TheVariants as node
 use Rattle.halving_tree.specs.Base.{base_leaf}
 use Rattle.halving_tree.specs.Halving.{End, HasMoreNodes, IsUpperPart, Split as Halved, Splits, claim_within, is_borne_out, is_end, is_unreached, node_count}
 use Rattle.node_pool.specs.Pool.{IsOneTree, SplitsAreWhole, state_at}

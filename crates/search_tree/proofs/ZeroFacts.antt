@@ -10,11 +10,11 @@ use Rattle.std.proofs.lemmas.List.Sums.{sum_by-cons}
 use Rattle.std.proofs.lemmas.Nat.{le-div}
 use Rattle.dual_bound.proofs.Soundness.{all-lines}
 use Rattle.dual_bound.specs.LeafBound.{bound_of, cost_worth, form_at, form_of, least_side, least_within, limit_price, limit_multiplier, paid_worth, price_on, reduced_cost, signed_sum}
-use Rattle.dual_bound.specs.Ranges.{AreTight, IsTight}
-use Rattle.dual_bound.specs.declared.prices.TheConstants.{PRICE_SCALE}
+use Rattle.node_ranges.specs.Ranges.{AreTight, IsTight}
+use Rattle.proof_tree.specs.declared.prices.TheConstants.{PRICE_SCALE}
 use Rattle.dual_bound.specs.declared.form.Form.{Form}
-use Rattle.dual_bound.specs.declared.ranges.Interval.{Interval}
-use Rattle.dual_bound.specs.declared.tree.Leaf.{Leaf}
+use Rattle.proof_tree.specs.declared.interval.Interval.{Interval}
+use Rattle.proof_tree.specs.declared.tree.Leaf.{Leaf}
 use Rattle.escrow_units.specs.declared.security.Flow.{Flow}
 use Rattle.offer_book.specs.Book.{BookContents, IsBook, IsLine, IsSecurity}
 use Rattle.offer_book.specs.Coefficients.{cost_coefficients, kind_costs, pay_coefficients}

@@ -3,10 +3,11 @@ use Rattle.std.specs.Prelude.{◌≡◌, ℕ, ◌-◌, ◌<◌, true, false, Lis
 use Rattle.case_file.specs.Case.{CaseContents}
 use Rattle.cash_table.specs.Points.{is_within_limit}
 use Rattle.dual_bound.specs.LeafBound.{bound_of}
-use Rattle.dual_bound.specs.Ranges.{is_proper, is_single}
-use Rattle.dual_bound.specs.declared.ranges.Interval.{Interval}
+use Rattle.dual_bound.specs.Closing.{is_closed_point}
+use Rattle.node_ranges.specs.Ranges.{is_proper, is_single}
+use Rattle.node_ranges.specs.Claims.{Claim, bears_out, low_ends}
+use Rattle.proof_tree.specs.declared.interval.Interval.{Interval}
 use Rattle.dual_tune.specs.Steps.{IsImproved}
-use Rattle.escrow_check.specs.Acceptance.{Claim, bears_out, is_closed_point, low_ends}
 use Rattle.halving_tree.specs.Base.{base_leaf, reach_leaf}
 use Rattle.halving_tree.specs.Halving.{IsHalved, is_end, is_unreached}
 use Rattle.halving_tree.specs.declared.rule.SplitRule.{SplitRule}

@@ -2,11 +2,12 @@
 use Rattle.std.specs.Prelude.{◌≡◌, ℕ, ◌+◌, ◌-◌, ◌<◌, ◌≤◌, false, true, List, All, length, replicate, Option, Some, option_map, IsTrue, Bool, ℤ, pos, ◌≤ℤ◌}
 use Rattle.case_file.specs.Case.{CaseContents}
 use Rattle.dual_bound.specs.LeafBound.{bound_of}
-use Rattle.dual_bound.specs.Ranges.{AreTight, is_proper, narrowed, root_of}
-use Rattle.dual_bound.specs.declared.ranges.Interval.{Interval}
-use Rattle.dual_bound.specs.declared.tree.Leaf.{Leaf}
-use Rattle.dual_bound.specs.declared.tree.TreeNode.{TreeNode}
-use Rattle.escrow_check.specs.Acceptance.{Claim, bears_out, is_closed_point, is_weak, placed_nodes}
+use Rattle.dual_bound.specs.Closing.{is_closed_point, is_weak}
+use Rattle.node_ranges.specs.Ranges.{AreTight, is_proper, narrowed, root_of}
+use Rattle.node_ranges.specs.Claims.{Claim, bears_out, placed_nodes}
+use Rattle.proof_tree.specs.declared.interval.Interval.{Interval}
+use Rattle.proof_tree.specs.declared.tree.Leaf.{Leaf}
+use Rattle.proof_tree.specs.declared.tree.TreeNode.{TreeNode}
 use Rattle.halving_tree.specs.Halving.{HasMoreNodes, is_end}
 use Rattle.halving_tree.specs.Base.{base_leaf}
 use Rattle.halving_tree.specs.declared.rule.SplitRule.{SplitRule}

@@ -1,18 +1,17 @@
 -- What the nodes of a search's tree show. This is this project's own.
 use Rattle.std.specs.Prelude.{◌≡◌, ℕ, ◌-◌, ◌*◌, ◌≤◌, false, true, List, All, length, Some, ℤ, pos, ◌≤ℤ◌}
-use Rattle.bound_certificate.specs.Certificate.{IsNode}
 use Rattle.case_file.specs.Case.{CaseContents}
 use Rattle.cash_table.specs.Points.{is_within_limit}
 use Rattle.dual_bound.specs.LeafBound.{bound_of}
-use Rattle.dual_bound.specs.Tree.{AreTrees}
-use Rattle.dual_bound.specs.declared.prices.TheConstants.{PRICE_SCALE}
-use Rattle.dual_bound.specs.declared.ranges.Interval.{Interval}
-use Rattle.dual_bound.specs.declared.tree.Leaf.{Leaf}
-use Rattle.dual_bound.specs.declared.tree.TreeNode.{TreeNode}
-use Rattle.dual_bound.specs.declared.tree.TreeNode.TheVariants as node
+use Rattle.dual_bound.specs.Closing.{is_weak}
+use Rattle.node_ranges.specs.Claims.{IsProper, bears_out, low_ends, placed_nodes}
+use Rattle.proof_tree.specs.Tree.{AreTrees, IsNode}
+use Rattle.proof_tree.specs.declared.prices.TheConstants.{PRICE_SCALE}
+use Rattle.proof_tree.specs.declared.interval.Interval.{Interval}
+use Rattle.proof_tree.specs.declared.tree.Leaf.{Leaf}
+use Rattle.proof_tree.specs.declared.tree.TreeNode.{TreeNode}
+use Rattle.proof_tree.specs.declared.tree.TreeNode.TheVariants as node
 use Rattle.dual_tune.specs.Steps.{IsImproved, IsStep}
-use Rattle.escrow_check.specs.Acceptance.{bears_out, is_weak, low_ends, placed_nodes}
-use Rattle.escrow_check.specs.Reasons.{IsProper}
 use Rattle.halving_tree.specs.Base.{base_leaf}
 use Rattle.offer_book.specs.Portfolio.{Meets}
 use Rattle.offer_book.specs.declared.coefficients.TheConstants.{COEFFICIENT_SCALE}

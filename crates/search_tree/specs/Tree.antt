@@ -1,9 +1,9 @@
 -- The tree of a search as its parts: the pool of its nodes, and what is known at each. This is this project's own.
 use Rattle.std.specs.Prelude.{◌≡◌, ◌⊎◌, ℕ, ◌<◌, ◌≤◌, true, pos, ◌-ℤ◌, List, [], ◌∷◌, ◌++◌, length, map, slice_set, Some}
-use Rattle.escrow_check.specs.Acceptance.{bears_out}
-use Rattle.dual_bound.specs.declared.tree.Leaf.{Leaf}
-use Rattle.dual_bound.specs.declared.tree.TreeNode.{TreeNode}
-use Rattle.dual_bound.specs.declared.tree.TreeNode.TheVariants as node
+use Rattle.node_ranges.specs.Claims.{bears_out}
+use Rattle.proof_tree.specs.declared.tree.Leaf.{Leaf}
+use Rattle.proof_tree.specs.declared.tree.TreeNode.{TreeNode}
+use Rattle.proof_tree.specs.declared.tree.TreeNode.TheVariants as node
 use Rattle.escrow_units.specs.declared.security.Flow.{Flow}
 use Rattle.halving_tree.specs.Base.{reach_leaf}
 use Rattle.node_pool.specs.Tree.{IsPreorderOf}

@@ -1,7 +1,7 @@
 //! A node of the search's tree: its leaf, and how it was closed.
 
-use dual_bound::Leaf;
 use escrow_units::Day;
+use proof_tree::Leaf;
 
 /// How a node is closed, if it is.
 #[derive(Clone, Copy, Debug, PartialEq, Eq)]

@@ -1,6 +1,6 @@
 //! The tree of a search while it grows: the pool of its nodes, and what is known at each.
 ghost use Rattle.std.specs.Prelude.{All, ◌≡◌, ◌⊎◌, ◌*◌, ◌^◌, ◌<◌, ◌≤◌, ◌+◌, ◌++◌, ◌∷◌, [], ℕ, length, List, slice_set, slice_index_or, ℤ, unsigned_abs, IfOk, IfSome, IsNone};
-ghost use Rattle.dual_bound.specs.Ranges.{AreTight};
+ghost use Rattle.node_ranges.specs.Ranges.{AreTight};
 ghost use Rattle.node_pool.specs.Pool.{IsInHand, IsLeast, IsOneTree, NoneWaits, SplitsAreWhole, pool_with, split_pool};
 ghost use Rattle.node_pool.specs.Way.{AreProper, IsWay, Step, ranges_at};
 ghost use Rattle.node_pool.specs.declared.node.State.TheVariants as state;
@@ -10,12 +10,12 @@ ghost use Rattle.search_tree.specs.Growing.{node_of};
 ghost use Rattle.search_tree.specs.declared.node.Closing.TheVariants as closing;
 
 use crate::node::{Closing, Priced, SearchNode};
-use bound_certificate::Nodes;
-use dual_bound::{Ranges, TreeNode};
 use escrow_desk::NoMemory;
 use halving_tree::{Split, reach_leaf};
 use node_pool::{Link, NodeId, Pool};
+use node_ranges::Ranges;
 use offer_book::Book;
+use proof_tree::{Nodes, TreeNode};
 use std::alloc::Global;
 use std::marker::Model;
 

@@ -1,5 +1,5 @@
 use Rattle.std.proofs.Common.{◌∙◌, ◌≤◌, ℕ, List, ap, arith, get_or, length, refl, subst, sym}
-use Rattle.dual_bound.specs.declared.tree.TreeNode.{TreeNode}
+use Rattle.proof_tree.specs.declared.tree.TreeNode.{TreeNode}
 use Rattle.bound_certificate.specs.declared.packed.PackedNode.{PackedNode}
 use Rattle.bound_certificate.specs.Packed.{IsNodePacked, IsPackingAt}
 use Rattle.bound_certificate.proofs.PackedOfFacts.{ArePacked, AreVectorsFor, all-packed, none-packed, one-packed, packing-at, vectors-for}

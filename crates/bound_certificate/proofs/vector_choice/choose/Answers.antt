@@ -1,7 +1,7 @@
 use Rattle.std.proofs.Common.{◌≡◌, ◌++◌, ◌∷◌, ◌∙◌, length, ℕ, List, [], ap, arith, get_or, subst, sym}
 use Rattle.std.proofs.lemmas.List.{get_or_default, length-append}
 use Rattle.std.proofs.lemmas.List.Elements.{All-push}
-use Rattle.dual_bound.specs.declared.tree.TreeNode.{TreeNode}
+use Rattle.proof_tree.specs.declared.tree.TreeNode.{TreeNode}
 use Rattle.bound_certificate.specs.Packed.{AreLeafPrices, IsLeafPlace, node_prices}
 use Rattle.bound_certificate.specs.declared.vector_choice.Candidate.{Candidate}
 use Rattle.bound_certificate.proofs.vector_choice.choose.Goals as goal

@@ -1,9 +1,9 @@
 use mir.Syntax.{w128}
 use Rattle.std.proofs.Common.{◌≡◌, ℤ, true, Some, pos, ◌-ℤ◌, subst, arith, to_z, of_z}
 use Rattle.std.proofs.lemmas.Int.{ints, to_z-of_z}
-use Rattle.escrow_check.specs.Acceptance.{bears_out}
 use Rattle.branch_search.proofs.GapFacts.{bears-wider}
 use Rattle.branch_search.proofs.gaps.greater_gap.Goals as goal
+use Rattle.node_ranges.specs.Claims.{bears_out}
 
 pub returns-else-gap-own-clause-borne : goal.returns-else-gap-own-clause-borne
 returns-else-gap-own-clause-borne c =

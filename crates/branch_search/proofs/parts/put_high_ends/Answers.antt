@@ -1,8 +1,8 @@
 use Rattle.std.proofs.Common.{◌≡◌, ◌∙◌, ◌+◌, ◌<◌, length, map, take, get_or, sym, ap, subst, arith}
 use Rattle.std.proofs.Math.ListN.{length-set}
 use Rattle.std.proofs.lemmas.List.{get_or_default}
-use Rattle.dual_bound.proofs.RangeFacts.{tight-length}
-use Rattle.dual_bound.specs.declared.ranges.Interval.{Interval}
+use Rattle.node_ranges.proofs.RangeFacts.{tight-length}
+use Rattle.proof_tree.specs.declared.interval.Interval.{Interval}
 use Rattle.halving_tree.proofs.Filled.{filled-all, filled-more}
 use Rattle.offer_book.specs.Portfolio.{IsPermitted}
 use Rattle.branch_search.proofs.EndPlans.{high_of, highs-permitted}

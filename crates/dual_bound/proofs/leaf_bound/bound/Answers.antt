@@ -10,7 +10,7 @@ use Rattle.offer_book.specs.declared.coefficients.TheConstants.{COEFFICIENT_SCAL
 use Rattle.offer_book.specs.declared.line.Line.{Line}
 use Rattle.cash_table.proofs.PaymentFacts.{count_lines}
 use Rattle.dual_bound.specs.LeafBound.{least_within, priced_needs, signed_sum}
-use Rattle.dual_bound.specs.declared.ranges.Interval.{Interval}
+use Rattle.proof_tree.specs.declared.interval.Interval.{Interval}
 use Rattle.dual_bound.proofs.BoundSizes.{bound-all, bound-more, bound-small, room-at, room-length}
 use Rattle.dual_bound.proofs.Signed.{read-again}
 use Rattle.dual_bound.proofs.Soundness.{all-lines}

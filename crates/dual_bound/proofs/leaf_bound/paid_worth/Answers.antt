@@ -1,7 +1,7 @@
 use Rattle.std.proofs.Common.{◌∙◌, ◌≤◌, ◌*◌, pos, ◌-ℤ◌, sym, subst, unsigned_abs, arith}
 use Rattle.std.proofs.lemmas.Int.{ints}
 use Rattle.dual_bound.specs.LeafBound.{limit_price, price_on}
-use Rattle.dual_bound.specs.declared.prices.TheConstants.{PRICE_SCALE}
+use Rattle.proof_tree.specs.declared.prices.TheConstants.{PRICE_SCALE}
 use Rattle.dual_bound.proofs.Sizes.{paid_worth-light}
 use Rattle.dual_bound.proofs.leaf_bound.paid_worth.Goals as goal
 

@@ -1,5 +1,5 @@
 use Rattle.std.proofs.Common.{◌≤◌, ◌*◌, ◌∙◌, sym, subst, arith}
-use Rattle.dual_bound.specs.declared.prices.TheConstants.{PRICE_SCALE}
+use Rattle.proof_tree.specs.declared.prices.TheConstants.{PRICE_SCALE}
 use Rattle.dual_bound.proofs.DayFacts.{found}
 use Rattle.dual_bound.proofs.Sizes.{price_on-small}
 use Rattle.dual_bound.proofs.leaf_bound.price_on.Goals as goal

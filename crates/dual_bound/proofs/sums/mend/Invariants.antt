@@ -1,6 +1,6 @@
 use Rattle.std.proofs.Common.{◌≡◌, ℕ, ◌+◌, ◌*◌, ◌<◌, ◌≤◌, length}
 use Rattle.dual_bound.specs.Columns.{AreSmallSums, IsSummed, sum_before, worth_at}
-use Rattle.dual_bound.specs.declared.prices.TheConstants.{PRICE_SCALE}
+use Rattle.proof_tree.specs.declared.prices.TheConstants.{PRICE_SCALE}
 use Rattle.dual_bound.proofs.sums.mend.Given as goal
 
 abbrev pub invariant-loop-at : goal.invariant-loop-at

@@ -1,6 +1,6 @@
 use Rattle.std.proofs.Common.{◌≡◌, ℕ, ◌+◌, ◌*◌, ◌<◌, ◌≤◌, length}
 use Rattle.dual_bound.specs.Columns.{IsSummed, sum_before}
-use Rattle.dual_bound.specs.declared.prices.TheConstants.{PRICE_SCALE}
+use Rattle.proof_tree.specs.declared.prices.TheConstants.{PRICE_SCALE}
 use Rattle.dual_bound.proofs.sums.sum_up.Given as goal
 
 abbrev pub invariant-loop-at : goal.invariant-loop-at

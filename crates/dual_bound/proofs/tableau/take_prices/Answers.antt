@@ -3,7 +3,7 @@ use Rattle.std.proofs.lemmas.Bool.{cases_eq}
 use Rattle.std.proofs.lemmas.List.{get_or-set_other, get_or-set_same, get_or_default, length-set}
 use Rattle.std.proofs.lemmas.List.Elements.{All-set}
 use Rattle.dual_bound.specs.LeafBound.{priced_needs}
-use Rattle.dual_bound.specs.declared.prices.TheConstants.{PRICE_SCALE}
+use Rattle.proof_tree.specs.declared.prices.TheConstants.{PRICE_SCALE}
 use Rattle.dual_bound.proofs.BoundSizes.{priced-small}
 use Rattle.dual_bound.proofs.DateFacts.{IsAhead, ahead-more, same-list}
 use Rattle.dual_bound.proofs.NeedsFacts.{cents-there, cents_at, priced-one, priced-set}

@@ -1,6 +1,6 @@
 use Rattle.std.proofs.Common.{◌≡◌, ◌⊎◌, ◌*◌, ◌<◌, ◌≤◌, ℕ, All, get_or, length}
 use Rattle.dual_bound.specs.LeafBound.{priced_needs}
-use Rattle.dual_bound.specs.declared.prices.TheConstants.{PRICE_SCALE}
+use Rattle.proof_tree.specs.declared.prices.TheConstants.{PRICE_SCALE}
 use Rattle.dual_bound.proofs.DateFacts.{IsAhead}
 use Rattle.dual_bound.proofs.tableau.take_prices.Given as goal
 

@@ -3,7 +3,7 @@ use Rattle.std.specs.List.{zip}
 use Rattle.offer_book.specs.declared.coefficients.TheConstants.{COEFFICIENT_SCALE}
 use Rattle.offer_book.specs.declared.line.Line.{Line}
 use Rattle.dual_bound.specs.LeafBound.{least_within, priced_needs, signed_sum}
-use Rattle.dual_bound.specs.declared.ranges.Interval.{Interval}
+use Rattle.proof_tree.specs.declared.interval.Interval.{Interval}
 use Rattle.dual_tune.proofs.sweep.bound_by.Given as goal
 
 abbrev pub invariant-loop-line : goal.invariant-loop-line

@@ -6,7 +6,7 @@ use Rattle.offer_book.specs.Book.{IsLine}
 use Rattle.offer_book.specs.declared.line.Line.{Line}
 use Rattle.dual_bound.specs.LeafBound.{form_of, least_within}
 use Rattle.dual_bound.specs.declared.form.Form.{Form}
-use Rattle.dual_bound.specs.declared.ranges.Interval.{Interval}
+use Rattle.proof_tree.specs.declared.interval.Interval.{Interval}
 use Rattle.dual_bound.proofs.BoundSizes.{form-times, least-room, least-small, room-at, room-length}
 use Rattle.dual_bound.proofs.Soundness.{all-lines}
 use Rattle.dual_bound.proofs.TableauFacts.{some-line}

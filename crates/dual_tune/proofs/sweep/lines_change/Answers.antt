@@ -8,9 +8,9 @@ use Rattle.std.specs.List.{zip}
 use Rattle.offer_book.specs.declared.line.Line.{Line}
 use Rattle.cash_table.proofs.PaymentFacts.{count_lines}
 use Rattle.dual_bound.specs.LeafBound.{least_within, signed_sum}
-use Rattle.dual_bound.specs.Tree.{with_price}
-use Rattle.dual_bound.specs.declared.ranges.Interval.{Interval}
-use Rattle.dual_bound.specs.declared.tree.Leaf.{Leaf}
+use Rattle.proof_tree.specs.Tree.{with_price}
+use Rattle.proof_tree.specs.declared.interval.Interval.{Interval}
+use Rattle.proof_tree.specs.declared.tree.Leaf.{Leaf}
 use Rattle.dual_bound.proofs.BoundSizes.{room-length}
 use Rattle.dual_bound.proofs.Signed.{read-again}
 use Rattle.dual_bound.proofs.TableauFacts.{some-line}

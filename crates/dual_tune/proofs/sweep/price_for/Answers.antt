@@ -1,7 +1,7 @@
 use Rattle.std.proofs.Common.{length, ap, subst, sym}
 use Rattle.offer_book.specs.Book.{BookContents}
 use Rattle.dual_bound.specs.Columns.{ColumnsContents}
-use Rattle.dual_bound.specs.Tree.{IsLeaf}
+use Rattle.proof_tree.specs.Tree.{IsLeaf}
 use Rattle.dual_tune.proofs.sweep.price_for.Goals as goal
 
 pub price-requires : goal.price-requires

@@ -1,7 +1,7 @@
 use Rattle.std.proofs.Common.{◌≡◌, ◌∙◌, get_or, length, sym, ap, subst}
 use Rattle.dual_bound.specs.Columns.{ColumnsContents}
-use Rattle.dual_bound.specs.Tree.{IsLeaf, with_price}
-use Rattle.dual_bound.specs.declared.tree.Leaf.{Leaf}
+use Rattle.proof_tree.specs.Tree.{IsLeaf, with_price}
+use Rattle.proof_tree.specs.declared.tree.Leaf.{Leaf}
 use Rattle.dual_tune.specs.Steps.{price_beside}
 use Rattle.dual_tune.specs.Table.{AreFormsOf}
 use Rattle.dual_tune.proofs.SweepFacts.{leaf-beside, put-back}

@@ -1,5 +1,5 @@
 use Rattle.std.proofs.Common.{◌∙◌, length, ap, subst, sym}
-use Rattle.dual_bound.proofs.RangeFacts.{tight-length}
+use Rattle.node_ranges.proofs.RangeFacts.{tight-length}
 use Rattle.offer_book.specs.Portfolio.{IsPermitted}
 use Rattle.escrow_check.proofs.CloseFacts.{lows-permitted}
 use Rattle.escrow_check.proofs.closing.is_closed_point.Goals as goal

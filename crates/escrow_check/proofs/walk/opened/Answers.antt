@@ -1,7 +1,7 @@
 use Rattle.std.proofs.Common.{ℕ, ◌∙◌, List, get_or, length, ap, arith}
 use Rattle.std.proofs.lemmas.List.{get_or_default}
-use Rattle.dual_bound.proofs.RangeFacts.{splits-at}
-use Rattle.dual_bound.specs.declared.ranges.Interval.{Interval}
+use Rattle.node_ranges.proofs.RangeFacts.{splits-at}
+use Rattle.proof_tree.specs.declared.interval.Interval.{Interval}
 use Rattle.escrow_check.proofs.walk.opened.Goals as goal
 
 pub bounds-intervals-from : goal.bounds-intervals-from

@@ -1,6 +1,6 @@
 use Rattle.std.proofs.Common.{◌≡◌, ◌∙◌, ◌+◌, ◌<◌, ℕ, length, take, sym, ap, subst, arith}
 use Rattle.std.proofs.Math.ListN.{length-set}
-use Rattle.dual_bound.specs.Tree.{IsLeaf}
+use Rattle.proof_tree.specs.Tree.{IsLeaf}
 use Rattle.halving_tree.specs.Base.{reach_leaf}
 use Rattle.halving_tree.proofs.Filled.{filled-all, filled-more}
 use Rattle.halving_tree.proofs.Reach.{reach_is_leaf, reach_price}

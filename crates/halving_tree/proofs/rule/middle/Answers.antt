@@ -1,8 +1,8 @@
 use Rattle.std.proofs.Common.{◌≡◌, ◌∙◌, ◌+◌, ◌-◌, ◌/◌, ◌≤◌, ℕ, List, length, get_or, ap, sym, subst, arith}
 use Rattle.std.specs.Prelude.{IsTrue}
-use Rattle.dual_bound.proofs.RangeFacts.{tight-length}
-use Rattle.dual_bound.specs.Ranges.{is_proper}
-use Rattle.dual_bound.specs.declared.ranges.Interval.{Interval}
+use Rattle.node_ranges.proofs.RangeFacts.{tight-length}
+use Rattle.node_ranges.specs.Ranges.{is_proper}
+use Rattle.proof_tree.specs.declared.interval.Interval.{Interval}
 use Rattle.halving_tree.proofs.Middle.{halved-proper, middle-is}
 use Rattle.halving_tree.specs.Halving.{IsHalved}
 use Rattle.halving_tree.proofs.rule.middle.Goals as goal

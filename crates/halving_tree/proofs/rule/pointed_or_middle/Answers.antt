@@ -1,6 +1,6 @@
 use Rattle.std.proofs.Common.{◌≡◌, ◌∙◌, ◌<◌, ◌≤◌, length, sym, arith, inl, inr}
 use Rattle.std.proofs.lemmas.Bool.{cases_lt}
-use Rattle.dual_bound.proofs.RangeFacts.{proper-past, tight-length}
+use Rattle.node_ranges.proofs.RangeFacts.{proper-past, tight-length}
 use Rattle.halving_tree.proofs.rule.pointed_or_middle.Goals as goal
 
 pub returns-in-Some-clause-there : goal.returns-in-Some-clause-there

@@ -1,5 +1,5 @@
 use Rattle.std.proofs.Common.{◌≡◌, ◌<◌, ◌≤◌, ℕ, length, arith, inl, inr}
-use Rattle.dual_bound.proofs.RangeFacts.{tight-length}
+use Rattle.node_ranges.proofs.RangeFacts.{tight-length}
 use Rattle.halving_tree.proofs.Middle.{lines-some}
 use Rattle.halving_tree.proofs.rule.widest.Goals as goal
 

@@ -1,4 +1,4 @@
-use Rattle.dual_bound.proofs.RangeFacts.{root-room}
+use Rattle.node_ranges.proofs.RangeFacts.{root-room}
 use Rattle.measure.proofs.roots.improved.Goals as goal
 
 pub improve-requires-clause-ranges : goal.improve-requires-clause-ranges

@@ -1,5 +1,5 @@
 use Rattle.std.proofs.Common.{IfSome}
-use Rattle.dual_bound.specs.Ranges.{AreTight}
+use Rattle.node_ranges.specs.Ranges.{AreTight}
 use Rattle.node_pool.specs.declared.node.NodeId.{NodeId}
 use Rattle.node_pool.specs.Pool.{IsInHand}
 use Rattle.node_pool.proofs.DownFacts.{HasWay}

@@ -1,6 +1,6 @@
 use Rattle.std.proofs.Common.{◌≢◌, ◌∙◌, List, arith, subst, sym}
-use Rattle.dual_bound.specs.Ranges.{AreTight, root_of}
-use Rattle.dual_bound.specs.declared.ranges.Interval.{Interval}
+use Rattle.node_ranges.specs.Ranges.{AreTight, root_of}
+use Rattle.proof_tree.specs.declared.interval.Interval.{Interval}
 use Rattle.node_pool.specs.Queue.{states_of}
 use Rattle.node_pool.specs.Way.{ranges_at}
 use Rattle.node_pool.proofs.WayFacts.{Left, StepsUp, left-end, left-start, next-left, no-parent, parent-there, parent-lower, steps-up}

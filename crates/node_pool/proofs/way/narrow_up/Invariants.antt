@@ -1,5 +1,5 @@
 use Rattle.std.proofs.Common.{List}
-use Rattle.dual_bound.specs.Ranges.{AreTight}
+use Rattle.node_ranges.specs.Ranges.{AreTight}
 use Rattle.node_pool.specs.Queue.{states_of}
 use Rattle.node_pool.specs.Way.{AreProper, IsWay, Step, ranges_at}
 use Rattle.node_pool.proofs.WayFacts.{Left}

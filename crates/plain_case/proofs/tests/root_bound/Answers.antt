@@ -1,7 +1,7 @@
 use Rattle.std.proofs.Common.{subst, sym}
 use Rattle.std.specs.List.{AllZip}
-use Rattle.dual_bound.proofs.RangeFacts.{root-room}
-use Rattle.dual_bound.specs.Ranges.{HasRoomFor}
+use Rattle.node_ranges.proofs.RangeFacts.{root-room}
+use Rattle.node_ranges.specs.Ranges.{HasRoomFor}
 use Rattle.plain_case.proofs.tests.root_bound.Goals as goal
 
 pub bound-requires-clause-ranges : goal.bound-requires-clause-ranges

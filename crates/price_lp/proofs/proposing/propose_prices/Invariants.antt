@@ -1,5 +1,5 @@
 use Rattle.std.proofs.Common.{◌≡◌, ◌*◌, length, take}
-use Rattle.dual_bound.specs.declared.prices.TheConstants.{PRICE_SCALE}
+use Rattle.proof_tree.specs.declared.prices.TheConstants.{PRICE_SCALE}
 use Rattle.price_lp.proofs.ProposingFacts.{AreFalling}
 use Rattle.price_lp.proofs.proposing.propose_prices.Given as goal
 

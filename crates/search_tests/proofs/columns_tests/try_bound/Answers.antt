@@ -1,8 +1,8 @@
 use Rattle.std.proofs.Common.{sym, subst}
 use Rattle.std.specs.List.{AllZip}
 use Rattle.offer_book.specs.Book.{BookContents}
-use Rattle.dual_bound.specs.Ranges.{HasRoomFor}
-use Rattle.dual_bound.proofs.RangeFacts.{tight-room}
+use Rattle.node_ranges.specs.Ranges.{HasRoomFor}
+use Rattle.node_ranges.proofs.RangeFacts.{tight-room}
 use Rattle.search_tests.proofs.columns_tests.try_bound.Goals as goal
 
 pub bound-requires-clause-ranges : goal.bound-requires-clause-ranges

@@ -2,9 +2,9 @@ use Rattle.std.proofs.Common.{◌≡◌, ◌∙◌, List, sym, subst, ap}
 use Rattle.std.specs.List.{AllZip}
 use Rattle.offer_book.specs.Book.{BookContents}
 use Rattle.dual_bound.specs.Columns.{ColumnsContents}
-use Rattle.dual_bound.specs.Ranges.{AreTight, HasRoomFor}
-use Rattle.dual_bound.specs.declared.ranges.Interval.{Interval}
-use Rattle.dual_bound.proofs.RangeFacts.{tight-room}
+use Rattle.node_ranges.specs.Ranges.{AreTight, HasRoomFor}
+use Rattle.proof_tree.specs.declared.interval.Interval.{Interval}
+use Rattle.node_ranges.proofs.RangeFacts.{tight-room}
 use Rattle.search_tests.proofs.columns_tests.try_next.Goals as goal
 
 pub bound-anew-requires-clause-ranges : goal.bound-anew-requires-clause-ranges

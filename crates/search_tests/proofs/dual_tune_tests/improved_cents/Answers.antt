@@ -1,4 +1,4 @@
-use Rattle.dual_bound.proofs.RangeFacts.{root-room}
+use Rattle.node_ranges.proofs.RangeFacts.{root-room}
 use Rattle.search_tests.proofs.dual_tune_tests.improved_cents.Goals as goal
 
 pub improve-requires-clause-ranges : goal.improve-requires-clause-ranges

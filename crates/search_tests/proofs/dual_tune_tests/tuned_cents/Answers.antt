@@ -1,7 +1,7 @@
 use Rattle.std.proofs.Common.{◌∙◌, subst, sym}
 use Rattle.std.specs.List.{AllZip}
-use Rattle.dual_bound.specs.Ranges.{HasRoomFor}
-use Rattle.dual_bound.proofs.RangeFacts.{root-room}
+use Rattle.node_ranges.specs.Ranges.{HasRoomFor}
+use Rattle.node_ranges.proofs.RangeFacts.{root-room}
 use Rattle.dual_tune.specs.Tuner.{TunerContents}
 use Rattle.search_tests.proofs.dual_tune_tests.tuned_cents.Goals as goal
 

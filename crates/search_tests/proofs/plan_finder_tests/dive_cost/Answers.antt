@@ -1,4 +1,4 @@
-use Rattle.dual_bound.proofs.RangeFacts.{tight-room}
+use Rattle.node_ranges.proofs.RangeFacts.{tight-room}
 use Rattle.search_tests.proofs.plan_finder_tests.dive_cost.Goals as goal
 
 pub dive-requires : goal.dive-requires

@@ -1,6 +1,6 @@
 use Rattle.std.proofs.Common.{◌≡◌, ◌∙◌, true, sym, subst}
-use Rattle.dual_bound.specs.Ranges.{is_single}
-use Rattle.escrow_check.specs.Acceptance.{low_ends}
+use Rattle.node_ranges.specs.Ranges.{is_single}
+use Rattle.node_ranges.specs.Claims.{low_ends}
 use Rattle.search_tree.specs.Growing.{IsLostPoint}
 use Rattle.branch_search.proofs.PartFacts.{point-lost}
 use Rattle.branch_search.specs.Parts.{IsCounted, SearchContents, best_cents}

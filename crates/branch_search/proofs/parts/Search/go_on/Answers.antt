@@ -1,8 +1,8 @@
 use mir.Syntax.{w128}
 use Rattle.std.proofs.Common.{◌≡◌, ◌∙◌, ◌^◌, ◌<◌, ◌+◌, ℤ, true, false, length, sym, ap, subst, arith, to_z, of_z, unsigned_abs}
 use Rattle.std.proofs.lemmas.Int.{ints, to_z-of_z}
-use Rattle.dual_bound.specs.Ranges.{AreTight, is_proper}
-use Rattle.dual_bound.specs.Tree.{IsLeaf}
+use Rattle.node_ranges.specs.Ranges.{AreTight, is_proper}
+use Rattle.proof_tree.specs.Tree.{IsLeaf}
 use Rattle.halving_tree.specs.Halving.{IsHalved}
 use Rattle.offer_book.specs.Book.{IsBook}
 use Rattle.search_tree.specs.Growing.{HasGrown, IsPriced, node_of, obeys}

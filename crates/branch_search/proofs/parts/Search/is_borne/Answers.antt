@@ -3,7 +3,7 @@ use Rattle.std.proofs.Common.{◌≡◌, ℤ, Option, Some, sym, subst, arith, t
 use Rattle.std.proofs.lemmas.Int.{ints, to_z-of_z}
 use Rattle.std.specs.Prelude.{IfSome, nat_le}
 use Rattle.cash_table.proofs.CostFacts.{cost_at_most}
-use Rattle.escrow_check.specs.Acceptance.{bears_out}
+use Rattle.node_ranges.specs.Claims.{bears_out}
 use Rattle.search_tree.specs.Growing.{IsBought, claim_of_best}
 use Rattle.branch_search.proofs.GapFacts.{gap-decides}
 use Rattle.branch_search.specs.Parts.{SearchContents, best_cents}

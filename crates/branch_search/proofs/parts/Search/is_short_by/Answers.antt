@@ -1,4 +1,4 @@
-use Rattle.dual_bound.proofs.RangeFacts.{tight-room}
+use Rattle.node_ranges.proofs.RangeFacts.{tight-room}
 use Rattle.branch_search.proofs.parts.Search.is_short_by.Goals as goal
 
 pub bound-requires-clause-ranges : goal.bound-requires-clause-ranges

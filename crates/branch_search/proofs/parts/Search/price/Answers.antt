@@ -2,7 +2,7 @@ use mir.Syntax.{w128}
 use Rattle.std.proofs.Common.{◌≡◌, ℤ, sym, subst, arith, to_z, of_z}
 use Rattle.std.proofs.lemmas.Int.{ints, to_z-of_z}
 use Rattle.case_file.specs.Case.{CaseContents}
-use Rattle.dual_bound.proofs.RangeFacts.{tight-room}
+use Rattle.node_ranges.proofs.RangeFacts.{tight-room}
 use Rattle.search_tree.specs.Growing.{IsPriced}
 use Rattle.branch_search.proofs.PartFacts.{priced-is}
 use Rattle.branch_search.specs.Parts.{SearchContents}

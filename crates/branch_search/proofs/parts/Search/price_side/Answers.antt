@@ -1,6 +1,6 @@
 use Rattle.std.proofs.Common.{◌≡◌, ◌∙◌, ◌<◌, length, slice_set, sym, ap, subst, arith}
-use Rattle.dual_bound.proofs.RangeFacts.{tight-length}
-use Rattle.dual_bound.specs.Ranges.{AreTight}
+use Rattle.node_ranges.proofs.RangeFacts.{tight-length}
+use Rattle.node_ranges.specs.Ranges.{AreTight}
 use Rattle.branch_search.proofs.PartFacts.{get_at, restored}
 use Rattle.branch_search.specs.Parts.{SearchContents}
 use Rattle.branch_search.proofs.parts.Search.price_side.Goals as goal

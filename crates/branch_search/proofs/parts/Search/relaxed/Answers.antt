@@ -1,4 +1,4 @@
-use Rattle.dual_bound.proofs.RangeFacts.{tight-room}
+use Rattle.node_ranges.proofs.RangeFacts.{tight-room}
 use Rattle.branch_search.proofs.parts.Search.relaxed.Goals as goal
 
 pub stand-requires : goal.stand-requires

@@ -2,8 +2,8 @@ use mir.Syntax.{w128}
 use Rattle.std.proofs.Common.{◌≡◌, ◌∙◌, ◌^◌, ◌<◌, ℤ, List, sym, ap, subst, arith, to_z, of_z, unsigned_abs}
 use Rattle.std.proofs.lemmas.Int.{ints, to_z-of_z}
 use Rattle.case_file.specs.Case.{CaseContents}
-use Rattle.dual_bound.specs.Ranges.{AreTight, root_of}
-use Rattle.dual_bound.specs.declared.ranges.Interval.{Interval}
+use Rattle.node_ranges.specs.Ranges.{AreTight, root_of}
+use Rattle.proof_tree.specs.declared.interval.Interval.{Interval}
 use Rattle.halving_tree.specs.declared.rule.SplitRule.TheVariants as rules
 use Rattle.offer_book.specs.Book.{IsBook}
 use Rattle.search_tree.specs.Growing.{IsPriced}

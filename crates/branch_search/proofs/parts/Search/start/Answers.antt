@@ -1,7 +1,7 @@
 use Rattle.std.proofs.Common.{◌∙◌, ℕ, length, sym, ap, subst, None}
 use Rattle.std.proofs.lemmas.List.{length-replicate}
-use Rattle.dual_bound.proofs.RangeLaws.{root_is_tight}
-use Rattle.dual_bound.specs.Ranges.{AreTight}
+use Rattle.node_ranges.proofs.RangeLaws.{root_is_tight}
+use Rattle.node_ranges.specs.Ranges.{AreTight}
 use Rattle.offer_book.specs.Book.{BookContents}
 use Rattle.branch_search.specs.Search.{IsSearchable, searched}
 use Rattle.branch_search.proofs.parts.Search.start.Goals as goal

@@ -1,7 +1,7 @@
 use Rattle.std.proofs.Common.{sym, subst}
-use Rattle.dual_bound.proofs.RangeFacts.{tight-length}
-use Rattle.dual_bound.proofs.RangeLaws.{root_is_tight}
-use Rattle.dual_bound.specs.Ranges.{AreTight}
+use Rattle.node_ranges.proofs.RangeFacts.{tight-length}
+use Rattle.node_ranges.proofs.RangeLaws.{root_is_tight}
+use Rattle.node_ranges.specs.Ranges.{AreTight}
 use Rattle.branch_search.proofs.parts.Search.start_again.Goals as goal
 
 pub reset-requires : goal.reset-requires

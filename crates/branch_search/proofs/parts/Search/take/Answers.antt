@@ -2,8 +2,8 @@ use mir.Syntax.{w128}
 use Rattle.std.proofs.Common.{◌≡◌, ◌∙◌, ◌^◌, ◌<◌, ℤ, List, sym, ap, subst, arith, to_z, of_z, unsigned_abs, Option}
 use Rattle.std.proofs.lemmas.Int.{ints, to_z-of_z}
 use Rattle.case_file.specs.Case.{CaseContents}
-use Rattle.dual_bound.proofs.RangeFacts.{tight-length}
-use Rattle.dual_bound.specs.Ranges.{AreTight}
+use Rattle.node_ranges.proofs.RangeFacts.{tight-length}
+use Rattle.node_ranges.specs.Ranges.{AreTight}
 use Rattle.node_pool.specs.Way.{AreProper, IsWay, Step, ranges_at}
 use Rattle.offer_book.specs.Book.{IsBook}
 use Rattle.search_tree.specs.Best.{IsNoDearer}

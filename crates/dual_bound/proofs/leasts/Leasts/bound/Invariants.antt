@@ -5,7 +5,7 @@ use Rattle.offer_book.specs.declared.line.Line.{Line}
 use Rattle.dual_bound.specs.LeafBound.{least_within, priced_needs, signed_sum}
 use Rattle.dual_bound.specs.Leasts.{AreLeasts, IsRight}
 use Rattle.dual_bound.specs.declared.leasts.Least.{Least}
-use Rattle.dual_bound.specs.declared.ranges.Interval.{Interval}
+use Rattle.proof_tree.specs.declared.interval.Interval.{Interval}
 use Rattle.dual_bound.proofs.leasts.Leasts.bound.Given as goal
 
 abbrev pub invariant-loop-line : goal.invariant-loop-line

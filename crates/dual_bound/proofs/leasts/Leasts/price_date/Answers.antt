@@ -1,6 +1,6 @@
 use Rattle.std.proofs.Common.{◌∙◌, arith}
 use Rattle.std.proofs.lemmas.List.{length-set}
-use Rattle.dual_bound.specs.Tree.{with_price}
+use Rattle.proof_tree.specs.Tree.{with_price}
 use Rattle.dual_bound.proofs.LeastFacts.{agree-without, all-stay, still-apart}
 use Rattle.dual_bound.proofs.leasts.Leasts.price_date.Goals as goal
 

@@ -2,7 +2,7 @@ use mir.Syntax.{w128}
 use Rattle.std.proofs.Common.{◌≡◌, ◌∙◌, ◌<◌, ◌^◌, ◌+ℤ◌, ◌-ℤ◌, get_or, length, sym, ap, subst, arith, unsigned_abs}
 use Rattle.std.proofs.lemmas.Int.{to_z-of_z}
 use Rattle.dual_bound.specs.LeafBound.{least_within}
-use Rattle.dual_bound.specs.declared.ranges.Interval.{Interval}
+use Rattle.proof_tree.specs.declared.interval.Interval.{Interval}
 use Rattle.dual_bound.proofs.BoundSizes.{bound-small, room-at, room-length}
 use Rattle.dual_bound.proofs.TableauFacts.{bound-set, some-line}
 use Rattle.dual_bound.proofs.tableau.Tableau.bound_with.Goals as goal

@@ -4,11 +4,11 @@ use Rattle.std.specs.List.{Contains}
 use Rattle.escrow_units.specs.declared.security.Flow.{Flow}
 use Rattle.dual_bound.specs.Columns.{AreDateDays, AreSmallSums, AreSums, IsStopWithin, IsSummed, stop_day, worth_on}
 use Rattle.dual_bound.specs.LeafBound.{priced_needs}
-use Rattle.dual_bound.specs.Tree.{IsLeaf}
+use Rattle.proof_tree.specs.Tree.{IsLeaf}
 use Rattle.dual_bound.specs.declared.date_days.DateDays.{DateDays}
-use Rattle.dual_bound.specs.declared.prices.Prices.{Prices}
+use Rattle.proof_tree.specs.declared.prices.Prices.{Prices}
 use Rattle.dual_bound.specs.declared.series.Stop.{Stop}
-use Rattle.dual_bound.specs.declared.tree.Leaf.{Leaf}
+use Rattle.proof_tree.specs.declared.tree.Leaf.{Leaf}
 use Rattle.dual_bound.specs.declared.worth.Worth.{Worth}
 use Rattle.dual_bound.proofs.DateFacts.{date-priced}
 use Rattle.dual_bound.proofs.NeedsFacts.{cents-there, cents_at, priced-one, priced-set}

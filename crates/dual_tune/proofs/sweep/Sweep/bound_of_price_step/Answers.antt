@@ -4,8 +4,8 @@ use Rattle.std.proofs.lemmas.Int.{to_z-of_z}
 use Rattle.escrow_units.specs.declared.security.Flow.{Flow}
 use Rattle.offer_book.specs.declared.coefficients.TheConstants.{COEFFICIENT_SCALE}
 use Rattle.dual_bound.proofs.Signed.{read-again}
-use Rattle.dual_bound.specs.Tree.{IsLeaf, with_price}
-use Rattle.dual_bound.specs.declared.tree.Leaf.{Leaf}
+use Rattle.proof_tree.specs.Tree.{IsLeaf, with_price}
+use Rattle.proof_tree.specs.declared.tree.Leaf.{Leaf}
 use Rattle.offer_book.specs.Book.{BookContents}
 use Rattle.dual_tune.specs.Payers.{ArePayers}
 use Rattle.dual_tune.specs.Steps.{price_beside}

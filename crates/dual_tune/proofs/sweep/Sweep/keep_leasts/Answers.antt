@@ -6,7 +6,7 @@ use Rattle.std.proofs.lemmas.Grind.{get_or-set_at}
 use Rattle.std.proofs.lemmas.Int.{to_z-of_z}
 use Rattle.std.proofs.lemmas.List.{get_or-set_other}
 use Rattle.dual_bound.specs.Columns.{ColumnsContents}
-use Rattle.dual_bound.specs.declared.tree.Leaf.{Leaf}
+use Rattle.proof_tree.specs.declared.tree.Leaf.{Leaf}
 use Rattle.dual_bound.specs.LeafBound.{least_within}
 use Rattle.dual_tune.specs.Sweep.{IsFormAt}
 use Rattle.dual_tune.specs.Table.{AreLineForms, IsTable}

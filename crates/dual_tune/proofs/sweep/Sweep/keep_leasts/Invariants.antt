@@ -1,7 +1,7 @@
 use Rattle.std.proofs.Common.{◌≡◌, ◌<◌, ◌≤◌, ◌*◌, ◌^◌, ℕ, All, get_or, length, unsigned_abs}
 use Rattle.offer_book.specs.declared.line.Line.{Line}
 use Rattle.dual_bound.specs.LeafBound.{least_within}
-use Rattle.dual_bound.specs.declared.ranges.Interval.{Interval}
+use Rattle.proof_tree.specs.declared.interval.Interval.{Interval}
 use Rattle.dual_tune.specs.declared.sweep.LineLeast.{LineLeast}
 use Rattle.dual_tune.proofs.sweep.Sweep.keep_leasts.Given as goal
 

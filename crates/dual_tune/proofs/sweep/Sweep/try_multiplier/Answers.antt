@@ -1,7 +1,7 @@
 use mir.Syntax.{w128}
 use Rattle.std.proofs.Common.{◌∙◌, length, inl, inr, sym, ap, subst, arith}
 use Rattle.std.proofs.lemmas.Int.{ints, to_z-of_z}
-use Rattle.dual_bound.specs.Tree.{IsLeaf}
+use Rattle.proof_tree.specs.Tree.{IsLeaf}
 use Rattle.dual_tune.specs.Steps.{with_multiplier}
 use Rattle.dual_tune.specs.Sweep.{IsBest, IsPlaced, bound_at, stepped}
 use Rattle.dual_tune.specs.declared.sweep.Best.{Best}

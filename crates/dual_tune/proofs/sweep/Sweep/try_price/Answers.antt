@@ -1,7 +1,7 @@
 use mir.Syntax.{w128}
 use Rattle.std.proofs.Common.{◌≡◌, ◌∙◌, length, inl, inr, sym, ap, subst, arith}
 use Rattle.std.proofs.lemmas.Int.{ints, to_z-of_z}
-use Rattle.dual_bound.specs.Tree.{IsLeaf, with_price}
+use Rattle.proof_tree.specs.Tree.{IsLeaf, with_price}
 use Rattle.dual_tune.specs.Steps.{price_beside}
 use Rattle.dual_tune.specs.Sweep.{IsBest, IsPlaced, bound_at, stepped}
 use Rattle.dual_tune.specs.declared.sweep.Best.{Best}

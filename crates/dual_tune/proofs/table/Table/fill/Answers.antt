@@ -7,8 +7,8 @@ use Rattle.offer_book.specs.Book.{BookContents}
 use Rattle.offer_book.specs.declared.coefficients.TheConstants.{COEFFICIENT_SCALE}
 use Rattle.dual_bound.specs.LeafBound.{priced_needs}
 use Rattle.dual_bound.specs.Columns.{ColumnsContents}
-use Rattle.dual_bound.specs.Tree.{IsLeaf}
-use Rattle.dual_bound.specs.declared.tree.Leaf.{Leaf}
+use Rattle.proof_tree.specs.Tree.{IsLeaf}
+use Rattle.proof_tree.specs.declared.tree.Leaf.{Leaf}
 use Rattle.dual_tune.specs.Table.{AreStepForms, AreMultiplierForms, HasRoomForPayers, HasMultiplierRoom}
 use Rattle.dual_tune.specs.declared.payers.Payers.{Payers}
 use Rattle.dual_tune.proofs.table.Table.fill.Goals as goal

@@ -1,6 +1,6 @@
 use Rattle.std.proofs.Common.{arith, subst, sym}
 use Rattle.std.specs.List.{AllZip}
-use Rattle.dual_bound.specs.Ranges.{HasRoomFor}
+use Rattle.node_ranges.specs.Ranges.{HasRoomFor}
 use Rattle.dual_bound.proofs.BoundSizes.{room-length}
 use Rattle.dual_tune.specs.Tuner.{TunerContents}
 use Rattle.dual_tune.proofs.tuner.Tuner.stand.Goals as goal

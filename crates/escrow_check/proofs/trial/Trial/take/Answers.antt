@@ -3,7 +3,7 @@ use Rattle.bound_certificate.specs.Draft.{with_item}
 use Rattle.bound_certificate.specs.Step.{due_after}
 use Rattle.bound_certificate.specs.declared.item.Item.{Item}
 use Rattle.case_file.specs.Case.{CaseContents, case_view}
-use Rattle.dual_bound.specs.declared.tree.Leaf.{Leaf}
+use Rattle.proof_tree.specs.declared.tree.Leaf.{Leaf}
 use Rattle.escrow_check.specs.Knows.{Comes, Knows}
 use Rattle.escrow_check.proofs.TakeFacts.{comes_leaf, comes_point, comes_split, knows-buy, knows-gap, knows-leaf, knows-point, knows-split, ready-of}
 use Rattle.escrow_check.proofs.trial.Trial.take.Goals as goal

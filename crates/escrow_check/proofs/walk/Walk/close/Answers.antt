@@ -1,7 +1,7 @@
 use Rattle.std.proofs.Common.{◌∙◌, ◌++◌, true, List, Option, ap, sym, subst, arith}
 use Rattle.std.specs.Prelude.{option_to_list, IsTrue}
-use Rattle.dual_bound.specs.Ranges.{AreTight, is_proper, root_of}
-use Rattle.dual_bound.specs.declared.ranges.Interval.{Interval}
+use Rattle.node_ranges.specs.Ranges.{AreTight, is_proper, root_of}
+use Rattle.proof_tree.specs.declared.interval.Interval.{Interval}
 use Rattle.escrow_check.specs.declared.walk.OpenSplit.{OpenSplit}
 use Rattle.escrow_check.specs.Walk.{to_come}
 use Rattle.escrow_check.proofs.WalkFacts.{dropped, one-fewer, pushed, turned, waiting-going}

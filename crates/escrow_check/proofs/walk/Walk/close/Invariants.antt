@@ -1,5 +1,5 @@
 use Rattle.std.proofs.Common.{◌≡◌, false, ◌≤◌, vec_capacity, vec_len}
-use Rattle.dual_bound.specs.Ranges.{root_of}
+use Rattle.node_ranges.specs.Ranges.{root_of}
 use Rattle.escrow_check.specs.Walk.{to_come}
 use Rattle.escrow_check.proofs.WalkFacts.{Within}
 use Rattle.escrow_check.proofs.walk.Walk.close.Given as goal

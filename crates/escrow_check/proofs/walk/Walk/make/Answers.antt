@@ -1,6 +1,6 @@
 use Rattle.std.proofs.Common.{◌≡◌, ◌∙◌, List, [], ap, sym, subst}
-use Rattle.dual_bound.proofs.RangeLaws.{root_is_tight}
-use Rattle.dual_bound.specs.Ranges.{root_of}
+use Rattle.node_ranges.proofs.RangeLaws.{root_is_tight}
+use Rattle.node_ranges.specs.Ranges.{root_of}
 use Rattle.escrow_check.specs.Walk.{AreSplitsOf, within_splits}
 use Rattle.escrow_check.specs.declared.walk.OpenSplit.{OpenSplit}
 use Rattle.escrow_check.proofs.walk.Walk.make.Goals as goal

@@ -1,7 +1,7 @@
 use Rattle.std.proofs.Common.{◌∙◌, ◌++◌, ◌∷◌, true, List, get_or, ap, sym, subst}
 use Rattle.std.specs.Prelude.{IsTrue}
-use Rattle.dual_bound.specs.Ranges.{is_proper, narrowed, root_of}
-use Rattle.dual_bound.specs.declared.ranges.Interval.{Interval}
+use Rattle.node_ranges.specs.Ranges.{is_proper, narrowed, root_of}
+use Rattle.proof_tree.specs.declared.interval.Interval.{Interval}
 use Rattle.escrow_check.specs.declared.walk.OpenSplit.{OpenSplit}
 use Rattle.escrow_check.specs.Walk.{right_side, to_come}
 use Rattle.escrow_check.proofs.WalkFacts.{one-more, pushed, waiting-going, within-tight}

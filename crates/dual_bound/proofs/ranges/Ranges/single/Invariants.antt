@@ -1,6 +1,0 @@
-use Rattle.std.proofs.Common.{◌≡◌, ℕ, ◌<◌, get_or}
-use Rattle.dual_bound.specs.declared.ranges.Interval.{Interval}
-use Rattle.dual_bound.proofs.ranges.Ranges.single.Given as goal
-
-abbrev pub invariant-loop-interval : goal.invariant-loop-interval
-invariant-loop-interval l = (k : ℕ) (d : Interval) → k < l.interval-index → (get_or l.interval-items k d).low ≡ (get_or l.interval-items k d).high

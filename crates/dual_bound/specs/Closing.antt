@@ -1,0 +1,28 @@
+-- When a leaf or a point of a tree is closed. This is this project's own.
+use Rattle.std.specs.Prelude.{◌-◌, Bool, false, not, ◌&&◌, ◌||◌, if◌then◌else◌, List, pos, int_lt}
+use Rattle.case_file.specs.Case.{CaseContents}
+use Rattle.cash_table.specs.Points.{is_excluded}
+use Rattle.node_ranges.specs.Claims.{Claim, bears_out, costs_enough, low_ends}
+use Rattle.node_ranges.specs.Ranges.{is_single}
+use Rattle.proof_tree.specs.declared.interval.Interval.{Interval}
+use Rattle.proof_tree.specs.declared.tree.Leaf.{Leaf}
+use Rattle.proof_tree.specs.declared.tree.TreeNode.{TreeNode}
+use Rattle.proof_tree.specs.declared.tree.TreeNode.TheVariants as node
+use Rattle.dual_bound.specs.LeafBound.{bound_of}
+
+-- a leaf is closed: it bears out the claim; or it doesn't weigh the cost, and its bound above 0 shows that there is no rival
+abbrev pub is_closed_leaf : CaseContents → Claim → List Interval → Leaf → Bool
+is_closed_leaf case claim ranges leaf =
+    if leaf.whole then bears_out (bound_of (case.limit - 1) case.book ranges leaf) claim
+    else int_lt (pos 0) (bound_of (case.limit - 1) case.book ranges leaf)
+
+-- a point is closed: its ranges hold one portfolio, which is no rival, or costs no less than is claimed
+abbrev pub is_closed_point : CaseContents → Claim → List Interval → Bool
+is_closed_point case claim ranges =
+    is_single ranges && (is_excluded case.book (case.limit - 1) (low_ends ranges) || costs_enough case.book claim (low_ends ranges))
+
+-- a leaf or a point that isn't closed
+abbrev pub is_weak : CaseContents → Claim → TreeNode × List Interval → Bool
+is_weak case claim (node.Split line at, ranges) = false
+is_weak case claim (node.Point, ranges) = not (is_closed_point case claim ranges)
+is_weak case claim (node.Closed leaf, ranges) = not (is_closed_leaf case claim ranges leaf)

@@ -1,0 +1,53 @@
+-- What a tree has to show, and its nodes with their ranges. The form of the proof that a tree gives is this project's own.
+use Rattle.std.specs.Prelude.{◌≡◌, ℕ, ◌*◌, Bool, false, true, not, List, [], ◌∷◌, map, Option, Some, None, ℤ, pos, ◌-ℤ◌, ◌*ℤ◌, int_le, int_lt}
+use Rattle.node_ranges.specs.Ranges.{is_proper, narrowed, root_of}
+use Rattle.offer_book.specs.Book.{BookContents}
+use Rattle.offer_book.specs.Portfolio.{cost}
+use Rattle.offer_book.specs.declared.coefficients.TheConstants.{COEFFICIENT_SCALE}
+use Rattle.offer_book.specs.declared.line.Line.{Line}
+use Rattle.proof_tree.specs.declared.interval.Interval.{Interval}
+use Rattle.proof_tree.specs.declared.prices.TheConstants.{PRICE_SCALE}
+use Rattle.proof_tree.specs.declared.tree.TreeNode.{TreeNode}
+use Rattle.proof_tree.specs.declared.tree.TreeNode.TheVariants as node
+
+-- what a tree has to show: that no rival costs less than this, in cents; without a portfolio, that there is no rival at all
+abbrev pub Claim : Type 0
+Claim = Option ℤ
+
+-- each node with its ranges: a split narrows those of the subtrees that follow it, first the left one; `waiting` are the ranges of
+-- the subtrees that are to come
+abbrev pub placed : List Line → List (List Interval) → List TreeNode → List (TreeNode × List Interval)
+placed lines waiting [] = []
+placed lines [] (next ∷ nodes) = []
+placed lines (ranges ∷ waiting) (node.Split line at ∷ nodes) =
+    (node.Split line at, ranges) ∷ placed lines (narrowed lines ranges line at false ∷ narrowed lines ranges line at true ∷ waiting) nodes
+placed lines (ranges ∷ waiting) (node.Point ∷ nodes) = (node.Point, ranges) ∷ placed lines waiting nodes
+placed lines (ranges ∷ waiting) (node.Closed leaf ∷ nodes) = (node.Closed leaf, ranges) ∷ placed lines waiting nodes
+
+-- the nodes of a tree over a book, whose root has all units up to each line's most
+abbrev pub placed_nodes : BookContents → List TreeNode → List (TreeNode × List Interval)
+placed_nodes book nodes = placed book.lines (root_of book.lines ∷ []) nodes
+
+-- a split that isn't proper
+abbrev pub is_bad_split : TreeNode × List Interval → Bool
+is_bad_split (node.Split line at, ranges) = not (is_proper ranges line at)
+is_bad_split (node.Point, ranges) = false
+is_bad_split (node.Closed leaf, ranges) = false
+
+-- so a node that is no split is proper, and a split where both its sides have numbers
+abbrev pub IsProper : TreeNode × List Interval → Type 0
+IsProper p = is_bad_split p ≡ false
+
+-- a leaf that weighs the cost bears out a claim where its bound is more than that of a cent less
+abbrev pub bears_out : ℤ → Claim → Bool
+bears_out bound None = false
+bears_out bound (Some least) = int_lt (pos (COEFFICIENT_SCALE * PRICE_SCALE) *ℤ (least -ℤ pos 1)) bound
+
+-- the portfolio of the low ends, which is the one that single ranges hold
+abbrev pub low_ends : List Interval → List ℕ
+low_ends ranges = map (λ interval. interval.low) ranges
+
+-- a single portfolio costs no less than is claimed
+abbrev pub costs_enough : BookContents → Claim → List ℕ → Bool
+costs_enough book None plan = false
+costs_enough book (Some least) plan = int_le least (pos (cost book plan))

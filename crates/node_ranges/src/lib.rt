@@ -1,0 +1,8 @@
+//! Ranges of units, one for each line of a book, as the splits of a tree narrow them.
+#![tactic(auto)]
+
+mod laws;
+mod ranges;
+
+pub use laws::range_laws;
+pub use ranges::Ranges;

@@ -1,0 +1,38 @@
+-- Trees of lower bounds. The form is this project's own.
+use Rattle.std.specs.Prelude.{◌≡◌, ℕ, zero, suc, ◌*◌, ◌≤◌, List, [], ◌∷◌, length, All, AllPairs, slice_set}
+use Rattle.proof_tree.specs.declared.prices.TheConstants.{PRICE_SCALE}
+use Rattle.proof_tree.specs.declared.tree.Leaf.{Leaf}
+use Rattle.proof_tree.specs.declared.tree.TheConstants.{GREATEST_UNITS}
+use Rattle.proof_tree.specs.declared.tree.TreeNode.{TreeNode}
+use Rattle.proof_tree.specs.declared.tree.TreeNode.TheVariants as node
+
+-- weights of a leaf: one price for each need date, from 0 to 2, that never rises with time, and a multiplier of the limit from 0 to 1
+pub record IsLeaf (dates : ℕ) (leaf : Leaf) : Type 0 where
+  pub limit : leaf.mu ≤ PRICE_SCALE
+  pub every_date : length leaf.prices ≡ dates
+  pub range : All (λ price. price ≤ 2 * PRICE_SCALE) leaf.prices
+  pub falling : AllPairs (λ earlier later. later ≤ earlier) leaf.prices
+
+-- a leaf with another price at a place
+abbrev pub with_price : Leaf → ℕ → ℕ → Leaf
+with_price leaf place price = record { whole = leaf.whole; mu = leaf.mu; prices = slice_set leaf.prices place price }
+
+-- nodes are so many trees in preorder, one after another
+abbrev pub AreTrees : ℕ → List TreeNode → Type 0
+AreTrees zero nodes = nodes ≡ []
+AreTrees (suc others) [] = ⊥
+AreTrees (suc others) (node.Split line at ∷ nodes) = AreTrees (suc (suc others)) nodes
+AreTrees (suc others) (node.Point ∷ nodes) = AreTrees others nodes
+AreTrees (suc others) (node.Closed leaf ∷ nodes) = AreTrees others nodes
+
+-- a node, whose leaf has one price for each need date
+abbrev pub IsNode : ℕ → TreeNode → Type 0
+IsNode dates (node.Split line at) = (line ≤ 65_535) × (at ≤ GREATEST_UNITS)
+IsNode dates node.Point = Unit {0}
+IsNode dates (node.Closed leaf) = IsLeaf dates leaf
+
+-- a tree bears out its claim by prices alone: it has no point, and no leaf gives the limit a multiplier
+abbrev pub IsPriced : TreeNode → Type 0
+IsPriced (node.Split line at) = Unit {0}
+IsPriced node.Point = ⊥
+IsPriced (node.Closed leaf) = leaf.mu ≡ 0

@@ -1,0 +1,135 @@
+//! The nodes of a tree, and the weights of its leaves.
+ghost use Rattle.std.specs.Prelude.{◌≡◌, ◌++◌, ◌∷◌, [], IfOk, OnOk, replicate};
+ghost use Rattle.proof_tree.specs.Tree.{IsLeaf};
+ghost use Rattle.proof_tree.specs.declared.tree.TreeNode.TheVariants as node;
+
+use crate::prices::Prices;
+use escrow_desk::NoMemory;
+use std::alloc::Global;
+use std::marker::Model;
+
+/// The greatest number of units of a purchase or a split.
+pub const GREATEST_UNITS: u64 = 10_000_000_000_000;
+
+/// The weights by which the lower bound of a leaf is computed.
+#[derive(Debug, Drop)]
+pub struct Leaf {
+    /// Whether the cost counts, with the weight `PRICE_SCALE`. Where it doesn't, the bound is on needs that can't be met.
+    pub whole: bool,
+    /// The multiplier of the yield limit, at most `PRICE_SCALE`.
+    pub mu: u64,
+    /// The price of a cent on each need date.
+    pub prices: Prices,
+}
+
+impl Leaf {
+    /// A leaf without multiplier of the limit, whose prices are 0: one for each of so many need dates.
+    ///
+    /// # Errors
+    ///
+    /// Where memory ran out.
+    pub fn of_zeros(alloc: Global, whole: bool, count: u16) -> Result<Leaf, NoMemory>
+        ensures value { IfOk result (λ leaf. leaf ≡ record { whole = whole; mu = 0; prices = replicate count 0 }) }
+        ensures leaf { IfOk result (IsLeaf count) }
+    {
+        let prices = vec![in alloc; 0u64; usize::from(count)]?;
+        Ok(Leaf {
+            whole,
+            mu: 0,
+            prices: Prices::new(prices),
+        })
+    }
+
+    /// The same leaf once more.
+    ///
+    /// # Errors
+    ///
+    /// Where memory ran out.
+    pub fn copy(&self, alloc: Global) -> Result<Leaf, NoMemory>
+        ensures { IfOk result (λ leaf. leaf ≡ self.now) }
+    {
+        Ok(Leaf {
+            whole: self.whole,
+            mu: self.mu,
+            prices: Prices::new(self.prices.as_slice().to_vec(alloc)?),
+        })
+    }
+}
+
+/// A node of a tree over ranges of units, in preorder.
+#[derive(Debug, Drop)]
+pub enum TreeNode {
+    /// The range of a line is split: on the left up to a number of units, on the right from one more. The left subtree
+    /// follows, and then the right one.
+    Split {
+        /// The line, counted from 0.
+        line: u16,
+        /// The most units of the left range.
+        at: u64,
+    },
+    /// Each range is a single number of units.
+    Point,
+    /// A leaf with its weights.
+    Closed(Leaf),
+}
+
+/// The nodes of a tree in preorder. Contracts see the list of them.
+#[derive(Debug, Drop)]
+pub struct Nodes {
+    nodes: Vec<TreeNode>,
+}
+
+impl Model for Nodes {
+    ghost use Rattle.std.specs.Prelude.{List};
+    ghost use Rattle.proof_tree.specs.declared.tree.TreeNode.{TreeNode};
+
+    ghost Value = { List TreeNode };
+
+    ghost view = { λ n. n.nodes.items };
+}
+
+impl Nodes {
+    /// These nodes.
+    pub fn new(nodes: Vec<TreeNode>) -> Nodes
+        ensures { result ≡ nodes.items }
+    {
+        Nodes { nodes }
+    }
+
+    /// The nodes as a slice.
+    pub fn as_slice(&self) -> &[TreeNode]
+        ensures { result.now ≡ self.now }
+    {
+        self.nodes.as_slice()
+    }
+
+    /// The nodes as they were given.
+    pub fn into_vec(self) -> Vec<TreeNode>
+        ensures { result.items ≡ self }
+    {
+        self.nodes
+    }
+
+    /// One more.
+    ///
+    /// # Errors
+    ///
+    /// Where memory ran out.
+    pub fn push(&mut self, node: TreeNode) -> Result<(), NoMemory>
+        ensures { OnOk result (self.new ≡ self.old ++ node ∷ []) }
+    {
+        self.nodes.push(node)?;
+        Ok(())
+    }
+
+    /// One more leaf, copied.
+    ///
+    /// # Errors
+    ///
+    /// Where memory ran out.
+    pub fn push_leaf(&mut self, alloc: Global, leaf: &Leaf) -> Result<(), NoMemory>
+        ensures { OnOk result (self.new ≡ self.old ++ node.Closed leaf.now ∷ []) }
+    {
+        self.push(TreeNode::Closed(leaf.copy(alloc)?))
+    }
+}
