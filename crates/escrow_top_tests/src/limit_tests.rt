@@ -1,4 +1,5 @@
-//! Each limit at its last good value and one past it, and a certificate that is cut off after each number of bytes.
+//! Limits whose files have lines that differ, and a certificate that is cut off after each number of bytes. Other limits are cases of
+//! `escrow_cases`.
 
 use crate::test_runs::{CHECK, FIRST, FIRST_TEXT, Files, named, outcome_of};
 use escrow_desk::MemoryDesk;
@@ -10,74 +11,6 @@ use std::test::Fail;
 
 // The need date of the first case.
 const FIRST_DATE: i32 = 20_193;
-
-// The first case, but for its issue and its certificate.
-#[derive(Clone, Copy)]
-struct Row {
-    issue: &'static [u8],
-    cert: &'static [u8],
-    status: Status,
-    said: &'static [u8],
-}
-
-#[test]
-fn limits_of_rows(rt: HostRuntime) -> Result<(), Fail> {
-    let rows = [
-        Row {
-            issue: b"settle,2025-01-15\nneed,2025-04-15,100000000000.00\nrestricted,4.00\n",
-            cert: FIRST.cert,
-            status: Status::No,
-            said: b"no ShortOn 2025-04-15\n",
-        },
-        Row {
-            issue: b"settle,2025-01-15\nneed,2025-04-15,100000000000.01\nrestricted,4.00\n",
-            cert: FIRST.cert,
-            status: Status::Refused,
-            said: b"refused issue row 2 OutOfRange\n",
-        },
-        Row {
-            issue: b"settle,2025-01-15\nneed,2025-04-15,5000.00\nrestricted,29.99\n",
-            cert: FIRST.cert,
-            status: Status::Done,
-            said: b"yes\ncost 5000.00\nyield 0.00000000 0.00000000\nlimit 29.99100000\ngap 0.00\n",
-        },
-        Row {
-            issue: b"settle,2025-01-15\nneed,2025-04-15,5000.00\nrestricted,29.99000001\n",
-            cert: FIRST.cert,
-            status: Status::Refused,
-            said: b"refused issue row 3 OutOfRange\n",
-        },
-        Row {
-            issue: b"settle,2025-01-15\nneed,2025-04-15,5000.00\nrestricted,4.00\nbudget,10000\n",
-            cert: FIRST.cert,
-            status: Status::Done,
-            said: FIRST_TEXT,
-        },
-        Row {
-            issue: b"settle,2025-01-15\nneed,2025-04-15,5000.00\nrestricted,4.00\nbudget,10001\n",
-            cert: FIRST.cert,
-            status: Status::Refused,
-            said: b"refused issue row 4 OutOfRange\n",
-        },
-        Row {
-            issue: FIRST.issue,
-            cert: b"escrow-certificate 1\nportfolio 1\nbuy 1 50\ngap 0\nnodes 10001\n",
-            status: Status::No,
-            said: b"no Grammar 5 Number\n",
-        },
-    ];
-    for (place, row) in rows.iter().enumerate() {
-        let files = Files {
-            issue: row.issue,
-            cert: row.cert,
-            ..FIRST
-        };
-        let ran = outcome_of(rt.alloc(), &CHECK, &files, u64::MAX)?;
-        assert_eq!(rt; ran.status, row.status, "row {place}");
-        assert_eq!(rt; ran.desk.said(), row.said, "row {place}");
-    }
-    Ok(())
-}
 
 // The line is one more than the number of line feeds that are left.
 #[test]
@@ -135,25 +68,6 @@ fn try_built(
     Ok(())
 }
 
-// An issue with blank lines up to so many bytes.
-fn with_blank_lines(alloc: Global, bytes: usize) -> Result<Built, Fail> {
-    let mut built = first(alloc)?;
-    for _ in built.issue.len()..bytes {
-        built.issue.push(b'\n')?;
-    }
-    Ok(built)
-}
-
-#[test]
-fn longest_issue(rt: HostRuntime) -> Result<(), Fail> {
-    let alloc = rt.alloc();
-    let longest = with_blank_lines(alloc, 1_048_576)?;
-    try_built(&rt, alloc, &longest, Status::Done, FIRST_TEXT)?;
-    let longer = with_blank_lines(alloc, 1_048_577)?;
-    let said = b"refused issue row 0 TooLong\n";
-    try_built(&rt, alloc, &longer, Status::Refused, said)
-}
-
 // So many needs, each on a day of its own.
 fn with_needs(alloc: Global, needs: u16) -> Result<Built, Fail> {
     let mut built = first(alloc)?;
@@ -191,16 +105,6 @@ fn with_offers(alloc: Global, offers: u32) -> Result<Built, Fail> {
             .extend_from_slice(b"offer,2025-04-15,0.00,,10000\n")?;
     }
     Ok(built)
-}
-
-#[test]
-fn most_offers(rt: HostRuntime) -> Result<(), Fail> {
-    let alloc = rt.alloc();
-    let most = with_offers(alloc, 512)?;
-    try_built(&rt, alloc, &most, Status::Done, FIRST_TEXT)?;
-    let more = with_offers(alloc, 513)?;
-    let said = b"refused prices row 0 TooManyLines\n";
-    try_built(&rt, alloc, &more, Status::Refused, said)
 }
 
 // The purchases of ten steps of each of so many offers.

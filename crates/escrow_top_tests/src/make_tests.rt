@@ -1,6 +1,6 @@
 //! Whole runs of `make` over a desk in memory.
 
-use crate::test_runs::{FIRST, Files, Outcome, USAGE, outcome_of};
+use crate::test_runs::{FIRST, Files, Outcome, outcome_of};
 use case_maker::{Made, make};
 use escrow_top::{Status, run};
 use std::alloc::Global;
@@ -83,23 +83,6 @@ fn numbers(rt: HostRuntime) -> Result<(), Fail> {
         assert_eq!(rt; ran.status, Status::Done);
         assert!(rt; ran.desk.said().starts_with(row.said));
         assert!(rt; ran.desk.bytes_of("r").unwrap_or(b"").starts_with(row.rates));
-    }
-    Ok(())
-}
-
-// Words that are no number below 2^64 as it is written.
-#[test]
-fn words_that_are_no_number(rt: HostRuntime) -> Result<(), Fail> {
-    for number in &["07", "-1", "+7", "18446744073709551616", ""] {
-        let ran = outcome_of(
-            rt.alloc(),
-            &["make", number, "i", "r", "p"],
-            &BEFORE,
-            u64::MAX,
-        )?;
-        assert_eq!(rt; ran.status, Status::Usage);
-        assert_eq!(rt; ran.desk.said(), USAGE);
-        assert_eq!(rt; ran.desk.calls(), 1);
     }
     Ok(())
 }
