@@ -3,9 +3,9 @@ ghost use Rattle.std.specs.Prelude.{◌≡◌, ◌≤◌, [], ◌∷◌, IfOk, f
 
 use crate::test_rows::{Row, bad, fault_of, good};
 use crate::{
-    Buy, Buys, CertError, CertReader, Certificate, FaultKind, Item, Nodes, read_cert, write_cert,
+    Buy, Buys, CertError, CertReader, Certificate, FaultKind, Item, read_cert, write_cert,
 };
-use proof_tree::{Leaf, Prices, TreeNode};
+use proof_tree::{Leaf, Nodes, Prices, TreeNode};
 use std::alloc::Global;
 use std::process::Abort;
 use std::test::Fail;
