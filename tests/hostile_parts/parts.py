@@ -21,7 +21,8 @@ PARTS = {
 DESCRIPTION = """Tries the built program where no proof reaches: memory that is refused, small limits of the system, files
 that are missing, folders, pipes or unreadable, standard output that can't be written, strange names, drawn bytes, small
 cases of which every portfolio is listed, and a hunt for slow cases. Each run has to end by itself, with a status that
-fits; nothing may crash, hang or be answered otherwise. The last line is 'N passed, N failed'. It is apart from the gate."""
+fits; nothing may crash, hang or be answered otherwise. The last line is 'N passed, N failed'. The gate
+runs limits, files, outputs and names."""
 
 
 def main(words: list) -> int:

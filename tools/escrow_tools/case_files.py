@@ -327,14 +327,23 @@ def _add_issue_row(row: RowReader, issue: Issue, settled: Record) -> None:
     adder(row, issue)
 
 
-def _reading(file, read: Callable):
+# Takes a further row into a file, or refuses it and leaves the file as it was.
+Taker = Callable[[Record], None]
+
+
+def _reading(file, take: Taker, records: list[Record]):
     """Reads rows into a file; a refusal keeps what was read before it."""
     try:
-        read()
+        for record in records:
+            take(record)
     except Refusal as refusal:
         refusal.so_far = file
         raise
     return file
+
+
+def issue_taker(issue: Issue, first: Record) -> Taker:
+    return lambda record: _add_issue_row(RowReader(ISSUE, record), issue, first)
 
 
 def read_issue_rows(data: bytes) -> Issue:
@@ -347,10 +356,13 @@ def read_issue_rows(data: bytes) -> Issue:
     first = RowReader(ISSUE, records[0])
     if records[0].word != "settle":
         raise first.refuse("Missing", 0)
-    issue = Issue(_read_settlement(first))
-    return _reading(
-        issue, lambda: [_add_issue_row(RowReader(ISSUE, record), issue, records[0]) for record in records[1:]]
-    )
+    issue = begun_issue(records[0])
+    return _reading(issue, issue_taker(issue, records[0]), records[1:])
+
+
+def begun_issue(settled: Record) -> Issue:
+    """An issue of its first row alone."""
+    return Issue(_read_settlement(RowReader(ISSUE, settled)))
 
 
 def complete(issue: Issue) -> None:
@@ -366,10 +378,7 @@ def _terms_first(file: str, data: bytes) -> tuple[list[Record], Optional[Terms]]
     records = records_of(data)
     if not records:
         return [], None
-    row = RowReader(file, records[0])
-    if records[0].word != "terms":
-        raise row.refuse("Missing", 0)
-    return records, row.terms()
+    return records, begun_terms(file, records[0])
 
 
 class _RangeIndex:
@@ -432,10 +441,21 @@ def _add_rates_row(row: RowReader, rates: Rates, index: _RangeIndex, first: Reco
 
 def read_rates(data: bytes) -> Rates:
     records, terms = _terms_first(RATES, data)
-    rates, index = Rates(terms), _RangeIndex()
-    return _reading(
-        rates, lambda: [_add_rates_row(RowReader(RATES, record), rates, index, records[0]) for record in records[1:]]
-    )
+    rates = Rates(terms)
+    return _reading(rates, rates_taker(rates, records[0]), records[1:]) if records else rates
+
+
+def rates_taker(rates: Rates, first: Record) -> Taker:
+    index = _RangeIndex()
+    return lambda record: _add_rates_row(RowReader(RATES, record), rates, index, first)
+
+
+def begun_terms(file: str, first: Record) -> Terms:
+    """What the first row of a rate file or a price file says."""
+    row = RowReader(file, first)
+    if first.word != "terms":
+        raise row.refuse("Missing", 0)
+    return row.terms()
 
 
 def _read_note(row: RowReader, terms: Terms, settlement: date) -> Note:
@@ -464,10 +484,11 @@ def _add_prices_row(row: RowReader, prices: Prices, settlement: date, first: Rec
 def read_prices(data: bytes, settlement: date) -> Prices:
     records, terms = _terms_first(PRICES, data)
     prices = Prices(terms)
-    return _reading(
-        prices,
-        lambda: [_add_prices_row(RowReader(PRICES, record), prices, settlement, records[0]) for record in records[1:]],
-    )
+    return _reading(prices, prices_taker(prices, settlement, records[0]), records[1:]) if records else prices
+
+
+def prices_taker(prices: Prices, settlement: date, first: Record) -> Taker:
+    return lambda record: _add_prices_row(RowReader(PRICES, record), prices, settlement, first)
 
 
 def _add_receipt(row: RowReader, held: Held, issue: Issue) -> None:
@@ -480,12 +501,16 @@ def _add_receipt(row: RowReader, held: Held, issue: Issue) -> None:
     held.receipts.append(receipt)
 
 
+def held_taker(held: Held, issue: Issue) -> Taker:
+    return lambda record: _add_receipt(RowReader(HELD, record), held, issue)
+
+
 def read_held(data: bytes, issue: Issue) -> Held:
     """The receipts of holdings, beside an issue; no rows hold nothing."""
     if len(data) > INPUT_LIMIT:
         raise Refusal(HELD, "TooLong")
     held = Held()
-    _reading(held, lambda: [_add_receipt(RowReader(HELD, record), held, issue) for record in records_of(data)])
+    _reading(held, held_taker(held, issue), records_of(data))
     if held.total > amounts.GREATEST_CENTS:
         raise Refusal(HELD, "HeldTooLarge")
     return held

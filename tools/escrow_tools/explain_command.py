@@ -4,17 +4,17 @@ from __future__ import annotations
 
 import os
 import subprocess
-import sys
 from pathlib import Path
 from typing import Optional
 
 from . import program
 from .case_files import CERT, HELD, ISSUE, PRICES, RATES
-from .explaining.answers import Run, explain_run
+from .explaining.answers import Run, explain_safely
 from .explaining.case_reading import read_whole_case
 from .explaining.cautions import totals
 from .explaining.files import WRITERS
-from .speaking import Stop, put_out, tell
+from .interrupts import Interrupted, ended_by
+from .speaking import Stop, complain, put_out, tell
 from .working import wait_for
 
 PLACES = (ISSUE, RATES, PRICES, CERT)
@@ -64,9 +64,13 @@ def _tell_totals(running: subprocess.Popen, data: dict) -> None:
             return
         except subprocess.TimeoutExpired:
             pass
-    case = read_whole_case(*(data.get(file) for file in INPUTS))
-    if case.refusal is None:
-        tell(*totals(case))
+    try:
+        case = read_whole_case(*(data.get(file) for file in INPUTS))
+        if case.refusal is None:
+            tell(*totals(case))
+    except Exception:  # pylint: disable=broad-except
+        # The program reads the files itself, and its answer is what counts.
+        return
 
 
 def run_explained(words: list[str]) -> int:
@@ -75,20 +79,39 @@ def run_explained(words: list[str]) -> int:
     data = _data(words[0], names) if names else {}
     old_certificate = CERT in names and os.path.isfile(names[CERT])
     # What a shell has opened for it, as by `<(..)`, is handed on.
-    running = subprocess.Popen([program.program_path()] + words, stdout=subprocess.PIPE, close_fds=False)
-    if names and words[0] in WRITERS:
-        # What it says is small but for a report, which comes at the very end.
-        _tell_totals(running, data)
-    said = wait_for(running)[0]
+    with program.begin(words, stdout=subprocess.PIPE, close_fds=False) as running:
+        try:
+            if names and words[0] in WRITERS:
+                # What it says is small but for a report, which comes at the very end.
+                _tell_totals(running, data)
+            said = wait_for(running)[0]
+        except Interrupted as ended:
+            running.kill()
+            part = "; of what it was writing a part may stand" if names and words[0] in WRITERS + ("make",) else ""
+            tell("ended by %s, and the program with it%s" % (ended.name, part))
+            return ended.status
+        except BaseException:
+            running.kill()
+            raise
     status = running.returncode if running.returncode >= 0 else 128 - running.returncode
     try:
         put_out(said)
     except Stop:
-        print("write fault", file=sys.stderr)
+        complain("write fault")
         return program.WRITE_FAULT
-    run = Run(words, status, said.decode("ascii", "replace").splitlines(), names, data, old_certificate)
-    tell(*explain_run(run))
+    if running.returncode < 0:
+        tell("the program was ended by %s; it has no answer" % ended_by(running.returncode))
+        return status
+    explain_answer(Run(words, status, said.decode("ascii", "replace").splitlines(), names, data, old_certificate))
     return status
+
+
+def explain_answer(run: Run) -> None:
+    """Says what an answer means. The answer stands: nothing that happens here changes the program's status."""
+    try:
+        tell(*explain_safely(run))
+    except (Interrupted, MemoryError):
+        pass
 
 
 def run(arguments: list[str]) -> int:

@@ -1,13 +1,17 @@
-"""Files that a tool reads and writes, whole, with the reason where that can't be done."""
+"""Files that a tool reads, with the reason where that can't be done."""
 
 from __future__ import annotations
 
 import os
-from pathlib import Path
 from typing import Optional
 
+from .case_files import INPUT_LIMIT
 from .program import CaseBytes
 from .speaking import Stop
+
+# What a table of rates, a list of notes or a report has at most, in bytes.
+LARGEST_TEXT = 16_777_216
+CERTIFICATE_LIMIT = 67_108_864
 
 # Beside certificate.txt stands certificate.report.txt.
 REPORT = ".report.txt"
@@ -28,29 +32,36 @@ def why_unreadable(path: str, fault: OSError) -> str:
     return "%s can't be read: %s" % (path, fault.strerror)
 
 
-def read_file(path: str) -> bytes:
+def read_at_most(path: str, most: int) -> bytes:
+    """The first bytes of a file, so many at most: what stands behind them isn't read."""
     try:
-        return Path(path).read_bytes()
+        with open(path, "rb") as opened:
+            return opened.read(most)
     except OSError as fault:
         raise Stop(why_unreadable(path, fault)) from None
+    except ValueError:
+        raise Stop("%r can't be the name of a file" % path) from None
 
 
-def write_file(path: str, data: bytes) -> None:
-    try:
-        Path(path).write_bytes(data)
-    except OSError as fault:
-        raise Stop("%s can't be written: %s" % (path, fault.strerror)) from None
+def read_file(path: str, limit: int = LARGEST_TEXT) -> bytes:
+    """A whole file of at most so many bytes."""
+    data = read_at_most(path, limit + 1)
+    if len(data) > limit:
+        raise Stop("%s has more than %s bytes: is it another file?" % (path, format(limit, ",")))
+    return data
+
+
+def read_input(path: str) -> bytes:
+    """One of the case's files; of one over the limit a byte more than it, so that it is refused as the program refuses it."""
+    return read_at_most(path, INPUT_LIMIT + 1)
 
 
 def read_case(issue: str, rates: str, prices: str, held: Optional[str] = None) -> CaseBytes:
-    return CaseBytes(read_file(issue), read_file(rates), read_file(prices), None if held is None else read_file(held))
+    return CaseBytes(read_input(issue), read_input(rates), read_input(prices), None if held is None else read_input(held))
 
 
-def is_same_file(one: str, other: str) -> bool:
-    try:
-        return os.path.samefile(one, other)
-    except OSError:
-        return False
+def read_certificate_file(path: str) -> bytes:
+    return read_at_most(path, CERTIFICATE_LIMIT + 1)
 
 
 def beside(path: str, suffix: str) -> str:

@@ -5,8 +5,8 @@ from __future__ import annotations
 import re
 from datetime import date
 
-from .amounts import FieldFault, money, read_cents
-from .case_files import Issue
+from .amounts import FieldFault, money, read_cents, yield_text
+from .case_files import INPUT_LIMIT, Issue
 from .days import ClosedDays
 from .records import BYTE_ORDER_MARK, records_of
 
@@ -37,9 +37,43 @@ def _with_line(data: bytes, line: int, text: bytes) -> bytes:
     return mark + b"".join(pieces)
 
 
-def paid_by_cash(issue: Issue, data: bytes) -> bytes:
+def compact(issue: Issue, needs: dict[date, int]) -> bytes:
+    """An issue file of the same case in few rows, without an allowance: its needs by day in the place of its bonds. It is for one that has
+    no room left for a row more."""
+    rows = ["settle,%s" % issue.settlement] + need_rows(needs) + closing_rows(issue.closed_days)
+    for word in ("cash", "price"):
+        if word in issue.amounts:
+            rows.append("%s,%s" % (word, money(issue.amount(word))))
+    paid: dict[date, int] = {}
+    for pay in issue.pays:
+        paid[pay.day] = paid.get(pay.day, 0) + pay.cents
+    rows += ["pay,%s,%s" % (day, money(paid[day])) for day in sorted(paid)]
+    if "restricted" in issue.amounts:
+        rows.append("restricted," + yield_text(issue.amount("restricted")))
+    if "budget" in issue.amounts:
+        rows.append("budget,%d" % issue.amount("budget"))
+    return ("\n".join(rows) + "\n").encode()
+
+
+def paid_by_cash(data: bytes) -> bytes:
     """A case in which opening cash pays everything, so that its report has each need."""
     return _with_cash([record.text for record in records_of(data) if record.word in NEED_WORDS])
+
+
+def paid_by_cash_in_parts(data: bytes) -> list[bytes]:
+    """The same in as many cases as are needed for each to have the size of an issue file; their needs are those of the whole."""
+    records = [record for record in records_of(data) if record.word in NEED_WORDS]
+    heads = [record.text for record in records if record.word in ("settle", "call")]
+    waiting = [[record.text for record in records if record.word not in ("settle", "call")]]
+    parts = []
+    while waiting:
+        rows = waiting.pop()
+        part = _with_cash(heads + rows)
+        if len(part) > INPUT_LIMIT and len(rows) > 1:
+            waiting += [rows[len(rows) // 2 :], rows[: len(rows) // 2]]
+        else:
+            parts.append(part)
+    return parts
 
 
 def with_needs_alone(settlement: date, needs: list[str]) -> bytes:

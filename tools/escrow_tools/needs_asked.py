@@ -9,8 +9,8 @@ from . import program
 from .amounts import counted, money
 from .case_files import HELD, ISSUE, PRICES, RATES, Held, Issue, Refusal, read_held, read_issue_rows
 from .explaining import explain_refusal
-from .inputs import read_file
-from .issue_text import need_rows, paid_by_cash, with_needs_alone
+from .inputs import read_input
+from .issue_text import need_rows, paid_by_cash, paid_by_cash_in_parts, with_needs_alone
 from .needs import needs_by_day
 from .report import read_report, read_summary
 from .residual import residual_of
@@ -27,7 +27,7 @@ class Series:
 
 
 def read_series(name: str) -> Series:
-    data = read_file(name)
+    data = read_input(name)
     try:
         return Series(name, data, read_issue_rows(data))
     except Refusal as refusal:
@@ -48,14 +48,27 @@ def _not_had(name: str, answer: program.Answer, dates: int) -> Stop:
     )
 
 
+def _asked_of(series: Series, cases: list[bytes]) -> dict[date, int]:
+    """What the program needs by day in all of some cases that cash alone pays."""
+    needs: dict[date, int] = {}
+    for case in cases:
+        with program.folder() as folder:
+            answer = folder.structure(program.CaseBytes(case, b"", b""))
+        if answer.status != program.DONE:
+            raise _not_had(series.name, answer, len(needs_by_day(series.issue)))
+        for row in read_report(answer.lines).balances:
+            if row.needs:
+                needs[row.day] = needs.get(row.day, 0) + row.needs
+    return {day: needs[day] for day in sorted(needs)}
+
+
 def asked_needs(series: Series) -> dict[date, int]:
-    """What is needed by day, of the program's report of a case that cash alone pays; tried against what is worked out here."""
-    case = program.CaseBytes(paid_by_cash(series.issue, series.data), b"", b"")
-    with program.folder() as folder:
-        answer = folder.structure(case)
-    if answer.status != program.DONE:
-        raise _not_had(series.name, answer, len(needs_by_day(series.issue)))
-    needs = {row.day: row.needs for row in read_report(answer.lines).balances if row.needs}
+    """What is needed by day, of the program's report of a case that cash alone pays; tried against what is worked out here. An issue
+    file that has no room left for the rows of that case is asked in parts, and then whether all their needs make a case."""
+    parts = paid_by_cash_in_parts(series.data)
+    needs = _asked_of(series, parts)
+    if len(parts) > 1:
+        needs = _asked_of(series, [with_needs_alone(series.issue.settlement, need_rows(needs))])
     own = needs_by_day(series.issue)
     for day in sorted(set(needs) | set(own)):
         if needs.get(day, 0) != own.get(day, 0):
@@ -77,11 +90,11 @@ class HeldFile:
 
 def read_holdings(name: str, beside: Series) -> HeldFile:
     """The holdings beside an issue file, which says the settlement day."""
-    data = read_file(name)
+    data = read_input(name)
     try:
         return HeldFile(name, data, read_held(data, beside.issue))
     except Refusal as refusal:
-        case = {ISSUE: paid_by_cash(beside.issue, beside.data), RATES: b"", PRICES: b"", HELD: data}
+        case = {ISSUE: paid_by_cash(beside.data), RATES: b"", PRICES: b"", HELD: data}
         names = {ISSUE: beside.name, HELD: name}
         raise Stop(*explain_refusal(refusal, names, case), status=program.REFUSED) from None
 

@@ -12,11 +12,13 @@ from .amounts import counted, money, money_for_people
 from .closed_needs import closed_needs, told_closed_needs
 from .days import ClosedDays, closed_together
 from .explaining.cautions import held_totals
+from .given_text import spreadsheet_text
 from .issue_text import closing_rows, need_rows
 from .needs import bond_payments, bond_total, is_called, joined
 from .needs_asked import Series, asked_needs, asked_residual, read_holdings, read_series
 from .records import records_of
-from .speaking import Stop, Words, put_out, tell
+from .outputs import Outputs
+from .speaking import Stop, Words, as_bytes, put_out, tell
 
 WHAT = """\
 What is needed by day, as `need` rows, of one or more issue files, each with its own call: two series, or the called
@@ -52,6 +54,7 @@ def run(arguments: list[str]) -> int:
     chosen = parser.parse_args(arguments)
     if chosen.held is not None and chosen.by_bond:
         parser.error("argument --held: not allowed with argument --by-bond, since holdings serve needs and not bonds")
+    Outputs("needs", [("ISSUE", name) for name in chosen.issues] + [("HELD", chosen.held)])
     files = [read_series(name) for name in chosen.issues]
     _try_settlements(files)
     needs: Counter = Counter()
@@ -64,10 +67,10 @@ def run(arguments: list[str]) -> int:
         left = asked_residual(needs, holdings, files[0].issue.settlement)
         lines.append("%s: %s" % (holdings.name, held_totals(holdings.held, needs, left)))
     if chosen.by_bond:
-        put_out(_by_bond(files).encode())
+        put_out(as_bytes(_by_bond(files)))
     else:
         rows = need_rows(left)
-        put_out(("".join(row + "\n" for row in (_whole_issue(files, rows) if chosen.issue else rows))).encode())
+        put_out(as_bytes("".join(row + "\n" for row in (_whole_issue(files, rows) if chosen.issue else rows))))
     tell(*lines, *_told_closed(files, left))
     return 0
 
@@ -118,7 +121,7 @@ def _by_bond(files: list[Series]) -> str:
     for series in files:
         issue = series.issue
         for bond in issue.bonds:
-            head = [series.name, bond.record.number, bond.maturity, amounts.rate_text(bond.coupon)]
+            head = [spreadsheet_text(series.name), bond.record.number, bond.maturity, amounts.rate_text(bond.coupon)]
             for paid in joined(bond_payments(bond, issue.settlement, issue.call)):
                 rows.writerow(
                     head
@@ -126,7 +129,7 @@ def _by_bond(files: list[Series]) -> str:
                     + [money(part) for part in (paid.principal, paid.interest, paid.premium, paid.total)]
                 )
         for need in issue.needs:
-            rows.writerow([series.name, need.record.number, "", "", need.day, "", "", "", money(need.cents)])
+            rows.writerow([spreadsheet_text(series.name), need.record.number, "", "", need.day, "", "", "", money(need.cents)])
     return text.getvalue()
 
 

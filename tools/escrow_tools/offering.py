@@ -7,6 +7,8 @@ from datetime import date
 from . import amounts
 from .amounts import FieldFault
 from .case_files import GREATEST_LINES, Terms
+from .inputs import beside
+from .outputs import Outputs
 from .speaking import Stop
 
 # Beside rates.csv stands rates.comments.csv, with what the file itself has no place for.
@@ -35,3 +37,12 @@ def limit_beside(others: int, asked) -> int:
     """How many lines there may be beside those of the other file."""
     limit = max(GREATEST_LINES - others, 0)
     return limit if asked is None else min(limit, max(asked, 0))
+
+
+def outputs_of(command: str, chosen, inputs: list, what: str) -> Outputs:
+    """What such a command writes by -o: the file, and the comments beside it."""
+    outputs = Outputs(command, inputs, chosen.force)
+    if chosen.output:
+        outputs.will_write(what, chosen.output)
+        outputs.will_write("the comments beside it", beside(chosen.output, COMMENTS))
+    return outputs

@@ -2,7 +2,10 @@
 
 from __future__ import annotations
 
+import csv
 import hashlib
+import io
+import os
 from dataclasses import dataclass
 from datetime import date
 from typing import Optional
@@ -13,18 +16,26 @@ from .case_files import PRICES, Refusal, Terms, read_prices
 from .closed_needs import closed_needs, told_closed_needs
 from .days import days_after, is_weekend, months_after, weekday_name, years_after
 from .explaining import explain_refusal
-from .inputs import beside, read_file, write_file
+from .explaining.explanation import shown
+from .explaining.kinds import TABLE, try_places
+from .given_text import spreadsheet_text
+from .inputs import beside, read_file, read_input
 from .needs_asked import Series, asked_needs, read_series
-from .offering import COMMENTS, asked_terms, cap_of, limit_beside
-from .rate_table_text import DatedRate, DatedTable, PublishedTable, read_table
-from .speaking import Stop, Words, put_out, tell
+from .offering import COMMENTS, asked_terms, cap_of, limit_beside, outputs_of
+from .outputs import FORCE
+from .rate_table_text import DatedRate, DatedTable, PublishedTable, TableLine, read_table
+from .speaking import Stop, Words, as_bytes, put_out, tell
+from .table_cautions import early_end, table_cautions
 
 WHAT = """\
 rates.csv for an issue, from a table of rates as it is published: a line for each length with its rate, the length in
-years and months or in days (`3 months,3.95`, `1-06,4.02`, `90 days,3.90`). Offers stand on each need date, or on the last
-open day before one that is closed: one at the table's greatest rate and one at 0.00, since a subscriber may choose any
-rate up to the table's, and where the yield limit binds the low one is what lets it be met and proved."""
+years and months or in days (`3 months,3.95`, `1-06,4.02`, `90 days,3.90`, `30 to 59 days,3.58`). Each line with a number
+is read or refused with its line; one without a rate (`N/A`, `-`), or that begins with #, is left out, and said. --show
+and RATES%s have what each line was read as. Offers stand on each need date, or on the last open day
+before one that is closed: one at the table's greatest rate and one at 0.00, since a subscriber may choose any rate up to
+the table's, and where the yield limit binds the low one is what lets it be met and proved."""
 
+MOST_SHOWN = 6
 BETWEEN = ("lower", "shorter", "longer")
 
 
@@ -43,14 +54,18 @@ class Offer:
 
 
 def words() -> Words:
-    parser = Words("offers", WHAT)
+    parser = Words("offers", WHAT % COMMENTS)
     parser.add_argument("issue", metavar="ISSUE", help="issue file")
     parser.add_argument("table", metavar="TABLE", help="the table of rates")
     parser.add_argument(
         "-o",
         "--output",
         metavar="RATES",
-        help="write this file, and beside it RATES%s with the table's day; else " "standard output" % COMMENTS,
+        help="write this file, and beside it RATES%s with the table's day and what its lines were read as; else "
+        "standard output" % COMMENTS,
+    )
+    parser.add_argument(
+        "--show", action="store_true", help="say what each line of the table was read as, on standard error"
     )
     parser.add_argument(
         "--between",
@@ -76,6 +91,7 @@ def words() -> Words:
     parser.add_argument("--no-zero", action="store_true", help="no offers at 0.00")
     parser.add_argument("--prices", metavar="PRICES", help="price file, whose notes count to the limit of 512 lines")
     parser.add_argument("--lines", metavar="COUNT", type=int, help="at most so many offers")
+    parser.add_argument("--force", action="store_true", help=FORCE)
     return parser
 
 
@@ -161,7 +177,7 @@ def _limit(chosen, settlement: date) -> int:
     """How many offers there may be, beside the notes of the price file."""
     notes = 0
     if chosen.prices:
-        data = read_file(chosen.prices)
+        data = read_input(chosen.prices)
         try:
             notes = len(read_prices(data, settlement).notes)
         except Refusal as refusal:
@@ -175,21 +191,72 @@ def _rate_rows(ranges: list[DatedRate]) -> list[str]:
     return ["rate,%s,%s,%s" % (one.first, one.last, short_rate(one.rate)) for one in ranges]
 
 
-def _comments(chosen, table: PublishedTable, day: Optional[date], data: bytes, settlement: date) -> str:
+def _digest(data: bytes) -> str:
+    return hashlib.sha256(data).hexdigest()
+
+
+def _line_cells(line: TableLine, settlement: date) -> list:
+    """A line of the table beside what it was read as."""
+    row = line.row
+    read = ["", "", ""]
+    if row is not None:
+        read = [short_rate(row.rate), row.first.after(settlement), row.last.after(settlement)]
+    return [line.number, spreadsheet_text(line.text.strip()), line.what] + read
+
+
+def _comments(chosen, table: PublishedTable, day: Optional[date], data: bytes, maker: Maker, text: str) -> str:
+    """What RATES has no place for: of which table it is, by digests of both, and what each line was read as."""
     rows = [
         ("what", "value"),
+        ("rates", os.path.basename(chosen.output)),
+        ("rates sha256", _digest(text.encode())),
         ("table", chosen.table),
-        ("table sha256", hashlib.sha256(data).hexdigest()),
+        ("table sha256", _digest(data)),
         ("table day", day or ""),
-        ("settlement", settlement),
+        ("settlement", maker.settlement),
         ("between lengths", chosen.between),
         ("lengths", len(table.rows)),
     ]
-    return "".join('%s,"%s"\n' % (name, str(value).replace('"', '""')) for name, value in rows)
+    made = io.StringIO()
+    for name, value in rows:
+        made.write('%s,"%s"\n' % (name, spreadsheet_text(str(value)).replace('"', '""')))
+    lines = csv.writer(made, lineterminator="\n")
+    made.write("\n")
+    lines.writerow(["line", "in the table", "read as", "rate", "from", "to"])
+    lines.writerows(_line_cells(line, maker.settlement) for line in table.lines)
+    return made.getvalue()
+
+
+def _shown(table: PublishedTable, settlement: date) -> list[str]:
+    """Each line of the table beside what it was read as, for a terminal."""
+    lines = []
+    for line in table.lines:
+        row = line.row
+        read = line.what
+        if row is not None:
+            days = (row.first.after(settlement), row.last.after(settlement))
+            when = "on %s" % days[0] if days[0] == days[1] else "from %s to %s" % days
+            read = "%s at %s percent, %s" % (row, rate_text(row.rate), when)
+        lines.append("line %d of the table: %s: %s" % (line.number, shown(line.text.strip()), read))
+    return lines
+
+
+def _asked_day(chosen, table: PublishedTable) -> Optional[date]:
+    """The day of the table: as it says it, or as it is given where it doesn't."""
+    if not chosen.table_day:
+        return table.day
+    given = _listed(chosen.table_day, read_day, "a day is YYYY-MM-DD")
+    if len(given) != 1:
+        raise Stop("--table-day %s: one day as YYYY-MM-DD" % chosen.table_day)
+    if table.day not in (None, given[0]):
+        raise Stop("--table-day %s: the table itself says %s" % (given[0], table.day))
+    return given[0]
 
 
 def run(arguments: list[str]) -> int:
     chosen = words().parse_args(arguments)
+    outputs = outputs_of("offers", chosen, [("ISSUE", chosen.issue), ("TABLE", chosen.table), ("PRICES", chosen.prices)], "RATES")
+    try_places(chosen.issue, chosen.table, TABLE)
     series = read_series(chosen.issue)
     needs = asked_needs(series)
     if not needs:
@@ -197,7 +264,9 @@ def run(arguments: list[str]) -> int:
     terms = asked_terms(chosen.terms)
     data = read_file(chosen.table)
     table = read_table(data, chosen.unit)
-    maker = Maker(series, needs, DatedTable(table, series.issue.settlement, chosen.between), terms)
+    day = _asked_day(chosen, table)
+    dated = DatedTable(table, series.issue.settlement, chosen.between)
+    maker = Maker(series, needs, dated, terms)
     offers, left_out = _offers(chosen, maker)
     text = (
         "\n".join(
@@ -205,16 +274,29 @@ def run(arguments: list[str]) -> int:
         )
         + "\n"
     )
-    day = _listed(chosen.table_day, read_day, "a day is YYYY-MM-DD")[0] if chosen.table_day else table.day
     if chosen.output:
-        write_file(chosen.output, text.encode())
-        write_file(
-            beside(chosen.output, COMMENTS), _comments(chosen, table, day, data, series.issue.settlement).encode()
-        )
+        comments = _comments(chosen, table, day, data, maker, text)
+        outputs.write([(chosen.output, text.encode()), (beside(chosen.output, COMMENTS), as_bytes(comments))])
     else:
         put_out(text.encode())
-    tell(*_said(maker, offers, left_out, table, day))
+    if chosen.show:
+        tell(*_shown(table, maker.settlement))
+    tell(*_said(maker, offers, left_out, table, day), *_never_below(chosen, maker), *table_cautions(table, dated, day))
     return 0
+
+
+def _never_below(chosen, maker: Maker) -> list[str]:
+    """Rates that were asked for, and of which no offer is made."""
+    days = maker.paying_days()
+    return [
+        "no offer is made at %s: on no need date is it below the table's greatest rate" % short_rate(rate)
+        for rate in _ladder(chosen)
+        if rate and not maker.at(rate, days)
+    ]
+
+
+def _ladder(chosen) -> list[int]:
+    return _listed(chosen.rates, read_hundredths, "rates are in percent with at most two decimals, parted by commas")
 
 
 def _offers(chosen, maker: Maker) -> tuple[list[Offer], int]:
@@ -223,7 +305,7 @@ def _offers(chosen, maker: Maker) -> tuple[list[Offer], int]:
     others = [
         day for day in _further_days(chosen, maker, max(days, default=maker.settlement)) if day not in days
     ]
-    ladder = _listed(chosen.rates, read_hundredths, "rates are in percent with at most two decimals, parted by commas")
+    ladder = _ladder(chosen)
     greatest = maker.at_greatest(days)
     zeros = [] if chosen.no_zero else maker.at(0, days)
     further = maker.at_greatest(others) + [offer for rate in ladder if rate for offer in maker.at(rate, days)]
@@ -246,6 +328,7 @@ def _said(maker: Maker, offers: list[Offer], left_out: int, table: PublishedTabl
             maker.ranges[-1].last,
         )
     ]
+    lines += table.told + _not_read(table)
     lines.append(
         "%s: %d at the table's greatest rate or below, %d at 0.00"
         % (counted(len(offers), "offer"), len(offers) - zeros, zeros)
@@ -253,6 +336,18 @@ def _said(maker: Maker, offers: list[Offer], left_out: int, table: PublishedTabl
     if left_out:
         lines.append("%s left out, evenly over time, to keep to the limit of lines" % counted(left_out, "offer"))
     return lines + _uncovered(maker, offers) + _weekends(maker, offers) + _closed(maker)
+
+
+def _not_read(table: PublishedTable) -> list[str]:
+    """The lines of the table that were left out, and why."""
+    left = table.left_out()
+    lines = [
+        "line %d of the table: %s: %s" % (line.number, shown(line.text.strip()), line.what)
+        for line in left[:MOST_SHOWN]
+    ]
+    if len(left) > MOST_SHOWN:
+        lines.append("%s more of the table left out: --show has them all" % counted(len(left) - MOST_SHOWN, "line"))
+    return lines
 
 
 def _weekends(maker: Maker, offers: list[Offer]) -> list[str]:
@@ -294,7 +389,8 @@ def _uncovered(maker: Maker, offers: list[Offer]) -> list[str]:
     beyond = [day for day in maker.needs if day > maker.ranges[-1].last]
     if beyond:
         lines.append(
-            "the table ends with %s: need dates after that, %s, have offers at 0.00 alone"
+            "caution: the table ends with %s: need dates after that, %s, have offers at 0.00 alone"
             % (maker.ranges[-1].last, counted(len(beyond), "date"))
         )
-    return lines
+    last_offer = max((offer.maturity for offer in offers), default=None)
+    return lines + early_end(last_offer, max(maker.paying_days(), default=None), maker.needs)

@@ -2,23 +2,23 @@
 
 from __future__ import annotations
 
-import csv
-import hashlib
-import io
 import os
 from functools import cached_property
 from pathlib import Path
 from typing import Optional
 
-from . import program
-from .amounts import counted, money_for_people, rate_text, yield_text
+from . import built, program
+from .amounts import counted, money_for_people, yield_text
 from .case_files import CERT, HELD, ISSUE, PRICES, RATES, read_issue_rows
 from .certificate import read_certificate
-from .explaining.answers import Run, explain_run
+from .explaining.answers import Run, explain_safely
 from .explaining.case_reading import read_whole_case
-from .inputs import REPORT, beside, read_case, read_file, write_file
+from .inputs import REPORT, beside, read_case, read_certificate_file, read_file
 from .needs_asked import Series, read_series
 from .offering import COMMENTS
+from .old_service import NO_BONDS, SERIES_WAY
+from .outputs import FORCE, Outputs, status_if_stopped
+from .page.comments import Comments, cusips, digest_of, facts_of, price_comments, rate_comments, table_day
 from .page.figures import Figures, figures_of
 from .page.meaning import meaning
 from .page.picture import picture
@@ -27,7 +27,7 @@ from .page.writing import Page, page_html, table_csv
 from .program import Answer
 from .report import Report, Summary, read_summary
 from .report_asked import asked_report, first_difference, report_text, summary_lines
-from .speaking import Stop, Words, put_out, tell
+from .speaking import Stop, Words, as_bytes, put_out, tell
 
 WHAT = """\
 The page that a verifier signs, as one HTML file on standard output: `check` is run first, and nothing is made of what it doesn't
@@ -59,8 +59,9 @@ def words() -> Words:
         "--table-day", metavar="DATE", help="the day of the rate table, where no RATES%s says it" % COMMENTS
     )
     parser.add_argument(
-        "--csv", metavar="DIR", help="write each table into this folder as well, as CSV with a heading row"
+        "--csv", metavar="DIR", help="write each table into this folder as well, as CSV with a heading row: page.bonds.csv .."
     )
+    parser.add_argument("--force", action="store_true", help=FORCE)
     return parser
 
 
@@ -74,7 +75,13 @@ class Maker:
             self.names[HELD] = chosen.held
         self.files = read_case(*self.names.values())
         self.names[CERT] = chosen.cert
-        self.certificate = read_file(chosen.cert)
+        self.certificate = read_certificate_file(chosen.cert)
+
+    @cached_property
+    def comments(self) -> dict:
+        """The comments beside the rate file and the price file, where there are any."""
+        files, names = self.files, self.names
+        return {RATES: rate_comments(names[RATES], files.rates), PRICES: price_comments(names[PRICES], files.prices)}
 
     @property
     def check(self) -> str:
@@ -93,7 +100,7 @@ class Maker:
             said = answer.lines[0] if answer.lines else answer.complained.decode("ascii", "replace").strip()
             raise Stop(
                 "`%s` says `%s`; no page is made" % (self.check, said),
-                *explain_run(Run([self.check], answer.status, answer.lines, self.names, self.data())),
+                *explain_safely(Run([self.check], answer.status, answer.lines, self.names, self.data())),
                 status=answer.status,
             )
         return answer
@@ -143,60 +150,23 @@ class Maker:
         return figures_of(case, self.series, self.own_series, summary, report)
 
 
-def _comments(path: str) -> list[list[str]]:
-    """The rows of a file of comments beside another; none where there is none."""
-    kept = beside(path, COMMENTS)
-    return list(csv.reader(io.StringIO(read_file(kept).decode("utf-8", "replace")))) if os.path.isfile(kept) else []
-
-
-def cusips(prices: str, figures: Figures) -> dict:
-    """The CUSIPs of notes by their rows, where the comments are those of this price file."""
-    rows = _comments(prices)
-    if not rows or "cusip" not in rows[0]:
-        return {}
-    said = {}
-    for row in rows[1:]:
-        values = dict(zip(rows[0], row))
-        note = next((one for one in figures.case.prices.notes if str(one.record.number) == values.get("row")), None)
-        if note is not None and (str(note.maturity), rate_text(note.coupon)) == (
-            values.get("maturity"),
-            values.get("coupon"),
-        ):
-            said[note.record.number] = values.get("cusip", "")
-    return said
-
-
-def table_day(chosen, figures: Figures) -> str:
-    """The day of the rate table, as far as it is said."""
-    if chosen.table_day:
-        return chosen.table_day
-    said = dict(row for row in _comments(chosen.rates) if len(row) == 2)
-    if said.get("settlement") not in (None, str(figures.settlement)):
-        return "not stated: the comments beside %s are of another settlement" % chosen.rates
-    return said.get("table day") or "not stated"
-
-
-def _digest(data: bytes) -> str:
-    return hashlib.sha256(data).hexdigest()
-
-
 def _files(maker: Maker) -> list[tuple]:
     what = {ISSUE: "issue", RATES: "rates", PRICES: "prices", HELD: "holdings", CERT: "certificate"}
-    rows = [(what[file], os.path.basename(maker.names[file]), _digest(data)) for file, data in maker.data().items()]
+    rows = []
+    for file, data in maker.data().items():
+        rows.append((what[file], os.path.basename(maker.names[file]), digest_of(data)))
+        rows += [_comments_row(what[file], one) for one in [maker.comments.get(file)] if one is not None]
     for one in maker.series if maker.chosen.series else []:
-        rows.append(("series", os.path.basename(one.name), _digest(one.data)))
+        rows.append(("series", os.path.basename(one.name), digest_of(one.data)))
     path = Path(program.program_path())
-    rows.append(("program", path.name, _digest(path.read_bytes())))
-    built_from = path.parent / "built_from"
-    if built_from.is_file():
-        rows.append(
-            (
-                "program's sources",
-                "one digest of all files that are proved and built",
-                built_from.read_text().split()[0],
-            )
-        )
+    rows.append(("program", path.name, digest_of(path.read_bytes())))
+    rows += built.rows(built.program_stamp())
     return rows
+
+
+def _comments_row(what: str, comments: Comments) -> tuple:
+    of = "comments on the %s" if comments.fits else "comments that aren't of these %s"
+    return (of % what, comments.name, comments.digest)
 
 
 def verdict(summary: Optional[Summary], check: str = "check") -> tuple[str, str]:
@@ -223,32 +193,63 @@ BESIDE_HOLDINGS = (
 
 def run(arguments: list[str]) -> int:
     chosen = words().parse_args(arguments)
+    outputs = Outputs("page", _read_files(chosen), chosen.force)
     maker = Maker(chosen)
     figures = maker.figures()
-    tables = tables_of(figures, cusips(chosen.prices, figures))
-    facts = summary_rows(figures) + [("Day of the rate table", table_day(chosen, figures))]
+    tables = tables_of(figures, cusips(maker.comments[PRICES], figures.case.prices.notes))
+    shown = [table for table in tables if table.rows]
+    day = table_day(chosen.table_day, maker.comments[RATES], figures.settlement)
+    facts = summary_rows(figures) + [("Day of the rate table", day)] + facts_of([maker.comments[PRICES]])
     page = Page(
         chosen.title,
         *verdict(figures.summary, maker.check),
         facts,
         _files(maker),
-        tables,
+        shown,
         meaning(),
         picture(figures.report.balances) if figures.report else "",
-        [] if maker.files.held is None else [BESIDE_HOLDINGS],
+        ([] if maker.files.held is None else [BESIDE_HOLDINGS]) + _no_bonds(figures, chosen),
+        built.standing(built.program_stamp()),
     )
+    text = as_bytes(page_html(page))
     if chosen.csv:
-        _write_tables(chosen.csv, tables)
-    put_out(page_html(page).encode())
+        _write_tables(outputs, chosen.csv, tables)
+    try:
+        put_out(text)
+    except Stop as stop:
+        tell(*stop.lines)
+        return status_if_stopped()
     further = "they are in %s as well" % chosen.csv if chosen.csv else "--csv DIR writes them for a spreadsheet"
-    tell("the page is made, with %s; %s" % (counted(len(tables), "table"), further))
+    for one in maker.comments.values():
+        if one is not None and not one.fits:
+            tell("caution: %s; the page says nothing of what stands there" % one.why_not)
+    tell("the page is made, with %s; %s" % (counted(len(shown), "table"), further))
+    tell(*("caution: " + line for line in _no_bonds(figures, chosen)))
     return program.DONE
 
 
-def _write_tables(folder: str, tables: list) -> None:
+def _read_files(chosen) -> list[tuple[str, Optional[str]]]:
+    """All that a page is made of, by what it is called."""
+    files = [("ISSUE", chosen.issue), ("RATES", chosen.rates), ("PRICES", chosen.prices), ("CERT", chosen.cert), ("HELD", chosen.held)]
+    files += [("FILE", name) for name in chosen.series] + [("the report", chosen.report or beside(chosen.cert, REPORT))]
+    return files + [("the comments", beside(name, COMMENTS)) for name in (chosen.rates, chosen.prices)]
+
+
+def _no_bonds(figures: Figures, chosen) -> list[str]:
+    """What is to be known of `savings` where the issue file has the needs of the bonds alone."""
+    if figures.case.issue.bonds:
+        return []
+    words_of_it = " ".join((chosen.issue, chosen.rates, chosen.prices, chosen.cert))
+    return ["of `savings`: " + NO_BONDS % chosen.issue + "; " + SERIES_WAY % words_of_it]
+
+
+def _write_tables(outputs: Outputs, folder: str, tables: list) -> None:
+    """Writes all tables, those without rows too, so that none of an earlier plan stays beside these."""
     try:
         os.makedirs(folder, exist_ok=True)
     except OSError as fault:
         raise Stop("the folder %s can't be made: %s" % (folder, fault.strerror)) from None
-    for table in tables:
-        write_file(os.path.join(folder, table.key + ".csv"), table_csv(table).encode())
+    files = [(os.path.join(folder, "page.%s.csv" % table.key), as_bytes(table_csv(table))) for table in tables]
+    for name, _ in files:
+        outputs.will_write("a table", name)
+    outputs.write(files)

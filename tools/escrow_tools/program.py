@@ -3,6 +3,7 @@
 from __future__ import annotations
 
 import os
+import shutil
 import subprocess
 import tempfile
 from contextlib import contextmanager
@@ -10,13 +11,25 @@ from dataclasses import dataclass
 from pathlib import Path
 from typing import Iterator, Optional
 
+from .interrupts import ended_by
+from .speaking import Stop
+from .statuses import (  # noqa: F401 (what the program's answers are compared with)
+    BUDGET_SPENT,
+    DONE,
+    INFEASIBLE,
+    MADE_A_PART,
+    MADE_NOTHING,
+    NO,
+    NO_FILE,
+    NO_MEMORY,
+    NONE_WITHIN,
+    NOT_BUILT,
+    READ_FAULT,
+    REFUSED,
+    USAGE,
+    WRITE_FAULT,
+)
 from .working import wait_for
-
-DONE, NO, USAGE, REFUSED, INFEASIBLE, NONE_WITHIN, BUDGET_SPENT = 0, 1, 2, 3, 4, 5, 6
-READ_FAULT, WRITE_FAULT, NO_FILE, NO_MEMORY = 8, 9, 10, 11
-# Statuses of ./escrow and its tools alone.
-MADE_NOTHING = 124
-NOT_BUILT = 125
 
 
 @dataclass(frozen=True)
@@ -36,15 +49,35 @@ def program_path() -> str:
     """The built program; ./escrow says where it is."""
     path = os.environ.get("ESCROW_PROGRAM")
     if path is None:
-        raise SystemExit("escrow: the tools are run by ./escrow, which knows where the program is")
+        raise Stop("the tools are run by ./escrow, which knows where the program is", status=NOT_BUILT)
     return path
 
 
+class Ended(Stop):
+    """A signal ended the program, and not its own work."""
+
+    def __init__(self, status: int):
+        super().__init__("the program was ended by %s; nothing is made of it" % ended_by(status))
+        self.how = ended_by(status)
+
+
+def begin(words: list[str], **streams) -> subprocess.Popen:
+    try:
+        return subprocess.Popen([program_path()] + words, **streams)
+    except OSError as fault:
+        raise Stop("the program can't be run: %s" % fault.strerror, status=NOT_BUILT) from None
+
+
 def run(words: list[str], standard_error=subprocess.PIPE) -> Answer:
-    with subprocess.Popen(
-        [program_path()] + words, stdin=subprocess.DEVNULL, stdout=subprocess.PIPE, stderr=standard_error
-    ) as running:
-        said, complained = wait_for(running)
+    """The program's answer. Where this is ended, so is the program."""
+    with begin(words, stdin=subprocess.DEVNULL, stdout=subprocess.PIPE, stderr=standard_error) as running:
+        try:
+            said, complained = wait_for(running)
+        except BaseException:
+            running.kill()
+            raise
+    if running.returncode < 0:
+        raise Ended(running.returncode)
     return Answer(running.returncode, said, complained or b"")
 
 
@@ -59,10 +92,29 @@ class CaseBytes:
 
 
 class Folder:
-    """Copies of a case's files in a folder of their own, on which the program is run."""
+    """Copies of a case's files in a folder of their own, on which the program is run. The program's words about files are of these
+    copies, so a fault in reading or writing them is told here, and isn't the answer."""
 
     def __init__(self, folder: Path):
         self.folder = folder
+
+    def _write(self, path: Path, data: bytes) -> None:
+        try:
+            path.write_bytes(data)
+        except OSError as fault:
+            raise self._no_room(fault.strerror) from None
+
+    def _no_room(self, why: str) -> Stop:
+        return Stop(
+            "%s, the folder of copies for the program, can't be used: %s" % (self.folder, why),
+            "is the disk full? TMPDIR may name another folder; nothing is made",
+        )
+
+    def _run(self, words: list[str], standard_error=subprocess.PIPE) -> Answer:
+        answer = run(words, standard_error)
+        if answer.status in (READ_FAULT, WRITE_FAULT, NO_FILE):
+            raise self._no_room("the program's status is %d there" % answer.status)
+        return answer
 
     def _words(self, command: str, case: CaseBytes) -> list[str]:
         """The words of a command of a case: where there are holdings, of the one that takes them."""
@@ -70,7 +122,7 @@ class Folder:
         for name, data in (("issue", case.issue), ("rates", case.rates), ("prices", case.prices), ("held", case.held)):
             if data is not None:
                 path = self.folder / (name + ".csv")
-                path.write_bytes(data)
+                self._write(path, data)
                 words.append(str(path))
         return words + [str(self.certificate)]
 
@@ -80,15 +132,30 @@ class Folder:
 
     def structure(self, case: CaseBytes, shows_progress: bool = False) -> Answer:
         words = self._words("structure", case)
-        return run(words, None if shows_progress else subprocess.PIPE)
+        return self._run(words, None if shows_progress else subprocess.PIPE)
+
+    def keep(self, certificate: bytes) -> None:
+        """Puts a certificate in its place here."""
+        self._write(self.certificate, certificate)
 
     def check(self, case: CaseBytes, certificate: bytes) -> Answer:
         words = self._words("check", case)
-        self.certificate.write_bytes(certificate)
-        return run(words)
+        self.keep(certificate)
+        return self._run(words)
+
+    def savings(self, case: CaseBytes) -> Answer:
+        """What `savings` says of the certificate that stands here."""
+        return self._run(self._words("savings", case))
 
 
 @contextmanager
 def folder() -> Iterator[Folder]:
-    with tempfile.TemporaryDirectory(prefix="escrow.") as name:
+    """A folder of copies, removed at the end."""
+    try:
+        name = tempfile.mkdtemp(prefix="escrow.")
+    except OSError as fault:
+        raise Stop("no folder can be made for the program's copies: %s" % fault.strerror, "TMPDIR may name a folder; nothing is made") from None
+    try:
         yield Folder(Path(name))
+    finally:
+        shutil.rmtree(name, ignore_errors=True)

@@ -1,12 +1,13 @@
-"""What the tools say on standard error, and how they end."""
+"""What the tools say on standard error and standard output, and how they end."""
 
 from __future__ import annotations
 
 import argparse
 import os
 import sys
+from typing import Sequence
 
-from .program import MADE_NOTHING
+from .statuses import MADE_NOTHING
 
 
 class Stop(Exception):
@@ -19,29 +20,62 @@ class Stop(Exception):
 
 
 def tell(*lines: str) -> None:
+    """Says lines on standard error; where that is closed or full, nobody hears them, and nothing else is changed by it."""
     for line in lines:
-        print("escrow: " + line, file=sys.stderr, flush=True)
+        complain("escrow: " + line)
+
+
+def complain(line: str) -> None:
+    """A line on standard error as it stands, as the program itself says one."""
+    if sys.stderr is None:
+        return
+    try:
+        print(line, file=sys.stderr, flush=True)
+    except (OSError, ValueError):
+        pass
+
+
+def as_bytes(text: str) -> bytes:
+    """A text as UTF-8; what isn't UTF-8 in the name of a file is written as an escape."""
+    return text.encode("utf-8", "backslashreplace")
 
 
 def put_out(data: bytes) -> None:
-    """Puts bytes on standard output, all of them; a reader that has gone is a fault of writing."""
+    """Puts bytes on standard output, all of them; a closed one, or a reader that has gone, is a fault of writing."""
+    if sys.stdout is None:
+        raise Stop("standard output is closed")
     try:
         sys.stdout.buffer.write(data)
         sys.stdout.buffer.flush()
-    except OSError as fault:
-        # What is still held back must not be tried again at the end.
-        os.dup2(os.open(os.devnull, os.O_WRONLY), sys.stdout.fileno())
-        raise Stop("standard output can't be written: %s" % fault.strerror) from None
+    except (OSError, ValueError) as fault:
+        forget_output()
+        raise Stop("standard output can't be written: %s" % (getattr(fault, "strerror", None) or fault)) from None
+
+
+def forget_output() -> None:
+    """What is still held back for standard output must not be tried again at the end."""
+    try:
+        os.dup2(os.open(os.devnull, os.O_WRONLY), 1)
+    except OSError:
+        pass
 
 
 class Words(argparse.ArgumentParser):
     """The words of one of the tools; faulty ones end with status 2, as the program's own do."""
 
-    def __init__(self, name: str, what: str, **further):
+    def __init__(self, name: str, what: str, epilog: Sequence[str] = (), **further):
         super().__init__(
             prog="./escrow " + name,
             description=what,
             allow_abbrev=False,
             formatter_class=argparse.RawDescriptionHelpFormatter,
+            epilog="\n".join(epilog) or help_end(name),
             **further,
         )
+
+
+def help_end(name: str) -> str:
+    """What the table of commands says of one, below its words: what it reads and writes, and how it ends."""
+    from .commands import end_of_help
+
+    return end_of_help(name)

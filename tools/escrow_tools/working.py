@@ -12,7 +12,7 @@ RENEW = "\r\033[K"
 def wait_for(running: subprocess.Popen) -> tuple:
     """All that a running program puts out, as `communicate` has it. Where standard error is a terminal, a line there says, from its
     second second on and anew for each further one, how long the program has worked; nothing is left of it in the end."""
-    shows = sys.stderr.isatty()
+    shows = sys.stderr is not None and sys.stderr.isatty()
     seconds = 0
     while True:
         try:

@@ -3,10 +3,14 @@
 from __future__ import annotations
 
 import csv
+import hashlib
+import re
 import unittest
 from decimal import Decimal
+from html import unescape
 from html.parser import HTMLParser
 
+from escrow_tools.page.tables import KEYS
 from harness import EXAMPLES, NO_RIVAL, FolderTest, run_program, run_tool
 
 
@@ -118,10 +122,15 @@ class PageTest(FolderTest):
                 self.try_csv(reader)
 
     def try_csv(self, reader: TableReader) -> None:
-        """The tables of the page are those of the folder."""
-        for path in (self.folder / "tables").iterdir():
+        """The tables of the page are those of the folder; one that isn't on the page has no rows there."""
+        paths = sorted((self.folder / "tables").glob("page.*.csv"))
+        self.assertEqual(len(paths), len(KEYS))
+        for path in paths:
             rows = list(csv.reader(path.open(newline="")))
-            table = reader.tables[path.stem]
+            table = reader.tables.get(path.name.split(".")[1], {})
+            if not table:
+                self.assertEqual(rows[1:], [], path.name)
+                continue
             self.assertEqual(rows[0], table["thead"][0])
             shown = [[cell.replace(",", "") if cell[-3:-2] == "." else cell for cell in row] for row in table["tbody"]]
             self.assertEqual(rows[1:], shown)
@@ -196,6 +205,113 @@ class PageTest(FolderTest):
             ],
         )
         self.assertEqual([row[0] for row in reader.tables["needs"]["tbody"]], ["2025-04-16", "2026-08-17"])
+
+    def facts(self, *words) -> tuple:
+        """What the head of the page and its list of files say, and what is said on standard error."""
+        ran = run_tool(self.folder, "page", *words)
+        self.assertEqual(ran.status, 0, ran.err)
+        page = ran.out.decode()
+        reader = TableReader()
+        reader.feed(page)
+        said = dict(re.findall("<dt>(.*?)</dt><dd>(.*?)</dd>", page))
+        return said, {row[0]: row[2] for row in reader.tables["files"]["tbody"]}, reader, ran.err
+
+    def note_words(self) -> list:
+        """A case in which a note with a CUSIP is bought, made by the tools from a table and a list."""
+        words = self.write_case("settle,2026-01-15\nneed,2027-06-30,105000.00\nrestricted,6.00\nallowance,5000.00\n", "", "")
+        self.write("table.csv", "date,2026-01-13\n6 months,0.50\n2 years,0.50\n")
+        self.write("notes.csv", "cusip,maturity,coupon,ask\n91282CKJ9,2027-06-30,4.5,99-16\n")
+        self.assertEqual(run_tool(self.folder, "offers", "issue.csv", "table.csv", "-o", "rates.csv").status, 0)
+        self.assertEqual(run_tool(self.folder, "prices", "issue.csv", "notes.csv", "-o", "prices.csv").status, 0)
+        self.assertEqual(run_program(self.folder, "structure", *words).status, 0)
+        return words
+
+    def cusips_of(self, reader: TableReader) -> list:
+        return [row[reader.tables["notes"]["thead"][0].index("CUSIP")] for row in reader.tables["notes"]["tbody"]]
+
+    def digest(self, name: str) -> str:
+        return hashlib.sha256((self.folder / name).read_bytes()).hexdigest()
+
+    def test_comments_that_fit(self) -> None:
+        """The day and the CUSIPs stand on the page, with the digests of the comments that say them."""
+        said, files, reader, err = self.facts(*self.note_words())
+        self.assertEqual((said["Day of the rate table"], self.cusips_of(reader)), ("2026-01-13", ["91282CKJ9"]))
+        self.assertEqual(files["comments on the rates"], self.digest("rates.comments.csv"))
+        self.assertEqual(files["comments on the prices"], self.digest("prices.comments.csv"))
+        self.assertNotIn("CUSIPs", said)
+        cautions = [line for line in err.splitlines() if "caution" in line]
+        self.assertEqual([line for line in cautions if "of `savings`" not in line], [])
+
+    def test_comments_of_other_files(self) -> None:
+        """Rates or prices that were changed, or comments without a digest: nothing of them stands on the page, which says so."""
+        words = self.note_words()
+        kept = {name: (self.folder / name).read_text() for name in ("rates.csv", "rates.comments.csv", "prices.csv", "prices.comments.csv")}
+        other = "is of another file than this "
+        none = "doesn't say by a SHA-256 that it is of this "
+        for name, old, new, file, why in (
+            ("rates.csv", ",0.50", ",9.99", "rates", other),
+            ("rates.comments.csv", "rates sha256", "sha256", "rates", none),
+            ("rates.comments.csv", kept["rates.comments.csv"], "what,value\ntable day,2026-01-13\n", "rates", none),
+            ("prices.csv", ",99-16,", ",99-17,", "prices", other),
+            ("prices.comments.csv", "prices sha256", "digest", "prices", none),
+        ):
+            with self.subTest(name, new=new):
+                for one, text in kept.items():
+                    self.write(one, text)
+                self.write(name, kept[name].replace(old, new))
+                self.assertEqual(run_program(self.folder, "structure", *words).status, 0)
+                said, files, reader, err = self.facts(*words)
+                why = "%s.comments.csv %s%s.csv" % (file, why, file)
+                self.assertIn(why, unescape(said["Day of the rate table" if file == "rates" else "CUSIPs"]))
+                self.assertIn("escrow: caution: " + why, err)
+                self.assertIn("comments that aren't of these " + file, files)
+                self.assertEqual(self.cusips_of(reader), ["91282CKJ9" if file == "rates" else ""])
+                self.assertEqual(said["Day of the rate table"] == "2026-01-13", file == "prices")
+
+    def test_changed_comments(self) -> None:
+        """CUSIPs that are none, and rows of other notes, aren't shown; a CUSIP that was replaced changes the digest on the page."""
+        words = self.note_words()
+        text = (self.folder / "prices.comments.csv").read_text()
+        _, before, _, _ = self.facts(*words)
+        for old, new, shown in (
+            ("91282CKJ9", "91282CKJ8", ""),
+            ("91282CKJ9", "=HYPERLINK(1)", ""),
+            (",4.500,", ",4.625,", ""),
+            (",99.5,", ",99.25,", ""),
+            ("2,2027-06-30", "3,2027-06-30", ""),
+            ("91282CKJ9", "91282CMA6", "91282CMA6"),
+        ):
+            with self.subTest(new):
+                self.write("prices.comments.csv", text.replace(old, new))
+                _, files, reader, _ = self.facts(*words)
+                self.assertEqual(self.cusips_of(reader), [shown])
+                self.assertNotEqual(files["comments on the prices"], before["comments on the prices"])
+
+    def test_given_table_day(self) -> None:
+        words = self.note_words()
+        ran = run_tool(self.folder, "page", *words, "--table-day", "2026-01-14")
+        self.assertEqual((ran.status, ran.out), (124, b""))
+        self.assertIn("rates.comments.csv says 2026-01-13", ran.err)
+        text = (self.folder / "rates.comments.csv").read_text()
+        self.write("rates.comments.csv", text.replace('table day,"2026-01-13"', 'table day,"soon"'))
+        self.assertIn("is no day", self.facts(*words)[0]["Day of the rate table"])
+        (self.folder / "rates.comments.csv").unlink()
+        self.assertEqual(self.facts(*words)[0]["Day of the rate table"], "not stated")
+        self.assertEqual(self.facts(*words, "--table-day", "2026-01-14")[0]["Day of the rate table"], "2026-01-14")
+
+    def test_formulas(self) -> None:
+        """A name of a file that a spreadsheet would work out stands as a text in the tables for it."""
+        words = self.write_case("settle,2025-01-15\nneed,2025-07-15,2000.00\nrestricted,5.00\nallowance,900.00\n",
+                                "terms,1000,1000\noffer,2025-07-15,0.00,,4000\n", "")
+        self.assertEqual(run_program(self.folder, "structure", *words).status, 0)
+        for name in ("=a.csv", "b.csv"):
+            self.write(name, "settle,2025-01-15\nbond,2025-07-15,1000.00,0\n")
+        series = ("--series", "=a.csv", "--series", "b.csv", "--csv", "tables")
+        ran = run_tool(self.folder, "page", *words, *series)
+        self.assertEqual(ran.status, 0, ran.err)
+        cells = [cell for path in (self.folder / "tables").iterdir() for row in csv.reader(path.open(newline="")) for cell in row]
+        self.assertIn("'=a.csv", cells)
+        self.assertFalse([cell for cell in cells if cell[:1] in "=+@" and cell])
 
     def test_damaged_reports(self) -> None:
         words = self.write_example("refunding")

@@ -3,6 +3,7 @@
 from __future__ import annotations
 
 import csv
+import hashlib
 import io
 import shlex
 import unittest
@@ -17,11 +18,11 @@ TABLE = "date,2026-01-13\nlength,rate\n1 month,3.60\n3 months,3.70\n1 year,3.50\
 ISSUE = "settle,2026-01-15\nneed,2026-07-15,100000.00\nneed,2027-07-15,250000.50\nrestricted,4.00\n"
 NOTES = """\
 CUSIP,Security Type,Coupon,Maturity Date,Bid,Ask
-912797AA1,Bill,0,2026-07-14,98-00,98-01
-91282CAA1,Note,4 1/8,07/15/2026,100-01,100-02+
-91282CBB2,Note,3.5%,2027-06-30,99.5,99.53125
+912797AA5,Bill,0,2026-07-14,98-00,98-01
+91282CAA9,Note,4 1/8,07/15/2026,100-01,100-02+
+91282CBB6,Note,3.5%,2027-06-30,99.5,99.53125
 91282CCC3,TIPS,1.0,2027-01-15,100-00,100-01
-91282CDD4,Note,3.5,2030-06-30,99-00,99-01
+91282CDD0,Note,3.5,2030-06-30,99-00,99-01
 """
 
 
@@ -56,8 +57,9 @@ class TermSheetTest(FolderTest):
             self.assertEqual(ran.status, 0, ran.err)
             if output:
                 self.write(output, ran.out)
-        for name in ("rates.csv", "prices.csv"):
-            self.assertEqual((self.folder / name).read_bytes(), (example / name).read_bytes(), name)
+        for name in ("rates.csv", "prices.csv", "rates.comments.csv", "prices.comments.csv"):
+            if (example / name).exists():
+                self.assertEqual((self.folder / name).read_bytes(), (example / name).read_bytes(), name)
         made = self.without_allowance((self.folder / "issue.csv").read_bytes())
         self.assertEqual(made, self.without_allowance((example / "issue.csv").read_bytes()))
 
@@ -267,11 +269,17 @@ class OffersTest(FolderTest):
 
     def test_comments(self) -> None:
         self.rates("-o", "rates.csv")
-        comments = dict(csv.reader(io.StringIO((self.folder / "rates.comments.csv").read_text())))
+        facts, _, lines = (self.folder / "rates.comments.csv").read_text().partition("\n\n")
+        comments = dict(csv.reader(io.StringIO(facts)))
         self.assertEqual(
             (comments["table day"], comments["between lengths"], comments["settlement"]),
             ("2026-01-13", "lower", "2026-01-15"),
         )
+        self.assertEqual(comments["rates sha256"], hashlib.sha256((self.folder / "rates.csv").read_bytes()).hexdigest())
+        self.assertEqual(comments["table sha256"], hashlib.sha256(TABLE.encode()).hexdigest())
+        read = [(row["in the table"], row["read as"], row["from"]) for row in csv.DictReader(io.StringIO(lines))]
+        self.assertEqual(read[0], ("date,2026-01-13", "the table's day, 2026-01-13", ""))
+        self.assertEqual(read[2:4], [("1 month,3.60", "1 month", "2026-02-15"), ("3 months,3.70", "3 months", "2026-04-15")])
 
     def test_lengths(self) -> None:
         for text, length in (
@@ -356,7 +364,7 @@ class PricesTest(FolderTest):
             "terms,1000,1000\nnote,2026-07-15,4.125,100-02+,351000\nnote,2027-06-30,3.500,99.53125,251000\n",
         )
         comments = list(csv.DictReader(io.StringIO((self.folder / "prices.comments.csv").read_text())))
-        self.assertEqual([row["cusip"] for row in comments], ["91282CAA1", "91282CBB2"])
+        self.assertEqual([row["cusip"] for row in comments], ["91282CAA9", "91282CBB6"])
 
     def test_closed_days(self) -> None:
         """A note that is paid after a need isn't wanted for it; one that is paid after the last need is passed over."""

@@ -1,5 +1,5 @@
 """What an answer of the program means, where, and what to do."""
 
-from .refusals import explain_refusal
+from .told import explain_refusal
 
 __all__ = ["explain_refusal"]

@@ -2,6 +2,7 @@
 
 from __future__ import annotations
 
+import difflib
 from dataclasses import dataclass, field
 from datetime import date
 from typing import Optional
@@ -10,6 +11,8 @@ from .. import program
 from ..amounts import counted, money, money_for_people, rate_text, read_hundredths, yield_text
 from ..case_files import CERT, HELD, ISSUE, PRICES, RATES, Refusal
 from ..certificate import Certificate, read_certificate
+from ..commands import read_commands
+from ..old_service import NO_BONDS, SERIES_WAY
 from ..report import BadReport, Summary, cents_of, read_summary
 from ..securities import indexed
 from ..yields import interval
@@ -19,7 +22,7 @@ from .explanation import shown
 from .files import explain_fault
 from .grammar import explain_grammar
 from .purchases import come_later, is_permitted, most_receipts, moved_receipts, purchased_by, up_to
-from .refusals import explain_refusal
+from .told import explain_refusal
 
 HUGE_ALLOWANCE = 10**13
 
@@ -105,6 +108,14 @@ def explain_run(run: Run) -> list[str]:
     return lines
 
 
+def explain_safely(run: Run) -> list[str]:
+    """The same; what this can't explain changes nothing of the answer, which stands."""
+    try:
+        return explain_run(run)
+    except Exception as fault:  # pylint: disable=broad-except
+        return ["what the answer means can't be told here (%s); docs/GUIDE.md has each answer" % type(fault).__name__]
+
+
 def _done(run: Run) -> list[str]:
     if run.first_line == "yes none":
         return [
@@ -179,12 +190,17 @@ def _saved(run: Run) -> list[str]:
     if not {"old", "new", "saved", "idle"} <= said.keys():
         return []
     lines = ["accepted, as by `check`; all values are present values at the restricted yield, on the settlement day"]
+    issue = run.read_case().issue
+    has_bonds = issue is None or bool(issue.bonds)
+    if not has_bonds:
+        lines.append("caution: " + NO_BONDS % run.names[ISSUE])
+        lines.append(SERIES_WAY % " ".join(run.names[file] for file in (ISSUE, RATES, PRICES, CERT)))
     if said["saved"] == "none":
         lines.append(
             "what the refunding saves isn't known, since the restricted yield is given: in its place the issue file may have the "
             "`price` and the `pay` rows of the refunding issue"
         )
-    else:
+    elif has_bonds:
         lines.append(
             "without the refunding the old bonds would cost %s more than the new ones do; below 0, they would cost less"
             % _between(said["saved"])
@@ -222,12 +238,17 @@ def _usage(run: Run) -> list[str]:
     forms = [form.split(" ") for form in run.first_line.replace("usage: ", "").split(" | ")]
     form = next((form for form in forms if form[0] == command), None)
     if form is None:
-        return ["`%s` is no command; `./escrow --help` lists them" % shown(command)]
+        near = difflib.get_close_matches(command, [one.name for one in read_commands().commands], 1, 0.6)
+        meant = ": is `%s` meant?" % near[0] if near else ""
+        return ["`%s` is no command%s; `./escrow --help` lists them" % (shown(command), meant)]
     if command == "make" and given == len(form) - 1:
         number = shown(run.words[1])
         return ["NUMBER is `%s`: it is from 0 to 18446744073709551615, in digits alone, and without a leading zero" % number]
     if command == "check-cap" and given == len(form) - 1:
         return ["RATE is `%s`: it is a rate in percent from 0 to 30, in whole hundredths, such as 3.02" % shown(run.words[1])]
+    strange = [shown(word) for word in run.words if any("\ud800" <= letter <= "\udfff" for letter in word)]
+    if strange:
+        return ["the name %s isn't UTF-8, and can't be given to the program: rename the file" % strange[0]]
     lines = ["`%s` takes %d words, %s, and here are %d" % (command, len(form) - 1, " ".join(form[1:]), given)]
     if given > len(form) - 1:
         lines.append("a name with blanks in it stands in quotes")
@@ -241,6 +262,8 @@ def _refused(run: Run) -> list[str]:
     if len(words) != 5:
         return []
     file, row, name = words[1], int(words[3]), words[4]
+    if file not in run.data and name == "TooLong":
+        return explain_refusal(Refusal(file, name), run.names, run.data)
     if file not in run.data:
         return ["%s, row %d: %s (the file can't be read again to show more)" % (run.names.get(file, file), row, name)]
     if file == CERT:

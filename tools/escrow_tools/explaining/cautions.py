@@ -5,11 +5,12 @@ from __future__ import annotations
 from collections import Counter
 from typing import Iterator
 
-from ..amounts import counted, money_for_people, rate_text
+from ..amounts import GREATEST_RATE, counted, money_for_people, rate_text
 from ..case_files import HELD, ISSUE, PRICES, RATES, Held
 from ..closed_needs import closed_needs, told_closed_needs
 from ..days import NONE_CLOSED, is_weekend, weekday_name
 from ..needs import needs_by_day
+from ..note_yields import TableRates, far_yields
 from ..records import Record
 from .case_reading import CaseRead
 from .explanation import shown
@@ -34,7 +35,9 @@ class Cautions:
         found = []
         for finder in (
             self.fractions,
+            self.small_principals,
             self.cent_prices,
+            self.far_yields,
             self.twice,
             self.weekends,
             self.closed_needs,
@@ -65,6 +68,16 @@ class Cautions:
                 meant = "; is %s meant?" % rate_text(rate * 100) if rate <= MOST_PLAUSIBLE // 100 else ""
                 yield self.at(file, record, "a %s of %s percent: it is in percent%s" % (what, rate_text(rate), meant))
 
+    def small_principals(self) -> Iterator[str]:
+        """A principal that may be a coupon, in whose place the principal stands."""
+        for bond in self.case.issue.bonds if self.case.issue else []:
+            if 0 < bond.principal <= GREATEST_RATE // 10:
+                yield self.at(
+                    ISSUE,
+                    bond.record,
+                    "a principal of %s dollars: do principal and coupon stand in each other's places?" % money_for_people(bond.principal),
+                )
+
     def cent_prices(self) -> Iterator[str]:
         """Prices with a point and two digits up to 31, beside others in 32nds."""
         notes = self.case.prices.notes if self.case.prices else []
@@ -79,6 +92,15 @@ class Cautions:
                     "a price of %s in decimals beside others in 32nds: is %s-%s meant?"
                     % (note.record.fields[3], whole, rest),
                 )
+
+    def far_yields(self) -> Iterator[str]:
+        """Notes whose yields are more than two points from the table's rate of their length."""
+        case = self.case
+        if not case.is_whole:
+            return
+        notes = case.prices.notes
+        for far in far_yields(case.issue.settlement, notes, TableRates(case.rates.ranges), case.issue.closed_days):
+            yield self.at(PRICES, notes[far.place].record, str(far))
 
     def twice(self) -> Iterator[str]:
         """Rows that stand twice."""

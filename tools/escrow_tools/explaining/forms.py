@@ -3,16 +3,21 @@
 from __future__ import annotations
 
 from dataclasses import dataclass
-from typing import Callable
+from typing import Callable, Iterable, Optional
 
 from ..case_files import HELD, ISSUE, PRICES, RATES
+from ..records import Record
 from . import mending
 
 
 @dataclass(frozen=True)
 class Field:
     name: str
-    mend: Callable
+    mender: Callable
+
+    def mend(self, text: str, order: Optional[str] = None) -> mending.Mended:
+        """What is meant by a text here; a date such as 1/2/2026 by the order of days and months in its file."""
+        return mending.mend_date(text, order) if self.mender is mending.mend_date else self.mender(text)
 
 
 DATE = Field("date", mending.mend_date)
@@ -20,7 +25,8 @@ MATURITY = Field("maturity", mending.mend_date)
 AMOUNT = Field("amount", mending.mend_amount)
 RECEIPT = Field("amount", mending.mend_receipt)
 PRINCIPAL = Field("principal", mending.mend_amount)
-COUPON = Field("coupon", mending.mend_rate)
+COUPON = Field("coupon", mending.mend_bond_rate)
+NOTE_COUPON = Field("coupon", mending.mend_note_rate)
 PRICE = Field("price", mending.mend_price)
 YIELD = Field("yield", mending.mend_yield)
 COUNT = Field("count", mending.mend_count)
@@ -55,7 +61,7 @@ FORMS = {
     },
     PRICES: {
         "terms": ("terms,MINIMUM,STEP", (MINIMUM, STEP)),
-        "note": ("note,MATURITY,COUPON,PRICE,CAP", (MATURITY, COUPON, PRICE, CAP)),
+        "note": ("note,MATURITY,COUPON,PRICE,CAP", (MATURITY, NOTE_COUPON, PRICE, CAP)),
     },
     HELD: {
         "held": ("held,DATE,AMOUNT", (DATE, RECEIPT)),
@@ -126,3 +132,8 @@ def form_of(file: str, word: str) -> str:
 
 def fields_of(file: str, word: str) -> tuple:
     return FORMS[file][word][1]
+
+
+def order_in(records: Iterable[Record]) -> Optional[str]:
+    """Which of day and month comes first in the dates of a file."""
+    return mending.date_order(field for record in records for field in record.fields[1:4])

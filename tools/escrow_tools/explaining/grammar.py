@@ -2,11 +2,11 @@
 
 from __future__ import annotations
 
+import re
 from typing import Optional
 
 from ..amounts import counted
 from ..case_files import CERT, HELD
-from ..certificate import is_packed
 from .explanation import shown
 from .forms import words_of
 
@@ -40,8 +40,16 @@ def _meaning(data: Optional[bytes], kind: str) -> str:
     """What is wrong with a line of a text of either version."""
     if kind != "Header":
         return MEANINGS.get(kind, kind)
-    forms = PACKED_FORMS if data is not None and is_packed(data) else FORMS
+    forms = PACKED_FORMS if data is not None and is_meant_packed(data) else FORMS
     return MEANINGS[kind] % ", ".join("`%s`" % form for form in forms)
+
+
+def is_meant_packed(data: bytes) -> bool:
+    """Whether a text is meant as one of version 2, though its first line may be damaged: that has a 2, or has no 1 and vectors follow."""
+    head = data[:65_536].split(b"\n")
+    if b"escrow-certificate" in head[0] and re.search(rb"[12]", head[0]):
+        return b"2" in head[0] and b"1" not in head[0]
+    return any(line.startswith((b"vectors ", b"v ")) for line in head)
 
 
 def _advice(data: bytes, names: dict, text: str, kind: str, needs: Optional[dict]) -> list[str]:
@@ -60,7 +68,7 @@ def _advice(data: bytes, names: dict, text: str, kind: str, needs: Optional[dict
     if words[0] == "v" and kind == "Count":
         return _counted_prices(names, "behind `v`", len(words) - 1, needs)
     if words[0] == "l" and kind == "Count":
-        if is_packed(data):
+        if is_meant_packed(data):
             return ["behind `l`, WHOLE, MULTIPLIER and VECTOR stand pairs of a place and a price, and none where no price changes"]
         return _counted_prices(names, "behind `l`, WHOLE and MULTIPLIER", max(len(words) - 3, 0), needs)
     if text != text.strip() or "  " in text or "\t" in text:

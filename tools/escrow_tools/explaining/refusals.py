@@ -2,6 +2,7 @@
 
 from __future__ import annotations
 
+from functools import cached_property
 from typing import Optional
 
 from .. import amounts
@@ -24,8 +25,9 @@ from ..days import days_after, years_after
 from ..records import Record, records_of
 from .case_reading import CaseRead, read_whole_case
 from .explanation import Explanation, place_of, shown
-from .forms import FORMS, fields_of, form_of, words_of
-from .rows import meant_word, mended_row, other_separator, plain_word
+from .forms import FORMS, fields_of, form_of, order_in, words_of
+from .kinds import LIST, MAKERS, NAMED, TABLE, is_list, is_table, looks_like
+from .rows import meant_word, mended_row, other_separator, plain_word, reordered
 
 WHAT_FILES_ARE = {
     ISSUE: "the issue file",
@@ -44,7 +46,16 @@ class Refused:
         self.refusal = refusal
         self.names = names
         self.data = data
-        self.case: CaseRead = read_whole_case(data.get(ISSUE), data.get(RATES), data.get(PRICES), data.get(HELD))
+
+    @cached_property
+    def case(self) -> CaseRead:
+        """What was read of the case up to the refusal."""
+        return read_whole_case(*(self.data.get(file) for file in (ISSUE, RATES, PRICES, HELD)))
+
+    @cached_property
+    def order(self) -> Optional[str]:
+        """Which of day and month comes first in the dates of the file."""
+        return order_in(records_of(self.data.get(self.file, b"")))
 
     @property
     def file(self) -> str:
@@ -71,8 +82,9 @@ class Refused:
         return "line %d" % self.refusal.earlier.line
 
 
-def explain_refusal(refusal: Refusal, names: dict, data: dict) -> list[str]:
-    return explanation_of(refusal, names, data).lines()
+def meaning_of(refused: Refused) -> str:
+    """What is wrong with a row, in a line."""
+    return EXPLAINERS[refused.refusal.name](refused).meaning
 
 
 def explanation_of(refusal: Refusal, names: dict, data: dict) -> Explanation:
@@ -95,11 +107,12 @@ def _alike(refusal: Refusal, data: dict) -> list[str]:
     if refusal.place is None or refusal.name not in ("BadNumber", "BadDate"):
         return []
     field = fields_of(refusal.file, refusal.record.word)[refusal.place - 1]
-    further = 0
-    for record in records_of(data[refusal.file]):
+    further, records = 0, records_of(data[refusal.file])
+    order = order_in(records)
+    for record in records:
         if record.number > refusal.row and record.word == refusal.record.word and len(record.fields) > refusal.place:
             text = record.fields[refusal.place]
-            further += field.mend(text).text not in (None, text)
+            further += field.mend(text, order).text not in (None, text)
     return (
         ["the %s is to be looked at in %s as well" % (field.name, counted(further, "further row"))] if further else []
     )
@@ -129,14 +142,6 @@ def other_kind(data: bytes) -> Optional[str]:
     return "it isn't a text (a byte 0 stands in it): save it as CSV in UTF-8" if b"\0" in data[:4096] else None
 
 
-def looks_like(data: bytes, own: str) -> Optional[str]:
-    """Which of the input files the words of these rows belong to; where it is as much the one whose place it has, that one."""
-    words = [record.word for record in records_of(data[:65536])[:200]]
-    scores = {file: sum(word in forms and word != "terms" for word in words) for file, forms in FORMS.items()}
-    best = max(scores, key=lambda file: (scores[file], file == own))
-    return best if scores[best] else None
-
-
 def _swapped(refused: Refused) -> Optional[str]:
     seems = looks_like(refused.data.get(refused.file, b""), refused.file)
     if seems is None or seems == refused.file:
@@ -146,20 +151,40 @@ def _swapped(refused: Refused) -> Optional[str]:
         for file, name in refused.names.items()
         if file != refused.file and file in refused.data and looks_like(refused.data[file], file) == refused.file
     ]
+    if PRICES not in refused.names:
+        # A tool with words of its own.
+        return "%s has rows of %s, and here stands %s" % (refused.name, WHAT_FILES_ARE[seems], WHAT_FILES_ARE[refused.file])
     hint = "; %s seems to be %s" % (others[0], WHAT_FILES_ARE[refused.file]) if others else ""
-    return "%s has rows of %s%s: the words are %s, in this order" % (
+    return "%s has rows of %s%s: the words are %s, in this order%s" % (
         refused.name,
         WHAT_FILES_ARE[seems],
         hint,
         words_of(refused.names),
+        _right_order(refused),
     )
+
+
+def _right_order(refused: Refused) -> str:
+    """The names in the order of the words, where each file shows which it is."""
+    right: dict = {}
+    for file, name in refused.names.items():
+        data = refused.data.get(file, b"")
+        right[CERT if file == CERT else looks_like(data, file) or file] = name
+    order = words_of(refused.names).lower().split(" ")
+    return ": " + " ".join(right[file] for file in order) if set(right) == set(order) else ""
+
+
+def _made_by_tool(data: bytes) -> Optional[str]:
+    """Which tool makes a file of the case of what stands here."""
+    found = TABLE if is_table(data) else LIST if is_list(data) else None
+    return None if found is None else "it is %s: %s" % (NAMED[found], MAKERS[found])
 
 
 def _missing(refused: Refused) -> Explanation:
     if refused.refusal.row == 0:
         return _missing_yield(refused)
     data = refused.data.get(refused.file, b"")
-    what = other_kind(data) or _swapped(refused)
+    what = other_kind(data) or _swapped(refused) or _made_by_tool(data)
     if what is not None:
         return Explanation("%s can't be read as %s: %s" % (refused.name, WHAT_FILES_ARE[refused.file], what))
     first = FIRST_ROWS[refused.file]
@@ -201,7 +226,6 @@ def _missing_yield(refused: Refused) -> Explanation:
 
 
 def _too_long(refused: Refused) -> Explanation:
-    size = len(refused.data.get(refused.file, b""))
     if refused.file == CERT:
         return Explanation("the certificate has more than 67,108,864 bytes: is it another file?")
     advice = (
@@ -209,7 +233,7 @@ def _too_long(refused: Refused) -> Explanation:
         or "put %s of one day into one row, or leave out what isn't needed" % ("receipts" if refused.file == HELD else "needs")
     )
     return Explanation(
-        "%s has %s, and %s may be" % (refused.name, counted(size, "byte"), format(INPUT_LIMIT, ",")), advice=[advice]
+        "%s has more than %s bytes, which is the most that may be" % (refused.name, format(INPUT_LIMIT, ",")), advice=[advice]
     )
 
 
@@ -217,7 +241,8 @@ def _unknown_row(refused: Refused) -> Explanation:
     word = refused.record.word
     words = ", ".join("`%s`" % known for known in FORMS[refused.file])
     # The other files begin with a row of their own, which is missing then.
-    what = other_kind(refused.data.get(HELD, b"")) if refused.file == HELD and refused.refusal.row == 1 else None
+    data = refused.data.get(HELD, b"")
+    what = other_kind(data) or _made_by_tool(data) if refused.file == HELD and refused.refusal.row == 1 else None
     if what is not None:
         return Explanation("%s can't be read as %s: %s" % (refused.name, WHAT_FILES_ARE[HELD], what))
     swapped = _swapped(refused)
@@ -281,7 +306,10 @@ def _wrong_fields(refused: Refused) -> Explanation:
 
 def _faulty_field(refused: Refused) -> Explanation:
     field = fields_of(refused.file, refused.record.word)[refused.refusal.place - 1]
-    mended = field.mend(refused.field)
+    turned = reordered(list(refused.record.fields))
+    if turned is not None:
+        return _turned(refused, turned)
+    mended = field.mend(refused.field, refused.order)
     advice = []
     if mended.text is None and refused.refusal.name == "BadDate" and field.name == "date" and refused.field.strip():
         advice.append("write the day as four digits of the year, two of the month, two of the day")
@@ -289,9 +317,19 @@ def _faulty_field(refused: Refused) -> Explanation:
     return Explanation(what + mended.why, advice=advice)
 
 
+def _turned(refused: Refused, fields: list) -> Explanation:
+    """Of a row whose fields stand in each other's places."""
+    names = [field.name for field in fields_of(refused.file, fields[0])]
+    moved = [name for name, here, there in zip(names, refused.record.fields[1:], fields[1:]) if here != there]
+    return Explanation("%s and %s stand in each other's places: the row is `%s`" % (", ".join(moved[:-1]), moved[-1], form_of(refused.file, fields[0])))
+
+
 def _out_of_range(refused: Refused) -> Explanation:
     word, place = refused.record.word, refused.refusal.place
     issue = refused.case.issue
+    turned = reordered(list(refused.record.fields))
+    if turned is not None:
+        return _turned(refused, turned)
     if word == "settle":
         return Explanation("settlement is from 2000-01-01 to 2150-01-01, and here `%s`" % refused.field)
     if refused.field_name in ("date", "maturity") and issue is not None:
@@ -312,7 +350,7 @@ def _out_of_range(refused: Refused) -> Explanation:
         return Explanation("a budget is from 1 to 10,000 nodes; without this row it is 1,000")
     if refused.field_name in ("rate", "greatest rate", "coupon", "yield"):
         why = fields_of(refused.file, word)[place - 1].mend(refused.field).why
-        most = "" if "at most 29.99" in why else ", and it is at most 30 percent"
+        most = "" if "at most 29.99" in why or "at most 30" in why else ", and it is at most 30 percent"
         return Explanation("the %s `%s` is out of range: %s%s" % (refused.field_name, refused.field, why, most))
     return Explanation(
         "the %s `%s` is more than 100,000,000,000.00 dollars: is it in dollars?" % (refused.field_name, refused.field)

@@ -4,6 +4,8 @@ from __future__ import annotations
 
 import difflib
 import re
+from dataclasses import dataclass
+from decimal import Decimal
 from typing import Callable, Optional
 
 from ..amounts import read_day
@@ -11,8 +13,8 @@ from ..case_files import HELD, ISSUE, PRICES, RATES, Refusal
 from ..days import days_after, years_after
 from ..records import records_of
 from .case_reading import CaseRead, read_whole_case
-from .forms import FORMS, SYNONYMS, fields_of
-from .mending import mend_date
+from .forms import FORMS, SYNONYMS, fields_of, order_in
+from .mending import mend_amount, mend_date
 
 MOST_TRIES = 8
 OFFER_FAULTS = ("NoRate", "RateAboveTable", "TooShort", "TooLongTerm", "FirstDate", "ClosedPastEnd")
@@ -63,6 +65,43 @@ def joined_decimals(fields: list[str], width: int) -> list[str]:
     return fields
 
 
+@dataclass(frozen=True)
+class Change:
+    """A row's fields with one fault mended; sure where they say the same in another way, and nothing is guessed."""
+
+    fields: list
+    is_sure: bool = True
+
+
+def _change(fields: Optional[list], is_sure: bool = True) -> Optional[Change]:
+    return None if fields is None else Change(fields, is_sure)
+
+
+def _is_day(text: str) -> bool:
+    """Whether a text is plainly a day: it has marks or a month's name between its parts, and isn't a number alone."""
+    return not re.fullmatch(r"[\s$]*[\d.,]*[\s%]*", text) and mend_date(text).text is not None
+
+
+def _amount(text: str) -> Optional[Decimal]:
+    """A number in any spelling of an amount; None of what is none."""
+    mended = mend_amount(text).text
+    return None if mended is None else Decimal(mended)
+
+
+def reordered(fields: list) -> Optional[list]:
+    """The fields of a row in their places, where day, amount and percent plainly stand in others."""
+    word, rest = fields[0], list(fields[1:])
+    if word not in ("bond", "need", "pay", "held") or len(rest) != (3 if word == "bond" else 2):
+        return None
+    days = [text for text in rest if _is_day(text)]
+    numbers = [text for text in rest if not _is_day(text)]
+    if len(days) != 1 or any(_amount(text) is None for text in numbers):
+        return None
+    if word == "bond" and _amount(numbers[0]) <= 30 and _amount(numbers[1]) >= 100:
+        numbers.reverse()
+    return [word] + days + numbers if days + numbers != rest else None
+
+
 def _mended_width(file: str, fields: list[str]) -> Optional[list[str]]:
     """The row with as many fields as it should have."""
     word = fields[0]
@@ -94,14 +133,15 @@ def _with_field(fields: list[str], place: int, text: Optional[str]) -> Optional[
     return fields[:place] + [text] + fields[place + 1 :]
 
 
-def _mended_word(file: str, fields: list[str], text: str) -> Optional[list[str]]:
+def _mended_word(file: str, fields: list[str], text: str) -> Optional[Change]:
     mark = other_separator(text)
     if mark is not None:
-        return [field.strip() for field in text.split(mark)]
+        return Change([field.strip() for field in text.split(mark)])
     if file == HELD and mend_date(fields[0]).text is not None:
-        return ["held"] + fields
+        return Change(["held"] + fields)
     word = meant_word(file, fields[0])
-    return None if word is None else [word] + fields[1:]
+    # A word that is only near another may be meant for something else.
+    return None if word is None else Change([word] + fields[1:], plain_word(fields[0]) in (word, word + "s"))
 
 
 def _mended_range(refusal: Refusal, case: CaseRead, fields: list[str]) -> Optional[list[str]]:
@@ -169,27 +209,37 @@ def _mended_overlap(refusal: Refusal, fields: list[str]) -> Optional[list[str]]:
     return None
 
 
-def _mended_once(refusal: Refusal, case: CaseRead, fields: list[str], text: str) -> Optional[list[str]]:
+# Words of which a row without its last field is given one that is usual.
+FILLED_IN = ("call", "terms")
+
+
+def _mended_field(refusal: Refusal, fields: list[str], order: Optional[str]) -> Optional[Change]:
+    turned = reordered(fields)
+    if turned is not None:
+        return Change(turned, False)
+    place = refusal.place
+    mended = fields_of(refusal.file, fields[0])[place - 1].mend(fields[place], order)
+    return _change(_with_field(fields, place, mended.text), mended.is_sure)
+
+
+def mended_once(refusal: Refusal, case: CaseRead, fields: list[str], text: str, order: Optional[str]) -> Optional[Change]:
     """The row with the one fault that is named mended."""
     name = refusal.name
     if name in ("Missing", "UnknownRow"):
         return _mended_word(refusal.file, fields, text)
     if name == "WrongFields":
-        return _mended_width(refusal.file, fields)
+        mended = _mended_width(refusal.file, fields)
+        return _change(mended, fields[0] not in FILLED_IN or mended is None or len(mended) <= len(fields))
     if name in ("BadNumber", "BadDate", "PriceRange"):
-        return _with_field(
-            fields,
-            refusal.place,
-            fields_of(refusal.file, fields[0])[refusal.place - 1].mend(fields[refusal.place]).text,
-        )
+        return _mended_field(refusal, fields, order)
     if name == "OutOfRange":
-        return _mended_range(refusal, case, fields)
+        return _change(reordered(fields) or _mended_range(refusal, case, fields), False)
     if name == "DateOrder":
-        return _mended_order(refusal, case, fields)
+        return _change(_mended_order(refusal, case, fields), False)
     if name == "Overlap":
-        return _mended_overlap(refusal, fields)
+        return _change(_mended_overlap(refusal, fields), False)
     if name in OFFER_FAULTS and refusal.file == RATES:
-        return _mended_offer(refusal, case, fields)
+        return _change(_mended_offer(refusal, case, fields), False)
     return None
 
 
@@ -226,15 +276,15 @@ def mended_row(refusal: Refusal, data: dict) -> Optional[str]:
     """The row as it is meant, tried: with it the file isn't refused at this row any more. None where that can't be guessed."""
     if refusal.record is None or "\n" in refusal.record.text:
         return None
-    read = reader_of(refusal.file, data)
+    read, order = reader_of(refusal.file, data), order_in(records_of(data[refusal.file]))
     at, fields, text = refusal, list(refusal.record.fields), refusal.record.text
     for _ in range(MOST_TRIES):
         case = read(with_row(data[refusal.file], refusal.row, text))
         if not _is_at(case.refusal, refusal.file, refusal.row):
             return text if text != refusal.record.text else None
         at = case.refusal
-        changed = _mended_once(at, case, fields, text)
+        changed = mended_once(at, case, fields, text, order)
         if changed is None:
             return None
-        fields, text = changed, row_text(changed)
+        fields, text = changed.fields, row_text(changed.fields)
     return None

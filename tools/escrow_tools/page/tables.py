@@ -413,37 +413,23 @@ def yield_sentence(said: str) -> str:
     return "none: no security is bought" if said == "empty" else "negative: the securities cost more than they pay"
 
 
+KEYS = ("sources", "slgs", "notes", "bonds", "needs", "holdings", "cash", "securities", "yield", "restricted", "receipts")
+
+
 def tables_of(figures: Figures, cusips: dict) -> list[Table]:
-    """All tables, in the order of the page; those without rows are left out."""
-    tables = []
+    """All tables, in the order of the page; some have no rows, and one of what this case hasn't got no columns either."""
+    tables = [bonds(figures), needs(figures), holdings(figures)]
     if figures.report is not None:
         tables += [sources_and_uses(figures), subscriptions(figures), notes(figures, cusips)]
-    tables += [bonds(figures), needs(figures), holdings(figures)]
-    if figures.report is not None:
-        tables += [cash(figures), securities(figures)]
+        tables += [cash(figures), securities(figures), receipts_by_security(figures)]
     if figures.escrow_yield is not None:
-        tables.append(
-            yield_proof(
-                "yield",
-                "Proof of the escrow's yield",
-                figures.settlement,
-                figures.escrow_yield,
-                "The securities' cost, without opening cash,",
-            )
-        )
+        title, what = "Proof of the escrow's yield", "The securities' cost, without opening cash,"
+        tables.append(yield_proof("yield", title, figures.settlement, figures.escrow_yield, what))
     if figures.restricted is not None:
-        tables.append(
-            yield_proof(
-                "restricted",
-                "Proof of the restricted yield",
-                figures.settlement,
-                figures.restricted,
-                "The price of the refunding issue",
-            )
-        )
-    if figures.report is not None:
-        tables.append(receipts_by_security(figures))
-    return [table for table in tables if table.rows]
+        title, what = "Proof of the restricted yield", "The price of the refunding issue"
+        tables.append(yield_proof("restricted", title, figures.settlement, figures.restricted, what))
+    by_key = {table.key: table for table in tables}
+    return [by_key.get(key, Table(key, "", [])) for key in KEYS]
 
 
 def cell_text(column: Column, value, for_people: bool) -> str:

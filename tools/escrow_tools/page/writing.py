@@ -8,6 +8,7 @@ from dataclasses import dataclass, field
 from html import escape
 from pathlib import Path
 
+from ..given_text import spreadsheet_text
 from .meaning import Meaning
 from .tables import Column, Table, cell_text
 
@@ -32,6 +33,8 @@ class Page:
     meaning: Meaning
     picture: str = ""
     remarks: list = field(default_factory=list)
+    # What has to be known of the program, in the box of the verdict; empty where it was proved here.
+    standing: str = ""
 
 
 def _class(column: Column) -> str:
@@ -68,6 +71,13 @@ def table_html(table: Table) -> str:
     if table.remark:
         parts.append('<p class="remark">%s</p>' % escape(table.remark))
     return "\n".join(parts)
+
+
+def _verdict(page: Page) -> str:
+    """The first box: the verdict, and what has to be known of the program that says it."""
+    texts = [page.verdict_text] + [page.standing] * bool(page.standing)
+    said = "".join("<p>%s</p>" % escape(text) for text in texts)
+    return '<div class="verdict"><strong>%s</strong>%s</div>' % (escape(page.verdict), said)
 
 
 def _facts(page: Page) -> list[str]:
@@ -123,7 +133,7 @@ def page_html(page: Page) -> str:
         "<body>",
         "<h1>%s</h1>" % escape(page.title),
         '<p class="subtitle">Verification of a refunding escrow</p>',
-        '<div class="verdict"><strong>%s</strong><p>%s</p></div>' % (escape(page.verdict), escape(page.verdict_text)),
+        _verdict(page),
     ]
     parts += _facts(page)
     parts += ['<p class="remark">%s</p>' % escape(remark) for remark in page.remarks]
@@ -141,10 +151,12 @@ def page_html(page: Page) -> str:
 
 
 def table_csv(table: Table) -> str:
-    """A table with a heading row and plain numbers, without totals."""
+    """A table with a heading row and plain numbers, without totals; nothing of one that this case hasn't got."""
     text = io.StringIO()
     rows = csv.writer(text, lineterminator="\n")
-    rows.writerow([column.name for column in table.columns])
+    if table.columns:
+        rows.writerow([column.name for column in table.columns])
     for row in table.rows:
-        rows.writerow([cell_text(column, value, False) for column, value in zip(table.columns, row)])
+        cells = [(column, cell_text(column, value, False)) for column, value in zip(table.columns, row)]
+        rows.writerow([text if column.kind in NUMBERS else spreadsheet_text(text) for column, text in cells])
     return text.getvalue()

@@ -1,0 +1,1 @@
+"""Builds, proves and packs the program of this repository."""
