@@ -1,3 +1,8 @@
+pub use Rattle.offer_book.specs.Book
+pub use Rattle.escrow_units.specs.Flows
+pub use Rattle.offer_book.specs.Portfolio
+pub use Rattle.escrow_units.specs.SlgsTerms
+pub use Rattle.proof_tree.specs.Tree
 pub mod BackwardPlan
 pub mod CurveLaws
 pub mod OwnOffer

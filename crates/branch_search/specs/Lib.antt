@@ -1,3 +1,16 @@
+pub use Rattle.backward_build.specs.BackwardPlan
+pub use Rattle.halving_tree.specs.Base
+pub use Rattle.search_tree.specs.Best
+pub use Rattle.case_file.specs.Case
+pub use Rattle.node_ranges.specs.Claims
+pub use Rattle.cash_table.specs.First
+pub use Rattle.search_tree.specs.Growing
+pub use Rattle.halving_tree.specs.Halving
+pub use Rattle.dual_bound.specs.LeafBound
+pub use Rattle.offer_book.specs.Portfolio
+pub use Rattle.plan_finder.specs.Proposal
+pub use Rattle.node_ranges.specs.Ranges
+pub use Rattle.cash_table.specs.Reach
 pub mod Accepted
 pub mod Growth
 pub mod Parts

@@ -1,2 +1,13 @@
+pub use Rattle.escrow_units.specs.Flows
+pub use Rattle.issue_schedule.specs.IssueForm
+pub use Rattle.issue_schedule.specs.IssueTerms
+pub use Rattle.market_notes.specs.NoteTerms
+pub use Rattle.market_notes.specs.PriceForm
+pub use Rattle.rate_table.specs.RateForm
+pub use Rattle.row_fields.specs.RowForm
+pub use Rattle.escrow_desk.specs.Rows
+pub use Rattle.escrow_units.specs.SlgsTerms
+pub use Rattle.rate_table.specs.Table
+pub use Rattle.yield_enclosure.specs.YieldAnswers
 pub mod Case
 pub mod Limit

@@ -1,3 +1,14 @@
+pub use Rattle.offer_book.specs.Book
+pub use Rattle.escrow_units.specs.Calendar
+pub use Rattle.fixed_powers.specs.DiscountPowers
+pub use Rattle.escrow_units.specs.Flows
+pub use Rattle.offer_book.specs.Portfolio
+pub use Rattle.escrow_units.specs.PresentValue
+pub use Rattle.fixed_powers.specs.PresentValues
+pub use Rattle.escrow_units.specs.SlgsTerms
+pub use Rattle.day_sums.specs.Summed
+pub use Rattle.day_sums.specs.SummedLaws
+pub use Rattle.yield_enclosure.specs.YieldAnswers
 pub mod Balances
 pub mod First
 pub mod LaterFlows

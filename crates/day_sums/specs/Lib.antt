@@ -1,3 +1,4 @@
+pub use Rattle.escrow_units.specs.Flows
 pub mod Table
 pub mod Summed
 pub mod SummedLaws

@@ -1,3 +1,14 @@
+pub use Rattle.offer_book.specs.Book
+pub use Rattle.escrow_units.specs.Calendar
+pub use Rattle.offer_book.specs.Coefficients
+pub use Rattle.fixed_powers.specs.DiscountPowers
+pub use Rattle.escrow_units.specs.Flows
+pub use Rattle.escrow_units.specs.Interest
+pub use Rattle.slgs_interest.specs.Payments
+pub use Rattle.offer_book.specs.Portfolio
+pub use Rattle.node_ranges.specs.Ranges
+pub use Rattle.escrow_units.specs.SlgsTerms
+pub use Rattle.proof_tree.specs.Tree
 pub mod Changes
 pub mod Closing
 pub mod Columns

@@ -1,3 +1,14 @@
+pub use Rattle.offer_book.specs.Book
+pub use Rattle.case_file.specs.Case
+pub use Rattle.node_ranges.specs.Claims
+pub use Rattle.dual_bound.specs.Closing
+pub use Rattle.bound_certificate.specs.Draft
+pub use Rattle.cash_table.specs.First
+pub use Rattle.offer_book.specs.Portfolio
+pub use Rattle.node_ranges.specs.Ranges
+pub use Rattle.bound_certificate.specs.Step
+pub use Rattle.proof_tree.specs.Tree
+pub use Rattle.yield_enclosure.specs.YieldAnswers
 pub mod Acceptance
 pub mod Meaning
 pub mod Reasons

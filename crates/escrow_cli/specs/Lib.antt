@@ -1,1 +1,2 @@
+pub use Rattle.escrow_top.specs.Stopping
 pub mod Complaint

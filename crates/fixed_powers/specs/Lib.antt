@@ -1,3 +1,4 @@
+pub use Rattle.escrow_units.specs.PresentValue
 pub mod DiscountPowers
 pub mod PowerLaws
 pub mod Searches

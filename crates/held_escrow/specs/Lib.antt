@@ -1,3 +1,10 @@
+pub use Rattle.offer_book.specs.Book
+pub use Rattle.escrow_units.specs.Calendar
+pub use Rattle.case_file.specs.Case
+pub use Rattle.escrow_units.specs.Flows
+pub use Rattle.row_fields.specs.RowForm
+pub use Rattle.escrow_units.specs.SlgsTerms
+pub use Rattle.day_sums.specs.Summed
 pub mod HeldForm
 pub mod Holdings
 pub mod Residual

@@ -1,3 +1,9 @@
+pub use Rattle.escrow_units.specs.Calendar
+pub use Rattle.escrow_units.specs.Flows
+pub use Rattle.row_fields.specs.RowForm
+pub use Rattle.escrow_units.specs.Series
+pub use Rattle.escrow_units.specs.SlgsTerms
+pub use Rattle.day_sums.specs.SummedLaws
 pub mod BondLaws
 pub mod DistinctDays
 pub mod IssueForm

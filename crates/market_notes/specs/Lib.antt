@@ -1,3 +1,11 @@
+pub use Rattle.escrow_units.specs.Calendar
+pub use Rattle.escrow_units.specs.CalendarLaws
+pub use Rattle.escrow_units.specs.Denomination
+pub use Rattle.escrow_units.specs.Flows
+pub use Rattle.escrow_units.specs.OpenDays
+pub use Rattle.row_fields.specs.RowForm
+pub use Rattle.payment_schedule.specs.Schedule
+pub use Rattle.escrow_units.specs.SlgsTerms
 pub mod NoteFlows
 pub mod NoteLaws
 pub mod NoteDraft

@@ -1,3 +1,4 @@
+pub use Rattle.node_ranges.specs.Ranges
 pub mod Heap
 pub mod Pool
 pub mod Queue

@@ -1,2 +1,3 @@
+pub use Rattle.offer_book.specs.Book
 pub mod Claims
 pub mod Ranges

@@ -1,3 +1,13 @@
+pub use Rattle.slgs_rules.specs.Classification
+pub use Rattle.escrow_units.specs.Denomination
+pub use Rattle.escrow_units.specs.Flows
+pub use Rattle.issue_schedule.specs.IssueTerms
+pub use Rattle.market_notes.specs.NoteFlows
+pub use Rattle.market_notes.specs.NoteTerms
+pub use Rattle.escrow_units.specs.OpenDays
+pub use Rattle.row_fields.specs.RowForm
+pub use Rattle.escrow_units.specs.SlgsTerms
+pub use Rattle.rate_table.specs.Table
 pub mod Book
 pub mod CaseBook
 pub mod Coefficients

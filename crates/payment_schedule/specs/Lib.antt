@@ -1,1 +1,2 @@
+pub use Rattle.escrow_units.specs.OpenDays
 pub mod Schedule

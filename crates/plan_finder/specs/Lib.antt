@@ -1,3 +1,14 @@
+pub use Rattle.offer_book.specs.Book
+pub use Rattle.escrow_units.specs.Calendar
+pub use Rattle.dual_bound.specs.Columns
+pub use Rattle.fixed_powers.specs.DiscountPowers
+pub use Rattle.escrow_units.specs.Flows
+pub use Rattle.cash_table.specs.Points
+pub use Rattle.offer_book.specs.Portfolio
+pub use Rattle.node_ranges.specs.Ranges
+pub use Rattle.escrow_units.specs.SlgsTerms
+pub use Rattle.backward_build.specs.Spare
+pub use Rattle.day_sums.specs.Summed
 pub mod Dive
 pub mod Ledger
 pub mod Mend

@@ -1,3 +1,13 @@
+pub use Rattle.escrow_units.specs.Calendar
+pub use Rattle.escrow_units.specs.Denomination
+pub use Rattle.escrow_units.specs.Flows
+pub use Rattle.escrow_units.specs.OpenDays
+pub use Rattle.offer_book.specs.Portfolio
+pub use Rattle.rate_table.specs.RateForm
+pub use Rattle.row_fields.specs.RowForm
+pub use Rattle.escrow_desk.specs.Rows
+pub use Rattle.escrow_units.specs.SlgsTerms
+pub use Rattle.day_sums.specs.Summed
 pub mod Rolls
 pub mod RolledFlows
 pub mod Steps

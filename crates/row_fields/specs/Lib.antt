@@ -1,1 +1,3 @@
+pub use Rattle.escrow_units.specs.DateText
+pub use Rattle.escrow_units.specs.Denomination
 pub mod RowForm

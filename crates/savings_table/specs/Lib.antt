@@ -1,3 +1,15 @@
+pub use Rattle.escrow_units.specs.Calendar
+pub use Rattle.case_file.specs.Case
+pub use Rattle.escrow_units.specs.Digits
+pub use Rattle.fixed_powers.specs.DiscountPowers
+pub use Rattle.escrow_units.specs.Flows
+pub use Rattle.issue_schedule.specs.IssueTerms
+pub use Rattle.case_file.specs.Limit
+pub use Rattle.issue_schedule.specs.Needs
+pub use Rattle.offer_book.specs.Portfolio
+pub use Rattle.fixed_powers.specs.PresentValues
+pub use Rattle.escrow_units.specs.SlgsTerms
+pub use Rattle.day_sums.specs.SummedLaws
 pub mod OldService
 pub mod PresentRange
 pub mod Savings

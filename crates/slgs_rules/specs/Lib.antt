@@ -1,3 +1,5 @@
+pub use Rattle.escrow_units.specs.Calendar
+pub use Rattle.escrow_units.specs.SlgsTerms
 pub mod Classification
 pub mod RuleLaws
 pub mod TermRules

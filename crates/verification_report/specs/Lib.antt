@@ -1,2 +1,9 @@
+pub use Rattle.offer_book.specs.Book
+pub use Rattle.escrow_units.specs.Calendar
+pub use Rattle.case_file.specs.Case
+pub use Rattle.fixed_powers.specs.DiscountPowers
+pub use Rattle.escrow_units.specs.Flows
+pub use Rattle.offer_book.specs.Portfolio
+pub use Rattle.escrow_units.specs.SlgsTerms
 pub mod Report
 pub mod Summary
