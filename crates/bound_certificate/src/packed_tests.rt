@@ -1,5 +1,5 @@
 //! Texts that are packed certificates, and the faults of those that aren't.
-use crate::test_rows::{Row, bad, fault_of, good};
+use crate::test_rows::{Row, fault_of, good};
 use crate::write::push_numbers;
 use crate::{
     CertError, CertFault, CertReader, FaultKind, Item, certificate_laws, pack, packed_text_laws,
@@ -27,144 +27,20 @@ const PLAIN_A: &[u8] =
     b"escrow-certificate 1\nportfolio 1\nbuy 1 50\ngap 0\nnodes 1\nl 1 0 1000000000000\nend\n";
 
 #[test]
-fn packed_faults_are_the_first(rt: HostRuntime) -> Result<(), Fail> {
-    use FaultKind::{Count, Header, Number, Order, Trailing, Truncated};
+fn packed_texts_are_read(rt: HostRuntime) -> Result<(), Fail> {
     let rows = [
         good(PACKED_A, 1),
-        bad(
-            b"escrow-certificate 2\nportfolio 1\nbuy 1 50\ngap 0\nvectors 1\nv 1000000000000\nnodes 1\nl 1 0 2\nend\n",
-            1,
-            8,
-            Number,
-        ),
-        bad(
-            b"escrow-certificate 2\nportfolio 1\nbuy 1 50\ngap 0\nvectors 1\nv 1000000000000\nnodes 1\nl 1 0 1 1 1000000000000\nend\n",
-            1,
-            8,
-            Number,
-        ),
-        bad(
-            b"escrow-certificate 2\nportfolio 1\nbuy 1 50\ngap 0\nvectors 1\nv 1000000000000\nnodes 1\nl 1 0 1 1\nend\n",
-            1,
-            8,
-            Count,
-        ),
-        bad(
-            b"escrow-certificate 2\nportfolio none\ngap 0\nvectors 1\nv 6\nnodes 1\nl 1 0 0\n",
-            1,
-            7,
-            Number,
-        ),
-        bad(
-            b"escrow-certificate 2\nportfolio none\ngap 0\nvectors 1\nv 6\nnodes 1\nl 1 0 1 0 7\n",
-            1,
-            7,
-            Number,
-        ),
-        bad(
-            b"escrow-certificate 2\nportfolio none\ngap 0\nvectors 1\nv 6\nnodes 1\nl 1 0 1 2 7\n",
-            1,
-            7,
-            Number,
-        ),
-        bad(
-            b"escrow-certificate 2\nportfolio none\ngap 0\nvectors 1\nv 6\nnodes 1\nl 1 0 1 1 5 1 4\n",
-            1,
-            7,
-            Count,
-        ),
-        bad(
-            b"escrow-certificate 2\nportfolio none\ngap 0\nvectors 1\nv 6 5\nnodes 1\nl 1 0 1 2 7\n",
-            2,
-            7,
-            Order,
-        ),
-        bad(
-            b"escrow-certificate 2\nportfolio none\ngap 0\nvectors 1\nv 6 5\nnodes 1\nl 1 0 1 2 4 1 7\n",
-            2,
-            7,
-            Order,
-        ),
-        bad(
-            b"escrow-certificate 2\nportfolio none\ngap 0\nvectors 1\nv 6 5\nnodes 1\nl 1 0 1 1 7 1 8\n",
-            2,
-            7,
-            Order,
-        ),
         good(
             b"escrow-certificate 2\nportfolio none\ngap 0\nvectors 1\nv 6 5\nnodes 3\ns 1 2\np\nl 0 3 1 1 7 2 4\nend\n",
             2,
         ),
-        bad(
-            b"escrow-certificate 2\nportfolio none\ngap 0\nvectors 1\nv 5 6\n",
-            2,
-            5,
-            Order,
-        ),
-        bad(
-            b"escrow-certificate 2\nportfolio none\ngap 0\nvectors 1\nv 5\n",
-            2,
-            5,
-            Count,
-        ),
-        bad(
-            b"escrow-certificate 2\nportfolio none\ngap 0\nvectors 1\nv 05\n",
-            1,
-            5,
-            Number,
-        ),
-        bad(
-            b"escrow-certificate 2\nportfolio none\ngap 0\nvectors 64\n",
-            1,
-            5,
-            Truncated,
-        ),
-        bad(
-            b"escrow-certificate 2\nportfolio none\ngap 0\nvectors 65\n",
-            1,
-            4,
-            Number,
-        ),
-        bad(
-            b"escrow-certificate 2\nportfolio none\ngap 0\nvectors 0\nnodes 1\np\np\n",
-            1,
-            7,
-            Header,
-        ),
-        bad(
-            b"escrow-certificate 2\nportfolio none\ngap 0\nvectors 0\nnodes 3\np\np\n",
-            1,
-            7,
-            Count,
-        ),
-        bad(
-            b"escrow-certificate 2\nportfolio none\ngap 0\nvectors 0\nnodes 1\ns 1 2\nend\n",
-            1,
-            7,
-            Count,
-        ),
-        bad(
-            b"escrow-certificate 2\nportfolio none\ngap 0\nvectors 0\nnodes 1\np\nend\nx",
-            1,
-            8,
-            Trailing,
-        ),
-        bad(b"escrow-certificate 2\nportfolio 513\n", 1, 3, Truncated),
-        bad(b"escrow-certificate 2\nportfolio 514\n", 1, 2, Number),
-        bad(
-            b"escrow-certificate 2\nportfolio 0\ngap 1000000000000001\n",
-            1,
-            3,
-            Number,
-        ),
-        bad(b"", 1, 1, Truncated),
     ];
     for row in &rows {
         is_found(&rt, rt.alloc(), row)?;
     }
     let title = CertFault {
         line: 1,
-        kind: Header,
+        kind: FaultKind::Header,
     };
     assert_eq!(rt;
         read_packed(rt.alloc(), PLAIN_A, 1).err(),

@@ -7,7 +7,7 @@ ghost use Rattle.day_sums.specs.Summed.{on as on_day};
 
 use crate::{held_case, held_laws, read_held, residual};
 use case_file::{Case, read_case};
-use escrow_desk::{CaseError, FILE_LIMIT, FileKind, Refusal, RefusalKind, read_rows};
+use escrow_desk::{FILE_LIMIT, read_rows};
 use escrow_units::{AMOUNT_LIMIT, Cents, Day, Flow};
 use std::alloc::Global;
 use std::process::Abort;
@@ -22,57 +22,6 @@ fn on(day: i32, cents: u64) -> Flow
         day: Day::new(day),
         cents: Cents(cents),
     }
-}
-
-#[test]
-fn faulty_rows_are_refused(rt: HostRuntime) -> Result<(), Fail> {
-    let faults: [(&[u8], u32, RefusalKind); 12] = [
-        (b"\"\"", 1, RefusalKind::UnknownRow),
-        (b"hold,x", 1, RefusalKind::UnknownRow),
-        (b"held,x", 1, RefusalKind::WrongFields),
-        (b"held,x,x,x", 1, RefusalKind::WrongFields),
-        (b"held,2025-02-29,x", 1, RefusalKind::BadDate),
-        (b"held,2065-01-16,x", 1, RefusalKind::OutOfRange),
-        (b"held,2025-01-14,x", 1, RefusalKind::BadNumber),
-        (
-            b"held,2025-01-14,100000000000.01",
-            1,
-            RefusalKind::OutOfRange,
-        ),
-        (b"held,2025-01-14,1", 1, RefusalKind::DateOrder),
-        (
-            b"held,2025-01-15,1\nheld,2025-01-15,+1",
-            2,
-            RefusalKind::BadNumber,
-        ),
-        (
-            b"held,2025-01-15,100000000000\nheld,2025-01-16,0.01",
-            0,
-            RefusalKind::HeldTooLarge,
-        ),
-        // A row's fault comes first.
-        (
-            b"held,2025-01-15,100000000000\nheld,2025-01-15,0.01\nheld,2025-01-14,1",
-            3,
-            RefusalKind::DateOrder,
-        ),
-    ];
-    for (text, row, kind) in &faults {
-        let refusal = Refusal {
-            file: FileKind::Held,
-            row: *row,
-            kind: *kind,
-        };
-        assert!(&rt; text.len() as u64 <= FILE_LIMIT);
-        let rows = read_rows(rt.alloc(), text)?;
-        let read = read_held(rt.alloc(), Day::new(20_103), &rows);
-        assert_eq!(&rt;
-            read.map(|_| ()),
-            Err(CaseError::Refused(refusal)),
-            "at {row}"
-        );
-    }
-    Ok(())
 }
 
 #[test]

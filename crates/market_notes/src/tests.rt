@@ -5,7 +5,7 @@ ghost use Rattle.escrow_units.specs.SlgsTerms.{IsSettlement};
 ghost use Rattle.market_notes.specs.NoteTerms.{IsNoteFile};
 
 use crate::{Note, NoteFile, note_cost, note_payments, read_notes};
-use escrow_desk::{CaseError, FileKind, Refusal, RefusalKind, read_rows};
+use escrow_desk::{CaseError, read_rows};
 use escrow_units::{Cents, ClosedDays, Day, Price8, Rate, Terms, print_day};
 use std::alloc::Global;
 use std::test::Fail;
@@ -21,106 +21,6 @@ fn notes_of(alloc: Global, settle: Day, text: &[u8]) -> Result<Result<NoteFile, 
         return Err(Fail::new("no memory"));
     };
     Ok(read_notes(alloc, settle, &rows))
-}
-
-// Settled on 2025-01-15.
-#[test]
-fn faulty_rows_are_refused(rt: HostRuntime) -> Result<(), Fail> {
-    let faults: [(&[u8], u32, RefusalKind); 21] = [
-        (b"note,2025-07-15,4,100,1000", 1, RefusalKind::Missing),
-        (b"\"\"\nterms,1000,100", 1, RefusalKind::Missing),
-        (b"terms,1000", 1, RefusalKind::WrongFields),
-        (b"terms,x,1000001", 1, RefusalKind::BadNumber),
-        (b"terms,1000001,x", 1, RefusalKind::OutOfRange),
-        (b"terms,1000,300", 1, RefusalKind::OutOfRange),
-        (b"terms,100,50\nterms,200,100", 2, RefusalKind::Repeated),
-        (b"terms,100,50\nterms,200,30", 2, RefusalKind::OutOfRange),
-        (b"terms,100,50\nbond,1", 2, RefusalKind::UnknownRow),
-        (b"terms,100,50\nnote,x,4", 2, RefusalKind::WrongFields),
-        (
-            b"terms,100,50\nnote,2025-02-29,x,x,x",
-            2,
-            RefusalKind::BadDate,
-        ),
-        (
-            b"terms,100,50\nnote,2065-01-16,x,x,x",
-            2,
-            RefusalKind::OutOfRange,
-        ),
-        (
-            b"terms,100,50\nnote,2025-01-15,x,x,x",
-            2,
-            RefusalKind::BadNumber,
-        ),
-        (
-            b"terms,100,50\nnote,2025-01-15,30.001,x,x",
-            2,
-            RefusalKind::OutOfRange,
-        ),
-        (
-            b"terms,100,50\nnote,2025-01-15,4,99-32,x",
-            2,
-            RefusalKind::BadNumber,
-        ),
-        (
-            b"terms,100,50\nnote,2025-01-15,4,9.99,x",
-            2,
-            RefusalKind::PriceRange,
-        ),
-        (
-            b"terms,100,50\nnote,2025-01-15,4,300-001,x",
-            2,
-            RefusalKind::PriceRange,
-        ),
-        (
-            b"terms,100,50\nnote,2025-01-15,4,100,x",
-            2,
-            RefusalKind::BadNumber,
-        ),
-        (
-            b"terms,100,50\nnote,2025-01-15,4,100,99",
-            2,
-            RefusalKind::OutOfRange,
-        ),
-        (
-            b"terms,100,50\nnote,2025-01-15,4,100,100",
-            2,
-            RefusalKind::Matured,
-        ),
-        (
-            b"terms,100,50\nnote,2065-01-15,4,100,100\nnote,2025-01-14,4,100,100",
-            3,
-            RefusalKind::Matured,
-        ),
-    ];
-    for (text, row, kind) in &faults {
-        let refusal = Refusal {
-            file: FileKind::Prices,
-            row: *row,
-            kind: *kind,
-        };
-        let read = notes_of(rt.alloc(), Day::new(20_103), text)?;
-        assert_eq!(rt;
-            read.map(|_| ()),
-            Err(CaseError::Refused(refusal)),
-            "at {row}"
-        );
-    }
-    Ok(())
-}
-
-// The 31st after a settlement on the 30th has the index 0.
-#[test]
-fn last_of_the_month_has_matured(rt: HostRuntime) -> Result<(), Fail> {
-    let text = b"terms,100,50\nnote,2025-05-31,4,100,100";
-    let refusal = Refusal {
-        file: FileKind::Prices,
-        row: 2,
-        kind: RefusalKind::Matured,
-    };
-    let read = notes_of(rt.alloc(), Day::new(20_238), text)?;
-    assert_eq!(rt; read.map(|_| ()), Err(CaseError::Refused(refusal)));
-    Ok(())
 }
 
 #[test]

@@ -4,7 +4,7 @@ ghost use Rattle.std.specs.Prelude.{IfOk};
 ghost use Rattle.rate_table.specs.Table.{IsRateFile};
 
 use crate::{Offer, RateFile, RateIndex, RateRange, maximum, read_rates};
-use escrow_desk::{CaseError, FileKind, Refusal, RefusalKind, read_rows};
+use escrow_desk::{CaseError, read_rows};
 use escrow_units::{AskedRate, Day, Rate, Terms};
 use std::alloc::Global;
 use std::test::Fail;
@@ -20,129 +20,6 @@ fn rates_of(alloc: Global, text: &[u8]) -> Result<Result<RateFile, CaseError>, F
         return Err(Fail::new("no memory"));
     };
     Ok(read_rates(alloc, Day::new(20_103), &rows))
-}
-
-#[test]
-fn faulty_rows_are_refused(rt: HostRuntime) -> Result<(), Fail> {
-    let faults: [(&[u8], u32, RefusalKind); 31] = [
-        (b"rate,2025-01-01,2025-12-31,4.00", 1, RefusalKind::Missing),
-        (b"bond", 1, RefusalKind::Missing),
-        (b"terms,100", 1, RefusalKind::WrongFields),
-        (b"terms,x,1000001", 1, RefusalKind::BadNumber),
-        (b"terms,100,x", 1, RefusalKind::BadNumber),
-        (b"terms,1000001,x", 1, RefusalKind::OutOfRange),
-        (b"terms,100,0", 1, RefusalKind::OutOfRange),
-        (b"terms,100,30", 1, RefusalKind::OutOfRange),
-        (b"terms,100,50\nterms,200,100", 2, RefusalKind::Repeated),
-        (b"terms,100,50\nterms,200", 2, RefusalKind::WrongFields),
-        (b"terms,100,50\nterms,200,30", 2, RefusalKind::OutOfRange),
-        (b"terms,100,50\nRate,1,2,3", 2, RefusalKind::UnknownRow),
-        (
-            b"terms,100,50\nrate,x,2025-12-31",
-            2,
-            RefusalKind::WrongFields,
-        ),
-        (
-            b"terms,100,50\nrate,2025-02-30,x,x",
-            2,
-            RefusalKind::BadDate,
-        ),
-        (
-            b"terms,100,50\nrate,2025-02-28,2025-13-01,x",
-            2,
-            RefusalKind::BadDate,
-        ),
-        (
-            b"terms,100,50\nrate,2025-03-01,2025-02-28,4%",
-            2,
-            RefusalKind::BadNumber,
-        ),
-        (
-            b"terms,100,50\nrate,2025-03-01,2025-02-28,30.01",
-            2,
-            RefusalKind::OutOfRange,
-        ),
-        (
-            b"terms,100,50\nrate,2025-03-01,2025-02-28,4.005",
-            2,
-            RefusalKind::OutOfRange,
-        ),
-        (
-            b"terms,100,50\nrate,2025-03-01,2025-02-28,4.00",
-            2,
-            RefusalKind::DateOrder,
-        ),
-        (
-            b"terms,100,50\nrate,2025-01-01,2025-06-30,4\nrate,2025-06-30,2025-12-31,5",
-            3,
-            RefusalKind::Overlap,
-        ),
-        (
-            b"terms,100,50\nrate,2025-06-30,2025-12-31,5\nrate,2025-01-01,2025-06-30,4",
-            3,
-            RefusalKind::Overlap,
-        ),
-        (
-            b"terms,100,50\nrate,2025-06-30,2025-07-01,5\nrate,2025-01-01,2025-12-31,4",
-            3,
-            RefusalKind::Overlap,
-        ),
-        (
-            b"terms,100,50\noffer,2025-09-15,max,5000",
-            2,
-            RefusalKind::WrongFields,
-        ),
-        (
-            b"terms,100,50\noffer,2025-09-31,x,x,x",
-            2,
-            RefusalKind::BadDate,
-        ),
-        (
-            b"terms,100,50\noffer,2025-09-15,Max,x,x",
-            2,
-            RefusalKind::BadNumber,
-        ),
-        (
-            b"terms,100,50\noffer,2025-09-15,4.005,x,x",
-            2,
-            RefusalKind::OutOfRange,
-        ),
-        (
-            b"terms,100,50\noffer,2025-09-15,max,x,x",
-            2,
-            RefusalKind::BadDate,
-        ),
-        (
-            b"terms,100,50\noffer,2025-09-15,max,,5000.00",
-            2,
-            RefusalKind::BadNumber,
-        ),
-        (
-            b"terms,100,50\noffer,2025-09-15,max,,1000000001",
-            2,
-            RefusalKind::OutOfRange,
-        ),
-        (
-            b"terms,100,50\noffer,2025-09-15,max,,99",
-            2,
-            RefusalKind::OutOfRange,
-        ),
-        (b"terms,100,50\n\"\"\nrate", 2, RefusalKind::UnknownRow),
-    ];
-    for (text, row, kind) in &faults {
-        let refusal = Refusal {
-            file: FileKind::Rates,
-            row: *row,
-            kind: *kind,
-        };
-        let read = rates_of(rt.alloc(), text)?;
-        assert_eq!(rt;
-            read.map(|_| ()),
-            Err(CaseError::Refused(refusal)),
-            "at {row}"
-        );
-    }
-    Ok(())
 }
 
 #[test]
