@@ -49,11 +49,13 @@ def _revision() -> str:
 
 
 def _further() -> dict:
-    """What a stamp says beside its digests: the revision, the day, and the machine."""
+    """What a stamp says beside its digests: the revision, the day, the machine, and the python3 by which it was made, which ./escrow
+    then runs the tools by: the one on the path may be a script that takes longer than the tool."""
     return {
         "revision": _revision(),
         "made": time.strftime("%Y-%m-%d %H:%M UTC", time.gmtime()),
         "machine": "%s, %s" % (socket.gethostname(), os.uname().machine),
+        "python": sys.executable,
     }
 
 

@@ -9,7 +9,6 @@ from typing import Optional
 from . import program
 from .amounts import money, money_for_people
 from .case_files import CERT, HELD, INPUT_LIMIT, ISSUE, PRICES, RATES
-from .explaining.answers import Run, explain_safely
 from .explaining.case_reading import CaseRead, read_whole_case
 from .explaining.cautions import Cautions, totals
 from .inputs import REPORT, beside, read_case
@@ -162,6 +161,9 @@ def _tell_of_earlier(cert: str, is_written: bool) -> None:
 
 def _nothing_found(answer: Answer, names: dict, case: CaseBytes, folder: Folder, outputs: Outputs) -> int:
     """Hands the answer on, and the certificate that there is none within the limit."""
+    # What explains an answer is half of these tools, and is read only where there is something to explain.
+    from .explaining.answers import Run, explain_safely
+
     if answer.status == program.NONE_WITHIN:
         outputs.write([(names[CERT], folder.certificate.read_bytes())])
     fault = _said(answer.said)

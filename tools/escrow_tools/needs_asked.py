@@ -8,7 +8,7 @@ from datetime import date
 from . import program
 from .amounts import counted, money
 from .case_files import HELD, ISSUE, PRICES, RATES, Held, Issue, Refusal, read_held, read_issue_rows
-from .explaining import explain_refusal
+from .explaining.told import explain_refusal
 from .inputs import read_input
 from .issue_text import need_rows, paid_by_cash, paid_by_cash_in_parts, with_needs_alone
 from .needs import needs_by_day

@@ -15,9 +15,9 @@ from .amounts import FieldFault, counted, rate_text, read_day, read_hundredths, 
 from .case_files import PRICES, Refusal, Terms, read_prices
 from .closed_needs import closed_needs, told_closed_needs
 from .days import days_after, is_weekend, months_after, weekday_name, years_after
-from .explaining import explain_refusal
 from .explaining.explanation import shown
 from .explaining.kinds import TABLE, try_places
+from .explaining.told import explain_refusal
 from .given_text import spreadsheet_text
 from .inputs import beside, read_file, read_input
 from .needs_asked import Series, asked_needs, read_series

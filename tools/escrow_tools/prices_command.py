@@ -12,8 +12,8 @@ from . import program
 from .amounts import counted, price_text, rate_text
 from .case_files import RATES, Issue, Rates, Refusal, read_rates
 from .days import ClosedDays, is_weekend, years_after
-from .explaining import explain_refusal
 from .explaining.kinds import LIST, try_places
+from .explaining.told import explain_refusal
 from .given_text import spreadsheet_text
 from .inputs import beside, read_file, read_input
 from .needs_asked import asked_needs, read_series

@@ -9,6 +9,7 @@ import signal
 import subprocess
 import sys
 import tarfile
+import time
 import unittest
 from pathlib import Path
 
@@ -79,6 +80,29 @@ class TrialTest(BuildTest):
         self.answers("second")
         self.it.answer_with("first")
         self.answers("first")
+        self.assertEqual(self.tries(), 3)
+
+    def test_digest_that_is_kept(self) -> None:
+        """The digest of the sources is kept as long as none is touched, and worked out anew where one has the size and the time that it had."""
+        self.answers("first")
+        time.sleep(2.2)
+        self.answers("first")
+        seen = self.it.root / "out" / "seen"
+        kept = seen.read_text()
+        self.answers("first")
+        self.assertEqual((seen.read_text(), self.tries()), (kept, 1))
+        source = self.it.root / "crates" / "escrow_cli" / "src" / "main.rt"
+        was = source.stat()
+        self.it.answer_with("other")
+        os.utime(source, ns=(was.st_atime_ns, was.st_mtime_ns))
+        self.assertEqual(source.stat().st_size, was.st_size)
+        self.answers("other")
+        for number, damage in enumerate(("", kept[:30], kept[:-20], "\0", kept)):
+            seen.write_text(damage)
+            self.answers("other")
+            self.assertEqual(self.tries(), 2, number)
+        self.it.write_source("low", "further.rt", "")
+        self.answers("other")
         self.assertEqual(self.tries(), 3)
 
     def test_edited_in_between(self) -> None:
