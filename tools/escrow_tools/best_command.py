@@ -3,8 +3,7 @@
 from __future__ import annotations
 
 import os
-from dataclasses import dataclass, replace
-from typing import Optional
+from dataclasses import replace
 
 from . import program
 from .amounts import money, money_for_people
@@ -12,11 +11,11 @@ from .case_files import CERT, HELD, INPUT_LIMIT, ISSUE, PRICES, RATES
 from .explaining.case_reading import CaseRead, read_whole_case
 from .explaining.cautions import Cautions, totals
 from .inputs import REPORT, beside, read_case
-from .issue_text import GREATEST_ALLOWANCE, compact, with_allowance
-from .needs import needs_by_day
+from .issue_text import GREATEST_ALLOWANCE, with_allowance
 from .outputs import FORCE, Outputs, is_certificate, is_report, status_if_stopped
-from .program import Answer, CaseBytes, Ended, Folder
-from .report import Summary, cents_of, read_report, read_summary
+from .plan_search import SMALL_GAP, CapSearch, Search, with_room
+from .program import Answer, CaseBytes
+from .report import read_summary
 from .speaking import Stop, Words, put_out, tell
 
 WHAT = """\
@@ -25,82 +24,9 @@ which is said on standard output too (certificate.txt has certificate.report.txt
 row with which `check` says yes to the issue as it stands.
 Where the search says that there is none, its answer and its exit status are `structure`'s.
 Beside holdings, by --held, it goes by `structure-held` and `check-held`. These make no report: the summary (cost, yield, limit and
-gap) stands in its place, so that certificate.report.txt holds the summary alone."""
-
-# How many searches are made at most to bring the gap down.
-MOST_SEARCHES = 12
-# A gap of so many cents is left as it is.
-SMALL_GAP = 1000
-
-
-@dataclass(frozen=True)
-class Plan:
-    """A plan that was found: its summary, what was said, word for word, and the certificate."""
-
-    summary: Summary
-    said: bytes
-    certificate: bytes
-
-    @property
-    def gap(self) -> int:
-        return self.summary.gap
-
-    def is_better_than(self, other: Optional[Plan]) -> bool:
-        """Whether it costs less, or as much with a smaller gap."""
-        if other is None:
-            return True
-        return (self.summary.cost, self.gap) < (other.summary.cost, other.gap)
-
-
-def with_room(case: CaseBytes, read: CaseRead) -> CaseBytes:
-    """The case with room for an `allowance` row: the same one, or where its issue file is as long as it may be, one of the same needs."""
-    if len(with_allowance(case.issue, GREATEST_ALLOWANCE)) <= INPUT_LIMIT or len(case.issue) > INPUT_LIMIT or read.refusal is not None:
-        return case
-    return replace(case, issue=compact(read.issue, needs_by_day(read.issue)))
-
-
-class Search:
-    """Searches of one case with other allowances; the best plan of all of them is kept."""
-
-    def __init__(self, folder: Folder, case: CaseBytes):
-        self.folder = folder
-        self.case = case
-        self.best: Optional[Plan] = None
-        self.searches = 0
-
-    def allow(self, amount: str) -> Answer:
-        self.searches += 1
-        changed = with_allowance(self.case.issue, amount)
-        # One that is refused as it stands is refused for its own fault, and not for want of room.
-        issue = changed if len(changed) <= INPUT_LIMIT else self.case.issue
-        answer = self.folder.structure(replace(self.case, issue=issue), shows_progress=True)
-        if answer.status == program.DONE:
-            summary = read_report(answer.lines).summary if self.case.held is None else read_summary(answer.lines)
-            plan = Plan(summary, answer.said, self.folder.certificate.read_bytes())
-            if plan.is_better_than(self.best):
-                self.best = plan
-        return answer
-
-    def lower_gap(self) -> None:
-        """Searches with less allowance than the gap, as long as that brings it down. What is allowed has no bearing on the plan that
-        a search finds, so where one doesn't settle it another with somewhat more allowance wouldn't find a better one."""
-        try:
-            while self.searches < MOST_SEARCHES and self.best.gap > SMALL_GAP:
-                answer = self.allow(money(max(self.best.gap // 8, SMALL_GAP)))
-                if answer.status == program.BUDGET_SPENT:
-                    self._allow_what_is_open(answer)
-                if answer.status != program.DONE:
-                    return
-        except Ended as ended:
-            tell("a search to bring the gap down was ended by %s; the best plan so far is kept" % ended.how)
-
-    def _allow_what_is_open(self, answer: Answer) -> None:
-        """A search that spent its budget says its bound and its best plan: what lies between is enough."""
-        said = dict(line.split(" ", 1) for line in answer.lines if " " in line)
-        if said.get("best", "none") != "none":
-            gap = cents_of(said["best"]) - cents_of(said["bound"])
-            if gap < self.best.gap:
-                self.allow(money(gap))
+gap) stands in its place, so that certificate.report.txt holds the summary alone.
+With --cap it goes by `cap` and `check-cap`: one greatest rate for all SLGS securities. With less allowance `cap` finds another cap:
+of all that are found the one whose plan costs least is kept, and the others are told. What `cap` says stands in the report's place."""
 
 
 def words() -> Words:
@@ -113,13 +39,17 @@ def words() -> Words:
     ):
         parser.add_argument(name.lower(), metavar=name, help=what)
     parser.add_argument("--held", metavar="HELD", help="file of holdings, `held,DATE,AMOUNT` rows: what is bought is beside them")
+    parser.add_argument("--cap", action="store_true", help="lower all SLGS rates to one cap: the one whose plan costs least")
     parser.add_argument("--once", action="store_true", help="one search, and none to bring its gap down")
     parser.add_argument("--force", action="store_true", help=FORCE)
     return parser
 
 
 def run(arguments: list[str]) -> int:
-    chosen = words().parse_args(arguments)
+    parser = words()
+    chosen = parser.parse_args(arguments)
+    if chosen.cap and chosen.held is not None:
+        parser.error("--cap takes no holdings: `./escrow needs --held HELD --issue ISSUE` makes an issue file of what they leave to be paid")
     inputs = {ISSUE: chosen.issue, RATES: chosen.rates, PRICES: chosen.prices}
     if chosen.held is not None:
         inputs[HELD] = chosen.held
@@ -132,14 +62,14 @@ def run(arguments: list[str]) -> int:
     if read.refusal is None:
         tell(*totals(read))
     with program.folder() as folder:
-        search = Search(folder, with_room(case, read))
+        search = CapSearch(folder, with_room(case, read)) if chosen.cap else Search(folder, with_room(case, read))
         answer = search.allow(GREATEST_ALLOWANCE)
         if answer.status != program.DONE:
-            return _nothing_found(answer, names, case, folder, outputs)
+            return _nothing_found(answer, names, case, search, outputs)
         if not chosen.once and search.best.gap > SMALL_GAP:
             search.lower_gap()
         as_it_stands = _try_plan(search, case)
-        return _keep(search.best, names, case, read, as_it_stands, outputs)
+        return _keep(search, names, case, read, as_it_stands, outputs)
 
 
 def _said(said: bytes) -> int:
@@ -159,15 +89,16 @@ def _tell_of_earlier(cert: str, is_written: bool) -> None:
         tell("%s from an earlier run, and not of these files" % (left[0] + " is" if len(left) == 1 else " and ".join(left) + " are"))
 
 
-def _nothing_found(answer: Answer, names: dict, case: CaseBytes, folder: Folder, outputs: Outputs) -> int:
+def _nothing_found(answer: Answer, names: dict, case: CaseBytes, search: Search, outputs: Outputs) -> int:
     """Hands the answer on, and the certificate that there is none within the limit."""
     # What explains an answer is half of these tools, and is read only where there is something to explain.
     from .explaining.answers import Run, explain_safely
 
-    if answer.status == program.NONE_WITHIN:
-        outputs.write([(names[CERT], folder.certificate.read_bytes())])
+    is_written = answer.status == program.NONE_WITHIN and search.proves_none
+    if is_written:
+        outputs.write([(names[CERT], search.folder.certificate.read_bytes())])
     fault = _said(answer.said)
-    _tell_of_earlier(names[CERT], answer.status == program.NONE_WITHIN)
+    _tell_of_earlier(names[CERT], is_written)
     data = {ISSUE: case.issue, RATES: case.rates, PRICES: case.prices}
     if case.held is not None:
         data[HELD] = case.held
@@ -177,23 +108,26 @@ def _nothing_found(answer: Answer, names: dict, case: CaseBytes, folder: Folder,
 
 def _try_plan(search: Search, case: CaseBytes) -> Answer:
     """Tries the certificate with the allowance that is going to be said; and the answer with the issue file as it stands."""
-    plan, folder = search.best, search.folder
+    plan = search.best
     tried = replace(search.case, issue=with_allowance(search.case.issue, money(plan.gap)))
-    allowed, as_it_stands = folder.check(tried, plan.certificate), folder.check(case, plan.certificate)
+    allowed, as_it_stands = search.check(tried, plan), search.check(case, plan)
     if allowed.status != program.DONE or as_it_stands.lines[:1] not in (["yes"], ["no GapAbove"]):
-        raise Stop("`%s` doesn't accept what the search wrote; nothing is kept" % ("check" if case.held is None else "check-held"))
+        raise Stop("`%s` doesn't accept what the search wrote; nothing is kept" % search.check_words)
+    if read_summary(allowed.lines[1:]) != plan.summary:
+        raise Stop("`%s` says another cost, yield, limit or gap than the search; nothing is kept" % search.check_words)
     return as_it_stands
 
 
-def _keep(plan: Plan, names: dict, case: CaseBytes, read: CaseRead, as_it_stands: Answer, outputs: Outputs) -> int:
+def _keep(search: Search, names: dict, case: CaseBytes, read: CaseRead, as_it_stands: Answer, outputs: Outputs) -> int:
     """Writes the certificate, and says the report and which allowance is enough."""
-    row, check = "allowance," + money(plan.gap), "check" if case.held is None else "check-held"
-    report = beside(names[CERT], REPORT)
+    plan, check = search.best, search.check_words
+    row, report = "allowance," + money(plan.gap), beside(names[CERT], REPORT)
     outputs.write([(names[CERT], plan.certificate), (report, plan.said)])
     fault = _said(plan.said)
     tell(
-        "the plan costs %s, and no rival costs less by more than %s; %s and %s are written"
-        % (money_for_people(plan.summary.cost), money_for_people(plan.gap), names[CERT], report)
+        "%sthe plan costs %s, and no rival costs less by more than %s; %s and %s are written"
+        % (search.where, money_for_people(plan.summary.cost), money_for_people(plan.gap), names[CERT], report),
+        *search.remarks,
     )
     allowed = read.issue.amounts.get("allowance") if read.issue else None
     if as_it_stands.status == program.DONE:

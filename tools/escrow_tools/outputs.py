@@ -32,8 +32,8 @@ def is_certificate(data: bytes) -> bool:
 
 
 def is_report(data: bytes) -> bool:
-    """Whether a text is a report, or a summary, which stands in the place of one beside holdings."""
-    return data.startswith((b"escrow report\n", b"cost "))
+    """Whether a text is a report, or a summary, which stands in the place of one beside holdings and at a cap."""
+    return data.startswith((b"escrow report\n", b"cost ", b"cap "))
 
 
 def same_file(one: str, other: str) -> bool:

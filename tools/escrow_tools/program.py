@@ -116,9 +116,9 @@ class Folder:
             raise self._no_room("the program's status is %d there" % answer.status)
         return answer
 
-    def _words(self, command: str, case: CaseBytes) -> list[str]:
+    def _words(self, command: str, case: CaseBytes, *further: str) -> list[str]:
         """The words of a command of a case: where there are holdings, of the one that takes them."""
-        words = [command if case.held is None else command + "-held"]
+        words = [command if case.held is None else command + "-held", *further]
         for name, data in (("issue", case.issue), ("rates", case.rates), ("prices", case.prices), ("held", case.held)):
             if data is not None:
                 path = self.folder / (name + ".csv")
@@ -140,6 +140,14 @@ class Folder:
 
     def check(self, case: CaseBytes, certificate: bytes) -> Answer:
         words = self._words("check", case)
+        self.keep(certificate)
+        return self._run(words)
+
+    def cap(self, case: CaseBytes) -> Answer:
+        return self._run(self._words("cap", case), None)
+
+    def check_cap(self, rate: str, case: CaseBytes, certificate: bytes) -> Answer:
+        words = self._words("check-cap", case, rate)
         self.keep(certificate)
         return self._run(words)
 

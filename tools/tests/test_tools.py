@@ -488,6 +488,45 @@ class BestTest(FolderTest):
         self.assertEqual((ran.status, ran.lines[:2]), (0, ["cost 0.00", "yield empty"]))
         self.assertIn("3,950.00 of it serves no need", ran.err)
 
+    def test_at_a_cap(self) -> None:
+        """One need in half a year, an offer at 4.00 percent and a restricted yield of 3.00: 3.02 is lawful, and 3.03 isn't."""
+        words = self.write_case(
+            "settle,2025-01-15\nneed,2025-07-15,1000.00\nrestricted,3.00\n",
+            "terms,1000,1\nrate,2025-07-15,2025-07-15,4.00\noffer,2025-07-15,max,,1000\n",
+            "",
+        )
+        ran = run_tool(self.folder, "best", "--cap", *words)
+        self.assertEqual((ran.status, ran.lines[:2], ran.lines[-1]), (0, ["cap 3.020", "cost 1000.00"], "next 3.030 none within yield"), ran.err)
+        self.assertIn("with no SLGS rate above 3.02 percent the plan costs 1,000.00", ran.err)
+        self.assertIn("at 3.030 percent no permitted purchases pay the needs within the yield limit: that is proved", ran.err)
+        self.assertIn("`check-cap 3.02` ", ran.err)
+        self.assertEqual((self.folder / "certificate.report.txt").read_bytes(), ran.out)
+        self.assertEqual(run_program(self.folder, "check-cap", "3.02", *words).status, 0)
+        # What stands there is its own, and is replaced.
+        self.assertEqual(run_tool(self.folder, "best", "--cap", *words).status, 0)
+
+    def test_cheapest_cap(self) -> None:
+        """Whatever is allowed, the cap of the cheapest plan is said, and what the others cost."""
+        words = self.write_example("maturity")
+        kept = [row for row in (self.folder / "issue.csv").read_text().splitlines() if not row.startswith(("price", "pay", "cash", "allowance"))]
+        offers = [row for row in (self.folder / "rates.csv").read_text().splitlines() if ",0.00," not in row]
+        self.write("rates.csv", "\n".join(offers) + "\n")
+        for allowance in ("1.00", "100.00"):
+            self.write("issue.csv", "\n".join([*kept, "restricted,3.6", "allowance," + allowance]) + "\n")
+            ran = run_tool(self.folder, "best", "--cap", *words)
+            self.assertEqual((ran.status, ran.lines[:2], ran.lines[4]), (0, ["cap 3.600", "cost 89931355.00"], "gap 3.25"), ran.err)
+            self.assertIn("with no SLGS rate above 4.45 percent a plan costs 105,095,114.00, and its gap is ", ran.err)
+        self.assertIn("`check-cap 3.60` says yes to it with issue.csv as it stands; enough is the row: allowance,3.25", ran.err)
+
+    def test_no_cap(self) -> None:
+        words = self.write_case("settle,2025-01-15\nneed,2025-04-15,5050.00\nrestricted,4.00\n", "", "")
+        ran = run_tool(self.folder, "best", "--cap", *words)
+        self.assertEqual((ran.status, ran.lines), (4, ["cap none", "infeasible 2025-04-15"]))
+        self.assertFalse((self.folder / "certificate.txt").exists())
+        ran = run_tool(self.folder, "best", "--cap", "--held", "held.csv", *words)
+        self.assertEqual((ran.status, ran.out), (2, b""))
+        self.assertIn("--cap takes no holdings", ran.err)
+
     def test_faulty_allowance(self) -> None:
         """A faulty allowance row isn't hidden by the one that stands in its place."""
         words = self.write_case(
