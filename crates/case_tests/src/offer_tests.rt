@@ -5,7 +5,6 @@ ghost use Rattle.escrow_units.specs.OpenDays.{no_closings};
 ghost use Rattle.rate_table.specs.Table.{IsRateFile};
 
 use crate::test_books::rows_in;
-use escrow_desk::{CaseError, FileKind, Refusal, RefusalKind};
 use escrow_units::{ClosedDays, Day, Rate, Slgs, SlgsKind};
 use offer_book::{Line, LineKind, PaymentDays, offer_laws, slgs_lines};
 use rate_table::{RateFile, read_rates};
@@ -27,58 +26,6 @@ fn open_days(alloc: Global) -> PaymentDays
         settle: Day::new(20_103),
         closed: ClosedDays::none(alloc),
     }
-}
-
-#[test]
-fn the_first_faulty_offer_is_refused(rt: HostRuntime) -> Result<(), Fail> {
-    let faults: [(&[u8], u32, RefusalKind); 6] = [
-        (
-            b"terms,1000,100\noffer,2025-04-15,0.00,,10000\noffer,2025-04-15,max,,10000",
-            3,
-            RefusalKind::NoRate,
-        ),
-        (
-            b"terms,1000,100\nrate,2025-01-15,2026-01-15,4.00\noffer,2025-04-15,4.01,,10000",
-            3,
-            RefusalKind::RateAboveTable,
-        ),
-        (
-            b"terms,1000,100\noffer,2025-01-29,0.00,,10000",
-            2,
-            RefusalKind::TooShort,
-        ),
-        (
-            b"terms,1000,100\noffer,2065-01-16,0.00,,10000\noffer,2025-01-29,0.00,,10000",
-            2,
-            RefusalKind::TooLongTerm,
-        ),
-        (
-            b"terms,1000,100\noffer,2025-04-15,0.00,2025-04-15,10000",
-            2,
-            RefusalKind::FirstDate,
-        ),
-        (
-            b"terms,1000,100\nrate,2025-01-15,2025-12-31,4.00\noffer,2025-02-13,4.00,,10000",
-            3,
-            RefusalKind::TooShort,
-        ),
-    ];
-    let days = open_days(rt.alloc());
-    for (text, row, kind) in &faults {
-        let rates = rates_of(rt.alloc(), text)?;
-        let refusal = Refusal {
-            file: FileKind::Rates,
-            row: *row,
-            kind: *kind,
-        };
-        let lines = slgs_lines(rt.alloc(), &days, &rates);
-        assert_eq!(rt;
-            lines.map(|_| ()),
-            Err(CaseError::Refused(refusal)),
-            "at {row}"
-        );
-    }
-    Ok(())
 }
 
 // A line of a security of 2025-01-15 in steps of 100 dollars.
