@@ -9,7 +9,9 @@ use std::alloc::{AllocError, Global};
 pub struct Part {
     /// What it gives, as `file c`.
     pub head: String,
-    /// Its bytes.
+    /// Whether its head ends with `escaped`, which `head` is without.
+    pub escaped: bool,
+    /// Its lines, as they stand.
     pub body: Vec<u8>,
 }
 
@@ -18,8 +20,8 @@ pub struct Part {
 pub struct Case {
     /// What it is called.
     pub name: String,
-    /// The name of the case whose files and words it has where it gives none of its own.
-    pub like: Option<String>,
+    /// Whether a line stands before its first part, which belongs to none.
+    pub stray: bool,
     /// Its parts.
     pub parts: Vec<Part>,
 }
@@ -29,26 +31,27 @@ impl Case {
     fn named(alloc: Global, name: &str) -> Result<Case, AllocError> {
         Ok(Case {
             name: String::from_str(alloc, name)?,
-            like: None,
+            stray: false,
             parts: Vec::new(alloc),
         })
     }
 
     // Takes in one more line.
     fn take(&mut self, alloc: Global, line: &str) -> Result<(), AllocError> {
-        if let Some(name) = line.strip_prefix("-- like ") {
-            self.like = Some(String::from_str(alloc, name)?);
-        } else if let Some(head) = line.strip_prefix("-- ") {
-            self.parts.push(Part {
-                head: String::from_str(alloc, head)?,
-                body: Vec::new(alloc),
-            })?;
-        } else if !line.is_empty()
-            && let Some(part) = self.parts.last_mut()
-        {
-            part.take(line)?;
+        if let Some(head) = line.strip_prefix("-- ") {
+            self.parts.push(Part::headed(alloc, head)?)?;
+        } else if !line.is_empty() {
+            match self.parts.last_mut() {
+                Some(part) => part.take(line)?,
+                None => self.stray = true,
+            }
         }
         Ok(())
+    }
+
+    /// The name of the case whose files and words it has where it gives none of its own.
+    pub fn like(&self) -> Option<&str> {
+        self.parts.iter().find_map(|part| part.name_of("like"))
     }
 
     /// The part of a head.
@@ -58,8 +61,7 @@ impl Case {
 
     // The number that a part of a head gives, if it is there and gives one.
     fn number(&self, head: &str) -> Option<u64> {
-        let text = str::from_utf8(self.part(head)?.body.as_slice()).ok()?;
-        text.trim().parse().ok()
+        self.part(head)?.number()
     }
 
     /// The number of the call of the desk that fails, counted from 0, if one does.
@@ -79,6 +81,16 @@ impl Case {
 }
 
 impl Part {
+    // A part of a head, without a line.
+    fn headed(alloc: Global, head: &str) -> Result<Part, AllocError> {
+        let plain = head.strip_suffix(" escaped");
+        Ok(Part {
+            head: String::from_str(alloc, plain.unwrap_or(head))?,
+            escaped: plain.is_some(),
+            body: Vec::new(alloc),
+        })
+    }
+
     // Takes in one more line; one that begins with a star and a number stands for so many lines.
     fn take(&mut self, line: &str) -> Result<(), AllocError> {
         let (count, text) = repeated(line).unwrap_or((1, line));
@@ -89,10 +101,15 @@ impl Part {
         Ok(())
     }
 
-    /// The name of the file that it gives, where its head is `file NAME`, for a kind of `file`.
+    /// The name that it gives, where its head is `KIND NAME`, for a kind as `file`.
     pub fn name_of(&self, kind: &str) -> Option<&str> {
-        let name = self.head.as_str().strip_prefix(kind)?.strip_prefix(" ")?;
-        Some(name.strip_suffix(" escaped").unwrap_or(name))
+        self.head.as_str().strip_prefix(kind)?.strip_prefix(" ")
+    }
+
+    /// The number that its lines are, if they are one.
+    pub fn number(&self) -> Option<u64> {
+        let text = str::from_utf8(self.body.as_slice()).ok()?;
+        text.trim().parse().ok()
     }
 
     /// The words of its lines; `""` is the empty word.
@@ -110,7 +127,7 @@ impl Part {
 
     /// The bytes, of a part whose head ends with `escaped` those that its escapes stand for.
     pub fn bytes(&self, alloc: Global) -> Result<Vec<u8>, AllocError> {
-        if self.head.as_str().ends_with(" escaped") {
+        if self.escaped {
             unescape(alloc, self.body.as_slice())
         } else {
             Vec::from_slice(alloc, self.body.as_slice())

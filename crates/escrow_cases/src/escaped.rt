@@ -40,3 +40,22 @@ pub fn unescape(alloc: Global, text: &[u8]) -> Result<Vec<u8>, AllocError> {
     }
     Ok(bytes)
 }
+
+/// Whether each escape of a text is one that stands for a byte.
+pub fn is_escaped(text: &[u8]) -> bool {
+    let mut rest = text;
+    for _ in 0..text.len() {
+        rest = match rest {
+            [b'\\', b'x', high, low, behind @ ..] if is_hex(*high) && is_hex(*low) => behind,
+            [b'\\', b'n' | b'r' | b't' | b'\\', behind @ ..] => behind,
+            [] | [b'\\', ..] => break,
+            [_, behind @ ..] => behind,
+        };
+    }
+    rest.is_empty()
+}
+
+// Whether a byte is a digit as `digit` reads it.
+fn is_hex(byte: u8) -> bool {
+    matches!(byte, b'0'..=b'9' | b'a'..=b'f')
+}

@@ -1,6 +1,7 @@
 //! Trying a case.
 
 use crate::case::Case;
+use crate::unread::fault_of;
 use escrow_desk::{Desk, MemoryDesk};
 use escrow_top::run;
 use std::alloc::{AllocError, Global};
@@ -12,6 +13,8 @@ pub enum Outcome {
     AsWanted,
     /// What is otherwise.
     Other(String),
+    /// It can't be read, and wasn't tried: why.
+    Unread(String),
 }
 
 // A file before a run.
@@ -27,26 +30,33 @@ const MOST_ALIKE: u32 = 8;
 // The calls of the desk that put a file there.
 const CALLS_A_FILE: u64 = 2;
 
-// A case behind the one that it is like, that one behind the one that it is like, and so on.
+// A case behind the one that it is like, that one behind the one that it is like, and so on; none where there are too many, as where
+// cases are like each other.
 fn alike<'c>(
     alloc: Global,
     cases: &'c [Case],
     case: &'c Case,
-) -> Result<Vec<&'c Case>, AllocError> {
+) -> Result<Option<Vec<&'c Case>>, AllocError> {
     let mut found = vec![in alloc; case]?;
-    let mut last = case;
+    let mut next = named_like(cases, case);
     for _ in 0..MOST_ALIKE {
-        let Some(name) = &last.like else {
-            break;
-        };
-        let Some(other) = cases.iter().find(|other| other.name == *name) else {
+        let Some(other) = next else {
             break;
         };
         found.push(other)?;
-        last = other;
+        next = named_like(cases, other);
     }
     found.reverse();
-    Ok(found)
+    Ok(match next {
+        None => Some(found),
+        Some(_) => None,
+    })
+}
+
+// The case that a case is like.
+fn named_like<'c>(cases: &'c [Case], case: &'c Case) -> Option<&'c Case> {
+    let name = case.like()?;
+    cases.iter().find(|other| other.name.as_str() == name)
 }
 
 // The files of cases, of which a later one replaces an earlier one of its name.
@@ -106,22 +116,23 @@ fn shown(alloc: Global, bytes: &[u8]) -> Result<String, AllocError> {
     format!(in alloc; "{:?}", str::from_utf8(bytes).unwrap_or("no text"))
 }
 
-// Whether what was said is what is wanted: all of it, or how it begins and ends.
+// Whether what was said is what is wanted: all of it, or how it begins and ends, or nothing.
 fn is_said(alloc: Global, case: &Case, said: &[u8]) -> Result<bool, AllocError> {
-    let begins = match case.part("begins") {
-        Some(part) => said.starts_with(part.bytes(alloc)?.as_slice()),
-        None => false,
-    };
-    if begins {
-        return match case.part("ends") {
-            Some(part) => Ok(said.ends_with(part.bytes(alloc)?.as_slice())),
-            None => Ok(true),
-        };
+    let mut right = true;
+    let mut open = false;
+    if let Some(part) = case.part("says") {
+        right = said == part.bytes(alloc)?.as_slice();
+        open = true;
     }
-    match case.part("says") {
-        Some(part) => Ok(said == part.bytes(alloc)?.as_slice()),
-        None => Ok(said.is_empty()),
+    if let Some(part) = case.part("begins") {
+        right = right && said.starts_with(part.bytes(alloc)?.as_slice());
+        open = true;
     }
+    if let Some(part) = case.part("ends") {
+        right = right && said.ends_with(part.bytes(alloc)?.as_slice());
+        open = true;
+    }
+    Ok(right && (open || said.is_empty()))
 }
 
 // Tells which files aren't as they were, of those of which the case doesn't say what they are after the run; of no file where another
@@ -184,34 +195,38 @@ fn tell_number(
     Ok(())
 }
 
-/// Tries a case: its words are carried out over a desk that holds its files.
+/// Tries a case of a file, where it can be read: its words are carried out over a desk that holds its files.
 pub fn try_case(alloc: Global, cases: &[Case], case: &Case) -> Result<Outcome, AllocError> {
-    let chain = alike(alloc, cases, case)?;
-    let files = files_of(alloc, chain.as_slice())?;
+    if let Some(why) = fault_of(alloc, cases, case)? {
+        return Ok(Outcome::Unread(why));
+    }
+    let Some(chain) = alike(alloc, cases, case)? else {
+        let why = String::from_str(alloc, "too many cases are like each other")?;
+        return Ok(Outcome::Unread(why));
+    };
+    let told = carried_out(alloc, chain.as_slice(), case)?;
+    match told.as_str().strip_prefix("; ") {
+        None => Ok(Outcome::AsWanted),
+        Some(text) => Ok(Outcome::Other(String::from_str(alloc, text)?)),
+    }
+}
+
+// Carries a case out, and tells what is otherwise than it says; the last of the cases is this one.
+fn carried_out(alloc: Global, chain: &[&Case], case: &Case) -> Result<String, AllocError> {
+    let files = files_of(alloc, chain)?;
     let mut desk = desk_of(alloc, files.as_slice(), case.fails())?;
     if case.part("before").is_some() {
-        let before = words_of(alloc, chain.as_slice(), "before")?;
+        let before = words_of(alloc, chain, "before")?;
         let _ = run(alloc, before.as_slice(), &mut desk);
     }
     let said_before = desk.said().len();
-    let words = words_of(alloc, chain.as_slice(), "words")?;
-    let status = run(alloc, words.as_slice(), &mut desk);
+    let words = words_of(alloc, chain, "words")?;
+    let status = u64::from(run(alloc, words.as_slice(), &mut desk).code());
     let mut told = String::new(alloc);
-    tell_number(
-        alloc,
-        "status",
-        u64::from(status.code()),
-        case.status(),
-        &mut told,
-    )?;
+    tell_number(alloc, "status", status, case.status(), &mut told)?;
     let calls = desk.calls().saturating_sub(calls_before(files.as_slice()));
-    tell_number(
-        alloc,
-        "calls",
-        calls,
-        case.calls().unwrap_or(calls),
-        &mut told,
-    )?;
+    let wanted = case.calls().unwrap_or(calls);
+    tell_number(alloc, "calls", calls, wanted, &mut told)?;
     let said = desk.said().get(said_before..).unwrap_or(b"");
     if !is_said(alloc, case, said)? {
         told.push_str("; says ")?;
@@ -219,8 +234,5 @@ pub fn try_case(alloc: Global, cases: &[Case], case: &Case) -> Result<Outcome, A
     }
     tell_files(case, files.as_slice(), &desk, &mut told)?;
     tell_after(alloc, case, &desk, &mut told)?;
-    match told.as_str().strip_prefix("; ") {
-        None => Ok(Outcome::AsWanted),
-        Some(text) => Ok(Outcome::Other(String::from_str(alloc, text)?)),
-    }
+    Ok(told)
 }
