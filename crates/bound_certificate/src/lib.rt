@@ -17,8 +17,6 @@ mod packed;
 mod packed_line;
 mod packed_read;
 mod packed_taken;
-#[cfg(test)]
-mod packed_tests;
 mod packed_write;
 mod packing;
 mod part;
@@ -26,10 +24,6 @@ mod plain_line;
 mod read;
 mod reader;
 mod row;
-#[cfg(test)]
-mod test_rows;
-#[cfg(test)]
-mod tests;
 mod text_reading;
 mod unpacked;
 mod vector_choice;

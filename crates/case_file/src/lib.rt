@@ -5,6 +5,3 @@ mod case;
 mod limit;
 
 pub use case::{Case, read_case};
-
-#[cfg(test)]
-mod tests;

@@ -6,6 +6,8 @@
 #[cfg(test)]
 mod book_tests;
 #[cfg(test)]
+mod case_file_tests;
+#[cfg(test)]
 mod cash_table_tests;
 #[cfg(test)]
 mod files_tests;

@@ -12,6 +12,3 @@ pub use case::held_case;
 pub use held::read_held;
 pub use laws::held_laws;
 pub use shortfall::residual;
-
-#[cfg(test)]
-mod tests;

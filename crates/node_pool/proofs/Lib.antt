@@ -8,4 +8,3 @@ pub mod PoolFacts
 pub mod TreeFacts
 pub mod AgreeFacts
 pub mod WayFacts
-mod DownFacts

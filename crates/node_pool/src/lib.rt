@@ -6,10 +6,6 @@ mod laws;
 mod node;
 mod pool;
 mod queue;
-#[cfg(test)]
-mod range_tests;
-#[cfg(test)]
-mod tests;
 mod tree;
 mod way;
 

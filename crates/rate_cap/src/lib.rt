@@ -6,6 +6,3 @@ mod search;
 
 pub use cap::{at_cap, cap_laws, top_rate};
 pub use search::{CapSearch, search_laws};
-
-#[cfg(test)]
-mod tests;

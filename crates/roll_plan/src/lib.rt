@@ -8,6 +8,3 @@ mod planning;
 pub use file_terms::terms_of;
 pub use moving::rolled;
 pub use planning::{Roll, rolls};
-
-#[cfg(test)]
-mod tests;

@@ -14,6 +14,3 @@ pub use limits::SERVICE_LIMIT;
 pub use old_bonds::old_service;
 pub use savings::{Savings, SignedRange, savings_of};
 pub use signed::print_signed;
-
-#[cfg(test)]
-mod tests;

@@ -11,6 +11,3 @@ mod verification;
 pub use figures::{Figures, push_summary, push_yield};
 pub use text::push_line;
 pub use verification::{report, summary};
-
-#[cfg(test)]
-mod tests;
