@@ -15,7 +15,7 @@ use Rattle.node_pool.specs.Way.{IsWay, Step, ranges_at}
 use Rattle.node_pool.specs.declared.node.State.{State}
 use Rattle.node_pool.specs.declared.node.State.TheVariants as state
 use Rattle.offer_book.specs.Book.{IsBook}
-use Rattle.search_tree.proofs.EndFacts.{IsEndAt, IsEndTree, IsWritten, all-at, ends-end, ends_of, weak-by}
+use Rattle.search_tree.proofs.EndFacts.{HasShown, IsEndAt, IsEndTree, IsWritten, all-at, ends-end, ends_of, weak-by}
 use Rattle.search_tree.proofs.Shape.{all-placed, leaf-holds, placed-at, to-nodes}
 use Rattle.search_tree.proofs.Ways.{some-way}
 use Rattle.search_tree.specs.Growing.{IsClosedBy, IsKept, IsNodeAt, IsPriced, claim_of_best, node_of}
@@ -28,6 +28,10 @@ use Rattle.search_tree.specs.declared.node.SearchNode.{SearchNode}
 -- how its nodes are closed
 abbrev pub ClosedFor : CaseContents → Option ℕ → List Interval → SearchNode → Type 0
 ClosedFor case best ranges own = IsClosedBy case best ranges own.priced.bound own.closing
+
+-- one that is closed by a leaf that doesn't weigh the cost, is so by one that shows what it has to
+pub closed-shown : (case : CaseContents) (best : Option ℕ) (ranges : List Interval) (own : SearchNode) → ClosedFor case best ranges own → HasShown case ranges own
+closed-shown case best ranges own closed leaf is = subst (IsClosedBy case best ranges own.priced.bound) is closed
 
 end-at : (case : CaseContents) (Obeys : List Interval → ℕ → ℕ → Type 0) (best : Option ℕ) (popped : ℤ) (number : ℕ) (ranges : List Interval) (own : SearchNode) (s : State) → IsNodeAt case Obeys best popped number ranges own s → IsEndAt case Obeys popped (ClosedFor case best) number ranges own s
 end-at case Obeys best popped number ranges own (state.Waiting key) is = record { priced = is.priced; ends = tt }
@@ -60,6 +64,7 @@ closed-all case Obeys best claim popped tree shape nodes limits is made borne po
     (λ none. subst (IsClosedBy case best ranges own.priced.bound) none closed)
     (λ borne_is. borne number ranges borne_is closed)
     (λ day unreached. subst (IsClosedBy case best ranges own.priced.bound) unreached closed)
+    (closed-shown case best ranges own closed)
     (λ point_is. point ranges ((subst (IsClosedBy case best ranges own.priced.bound) point_is closed).closed)))
     limits))
 

@@ -36,7 +36,7 @@ use Rattle.offer_book.specs.CaseBook.{cash_line}
 use Rattle.offer_book.specs.declared.line.Line.{Line}
 use Rattle.search_tree.proofs.Count.{nodes-all}
 use Rattle.search_tree.proofs.Shape.{AllAt, HoldsBy, IsEndNode, all-nodes, all-placed, are-trees, from-nodes, tree-nodes, tree_nodes}
-use Rattle.search_tree.specs.Growing.{IsPriced, IsSplitNode, node_of}
+use Rattle.search_tree.specs.Growing.{IsPriced, IsSplitNode, ShowsNone, node_of}
 use Rattle.search_tree.specs.Shows.{IsRaised, IsWell}
 use Rattle.search_tree.specs.Tree.{TreeContents, end_by, end_node, link_node}
 use Rattle.search_tree.specs.declared.node.Closing.{Closing}
@@ -70,6 +70,7 @@ end-ends : (case : CaseContents) (leaf : Leaf) (how : Closing) → IsEndNode (en
 end-ends case leaf closing.Open = tt
 end-ends case leaf closing.Borne = tt
 end-ends case leaf (closing.Unreached day) = tt
+end-ends case leaf (closing.Infeasible own) = tt
 end-ends case leaf closing.Point = tt
 
 pub ends-end : (case : CaseContents) (tree : TreeContents) (number : ℕ) → IsEndNode (ends_of case tree number)
@@ -137,12 +138,16 @@ proper-node ranges (node.Closed leaf) ends = refl
 lt-test : (a b : ℤ) → a <ℤ b → int_lt a b ≡ true
 lt-test a b below = grind (arith, ints)
 
+-- where a node is closed by a leaf that doesn't weigh the cost, that shows what it has to
+abbrev pub HasShown : CaseContents → List Interval → SearchNode → Type 0
+HasShown case ranges own = (leaf : Leaf) → own.closing ≡ closing.Infeasible leaf → ShowsNone case ranges leaf
+
 -- a closed node is weak or not as its closing says
 pub weak-by : (case : CaseContents) (claim : Claim) (ranges : List Interval) (own : SearchNode) → IsPriced case ranges own.priced
     → (own.closing ≡ closing.Open → ⊥) → (own.closing ≡ closing.Borne → bears_out own.priced.bound claim ≡ true)
     → ((day : ℤ) → own.closing ≡ closing.Unreached day → pos 0 <ℤ bound_of (case.limit - 1) case.book ranges (reach_leaf case.book.needs day))
-    → (own.closing ≡ closing.Point → is_closed_point case claim ranges ≡ true) → is_weak case claim (end_node case.book.needs own, ranges) ≡ false
-weak-by case claim ranges own priced opened borne unreached point = by own.closing refl
+    → HasShown case ranges own → (own.closing ≡ closing.Point → is_closed_point case claim ranges ≡ true) → is_weak case claim (end_node case.book.needs own, ranges) ≡ false
+weak-by case claim ranges own priced opened borne unreached infeasible point = by own.closing refl
   where
     at : bears_out own.priced.bound claim ≡ true → not (is_closed_leaf case claim ranges own.priced.leaf) ≡ false
     at is =
@@ -155,27 +160,33 @@ weak-by case claim ranges own priced opened borne unreached point = by own.closi
     by (closing.Unreached day) is = (
         let test = lt-test (pos 0) (bound_of (case.limit - 1) case.book ranges (reach_leaf case.book.needs day)) (unreached day is) in
         ap not test)
+    by (closing.Infeasible leaf) is = (
+        let shown = infeasible leaf is in
+        let bound : ℤ = bound_of (case.limit - 1) case.book ranges leaf in
+        ap (λ (w : Bool). not (if w then bears_out bound claim else int_lt (pos 0) bound)) shown.without_cost ∙ ap not (lt-test (pos 0) bound shown.above))
     by closing.Point is = ap not (point is)
 
 -- leaves that weigh the cost are raised
-raised-by : (case : CaseContents) (ranges : List Interval) (own : SearchNode) → IsPriced case ranges own.priced → IsRaised case (end_node case.book.needs own, ranges)
-raised-by case ranges own priced = by own.closing
+raised-by : (case : CaseContents) (ranges : List Interval) (own : SearchNode) → IsPriced case ranges own.priced → HasShown case ranges own → IsRaised case (end_node case.book.needs own, ranges)
+raised-by case ranges own priced infeasible = by own.closing refl
   where
-    by : (how : Closing) → IsRaised case (end_by case.book.needs own.priced.leaf how, ranges)
-    by closing.Open = λ whole. priced.improved
-    by closing.Borne = λ whole. priced.improved
-    by (closing.Unreached day) = λ whole. absurd (cc)
-    by closing.Point = tt
+    by : (how : Closing) → own.closing ≡ how → IsRaised case (end_by case.book.needs own.priced.leaf how, ranges)
+    by closing.Open is = λ whole. priced.improved
+    by closing.Borne is = λ whole. priced.improved
+    by (closing.Unreached day) is = λ whole. absurd (cc)
+    by (closing.Infeasible leaf) is = λ whole. absurd (let clash : true ≡ false = sym whole ∙ (infeasible leaf is).without_cost in cc)
+    by closing.Point is = tt
 
 -- nodes are within the limits of a certificate
-node-by : (case : CaseContents) (ranges : List Interval) (own : SearchNode) → IsBook case.book → IsPriced case ranges own.priced → IsNode (length case.book.needs) (end_node case.book.needs own)
-node-by case ranges own limits priced = by own.closing
+node-by : (case : CaseContents) (ranges : List Interval) (own : SearchNode) → IsBook case.book → IsPriced case ranges own.priced → HasShown case ranges own → IsNode (length case.book.needs) (end_node case.book.needs own)
+node-by case ranges own limits priced infeasible = by own.closing refl
   where
-    by : (how : Closing) → IsNode (length case.book.needs) (end_by case.book.needs own.priced.leaf how)
-    by closing.Open = priced.improved.well_formed
-    by closing.Borne = priced.improved.well_formed
-    by (closing.Unreached day) = reach_is_leaf case.book.needs day limits.needs.rising
-    by closing.Point = tt
+    by : (how : Closing) → own.closing ≡ how → IsNode (length case.book.needs) (end_by case.book.needs own.priced.leaf how)
+    by closing.Open is = priced.improved.well_formed
+    by closing.Borne is = priced.improved.well_formed
+    by (closing.Unreached day) is = reach_is_leaf case.book.needs day limits.needs.rising
+    by (closing.Infeasible leaf) is = (infeasible leaf is).well_formed
+    by closing.Point is = tt
 
 pub most-small : (days : PaymentDays) (line : Line) → IsLine days line → line.most ≤ 10 ^ 13
 most-small days line (inl cash) = omega (arith, cash.most)
@@ -208,19 +219,19 @@ written case tree links nodes shape one whole shape_is links_are nodes_are = rec
 }
 
 pub well-written : (case : CaseContents) (Obeys : List Interval → ℕ → ℕ → Type 0) (popped : ℤ) (Closes : List Interval → SearchNode → Type 0) (tree : TreeContents) (shape : Tree) (nodes : List TreeNode) → IsBook case.book → IsEndTree case Obeys popped Closes tree
-    → IsWritten case tree shape nodes → IsWell case nodes
-well-written case Obeys popped Closes tree shape nodes limits is made = record {
+    → ((ranges : List Interval) (own : SearchNode) → Closes ranges own → HasShown case ranges own) → IsWritten case tree shape nodes → IsWell case nodes
+well-written case Obeys popped Closes tree shape nodes limits is shown made = record {
   proper = subst (λ (ns : List TreeNode). All IsProper (placed_nodes case.book ns)) (sym made.nodes_are)
       (all-placed lines IsProper ends shape root (ends-end case tree)
       (all-at case Obeys popped Closes IsProper tree shape is made.shape_is (λ number ranges line at priced split tight. ap not split.proper) (λ number ranges priced closed tight. proper-node ranges (ends number) (ends-end case tree number)) limits));
   raised = subst (λ (ns : List TreeNode). All (IsRaised case) (placed_nodes case.book ns)) (sym made.nodes_are)
       (all-placed lines (IsRaised case) ends shape root (ends-end case tree)
-      (all-at case Obeys popped Closes (IsRaised case) tree shape is made.shape_is (λ number ranges line at priced split tight. tt) (λ number ranges priced closed tight. raised-by case ranges (node_of tree.nodes number) priced) limits));
+      (all-at case Obeys popped Closes (IsRaised case) tree shape is made.shape_is (λ number ranges line at priced split tight. tt) (λ number ranges priced closed tight. raised-by case ranges (node_of tree.nodes number) priced (shown ranges (node_of tree.nodes number) closed)) limits));
   limited = subst (All (IsNode (length case.book.needs))) (sym made.nodes_are)
       (all-nodes lines (IsNode (length case.book.needs)) ends shape root
       (all-at case Obeys popped Closes (λ (p : TreeNode × List Interval). IsNode (length case.book.needs) p.0) tree shape is made.shape_is
       (λ number ranges line at priced split tight. split-node-by case ranges line at limits tight split.proper)
-      (λ number ranges priced closed tight. node-by case ranges (node_of tree.nodes number) limits priced) limits));
+      (λ number ranges priced closed tight. node-by case ranges (node_of tree.nodes number) limits priced (shown ranges (node_of tree.nodes number) closed)) limits));
   trees = subst (AreTrees 1) (sym made.nodes_are) (subst (AreTrees 1) (append-nil (tree_nodes ends shape)) (are-trees ends shape 0 [] (ends-end case tree) refl));
 }
   where

@@ -60,6 +60,7 @@ closed-cheaper : (case : CaseContents) (ranges : List Interval) (bound : ℤ) (b
 closed-cheaper case ranges bound best after closing.Open cheaper is = is
 closed-cheaper case ranges bound best after closing.Borne cheaper is = claim-cheaper case bound best after cheaper is
 closed-cheaper case ranges bound best after (closing.Unreached day) cheaper is = is
+closed-cheaper case ranges bound best after (closing.Infeasible leaf) cheaper is = is
 closed-cheaper case ranges bound best after closing.Point cheaper is = lost-cheaper case ranges best after cheaper is
 
 at-cheaper : (case : CaseContents) (Obeys : List Interval → ℕ → ℕ → Type 0) (best after : Option ℕ) (popped : ℤ) (number : ℕ) (ranges : List Interval) (own : SearchNode) (s : State) → IsNoDearer best after

@@ -1,6 +1,6 @@
 -- The laws, proved.
 use Rattle.node_pool.specs.Tree.{Tree}
-use Rattle.search_tree.proofs.ClosedFacts.{closed-all, closed-tree}
+use Rattle.search_tree.proofs.ClosedFacts.{closed-all, closed-shown, closed-tree}
 use Rattle.search_tree.proofs.EndFacts.{IsWritten, well-written, written}
 use Rattle.search_tree.proofs.ClosedFacts.{ClosedFor}
 use Rattle.search_tree.proofs.GrowFacts.{closed-kept, split-kept}
@@ -21,7 +21,7 @@ closed_trees_show case rule best popped tree nodes claim is borne point =
     let made : IsWritten case tree shape nodes = written case tree is.written.0 nodes shape is.one is.whole is.written.1.1 is.written.1.2 is.written.2 in
     let ends = closed-tree case (obeys case rule) best tree popped is.one is.whole is.ended is.kept in
     record {
-      well = well-written case (obeys case rule) popped (ClosedFor case best) tree shape nodes is.limits ends made;
+      well = well-written case (obeys case rule) popped (ClosedFor case best) tree shape nodes is.limits ends (closed-shown case best) made;
       count = made.count;
       closed = closed-all case (obeys case rule) best claim popped tree shape nodes is.limits ends made (λ number ranges own closed. borne number own) point;
     }

@@ -32,8 +32,8 @@ use Rattle.offer_book.specs.Portfolio.{cost}
 use Rattle.offer_book.specs.Rival.{IsRival}
 use Rattle.offer_book.specs.declared.line.Line.{Line}
 use Rattle.search_tree.proofs.Count.{nodes-all}
-use Rattle.search_tree.proofs.EndFacts.{EndsAt, IsEndAt, IsEndTree, IsWritten, all-at, ends-end, ends_of, split-there, weak-by, well-written}
-use Rattle.search_tree.proofs.ClosedFacts.{IsBorneNode, node-bears}
+use Rattle.search_tree.proofs.EndFacts.{EndsAt, HasShown, IsEndAt, IsEndTree, IsWritten, all-at, ends-end, ends_of, split-there, weak-by, well-written}
+use Rattle.search_tree.proofs.ClosedFacts.{IsBorneNode, closed-shown, node-bears}
 use Rattle.search_tree.proofs.Shape.{AllAt, all-placed, leaf-holds, left-way, right-way, to-nodes}
 use Rattle.search_tree.proofs.Ways.{some-way}
 use Rattle.search_tree.specs.Growing.{GoesOn, IsAt, IsClosedBy, IsHalvingSplit, IsKept, IsNodeAt, IsPriced, IsSplitNode, IsStuck, claim_of_best, node_of}
@@ -109,7 +109,7 @@ over-bound case bound cents best is not_borne = by bound cents best case.allowan
 
 -- ---- the tree, once its waiting nodes are closed
 abbrev Settled : CaseContents → ℕ → List Interval → SearchNode → Type 0
-Settled case cents ranges own = is_weak case (Some (pos cents)) (end_node case.book.needs own, ranges) ≡ false
+Settled case cents ranges own = (is_weak case (Some (pos cents)) (end_node case.book.needs own, ranges) ≡ false) × HasShown case ranges own
 
 higher-borne : (bound higher : ℤ) (cents : ℕ) → bound ≤ℤ higher → bears_out bound (Some (pos cents)) ≡ true → bears_out higher (Some (pos cents)) ≡ true
 higher-borne bound higher cents up borne = grind (arith, ints)
@@ -137,18 +137,23 @@ point-settled case cents best ranges over is =
 
 closed-settled : (case : CaseContents) (cents : ℕ) (best : Option ℕ) (ranges : List Interval) (own : SearchNode) → ((cost : ℕ) → best ≡ Some cost → cents + case.allowance < cost) → IsPriced case ranges own.priced
     → IsClosedBy case best ranges own.priced.bound own.closing → Settled case cents ranges own
-closed-settled case cents best ranges own over priced closed =
-    weak-by case (Some (pos cents)) ranges own priced
-    (λ none. subst (IsClosedBy case best ranges own.priced.bound) none closed)
-    (λ borne. claim-settled case own.priced.bound cents best over (subst (IsClosedBy case best ranges own.priced.bound) borne closed))
-    (λ day unreached. subst (IsClosedBy case best ranges own.priced.bound) unreached closed)
-    (λ point. point-settled case cents best ranges over ((subst (IsClosedBy case best ranges own.priced.bound) point closed).closed))
+closed-settled case cents best ranges own over priced closed = (
+  weak-by case (Some (pos cents)) ranges own priced
+      (λ none. subst (IsClosedBy case best ranges own.priced.bound) none closed)
+      (λ borne. claim-settled case own.priced.bound cents best over (subst (IsClosedBy case best ranges own.priced.bound) borne closed))
+      (λ day unreached. subst (IsClosedBy case best ranges own.priced.bound) unreached closed)
+      (closed-shown case best ranges own closed)
+      (λ point. point-settled case cents best ranges over ((subst (IsClosedBy case best ranges own.priced.bound) point closed).closed)),
+  closed-shown case best ranges own closed,
+)
 
 -- a node that waited
 waited-settled : (case : CaseContents) (cents : ℕ) (ranges : List Interval) (own : SearchNode) → IsPriced case ranges own.priced → bears_out own.priced.bound (Some (pos cents)) ≡ true
     → Settled case cents ranges (record own { closing = closing.Borne })
-waited-settled case cents ranges own priced borne =
-    weak-by case (Some (pos cents)) ranges (record own { closing = closing.Borne }) priced (λ none. absurd (cc)) (λ is. borne) (λ day is. absurd (cc)) (λ is. absurd (cc))
+waited-settled case cents ranges own priced borne = (
+  weak-by case (Some (pos cents)) ranges (record own { closing = closing.Borne }) priced (λ none. absurd (cc)) (λ is. borne) (λ day is. absurd (cc)) (λ leaf is. absurd (cc)) (λ is. absurd (cc)),
+  λ leaf is. absurd (cc),
+)
 
 -- each node, by its state before
 node-settled : (case : CaseContents) (Obeys : List Interval → ℕ → ℕ → Type 0) (best : Option ℕ) (cents : ℕ) (popped : ℤ) (number : ℕ) (ranges : List Interval) (own after : SearchNode) (s t : State) → ((cost : ℕ) → best ≡ Some cost → cents + case.allowance < cost)
@@ -206,10 +211,10 @@ settled-tree case Obeys best cents popped before after over borne kept drained o
 -- ---- what the tree shows
 pub holds-bound : (case : CaseContents) (Obeys : List Interval → ℕ → ℕ → Type 0) (cents : ℕ) (popped : ℤ) (tree : TreeContents) (shape : Tree) (nodes : List TreeNode) → IsBook case.book → IsEndTree case Obeys popped (Settled case cents) tree → IsWritten case tree shape nodes → HoldsBound case nodes cents
 holds-bound case Obeys cents popped tree shape nodes limits is made = record {
-  proper = (well-written case Obeys popped (Settled case cents) tree shape nodes limits is made).proper;
+  proper = (well-written case Obeys popped (Settled case cents) tree shape nodes limits is (λ ranges own closed. closed.1) made).proper;
   closed = subst (λ (ns : List TreeNode). All (λ p. is_weak case (Some (pos cents)) p ≡ false) (placed_nodes case.book ns)) (sym made.nodes_are)
       (all-placed case.book.lines (λ p. is_weak case (Some (pos cents)) p ≡ false) (ends_of case tree) shape (root_of case.book.lines) (ends-end case tree)
-      (all-at case Obeys popped (Settled case cents) (λ p. is_weak case (Some (pos cents)) p ≡ false) tree shape is made.shape_is (λ number ranges line at priced split tight. refl) (λ number ranges priced closed tight. closed) limits));
+      (all-at case Obeys popped (Settled case cents) (λ p. is_weak case (Some (pos cents)) p ≡ false) tree shape is made.shape_is (λ number ranges line at priced split tight. refl) (λ number ranges priced closed tight. closed.0) limits));
 }
 
 steps-most : (case : CaseContents) (cents : ℕ) (popped : ℤ) (ranges : List Interval) (own : SearchNode) → IsWorthAtMost cents popped → IsPriced case ranges own.priced → own.priced.bound ≤ℤ popped → AreStepsAtMost case cents ranges
@@ -225,6 +230,7 @@ end-needed case cents ranges own = by own.closing
     by closing.Open = tt
     by closing.Borne = tt
     by (closing.Unreached day) = tt
+    by (closing.Infeasible leaf) = tt
     by closing.Point = tt
 
 pub needed-splits : (case : CaseContents) (Obeys : List Interval → ℕ → ℕ → Type 0) (cents : ℕ) (popped : ℤ) (tree : TreeContents) (shape : Tree) (nodes : List TreeNode) → IsBook case.book → IsWorthAtMost cents popped → IsEndTree case Obeys popped (Settled case cents) tree
@@ -413,7 +419,7 @@ full-shows case Obeys best bound cents before after shape nodes full made is_bou
     settled = settled-tree case Obeys best cents bound before after over is_bound.borne stuck.kept full.drained full.one full.whole full.ended
 
     well : IsWell case nodes
-    well = well-written case Obeys bound (Settled case cents) after shape nodes full.limits settled made
+    well = well-written case Obeys bound (Settled case cents) after shape nodes full.limits settled (λ ranges own closed. closed.1) made
 
     holds : HoldsBound case nodes cents
     holds = holds-bound case Obeys cents bound after shape nodes full.limits settled made

@@ -6,7 +6,9 @@ use Rattle.dual_bound.specs.LeafBound.{bound_of}
 use Rattle.dual_bound.specs.Closing.{is_closed_point}
 use Rattle.node_ranges.specs.Ranges.{is_proper, is_single}
 use Rattle.node_ranges.specs.Claims.{Claim, bears_out, low_ends}
+use Rattle.proof_tree.specs.Tree.{IsLeaf}
 use Rattle.proof_tree.specs.declared.interval.Interval.{Interval}
+use Rattle.proof_tree.specs.declared.tree.Leaf.{Leaf}
 use Rattle.dual_tune.specs.Steps.{IsImproved}
 use Rattle.halving_tree.specs.Base.{base_leaf, reach_leaf}
 use Rattle.halving_tree.specs.Halving.{IsHalved, is_end, is_unreached}
@@ -46,11 +48,18 @@ pub record IsLostPoint (case : CaseContents) (best : Option ℕ) (ranges : List 
   pub closed : is_closed_point case (option_map pos best) ranges ≡ true
   pub lost : best ≡ None → Meets case.book (low_ends ranges) → is_within_limit case.limit case.book (low_ends ranges) ≡ true → ⊥
 
+-- a leaf that doesn't weigh the cost shows that no permitted portfolio of ranges meets the needs within the limit
+pub record ShowsNone (case : CaseContents) (ranges : List Interval) (leaf : Leaf) : Type 0 where
+  pub well_formed : IsLeaf (length case.book.needs) leaf
+  pub without_cost : leaf.whole ≡ false
+  pub above : pos 0 <ℤ bound_of (case.limit - 1) case.book ranges leaf
+
 -- how a node is closed
 abbrev pub IsClosedBy : CaseContents → Option ℕ → List Interval → ℤ → Closing → Type 0
 IsClosedBy case best ranges bound closing.Open = ⊥
 IsClosedBy case best ranges bound closing.Borne = bears_out bound (claim_of_best case best) ≡ true
 IsClosedBy case best ranges bound (closing.Unreached day) = pos 0 <ℤ bound_of (case.limit - 1) case.book ranges (reach_leaf case.book.needs day)
+IsClosedBy case best ranges bound (closing.Infeasible leaf) = ShowsNone case ranges leaf
 IsClosedBy case best ranges bound closing.Point = IsLostPoint case best ranges
 
 -- a node isn't closed: it holds several portfolios, its leaf doesn't bear the best plan out, and its needs may be reached
@@ -64,6 +73,7 @@ abbrev pub IsTried : CaseContents → Option ℕ → List Interval → ℤ → C
 IsTried case best ranges bound closing.Open = GoesOn case best ranges bound
 IsTried case best ranges bound closing.Borne = IsClosedBy case best ranges bound closing.Borne
 IsTried case best ranges bound (closing.Unreached day) = IsClosedBy case best ranges bound (closing.Unreached day)
+IsTried case best ranges bound (closing.Infeasible leaf) = IsClosedBy case best ranges bound (closing.Infeasible leaf)
 IsTried case best ranges bound closing.Point = IsClosedBy case best ranges bound closing.Point
 
 -- a split is one of the halving tree

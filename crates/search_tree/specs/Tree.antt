@@ -52,6 +52,7 @@ abbrev pub end_by : List Flow → Leaf → Closing → TreeNode
 end_by needs leaf closing.Open = node.Closed leaf
 end_by needs leaf closing.Borne = node.Closed leaf
 end_by needs leaf (closing.Unreached day) = node.Closed (reach_leaf needs day)
+end_by needs leaf (closing.Infeasible own) = node.Closed own
 end_by needs leaf closing.Point = node.Point
 
 -- a closed node as it stands in a certificate: a point, or the leaf that closes it

@@ -4,7 +4,7 @@ use escrow_units::Day;
 use proof_tree::Leaf;
 
 /// How a node is closed, if it is.
-#[derive(Clone, Copy, Debug, PartialEq, Eq)]
+#[derive(Debug, Drop)]
 pub enum Closing {
     /// It isn't.
     Open,
@@ -12,6 +12,8 @@ pub enum Closing {
     Borne,
     /// By the leaf that weighs the needs up to a day alone: its ranges don't reach them.
     Unreached(Day),
+    /// By a leaf that doesn't weigh the cost: no permitted portfolio of its ranges meets the needs within the limit.
+    Infeasible(Leaf),
     /// As a point: it holds one portfolio, which is no rival, or costs no less than the best plan.
     Point,
 }

@@ -196,9 +196,10 @@ impl SearchTree {
 fn closed_node(alloc: Global, book: &Book, node: &SearchNode) -> Result<TreeNode, NoMemory>
     ensures { IfOk result (λ next. next ≡ end_node book.now.needs node.now) }
 {
-    match node.closing {
+    match &node.closing {
         Closing::Point => Ok(TreeNode::Point),
-        Closing::Unreached(day) => Ok(TreeNode::Closed(reach_leaf(alloc, book, day)?)),
+        Closing::Unreached(day) => Ok(TreeNode::Closed(reach_leaf(alloc, book, *day)?)),
+        Closing::Infeasible(leaf) => Ok(TreeNode::Closed(leaf.copy(alloc)?)),
         Closing::Borne | Closing::Open => Ok(TreeNode::Closed(node.priced.leaf.copy(alloc)?)),
     }
 }
