@@ -1,5 +1,5 @@
 //! Improving a leaf.
-ghost use Rattle.std.specs.Prelude.{◌≡◌, ◌<◌, ◌^◌, length, unsigned_abs, IfOk, IfSome};
+ghost use Rattle.std.specs.Prelude.{◌≡◌, ◌<◌, ◌^◌, false, length, unsigned_abs, IfOk, IfSome};
 ghost use Rattle.std.specs.List.{AllZip};
 ghost use Rattle.fixed_powers.specs.DiscountPowers.{IsLowTable};
 ghost use Rattle.dual_bound.specs.LeafBound.{bound_of};
@@ -87,6 +87,30 @@ impl<'a> Tuner<'a> {
             leaf,
         };
         self.parts.tune(&given, start, basis, into)
+    }
+
+    /// Puts into a leaf, which has a price for each need date, what the linear program without the cost proposes over ranges. Where the
+    /// leaf's bound is above 0, no permitted portfolio of the ranges meets the needs within the limit; the program finds such prices
+    /// where its relaxation has no solution. Where a basis is given, it starts from that and takes twelve iterations at most; else it is
+    /// solved from nothing. It answers the leaf's bound, and takes no memory.
+    pub fn tune_without_cost(
+        &mut self,
+        ranges: &Ranges,
+        basis: Option<&Basis>,
+        into: &mut Leaf,
+    ) -> i128
+        requires ranges { AllZip HasRoomFor self.old.book.lines ranges.now }
+        requires into { length into.old.prices ≡ length self.old.book.needs }
+        ensures tuner { self.new ≡ self.old }
+        ensures leaf { IsLeaf (length self.old.book.needs) into.new }
+        ensures without_cost { into.new.whole ≡ false }
+        ensures bound { result ≡ bound_of self.old.yield_units self.old.book ranges.now into.new }
+    {
+        let lines = self.book.line_count();
+        solve(&mut self.parts.simplex, lines, ranges, false, basis);
+        into.whole = false;
+        self.parts.simplex.propose(into);
+        self.parts.sweep.columns.bound(ranges, into)
     }
 
     /// Solves the linear program of the cost over ranges, from a basis and by twelve iterations at most, for
