@@ -101,6 +101,7 @@ tried-closed : (case : CaseContents) (best : Option ℕ) (ranges : List Interval
 tried-closed case best ranges bound closing.Open closed tried = absurd (closed refl)
 tried-closed case best ranges bound closing.Borne closed tried = tried
 tried-closed case best ranges bound (closing.Unreached day) closed tried = tried
+tried-closed case best ranges bound (closing.Infeasible leaf) closed tried = tried
 tried-closed case best ranges bound closing.Point closed tried = tried
 
 pub closed-next : (case : CaseContents) (Obeys : List Interval → ℕ → ℕ → Type 0) (best : Option ℕ) (tree : TreeContents) (number : ℕ) (ranges : List Interval) (how : Closing) → IsHeld case Obeys best tree.pool.states tree.nodes number ranges → (how ≡ closing.Open → ⊥)

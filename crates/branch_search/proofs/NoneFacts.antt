@@ -53,6 +53,7 @@ no-plan case ranges own closed = by own.closing closed
     by closing.Open is = tt
     by closing.Borne is = tt
     by (closing.Unreached day) is = tt
+    by (closing.Infeasible leaf) is = tt
     by closing.Point is = is.lost refl
 
 pub none-is : (case : CaseContents) (rule : SplitRule) (popped : ℤ) (tree : TreeContents) (nodes : List TreeNode) → IsClosedTree case (obeys case rule) None popped tree nodes → IsInReach case.book → length tree.pool.states ≤ 10_000

@@ -1,5 +1,5 @@
 -- What a search finds at the node in hand, and how the best plan goes on.
-use Rattle.std.proofs.Common.{◌≡◌, ◌∙◌, inl, inr, ℕ, zero, suc, ◌-◌, ◌<◌, ◌≤◌, ℤ, pos, ◌≤ℤ◌, Bool, true, false, ◌&&◌, ◌||◌, List, [], ◌∷◌, length, set, get_or, refl, sym, ap, subst, arith, Option, Some, None, Result, Ok, Err}
+use Rattle.std.proofs.Common.{◌≡◌, ◌∙◌, inl, inr, ℕ, zero, suc, ◌-◌, ◌<◌, ◌≤◌, ℤ, pos, ◌≤ℤ◌, ◌<ℤ◌, Bool, true, false, ◌&&◌, ◌||◌, List, [], ◌∷◌, length, set, get_or, refl, sym, ap, subst, arith, Option, Some, None, Result, Ok, Err}
 use Rattle.std.specs.Prelude.{IfOk, MatchOption, OnOk, int_le, int_lt, option_map}
 use Rattle.std.proofs.lemmas.Bool.{cases_lt}
 use Rattle.std.proofs.lemmas.Int.{ints}
@@ -14,6 +14,7 @@ use Rattle.dual_bound.specs.LeafBound.{bound_of}
 use Rattle.node_ranges.proofs.RangeFacts.{narrowed-set, tight-length}
 use Rattle.node_ranges.specs.Ranges.{AreTight, is_single, narrowed, side_of}
 use Rattle.node_ranges.specs.Claims.{costs_enough, low_ends}
+use Rattle.proof_tree.specs.Tree.{IsLeaf}
 use Rattle.proof_tree.specs.declared.interval.Interval.{Interval}
 use Rattle.proof_tree.specs.declared.tree.Leaf.{Leaf}
 use Rattle.dual_tune.specs.Steps.{HasNoGreater, IsImproved, zeros_like}
@@ -27,7 +28,7 @@ use Rattle.escrow_units.specs.declared.limits.TheConstants.{GREATEST_YIELD}
 use Rattle.offer_book.specs.Portfolio.{IsFirstShort, Meets, cost, payments}
 use Rattle.search_tree.proofs.ZeroFacts.{zeros-some}
 use Rattle.search_tree.specs.Best.{CoversBackward, IsAtMost, IsNoDearer}
-use Rattle.search_tree.specs.Growing.{IsLostPoint, IsPriced}
+use Rattle.search_tree.specs.Growing.{IsLostPoint, IsPriced, ShowsNone}
 use Rattle.branch_search.specs.Parts.{IsCounted}
 use Rattle.branch_search.specs.Search.{IsNoDearerThanBackward}
 
@@ -59,6 +60,15 @@ priced-is case tuner base leaf ranges bound tuned based limits tight improved ze
   where
     own : IsImproved (case.limit - 1) case.book ranges (base_leaf case.book) leaf
     own = tuned-improved case tuner base leaf ranges tuned based improved
+
+-- a leaf that doesn't weigh the cost, and whose bound is above 0, shows that there is no portfolio
+pub shows-none : (case : CaseContents) (tuner : TunerContents) (leaf : Leaf) (ranges : List Interval) (bound : ℤ) → tuner ≡ record { book = case.book; yield_units = case.limit - 1 }
+    → IsLeaf (length tuner.book.needs) leaf → leaf.whole ≡ false → bound ≡ bound_of tuner.yield_units tuner.book ranges leaf → pos 0 <ℤ bound → ShowsNone case ranges leaf
+shows-none case tuner leaf ranges bound tuned well_formed without_cost is above = record {
+  well_formed = subst (λ (t : TunerContents). IsLeaf (length t.book.needs) leaf) tuned well_formed;
+  without_cost = without_cost;
+  above = omega (arith, ints, is, above, tuned-bound case tuner leaf ranges tuned);
+}
 
 -- the parent's leaf bounds no more
 pub parent-no_more : (case : CaseContents) (tuner : TunerContents) (base parent leaf : Leaf) (ranges : List Interval) (bound : ℤ) → tuner ≡ record { book = case.book; yield_units = case.limit - 1 } → base ≡ base_leaf case.book

@@ -1,9 +1,9 @@
-//! The cheapest plan that a search has at the root.
+//! The cheapest plan that a search has before it looks for others.
 
-ghost use Rattle.std.specs.Prelude.{◌≡◌, ◌↔◌, ◌≤◌, ℕ, Err, IfOk, IfSome, IsSomeAnd, IsTrue, MatchOption};
+ghost use Rattle.std.specs.Prelude.{◌≡◌, ℕ, Err, IfOk, IfSome, MatchOption};
 ghost use Rattle.backward_build.specs.BackwardPlan.{backward_plan};
 ghost use Rattle.backward_build.specs.declared.backward.BuildEnd.{BuildEnd as BuildFault};
-ghost use Rattle.offer_book.specs.Portfolio.{IsPermitted, cost as cost_of};
+ghost use Rattle.offer_book.specs.Portfolio.{IsPermitted};
 ghost use Rattle.plan_finder.specs.Proposal.{IsProposal};
 ghost use Rattle.branch_search.specs.Plans.{AreBeyond, HasNone, IsBest, IsBuilt, IsTaken};
 
@@ -11,13 +11,10 @@ use crate::hint::Hint;
 use backward_build::{BuildEnd, build, trim};
 use cash_table::{Plan, cost, within_limit};
 use escrow_desk::NoMemory;
-use escrow_units::{Cents, YieldUnits};
+use escrow_units::YieldUnits;
 use offer_book::Book;
-use plan_finder::{Proposal, YieldLimit, find};
+use plan_finder::{Proposal, YieldLimit};
 use std::alloc::Global;
-
-// How much work the search for a plan is at most, in sweeps: each goes once through all columns of the linear program.
-const EFFORT: u32 = 30_000;
 
 // The backward plan, where there is one.
 #[inline(never)]
@@ -64,17 +61,6 @@ fn backward_within(alloc: Global, book: &Book, limit: YieldUnits) -> Result<Opti
     taken(alloc, book, limit, built, trimmed)
 }
 
-// Whether a plan is there and costs at most a target.
-fn is_cheap(book: &Book, plan: Option<&Plan>, target: Cents) -> bool
-    requires permitted { IfSome plan (λ plan. IsPermitted book.now plan.now) }
-    ensures { IsTrue result ↔ IsSomeAnd plan.entry (λ plan. cost_of book.now plan.now ≤ target.0) }
-{
-    match plan {
-        Some(plan) => cost(book, plan).0 <= target.0,
-        None => false,
-    }
-}
-
 // Of a plan and a proposed one, the one that costs less.
 fn cheaper_of_two(book: &Book, plan: Plan, proposed: Proposal) -> Plan
     requires { IsPermitted book.now plan }
@@ -110,23 +96,17 @@ fn cheaper(book: &Book, plan: Option<Plan>, proposed: Option<Proposal>) -> Optio
     }
 }
 
-/// The cheapest of the backward plan, the one that it is trimmed to, that of a hint and one that is looked for, of those within the
-/// limit; None where there is none. Another one is looked for only where the first three cost more than the target.
+/// The cheapest of the backward plan, the one that it is trimmed to and that of a hint, of those within the limit; None where there is
+/// none.
 pub(crate) fn cheapest(
     alloc: Global,
     book: &Book,
     limit: &YieldLimit,
-    target: Cents,
     hint: &Hint,
 ) -> Result<Option<Plan>, NoMemory>
     ensures { IfOk result (λ plan. MatchOption plan (HasNone limit.now book.now) (IsBest limit.now book.now)) }
 {
     let built = backward_within(alloc, book, limit.units())?;
     let hinted = hint.proposal(alloc, book, limit.units())?;
-    let plan = cheaper(book, built, hinted);
-    if is_cheap(book, plan.as_ref(), target) {
-        return Ok(plan);
-    }
-    let proposed = find(alloc, book, limit, EFFORT, target)?;
-    Ok(cheaper(book, plan, proposed))
+    Ok(cheaper(book, built, hinted))
 }

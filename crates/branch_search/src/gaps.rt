@@ -52,9 +52,9 @@ fn greater_gap(gap: u64, node: &SearchNode, cost: Cents) -> u64
     ensures borne { IsBorneBy node.now cost.0 result }
     ensures least { (result ≡ gap) ⊎ IsNeededFor node.now cost.0 result }
 {
-    if node.closing != Closing::Borne {
+    let Closing::Borne = &node.closing else {
         return gap;
-    }
+    };
     let own = least_gap(node.priced.bound, cost);
     if gap < own { own } else { gap }
 }

@@ -8,7 +8,7 @@ ghost use Rattle.proof_tree.specs.Tree.{IsLeaf};
 ghost use Rattle.halving_tree.specs.Base.{reach_leaf};
 ghost use Rattle.halving_tree.specs.Halving.{high_ends, is_unreached};
 ghost use Rattle.offer_book.specs.Portfolio.{IsPermitted};
-ghost use Rattle.search_tree.specs.Growing.{IsBought, IsLostPoint, IsPriced, IsTried, claim_of_best};
+ghost use Rattle.search_tree.specs.Growing.{IsBought, IsLostPoint, IsPriced, IsTried, ShowsNone, claim_of_best};
 ghost use Rattle.branch_search.specs.Parts.{AreSameBut, IsCounted, best_cents};
 ghost use Rattle.search_tree.specs.Best.{IsAtMost, IsNoDearer};
 
@@ -54,6 +54,8 @@ pub(crate) struct Search<'a> {
     pub best: Option<Best>,
     /// Where the linear program of each node stands, by the nodes' numbers.
     pub bases: Vec<Basis>,
+    /// Where the linear program without the cost stood last, if it was solved.
+    pub costless: Option<Basis>,
     /// What dives for plans at nodes.
     pub finder: Finder<'a>,
 }
@@ -258,6 +260,28 @@ impl<'a> Search<'a> {
         Ok(())
     }
 
+    /// A leaf that shows that no permitted portfolio of the ranges at hand meets the needs within the limit. It is looked for only where
+    /// there is no plan, and the ranges hold several portfolios.
+    #[inline(never)]
+    pub(crate) fn infeasible(&mut self, alloc: Global) -> Result<Option<Leaf>, NoMemory>
+        ensures search { OnOk result (self.new ≡ self.old) }
+        ensures shown { IfOk result (λ found. IfSome found (ShowsNone self.old.case self.old.ranges)) }
+    {
+        if self.best.is_some() || self.ranges.single() {
+            return Ok(None);
+        }
+        let basis = self.costless.as_ref();
+        let bound = self
+            .tuner
+            .tune_without_cost(&self.ranges, basis, &mut self.reach);
+        self.costless = Some(self.tuner.basis(alloc)?);
+        if bound <= 0 {
+            return Ok(None);
+        }
+        let leaf = self.reach.copy(alloc)?;
+        Ok(Some(leaf))
+    }
+
     // How a node of the ranges at hand is closed, whose leaf has this bound. The portfolio of a point may become the best one.
     fn closed_by(&mut self, alloc: Global, bound: i128) -> Result<Closing, NoMemory>
         requires { unsigned_abs bound < 10 ^ 37 }
@@ -279,8 +303,9 @@ impl<'a> Search<'a> {
         }
         Ok(Closing::Open)
     }
-    /// How a node of the ranges at hand is closed, whose leaf has this bound. Where the relaxation leads, it may be dived at before. A
-    /// portfolio that is found on the way may become the best one.
+
+    /// How a node of the ranges at hand is closed, whose leaf has this bound. Where there is no plan, it is first priced without the
+    /// cost. Where the relaxation leads, it may be dived at then. A portfolio that is found on the way may become the best one.
     pub(crate) fn closing(
         &mut self,
         alloc: Global,
@@ -293,6 +318,9 @@ impl<'a> Search<'a> {
         ensures no_dearer { OnOk result (IsNoDearer (best_cents self.old.best) (best_cents self.new.best)) }
         ensures tried { OnOk result (IfOk result (IsTried self.old.case (best_cents self.new.best) self.old.ranges bound)) }
     {
+        if let Some(leaf) = self.infeasible(alloc)? {
+            return Ok(Closing::Infeasible(leaf));
+        }
         if rule == SplitRule::Relaxation {
             self.dive(node)?;
         }

@@ -30,6 +30,9 @@ use proof_tree::Leaf;
 use search_tree::SearchTree;
 use std::alloc::Global;
 
+// How much work the search for a plan before the first tree is at most, in sweeps.
+const EFFORT: u32 = 30_000;
+
 // How much work the search for a cheaper plan between two trees is at most for each node of the budget, in sweeps: each goes once
 // through all columns of the linear program.
 const SWEEPS_A_NODE: u32 = 30;
@@ -86,12 +89,38 @@ impl<'a> Search<'a> {
             plan,
             best: None,
             bases: Vec::new(alloc),
+            costless: None,
             finder,
         })
     }
 
+    // Takes the cheapest of the backward plan, the one that it is trimmed to and that of a hint for the best, of those within the limit.
+    #[inline(never)]
+    fn take_cheapest(&mut self, alloc: Global, hint: &Hint) -> Result<(), NoMemory>
+        requires none { self.old.best ≡ None }
+        ensures kept { OnOk result (AreSameBut self.old self.new) }
+        ensures backward { OnOk result (IsNoDearerThanBackward self.old.case.limit self.old.case.book (best_cents self.new.best)) }
+    {
+        if let Some(plan) = cheapest(alloc, self.book, &self.limit, hint)? {
+            let cost = cost(self.book, &plan);
+            self.best = Some(Best { plan, cost });
+        }
+        Ok(())
+    }
+
+    // Whether no other plan is to be looked for: the best one costs at most a target, or, without one, a leaf of the ranges at hand shows
+    // that there is none.
+    fn is_settled(&mut self, alloc: Global, target: Cents) -> Result<bool, NoMemory>
+        ensures { OnOk result (self.new ≡ self.old) }
+    {
+        match &self.best {
+            Some(best) => Ok(best.cost.0 <= target.0),
+            None => Ok(self.infeasible(alloc)?.is_some()),
+        }
+    }
+
     // Looks for a plan that costs no more than the backward one, nor than that of a hint; it ends early where a plan costs just what the
-    // root's bound says.
+    // root's bound says, or a leaf shows that there is none.
     #[inline(never)]
     fn find_plan(&mut self, alloc: Global, bound: i128, hint: &Hint) -> Result<(), NoMemory>
         requires bound { unsigned_abs bound < 10 ^ 37 }
@@ -99,11 +128,12 @@ impl<'a> Search<'a> {
         ensures kept { OnOk result (AreSameBut self.old self.new) }
         ensures backward { OnOk result (IsNoDearerThanBackward self.old.case.limit self.old.case.book (best_cents self.new.best)) }
     {
+        self.take_cheapest(alloc, hint)?;
         let target = greatest_cost(bound, Cents(0));
-        if let Some(plan) = cheapest(alloc, self.book, &self.limit, target, hint)? {
-            let cost = cost(self.book, &plan);
-            self.best = Some(Best { plan, cost });
+        if self.is_settled(alloc, target)? {
+            return Ok(());
         }
+        self.find_cheaper(alloc, EFFORT, target)?;
         Ok(())
     }
 
@@ -236,14 +266,12 @@ impl<'a> Search<'a> {
         }))
     }
 
-    // Looks for a cheaper plan, by the work of so many sweeps for each node of the budget; it ends early where a plan costs just a
-    // bound.
+    // Looks for a cheaper plan, by the work of at most so many sweeps; it ends early where a plan costs just a bound.
     #[inline(never)]
-    fn find_cheaper(&mut self, alloc: Global, bound: Cents) -> Result<(), NoMemory>
+    fn find_cheaper(&mut self, alloc: Global, effort: u32, bound: Cents) -> Result<(), NoMemory>
         ensures kept { OnOk result (AreSameBut self.old self.new) }
         ensures no_dearer { OnOk result (IsNoDearer (best_cents self.old.best) (best_cents self.new.best)) }
     {
-        let effort = SWEEPS_A_NODE.saturating_mul(self.budget);
         if let Some(found) = find(alloc, self.book, &self.limit, effort, bound)? {
             self.offer(Best {
                 plan: found.plan,
@@ -266,7 +294,8 @@ impl<'a> Search<'a> {
         requires reach { IsInReach self.old.case.book }
         ensures { IsOutcome self.old.case result }
     {
-        self.find_cheaper(alloc, first.bound)?;
+        let effort = SWEEPS_A_NODE.saturating_mul(self.budget);
+        self.find_cheaper(alloc, effort, first.bound)?;
         self.start_again(alloc, tree)?;
         match self.grow_by(alloc, SplitRule::Halving, tree)? {
             RunEnd::Found(found) => Ok(found),

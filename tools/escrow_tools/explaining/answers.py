@@ -348,8 +348,13 @@ def _budget_spent(run: Run) -> list[str]:
     bound, best = cents_of(said["bound"]), said["best"]
     lines = ["the search ended after %s nodes, and what they prove isn't within the allowance" % said["nodes"]]
     if best == "none":
-        lines.append("no plan was found, and no rival costs less than %s" % money_for_people(bound))
-        return lines + (_needs_low_line(run.read_case()) or ["more lines on offer may help, or some `cash`"])
+        lines.append(
+            "no plan was found, nor a proof that there is none; no rival costs less than %s" % money_for_people(bound)
+        )
+        lines.append("a greater `budget`, of at most 10000, may find the one or the other")
+        return lines + (
+            _needs_low_line(run.read_case()) or ["more lines on offer may help, or smaller steps, or some `cash`"]
+        )
     lines.append(
         "the best plan costs %s, and no rival less than %s" % (money_for_people(cents_of(best)), money_for_people(bound))
     )

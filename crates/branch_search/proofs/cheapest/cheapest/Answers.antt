@@ -9,4 +9,4 @@ returns c =
     let book : BookContents = c.args.book.now in
     let built = subst (λ (n : ℕ). MatchOption c.in_ok-built.built (HasNone n book) (IsBest n book)) c.units.ensures.value c.in_ok-built.ensures in
     let hinted = subst (λ (n : ℕ). IfSome c.in_ok-hinted.hinted (IsProposal n book)) c.units-2.ensures.value c.in_ok-hinted.ensures in
-    c.cheaper.ensures c.args.limit.now (c.cheaper-plan.ensures c.args.limit.now built hinted) c.in_ok-proposed.ensures
+    c.cheaper.ensures c.args.limit.now built hinted
