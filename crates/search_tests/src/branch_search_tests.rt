@@ -243,7 +243,7 @@ fn cases_close_or_end(rt: HostRuntime) -> Result<(), Fail> {
         Row {
             issue: b"settle,2025-01-15\nneed,2025-07-15,1000.00\nrestricted,3.00\n",
             rates: b"terms,1000,1000\nrate,2025-02-14,2026-01-15,4.00\noffer,2025-07-15,4.00,,2000\n",
-            told: Told::Ended(Ending::NoneWithin { nodes: 5 }),
+            told: Told::Ended(Ending::NoneWithin { nodes: 1 }),
         },
         // nothing matures on the need date, so that there is no backward plan
         Row {
