@@ -4,11 +4,15 @@ from __future__ import annotations
 
 import contextlib
 import io
+import os
 import re
+import tempfile
 import unittest
 from pathlib import Path
+from unittest import mock
 
 from harness import ROOT, FolderTest, run_program
+from escrow_tools import built
 from escrow_tools.documents.command import RUN, all_documents, faults_of
 from escrow_tools.documents.files import missing_files
 from escrow_tools.documents.parts import parts_of
@@ -148,6 +152,18 @@ class RepositoryTest(unittest.TestCase):
         for name in all_documents(ROOT):
             with self.subTest(name):
                 self.assertEqual(faults_of(ROOT, name), [])
+
+    def test_version(self) -> None:
+        """The version heads the list of changes, and the tools have it for their pages."""
+        version = built.version()
+        self.assertEqual((ROOT / "VERSION").read_text(), version + "\n")
+        headings = [part.text for part in parts_in("CHANGELOG.md") if part.kind == "heading"]
+        self.assertEqual(headings[1], version)
+        with tempfile.TemporaryDirectory() as folder, mock.patch.dict(os.environ, {"ESCROW_ROOT": folder}):
+            self.assertEqual(built.version(), "")
+            for text, wanted in (("1.2.3\n", "1.2.3"), ("1.2\n", ""), ("1.2.3 or so\n", "")):
+                Path(folder, "VERSION").write_text(text)
+                self.assertEqual(built.version(), wanted)
 
     def test_lengths(self) -> None:
         for name, (mean, most) in LENGTHS.items():
