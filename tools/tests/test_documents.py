@@ -13,6 +13,7 @@ from unittest import mock
 
 from harness import ROOT, FolderTest, run_program
 from escrow_tools import built
+from escrow_tools.crate_graph import read_edges
 from escrow_tools.documents.command import RUN, all_documents, faults_of
 from escrow_tools.documents.files import missing_files
 from escrow_tools.documents.parts import parts_of
@@ -64,6 +65,11 @@ KINDS = [
 # The most words of a sentence in the mean, and of the longest; and the most bytes of a document.
 LENGTHS = {"README.md": (18, 30), "docs/GUIDE.md": (18, 32)}
 BYTES = {"README.md": 7_000, "docs/PERFORMANCE.md": 10_000}
+
+
+def layer_of(edges: dict, crate: str) -> int:
+    """How many crates of this repository the longest chain up to this one has; a crate of the kit has none."""
+    return 1 + max([layer_of(edges, below) for below in edges[crate]], default=0) if crate in edges else 0
 
 
 def parts_in(name: str) -> list:
@@ -178,6 +184,15 @@ class RepositoryTest(unittest.TestCase):
         for name in RUN:
             with self.subTest(name):
                 self.assertEqual(shown_faults(ROOT, parts_in(name)), [])
+
+    def test_layers(self) -> None:
+        """The picture of docs/ARCHITECTURE.md has each crate in its layer: one above the highest of those that it stands on."""
+        edges = read_edges((ROOT / "crates.txt").read_text(encoding="utf-8"))
+        layers = {crate: layer_of(edges, crate) for crate in edges}
+        (picture,) = [part.text for part in parts_in("docs/ARCHITECTURE.md") if part.kind == "code" and "13  escrow_cli" in part.text]
+        rows = [re.match(r" *(\d+)  (\w+(?:, \w+)*)", line) for line in picture.splitlines()]
+        shown = {crate: int(row[1]) for row in rows for crate in row[2].split(", ")}
+        self.assertEqual(shown, layers)
 
     def test_promises(self) -> None:
         """The tables of docs/PROVED.md have the clauses of `run` and no others, each with definitions that there are."""
