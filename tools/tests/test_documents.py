@@ -126,6 +126,7 @@ class ShownTest(FolderTest):
             ("<!-- file: file -->\n\n    ..\n    two\n", []),
             ("<!-- file: file -->\n\n    four\n", [(5, "what is shown isn't in file")]),
             ("<!-- before: echo five >file -->\n\n    echo two; cat file\n\nsays\n\n    five\n", []),
+            ("    mkdir /tmp/new && echo six >/tmp/new/file\n\n<!-- folder: /tmp/new -->\n\n<!-- file: file -->\n\n    six\n", []),
             ("<!-- not run: it can't -->\n\n    echo; false\n\nand\n\n    echo one\n", []),
             ("    echo one >/tmp/made; cat /tmp/made; echo /tmp/made\n\nsays\n\n    one\n    /tmp/made\n", []),
         ):

@@ -24,7 +24,8 @@ isn't so.
 A block of code is commands, where it begins as one, and else what the commands above it say; `..` stands for lines
 that are left out. A comment on a line of its own says what a reader sees without it:
 
-    <!-- folder: examples/series -->   what follows is run in a copy of this folder (`.`: at the top)
+    <!-- folder: examples/series -->   what follows is run in a copy of this folder (`.`: at the top; one
+                                       below /tmp: one that was made)
     <!-- before: COMMAND -->           this is run, and not shown
     <!-- file: NAME -->                the block below is what stands in this file
     <!-- status: N -->                 the commands below end with this status

@@ -13,7 +13,7 @@ from pathlib import Path
 from .parts import CODE, MARK, Part
 
 # The words with which a block of commands begins.
-_COMMAND = re.compile(r"^(?:(?:\./escrow|bash|echo|cp|touch|source|tools/\S+|tests/\S+)(?= |$)|escrow [a-z-]+ )")
+_COMMAND = re.compile(r"^(?:(?:\./escrow|bash|echo|mkdir|cp|touch|source|tools/\S+|tests/\S+)(?= |$)|escrow [a-z-]+ )")
 _INLINE = re.compile(r"`(?:\./escrow |escrow (?=--))([a-z-]+)")
 _TRIAL = re.compile(r"(?m)^escrow: a trial build, not proved on this machine; .*\n")
 # What stands in a document for lines that are left out.
@@ -79,7 +79,10 @@ class Trying:
             self.left_out = True
 
     def _enter(self, name: str) -> None:
-        """Begins a new folder: the top of the repository, or a copy of one that it has, with a link to ./escrow."""
+        """Begins a new folder: the top of the repository, or a copy of one that it has, with a link to ./escrow; or one that was made."""
+        if name.startswith("/tmp/"):
+            self.folder = self.room / name[len("/tmp/") :]
+            return
         self.folder = Path(tempfile.mkdtemp(dir=self.room))
         linked = ["escrow"] if name != "." else os.listdir(self.root)
         if name != ".":
