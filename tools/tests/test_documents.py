@@ -20,6 +20,7 @@ from escrow_tools.documents.parts import parts_of
 from escrow_tools.documents.sentences import lengths_of, sentences_of
 from escrow_tools.documents.shown import is_part, shown_faults, unknown_commands
 from escrow_tools.reading.clauses import Clauses
+from escrow_tools.reading.command import is_declared
 from escrow_tools.reading.library import Library
 from escrow_tools.timed_cases import CASES
 from escrow_tools.timed_cases import run as run_timed_cases
@@ -204,6 +205,8 @@ class RepositoryTest(unittest.TestCase):
         clauses = {name for row in rows for name in re.findall(r"`(\w+)`", row[0])}
         self.assertEqual(clauses, set(Clauses(ROOT, library).texts))
         self.assertEqual({name for row in rows for name in re.findall(r"`(\w+)`", row[1])} - known, set())
+        lines = sum(found.lines for found in Clauses(ROOT, library).reached(["yes"]) if not is_declared(found))
+        self.assertIn("have {:,} lines (`tools/reading_path yes`)".format(lines), text)
 
 
 if __name__ == "__main__":
