@@ -21,6 +21,7 @@ from .schedule import jobs_for_machine
 from .sources import LIST, read_sources
 from .stamps import PROVED, TRIAL
 from .trial import build_trial
+from .version import read_version
 
 ROOT = Path(__file__).resolve().parents[2]
 PROVE = """\
@@ -49,9 +50,10 @@ def _revision() -> str:
 
 
 def _further() -> dict:
-    """What a stamp says beside its digests: the revision, the day, the machine, and the python3 by which it was made, which ./escrow
-    then runs the tools by: the one on the path may be a script that takes longer than the tool."""
+    """What a stamp says beside its digests: the version, the revision, the day, the machine, and the python3 by which it was made, which
+    ./escrow then runs the tools by: the one on the path may be a script that takes longer than the tool."""
     return {
+        "version": read_version(ROOT) or "none",
         "revision": _revision(),
         "made": time.strftime("%Y-%m-%d %H:%M UTC", time.gmtime()),
         "machine": "%s, %s" % (socket.gethostname(), os.uname().machine),

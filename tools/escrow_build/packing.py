@@ -18,7 +18,9 @@ from .stamps import NAME, PROVED, STAMP, Stamp, holds, read_stamp, write_whole
 
 # What goes into the archive beside the program, from the root of the repository.
 PARTS = (
+    "CHANGELOG.md",
     "README.md",
+    "VERSION",
     "docs",
     "escrow",
     "examples",
@@ -29,6 +31,8 @@ PARTS = (
     "tools/main.py",
 )
 DIGESTS = "DIGESTS"
+# What the list of digests says of the program.
+_SAID = ("kit", "sources", "program", "version", "revision", "made", "machine", "gate")
 # All files of an archive have this time, the first of 1980, so that two archives of the same files are the same.
 _TIME = 315532800
 _COMMANDS = ("escrow", "out/proved/" + NAME)
@@ -63,7 +67,7 @@ def packed_files(root: Path) -> List[str]:
 def digests_text(stamp: Stamp, files: Dict[str, bytes]) -> str:
     """The list of digests, as `sha256sum --check` reads it, below what is known of the program."""
     rows = [("kit", stamp.kit), ("sources", stamp.sources), ("program", stamp.program), *stamp.further.items()]
-    rows = [(name, value) for name, value in rows if name in ("kit", "sources", "program", "revision", "made", "machine", "gate")]
+    rows = [(name, value) for name, value in rows if name in _SAID]
     head = ["# The program was proved and built from these sources, by this kit, then and there:"]
     head += ["# %s: %s" % row for row in rows]
     head += ["# The files, to compare by `sha256sum --check --quiet %s`:" % DIGESTS]

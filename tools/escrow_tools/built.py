@@ -7,6 +7,7 @@ from pathlib import Path
 from typing import Optional
 
 from escrow_build.stamps import STAMP, TRIAL, Stamp, read_stamp
+from escrow_build.version import read_version
 
 from .program import program_path
 
@@ -14,6 +15,11 @@ from .program import program_path
 def program_stamp() -> Optional[Stamp]:
     """The stamp beside the program, or None where there is none."""
     return read_stamp(Path(program_path()).parent / STAMP)
+
+
+def version() -> str:
+    """The version of these tools and of the program that they run, as 0.1.0; empty where nothing says it."""
+    return read_version(Path(os.environ.get("ESCROW_ROOT") or Path(__file__).resolve().parents[2]))
 
 
 def is_archive() -> bool:

@@ -4,6 +4,7 @@ from __future__ import annotations
 
 import hashlib
 import os
+import re
 import shutil
 import signal
 import subprocess
@@ -20,6 +21,7 @@ from test_script import without_python
 # Hands all on to the program that these tests are of.
 WRAPPER = "#!/usr/bin/env bash\n# escrow_cli\nexec '%s' \"$@\"\n"
 TRIAL = "a trial build, not proved on this machine"
+VERSION = (ROOT / "VERSION").read_text().strip()
 
 
 class BuildTest(FolderTest):
@@ -62,11 +64,12 @@ class TrialTest(BuildTest):
 
     def test_version(self) -> None:
         before = self.it.run("--version").out.decode()
-        self.assertIn("not built", before)
+        self.assertRegex(before, r"^escrow %s, revision .+, sources [0-9a-f]{64}\nnot built" % re.escape(VERSION))
         self.assertEqual(self.tries(), 0)
         self.answers("first")
         lines = self.it.run("--version").out.decode().splitlines()
-        self.assertRegex(lines[0], "^escrow .*, sources [0-9a-f]{64}$")
+        self.assertRegex(lines[0], "^escrow %s, revision .+, sources [0-9a-f]{64}$" % re.escape(VERSION))
+        self.assertIn("version %s\n" % VERSION, (self.it.trial / "stamp").read_text())
         self.assertRegex(lines[1], "^a trial build of .* UTC, not proved on this machine$")
         self.assertEqual(lines[2], "kit stand-in-1 logic 0123456789abcdef")
         self.assertRegex(lines[3], "^program [0-9a-f]{64}$")
@@ -462,11 +465,12 @@ class PackageTest(BuildTest):
         ran = self.it.run("--version", script=str(unpacked / "escrow"), env=bare)
         self.assertEqual(ran.status, 0)
         lines = ran.out.decode().splitlines()
+        self.assertRegex(lines[0], "^escrow %s, revision .+, sources [0-9a-f]{64}$" % re.escape(VERSION))
         self.assertRegex(lines[1], "^proved on .* UTC, on the machine .*; not on this one$")
         self.assertEqual(lines[2], "kit stand-in-1 logic 0123456789abcdef")
         self.assertEqual(lines[-1], "files: each is as DIGESTS has it")
         head = (unpacked / "DIGESTS").read_text()
-        for words in ("# kit: stand-in-1 logic", "# sources: ", "# program: ", "# made: "):
+        for words in ("# kit: stand-in-1 logic", "# sources: ", "# program: ", "# version: %s\n" % VERSION, "# made: "):
             self.assertIn(words, head)
         ran = self.it.run("prove", script=str(unpacked / "escrow"), env=bare)
         self.assertEqual(ran.status, 125)

@@ -126,7 +126,7 @@ class ScriptTest(FolderTest):
             self.assertIn("\n  %s" % form, listed)
         for command in ("best", "needs", "offers", "prices", "page"):
             self.assertIn("\n  %s " % command, listed)
-        self.assertRegex(run_script(self.folder, "--version").out.decode(), "^escrow .*sources [0-9a-f]{16}")
+        self.assertRegex(run_script(self.folder, "--version").out.decode(), r"^escrow \d+\.\d+\.\d+, revision .+, sources [0-9a-f]{64}\n")
         for command in ("best", "needs", "offers", "prices", "page"):
             ran = run_script(self.folder, command, "--help")
             self.assertEqual(ran.status, 0, ran.err)

@@ -1,0 +1,1 @@
+"""The documents: the length of their sentences, the files that they name, and the commands that they show."""
