@@ -18,4 +18,4 @@ returns-clause-shown c =
     let found = c.tune_without_cost-bound in
     subst (λ (s : SearchContents). ShowsNone s.case s.ranges c.in_ok-leaf.leaf) c.self.view_is
     (subst (λ (l : Leaf). ShowsNone own c.self.inside.ranges l) (sym c.in_ok-leaf.ensures)
-    (shows-none own c.self.inside.tuner found.new.into c.self.inside.ranges found.result c.self.invariant.tuned found.ensures.leaf found.ensures.without_cost found.ensures.bound (omega (arith, ints, c.if-bound-le0.false))))
+    (shows-none own c.self.inside.tuner found.new.into c.self.inside.ranges found.result c.self.invariant.tuned found.ensures.leaf found.ensures.without_cost found.ensures.bound (omega (arith, ints))))
