@@ -13,7 +13,7 @@ from .explaining.case_reading import read_whole_case
 from .explaining.explanation import shown
 from .explaining.faults import Fault, FaultReader
 from .explaining.forms import FORMS
-from .explaining.kinds import LIST, MAKERS, NAMED, TABLE, is_list, is_table
+from .explaining.kinds import MAKERS, NAMED, given_kind
 from .explaining.mending import DAY_FIRST, MONTH_FIRST
 from .explaining.refusals import explanation_of, other_kind
 from .explaining.rows import mended_row, plain_word, with_row
@@ -136,9 +136,9 @@ def _kind(name: str, data: bytes) -> str:
     best = max(scores, key=lambda file: scores[file])
     if scores[best]:
         return best
-    for kind, is_one in ((TABLE, is_table), (LIST, is_list)):
-        if is_one(data):
-            raise Stop("%s is %s, and no file of a case: %s" % (name, NAMED[kind], MAKERS[kind]))
+    kind = given_kind(data)
+    if kind is not None:
+        raise Stop("%s is %s, and no file of a case: %s" % (name, NAMED[kind], MAKERS[kind]))
     named = next((file for file in ORDER if os.path.basename(name).lower().startswith(file)), None)
     if named is None:
         raise Stop("%s: no row shows which file of a case it is; --as issue, rates, prices or held says it" % name)

@@ -13,7 +13,7 @@ from ..records import records_of
 from ..speaking import Stop
 from .forms import FORMS
 
-TABLE, LIST = "table", "list"
+TABLE, LIST, BONDS = "table", "list", "bonds"
 NAMED = {
     ISSUE: "an issue file",
     RATES: "a rate file",
@@ -22,9 +22,14 @@ NAMED = {
     CERT: "a certificate",
     TABLE: "a table of rates",
     LIST: "a list of notes",
+    BONDS: "a table of bonds",
 }
 # The tool that makes a file of the case from what isn't one, and its words.
-MAKERS = {TABLE: "`./escrow offers ISSUE TABLE -o RATES` makes the rate file of it", LIST: "`./escrow prices ISSUE LIST -o PRICES` makes the price file of it"}
+MAKERS = {
+    TABLE: "`./escrow offers ISSUE TABLE -o RATES` makes the rate file of it",
+    LIST: "`./escrow prices ISSUE LIST -o PRICES` makes the price file of it",
+    BONDS: "`./escrow needs --bonds BONDS --settle DATE -o ISSUE` makes the issue file of it",
+}
 # As much of a file as shows what it is.
 HEAD_BYTES, HEAD_LINES = 65_536, 200
 LENGTH = re.compile(r"(?i)^\W*(?:from\s+)?\d{1,5}(?:\.\d+)?[\s-]*(?:d|days?|w|wks?|weeks?|m|mos?|months?|y|yrs?|years?)\b|^\W*\d{1,2}-\d{2}\s*[,;\t| ]")
@@ -66,11 +71,24 @@ def _looks_like(head: bytes, own: str) -> Optional[str]:
     return best if scores[best] else None
 
 
+def is_bonds(data: bytes) -> bool:
+    """Whether it is a table of bonds, and no list of notes, which has prices."""
+    from ..bond_table_text import is_bond_table
+
+    return is_bond_table(data, without_prices=True)
+
+
+def given_kind(data: bytes) -> Optional[str]:
+    """Which of the files it is that a tool makes a file of the case from."""
+    kinds = ((TABLE, is_table), (BONDS, is_bonds), (LIST, is_list))
+    return next((kind for kind, is_one in kinds if is_one(data)), None)
+
+
 def kind_of(data: bytes) -> Optional[str]:
     """What a file is; None where that can't be told."""
     if data.startswith(b"escrow-certificate"):
         return CERT
-    return looks_like(data) or (TABLE if is_table(data) else LIST if is_list(data) else None)
+    return looks_like(data) or given_kind(data)
 
 
 def kind_of_file(path: str) -> Optional[str]:
@@ -84,7 +102,7 @@ def try_places(issue: str, other: str, wanted: str) -> None:
     if kinds[1] == ISSUE and kinds[0] != ISSUE:
         first = "%s is %s" % (issue, NAMED.get(kinds[0] or "", "no issue file"))
         raise Stop("%s, and %s an issue file: the words are ISSUE %s, in this order: %s %s" % (first, other, word, other, issue))
-    if kinds[1] in (TABLE, LIST) and kinds[1] != wanted:
+    if kinds[1] in MAKERS and kinds[1] != wanted:
         raise Stop("%s is %s, and not %s: %s" % (other, NAMED[kinds[1]], NAMED[wanted], MAKERS[kinds[1]]))
     if kinds[1] in NAMED and kinds[1] != wanted:
         raise Stop("%s is %s; the words are ISSUE %s, and the second is %s" % (other, NAMED[kinds[1]], word, NAMED[wanted]))

@@ -26,7 +26,7 @@ from ..records import Record, records_of
 from .case_reading import CaseRead, read_whole_case
 from .explanation import Explanation, place_of, shown
 from .forms import FORMS, fields_of, form_of, order_in, words_of
-from .kinds import LIST, MAKERS, NAMED, TABLE, is_list, is_table, looks_like
+from .kinds import MAKERS, NAMED, given_kind, looks_like
 from .rows import meant_word, mended_row, other_separator, plain_word, reordered
 
 WHAT_FILES_ARE = {
@@ -176,7 +176,7 @@ def _right_order(refused: Refused) -> str:
 
 def _made_by_tool(data: bytes) -> Optional[str]:
     """Which tool makes a file of the case of what stands here."""
-    found = TABLE if is_table(data) else LIST if is_list(data) else None
+    found = given_kind(data)
     return None if found is None else "it is %s: %s" % (NAMED[found], MAKERS[found])
 
 
