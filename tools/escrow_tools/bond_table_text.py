@@ -265,8 +265,6 @@ class _TableReader:
         self.told += ["line %d of the table: %s" % (line.number, one) for one in told]
 
     def _try_bond(self, bond: ListedBond, told: list) -> None:
-        if self.columns.places["series"] is not None and not bond.series:
-            raise LineFault("no series: write it in each row, or in none")
         if bond.call is not None and bond.call.day <= self.reading.settlement:
             raise LineFault("its call on %s isn't after settlement on %s" % (bond.call.day, self.reading.settlement))
         if bond.pays == INTEREST and (bond.call is None or bond.call.price != 100 * 10**8):
@@ -369,6 +367,9 @@ def read_bond_table(data: bytes, reading: Reading, what: str = "the table of bon
     reader.read()
     if reader.faults:
         raise Stop(*told_faults(reader.faults, what))
+    unnamed = [bond.line for bond in reader.bonds if not bond.series]
+    if 0 < len(unnamed) < len(reader.bonds):
+        raise Stop("line %d of %s has no series: write it in each row, or in none" % (unnamed[0], what))
     if not reader.bonds:
         raise Stop("%s has no bond that matures after settlement on %s" % (what, reading.settlement))
     called = [bond for bond in reader.bonds if bond.call is not None]

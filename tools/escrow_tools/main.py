@@ -15,7 +15,7 @@ from .report import BadReport
 from .speaking import Stop, forget_output, tell
 from .statuses import MADE_NOTHING
 
-COMMANDS = ("best", "completion", "explain", "manual", "mend", "needs", "offers", "page", "prices", "savings")
+COMMANDS = ("best", "compare", "completion", "explain", "holidays", "manual", "mend", "needs", "offers", "page", "prices", "savings")
 
 
 def main(words: list[str]) -> int:

@@ -4,6 +4,7 @@ from __future__ import annotations
 
 import io
 import re
+import warnings
 from datetime import date, datetime
 from decimal import Decimal
 from typing import Optional
@@ -29,7 +30,9 @@ def _opened(data: bytes, what: str):
             "%s is a spreadsheet file, which is read where python3-openpyxl is installed: install it, or save the sheet as CSV" % what
         ) from None
     try:
-        return openpyxl.load_workbook(io.BytesIO(data), data_only=True), openpyxl.load_workbook(io.BytesIO(data))
+        with warnings.catch_warnings():
+            warnings.simplefilter("ignore")
+            return openpyxl.load_workbook(io.BytesIO(data), data_only=True), openpyxl.load_workbook(io.BytesIO(data))
     except Exception as fault:  # pylint: disable=broad-except
         raise Stop("%s can't be read as a spreadsheet file: %s; save the sheet as CSV" % (what, str(fault)[:100])) from None
 

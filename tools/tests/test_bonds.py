@@ -4,12 +4,17 @@ from __future__ import annotations
 
 import csv
 import io
+import re
 import unittest
+from dataclasses import replace
 from datetime import date
 from decimal import ROUND_HALF_UP, Decimal
+from random import Random
 
 from harness import EXAMPLES, FolderTest, run_program, run_tool
 from misread_bonds import TABLES, Table
+from plain_reader import text_of
+from test_fuzz import mutated
 from escrow_tools.bond_table_text import Reading, read_bond_table
 from escrow_tools.bonds_asked import BondFile, asked_call, kept_text, told_totals
 from escrow_tools.speaking import Stop
@@ -22,6 +27,7 @@ except ImportError:
 SETTLE = ("--settle", "2026-02-17")
 SERIES = EXAMPLES / "series"
 CALL = "2031-06-01,100"
+SHEET = (EXAMPLES / "statement" / "bonds.csv").read_text()
 CALLS = {"series-a.csv": "2031-06-01,100", "series-b.csv": "2033-12-01,101"}
 
 
@@ -127,6 +133,28 @@ class BondsTest(FolderTest):
         accrued = (Decimal(7905000) * Decimal("4.375") * 76 / 36000).quantize(cent, ROUND_HALF_UP)
         wanted = {day: ("0.00", str(half), "0.00") for day in ("2026-05-15", "2026-11-15", "2027-05-15", "2027-11-15", "2028-05-15")}
         self.assertEqual(paid, {**wanted, "2028-08-01": ("7905000.00", str(accrued), "39525.00")})
+
+    def test_drawn(self) -> None:
+        """Tables with changes: each is read whole or refused; each row is a bond or is passed over; what is kept of a table is read again as
+        the same bonds; and each principal stands in the table."""
+        draw, reading, numbers = Random(69), Reading(date(2026, 2, 17)), [0, 0]
+        for _ in range(400):
+            data = mutated(draw, (SHEET if draw.random() < 0.5 else table_of_series()).encode())
+            try:
+                table = read_bond_table(data, reading)
+            except Stop as stop:
+                self.assertTrue(stop.lines and all(stop.lines))
+                numbers[1] += 1
+                continue
+            numbers[0] += 1
+            self.assertEqual(table.rows, len(table.bonds) + len(table.skipped))
+            digits = re.sub(r"[^\d\n]", "", text_of(data))
+            for bond in table.bonds:
+                self.assertIn(str(bond.principal // 100), digits)
+            file = BondFile("bonds.csv", data, table, reading)
+            again = read_bond_table(kept_text(file).encode(), reading).bonds
+            self.assertEqual([replace(bond, line=0, series="") for bond in again], [replace(bond, line=0, series="") for bond in table.bonds])
+        self.assertGreater(min(numbers), 50, numbers)
 
     def test_words(self) -> None:
         self.write("bonds.csv", "maturity,principal,coupon\n2028-06-01,6500000,5\n")

@@ -39,9 +39,12 @@ class TermSheetTest(FolderTest):
 
     def try_example(self, example) -> None:
         for path in example.iterdir():
-            if path.name in ("table.csv", "notes.csv", "held.csv", "series-a.csv", "series-b.csv"):
+            if path.name in ("table.csv", "notes.csv", "held.csv", "series-a.csv", "series-b.csv", "bonds.csv"):
                 self.write(path.name, path.read_bytes())
         self.write("prices.csv", b"")
+        if (example / "bonds.csv").exists():
+            self.try_in_one(example)
+            return
         self.write("issue.csv", self.without_allowance((example / "issue.csv").read_bytes()))
         for words in commands((example / "termsheet.txt").read_text()):
             name, further = words[1], words[2:]
@@ -62,6 +65,24 @@ class TermSheetTest(FolderTest):
                 self.assertEqual((self.folder / name).read_bytes(), (example / name).read_bytes(), name)
         made = self.without_allowance((self.folder / "issue.csv").read_bytes())
         self.assertEqual(made, self.without_allowance((example / "issue.csv").read_bytes()))
+
+    def try_in_one(self, example) -> None:
+        """From the table of bonds to the page without a word between: each command ends well, and what it makes is what stands there."""
+        for words in commands((example / "termsheet.txt").read_text()):
+            name, further = words[1], words[2:]
+            if name in ("check", "check-held"):
+                self.assertEqual(run_program(self.folder, name, *further).out, (example / "expected.txt").read_bytes())
+                continue
+            output = further[further.index(">") + 1] if ">" in further else None
+            ran = run_tool(self.folder, name, *(further[: further.index(">")] if output else further))
+            self.assertEqual(ran.status, 0, ran.err)
+            self.assertNotIn("caution", ran.err)
+            if output:
+                self.write(output, ran.out)
+        kept = {path.name for path in example.iterdir()} - {"termsheet.txt", "expected.txt"}
+        self.assertEqual(kept | {"page.html"}, {path.name for path in self.folder.iterdir()} - {".escrow-made"})
+        for name in kept:
+            self.assertEqual((self.folder / name).read_bytes(), (example / name).read_bytes(), name)
 
     def test_term_sheets(self) -> None:
         for path in sorted(EXAMPLES.glob("*/termsheet.txt")):

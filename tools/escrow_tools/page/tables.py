@@ -1,4 +1,4 @@
-"""The tables of the page: what stands in each column, for paper and for a spreadsheet."""
+"""The exhibits of the page, in the order of a verification report: what stands in each column, for paper and for a spreadsheet."""
 
 from __future__ import annotations
 
@@ -7,10 +7,10 @@ from datetime import date
 from typing import Optional
 
 from ..amounts import counted, money_for_people, price_text, rate_text, yield_text
+from ..bond_fields import ALL, PRINCIPAL
 from ..case_files import Issue, RateIndex
-from ..days import index_from
 from ..report import Idle
-from .figures import Figures, Held, YieldProof, restricted_units
+from .figures import Figures, Held, Refunded, YieldProof, is_restricted, restricted_units
 
 KINDS = {
     "certificate": "Certificate of indebtedness",
@@ -27,6 +27,8 @@ class Column:
     name: str
     kind: str = "text"
     adds_up: bool = False
+    # Of factors and values: how many decimals their whole numbers have.
+    decimals: int = 2
 
 
 @dataclass
@@ -40,6 +42,15 @@ class Table:
     remark: str = ""
     # Rows that are to be seen: those of idle cash.
     marked: frozenset = frozenset()
+    # Rows below the totals: plain values as above.
+    further: list = field(default_factory=list)
+    # A table that is too long for paper stands in the folder of --csv alone.
+    is_shown: bool = True
+    exhibit: str = ""
+
+    @property
+    def heading(self) -> str:
+        return "%s: %s" % (self.exhibit, self.title) if self.exhibit else self.title
 
     def total(self, place: int) -> Optional[int]:
         if not self.columns[place].adds_up:
@@ -67,54 +78,132 @@ def count_column(name: str) -> Column:
     return Column(name, "count")
 
 
-def sources_and_uses(figures: Figures) -> Table:
+@dataclass(frozen=True)
+class Asked:
+    """What the words of the command say of the exhibits: further sources and uses in cents, and from which amount on idle cash is marked."""
+
+    sources: tuple = ()
+    uses: tuple = ()
+    idle: int = 100_000
+
+    @property
+    def given(self) -> int:
+        return sum(cents for _, cents in self.sources)
+
+
+def remainder(figures: Figures, asked: Asked) -> int:
+    """By how much the sources that are named exceed all uses; where none is named, nothing."""
+    return asked.given - figures.summary.cost - sum(cents for _, cents in asked.uses) if asked.sources else 0
+
+
+def sources_and_uses(figures: Figures, asked: Asked) -> Table:
     slgs = sum(held.cost.total for held in figures.held if held.line.is_slgs)
     clean = sum(held.cost.price for held in figures.held if not held.line.is_slgs)
     accrued = sum(held.cost.accrued for held in figures.held if not held.line.is_slgs)
-    rows = [
-        ("Deposit to the escrow at settlement", figures.summary.cost, None),
-        ("SLGS securities", None, slgs),
-        ("Marketable notes, clean price", None, clean),
-        ("Marketable notes, accrued interest", None, accrued),
-        ("Opening cash that is left uninvested", None, figures.cash),
+    further = sum(cents for _, cents in asked.uses)
+    rows: list = [(name, cents, None) for name, cents in asked.sources]
+    if not asked.sources:
+        rows.append(("Deposit to the escrow at settlement", figures.summary.cost, None))
+        rows.append(("For the other uses", further, None))
+    rows += [
+        ("Escrow: SLGS securities", None, slgs),
+        ("Escrow: marketable notes, clean price", None, clean),
+        ("Escrow: marketable notes, accrued interest", None, accrued),
+        ("Escrow: opening cash, uninvested", None, figures.cash),
     ]
+    rows += [(name, None, cents) for name, cents in asked.uses]
+    left = remainder(figures, asked)
+    if left > 0:
+        rows.append(("Remainder: the sources exceed the uses", None, left))
+    if left < 0:
+        rows.append(("Not covered by the sources that are named", -left, None))
     rows = [row for row in rows if row[1] or row[2]]
     return Table(
         "sources",
         "Sources and uses at settlement",
         [text_column("what"), money_column("sources"), money_column("uses")],
         rows,
+        "The escrow costs %s." % money_for_people(figures.summary.cost),
     )
+
+
+def _subscribed(figures: Figures) -> list[Held]:
+    """The SLGS securities in the order of a subscription: by type, maturity and rate."""
+    held = [one for one in figures.held if one.line.is_slgs]
+    kinds = list(KINDS)
+    return sorted(held, key=lambda one: (kinds.index(one.line.security.kind), one.line.security.maturity, one.line.security.rate))
+
+
+def _first_interest(held: Held) -> Optional[date]:
+    """The first day of interest that is subscribed for; a certificate has none, since it pays at maturity."""
+    security = held.line.security
+    return None if security.kind == "certificate" else security.first
 
 
 def subscriptions(figures: Figures) -> Table:
     index = RateIndex(figures.case.rates.ranges)
     rows = []
-    for held in figures.held:
-        if held.line.is_slgs:
-            security = held.line.security
-            most = index.find(security.maturity)
-            rows.append(
-                (
-                    held.line.number,
-                    KINDS[security.kind],
-                    security.maturity,
-                    security.rate,
-                    most.rate if most else None,
-                    security.first,
-                    held.bought.face,
-                )
+    for held in _subscribed(figures):
+        security = held.line.security
+        most = index.find(security.maturity)
+        rows.append(
+            (
+                held.line.number,
+                KINDS[security.kind],
+                held.bought.face,
+                security.rate,
+                most.rate if most else None,
+                security.maturity,
+                _first_interest(held),
+                figures.settlement,
             )
+        )
     columns = [
         count_column("line"),
-        text_column("security"),
-        day_column("maturity"),
+        text_column("type"),
+        money_column("principal"),
         rate_column("rate, %"),
         rate_column("table's greatest, %"),
+        day_column("maturity"),
         day_column("first interest"),
-        money_column("amount"),
+        day_column("issue date"),
     ]
-    return Table("slgs", "Subscriptions for SLGS securities", columns, rows)
+    return Table("slgs", "Subscriptions for SLGS securities", columns, rows, "A certificate pays its interest at maturity.")
+
+
+def subscription_types(figures: Figures) -> Table:
+    """How many securities of each type are subscribed for, and their principal."""
+    held = _subscribed(figures)
+    rows = []
+    for kind, name in KINDS.items():
+        faces = [one.bought.face for one in held if one.line.security.kind == kind]
+        if faces:
+            rows.append((name, len(faces), sum(faces)))
+    columns = [text_column("type"), Column("securities", "count", True), money_column("principal")]
+    return Table("types", "Subscriptions by type", columns, rows)
+
+
+def subscription_form(figures: Figures) -> Table:
+    """The subscriptions in the order in which they are typed: type, principal, rate, maturity, first interest, issue date, all day as
+    month, day and year."""
+
+    def typed(day: Optional[date]) -> str:
+        return "" if day is None else day.strftime("%m/%d/%Y")
+
+    rows = [
+        (
+            KINDS[one.line.security.kind],
+            one.bought.face,
+            one.line.security.rate,
+            typed(one.line.security.maturity),
+            typed(_first_interest(one)),
+            typed(figures.settlement),
+        )
+        for one in _subscribed(figures)
+    ]
+    columns = [text_column("security type"), money_column("principal amount"), rate_column("interest rate"), text_column("maturity date")]
+    columns += [text_column("first interest payment date"), text_column("issue date")]
+    return Table("form", "", columns, rows)
 
 
 def notes(figures: Figures, cusips: dict) -> Table:
@@ -149,34 +238,46 @@ def notes(figures: Figures, cusips: dict) -> Table:
     return Table("notes", "Marketable notes", columns, rows)
 
 
+def _names(figures: Figures) -> list[Column]:
+    """The columns by which a bond is known, as far as any bond has them: file, series, CUSIP."""
+    bonds = figures.refunded
+    columns = [text_column("file")] if len({one.file for one in bonds}) > 1 else []
+    columns += [text_column("series")] if any(one.series for one in bonds) else []
+    return columns + ([text_column("CUSIP")] if any(one.cusip for one in bonds) else [])
+
+
+def _named(one: Refunded, columns: list[Column]) -> tuple:
+    said = {"file": one.file, "series": one.series, "CUSIP": one.cusip}
+    return tuple(said[column.name] for column in columns)
+
+
 def bonds(figures: Figures) -> Table:
-    files = {refunded.file for refunded in figures.refunded}
+    names = _names(figures)
+    parts = any(one.pays != ALL for one in figures.refunded)
     rows = []
     for one in figures.refunded:
-        called = one.call.day if one.call else None
-        parts = tuple(one.total(part) for part in ("principal", "interest", "premium", "total"))
         rows.append(
-            ((one.file,) if len(files) > 1 else ())
-            + (one.bond.maturity, one.bond.coupon, called, one.call.price if one.call else None)
-            + parts
+            _named(one, names)
+            + (one.maturity, one.principal, one.coupon, one.called, one.call_price)
+            + ((one.pays,) if parts else ())
+            + tuple(one.total(part) for part in ("principal", "interest", "premium", "total"))
         )
-    columns = ([text_column("file")] if len(files) > 1 else []) + [
+    columns = names + [
         day_column("maturity"),
+        money_column("outstanding"),
         rate_column("coupon, %"),
         day_column("called on"),
         Column("call price, %", "price"),
+        *([text_column("escrow pays")] if parts else []),
         money_column("principal"),
         money_column("interest"),
         money_column("premium"),
         money_column("total"),
     ]
-    return Table(
-        "bonds",
-        "The refunded bonds, bond by bond",
-        columns,
-        rows,
-        "A bond without a call is paid at maturity. Interest is that from settlement on; each amount of each bond is rounded by itself.",
-    )
+    remark = "A bond without a call is paid at maturity. Interest is that from settlement on; each amount of each bond is rounded by itself."
+    if parts:
+        remark += " Principal, interest and premium are what the escrow pays."
+    return Table("bonds", "The refunded bonds, bond by bond", columns, rows, remark)
 
 
 def needs(figures: Figures) -> Table:
@@ -197,6 +298,26 @@ def needs(figures: Figures) -> Table:
         money_column("total"),
     ]
     return Table("needs", "What is needed, by day", columns, rows)
+
+
+def payments(figures: Figures) -> Table:
+    """Each payment of each bond."""
+    names = _names(figures)
+    rows = [
+        _named(one, names) + (one.maturity, one.coupon, paid.day, paid.principal, paid.interest, paid.premium, paid.total)
+        for one in figures.refunded
+        for paid in one.payments
+    ]
+    columns = names + [
+        day_column("maturity"),
+        rate_column("coupon, %"),
+        day_column("paid on"),
+        money_column("principal"),
+        money_column("interest"),
+        money_column("premium"),
+        money_column("total"),
+    ]
+    return Table("payments", "What is needed, by bond and day", columns, rows, is_shown=len(rows) <= MOST_PAYMENTS)
 
 
 def holdings(figures: Figures) -> Table:
@@ -267,14 +388,14 @@ def _by_day(held: list[Held]) -> dict:
     return days
 
 
-def cash(figures: Figures) -> Table:
+def cash(figures: Figures, asked: Asked) -> Table:
     idle: dict[date, Idle] = {one.day: one for one in figures.report.idle}
     paid, kept = _by_day(figures.held), figures.case.receipts_held
     rows, marked = [], set()
     for row in figures.report.balances:
         principal, interest = paid.get(row.day, (0, 0))
         until = idle[row.day].until if row.day in idle else None
-        if until is not None:
+        if until is not None and row.left > asked.idle:
             marked.add(len(rows))
         opening = row.receipts - principal - interest - kept.get(row.day, 0)
         rows.append(
@@ -305,64 +426,54 @@ def cash(figures: Figures) -> Table:
     ]
     return Table(
         "cash",
-        "The cash balance, by day",
+        "Receipts and disbursements, and the cash balance",
         columns,
         rows,
-        "What is left over lies idle, at no interest, until the next day of the table.",
+        "What is left over lies idle, at no interest, until the next day of the table. %s"
+        % (
+            "Days are marked after which more than %s lies idle." % money_for_people(asked.idle)
+            if marked
+            else "On no day more than %s lies idle." % money_for_people(asked.idle)
+        ),
         frozenset(marked),
     )
 
 
-def yield_proof(key: str, title: str, settlement: date, proof: YieldProof, what: str) -> Table:
-    rows = [
-        (day, index_from(settlement, day), flow.cents, flow.low, flow.high)
-        for day, flow in zip(proof.days, proof.flows)
-    ]
-    low, high = sum(flow.low for flow in proof.flows), sum(flow.high for flow in proof.flows)
+def yield_proof(key: str, title: str, proof: YieldProof, what: str) -> Table:
+    low, high, price = yield_text(proof.ends.low), yield_text(proof.ends.high), proof.price * proof.unit
+    rows = [(flow.day, flow.index, flow.cents, flow.low_factor, flow.low, flow.high_factor, flow.high) for flow in proof.flows]
     columns = [
         day_column("date"),
         count_column("days (30E/360)"),
         money_column("amount"),
-        money_column("value at %s %%, down" % yield_text(proof.ends.low)),
-        money_column("value at %s %%, up" % yield_text(proof.ends.high)),
+        Column("factor at %s\u00a0%%" % low, "decimal", False, proof.factor_decimals),
+        Column("value at %s\u00a0%%" % low, "decimal", True, proof.value_decimals),
+        Column("factor at %s\u00a0%%" % high, "decimal", False, proof.factor_decimals),
+        Column("value at %s\u00a0%%" % high, "decimal", True, proof.value_decimals),
+    ]
+    further = [
+        (what, None, None, None, price, None, price),
+        ("Difference", None, None, None, proof.low - price, None, proof.high - price),
     ]
     remark = (
-        "%s is %s. The present values at the lower end, each rounded down, sum to %s, and those at the upper end, each rounded up, to %s. "
-        "Before they are rounded to cents, the first sum is at least that amount and the second at most: the exact yield lies between %s "
-        "and %s percent, by half-years of 180 days."
-        % (
-            what,
-            money_for_people(proof.price),
-            money_for_people(low),
-            money_for_people(high),
-            yield_text(proof.ends.low),
-            yield_text(proof.ends.high),
-        )
+        "A factor is (1 + y / 200) ^ (-days / 180) at a yield of y percent, and a value the amount times its factor as it is printed. At the lower yield "
+        "both are rounded down, and their sum is still no less than %s; at the upper yield both are rounded up, and their sum is still no "
+        "more. So the exact yield lies between %s and %s percent, compounded half-yearly, by half-years of 180 days (30E/360)."
+        % (money_for_people(proof.price), low, high)
     )
-    return Table(key, title, columns, rows, remark)
+    return Table(key, title, columns, rows, remark, further=further)
 
 
 def summary_rows(figures: Figures) -> list[tuple[str, str]]:
     """What the first lines of the page say."""
     issue, summary = figures.case.issue, figures.summary
-    principal = sum(one.bond.principal for one in figures.refunded)
+    paid = [one for one in figures.refunded if one.pays in (ALL, PRINCIPAL)]
+    principal = sum(one.principal for one in paid)
     rows = [
         ("Settlement", issue.settlement.isoformat()),
-        ("Refunded bonds", "%s, principal %s" % (counted(len(figures.refunded), "bond"), money_for_people(principal))),
+        ("Refunded bonds", "%s, principal %s" % (counted(len(paid), "bond"), money_for_people(principal))),
         ("Needed", "%s on %s" % (money_for_people(sum(figures.needs.values())), counted(len(figures.needs), "date"))),
-        (
-            "Restricted yield",
-            "%s percent, %s"
-            % (
-                yield_text(restricted_units(figures)),
-                "computed from the issue's price and payments" if figures.restricted else "as given",
-            ),
-        ),
-        (
-            "Yield limit",
-            "%s percent: the restricted yield and one thousandth of a percentage point"
-            % yield_text(figures.case.limit),
-        ),
+        *_limit(figures),
     ]
     if not figures.refunded:
         rows.pop(1)
@@ -382,6 +493,17 @@ def summary_rows(figures: Figures) -> list[tuple[str, str]]:
         ),
     ]
     return rows
+
+
+def _limit(figures: Figures) -> list[tuple[str, str]]:
+    """The restricted yield and the limit, where there is one."""
+    if not is_restricted(figures):
+        return [("Restricted yield", "not restricted: the issue file has 29.99 percent, which stands for that")]
+    how = "computed from the issue's price and payments" if figures.restricted else "as given"
+    return [
+        ("Restricted yield", "%s percent, %s" % (yield_text(restricted_units(figures)), how)),
+        ("Yield limit", "%s percent: the restricted yield and one thousandth of a percentage point" % yield_text(figures.case.limit)),
+    ]
 
 
 def _closed_days(issue: Issue) -> list[tuple[str, str]]:
@@ -413,29 +535,53 @@ def yield_sentence(said: str) -> str:
     return "none: no security is bought" if said == "empty" else "negative: the securities cost more than they pay"
 
 
-KEYS = ("sources", "slgs", "notes", "bonds", "needs", "holdings", "cash", "securities", "yield", "restricted", "receipts")
+# The exhibits in their order, each with what belongs to it: the first of those that a case has bears the letter alone.
+EXHIBITS = (("sources",), ("bonds", "needs", "payments"), ("slgs", "types"), ("notes",), ("holdings",), ("cash", "securities", "receipts"),
+            ("yield",), ("restricted",))
+KEYS = tuple(key for group in EXHIBITS for key in group)
+# More payments than this are for a spreadsheet alone.
+MOST_PAYMENTS = 1_500
+LETTERS = "ABCDEFGHIJ"
 
 
-def tables_of(figures: Figures, cusips: dict) -> list[Table]:
+def _lettered(tables: dict) -> None:
+    """Gives the tables that are shown their letters: B, B-1, B-2."""
+    letters = iter(LETTERS)
+    for group in EXHIBITS:
+        shown = [tables[key] for key in group if tables[key].rows and tables[key].is_shown]
+        letter = next(letters) if shown else ""
+        for number, table in enumerate(shown):
+            table.exhibit = "Exhibit %s%s" % (letter, "-%d" % number if number else "")
+
+
+def tables_of(figures: Figures, cusips: dict, asked: Asked = Asked()) -> list[Table]:
     """All tables, in the order of the page; some have no rows, and one of what this case hasn't got no columns either."""
-    tables = [bonds(figures), needs(figures), holdings(figures)]
+    tables = [bonds(figures), needs(figures), payments(figures), holdings(figures)]
     if figures.report is not None:
-        tables += [sources_and_uses(figures), subscriptions(figures), notes(figures, cusips)]
-        tables += [cash(figures), securities(figures), receipts_by_security(figures)]
+        tables += [sources_and_uses(figures, asked), subscriptions(figures), subscription_types(figures), notes(figures, cusips)]
+        tables += [cash(figures, asked), securities(figures), receipts_by_security(figures)]
     if figures.escrow_yield is not None:
-        title, what = "Proof of the escrow's yield", "The securities' cost, without opening cash,"
-        tables.append(yield_proof("yield", title, figures.settlement, figures.escrow_yield, what))
+        tables.append(yield_proof("yield", "Proof of the escrow's yield", figures.escrow_yield, "Cost, without opening cash"))
     if figures.restricted is not None:
-        title, what = "Proof of the restricted yield", "The price of the refunding issue"
-        tables.append(yield_proof("restricted", title, figures.settlement, figures.restricted, what))
+        tables.append(yield_proof("restricted", "Proof of the restricted yield", figures.restricted, "Price of the issue"))
     by_key = {table.key: table for table in tables}
-    return [by_key.get(key, Table(key, "", [])) for key in KEYS]
+    for key in KEYS:
+        by_key.setdefault(key, Table(key, "", []))
+    _lettered(by_key)
+    return [by_key[key] for key in KEYS]
+
+
+def _decimal_text(value: int, decimals: int, for_people: bool) -> str:
+    whole, rest = divmod(abs(value), 10**decimals)
+    return "%s%s.%0*d" % ("-" if value < 0 else "", format(whole, ",") if for_people else whole, decimals, rest)
 
 
 def cell_text(column: Column, value, for_people: bool) -> str:
     """A cell as paper or a spreadsheet has it."""
     if value is None or value == "":
         return ""
+    if column.kind == "decimal":
+        return _decimal_text(value, column.decimals, for_people)
     if column.kind == "money":
         return (
             money_for_people(value)
