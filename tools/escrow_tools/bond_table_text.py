@@ -49,6 +49,7 @@ HEADS = {
     "pays": ("escrow pays", "paid by escrow", "paid from escrow"),
 }
 NEEDED = ("maturity", "principal", "coupon")
+KNOWN = frozenset().union(*HEADS.values())
 HEADINGS_WITHIN = 20
 TOTAL = re.compile(r"(?i)^(?:grand |sub-?)? ?totals?\b")
 THOUSANDS = re.compile(r"(?i)\(\s*(?:in\s+)?(?:us)?\$?\s*(?:000'?s?|thousands|millions|mm)\s*\)|\bin (?:thousands|millions)\b|\b000s\b")
@@ -134,7 +135,7 @@ class BondColumns:
 
 
 def _known(cells: list[str]) -> int:
-    return sum(any(_plain(cell) in names for names in HEADS.values()) for cell in cells)
+    return sum(_plain(cell) in KNOWN for cell in cells)
 
 
 def _try_cells(text: str, mark: str) -> list[str]:

@@ -49,6 +49,8 @@ With --held it is what is still needed beside holdings that the escrow keeps: th
 early waits for later ones, and what they pay late serves none that was due before."""
 # What stands for a yield that isn't restricted.
 NOT_RESTRICTED = "29.99"
+# The name of what the words of the command say beside the files.
+BY_WORDS = "the words of this command"
 
 
 def words() -> Words:
@@ -154,7 +156,7 @@ def _further(chosen, files: list[Series]) -> list[Series]:
             raise Stop("--%s %s: %s" % (word, text, how)) from None
     data = "".join("%s,%s\n" % (word, text) for word, text, _, _ in given).encode()
     try:
-        return [Series("the words of this command", data, read_issue_rows(data))]
+        return [Series(BY_WORDS, data, read_issue_rows(data))]
     except Refusal:
         raise Stop("--settle %s: it isn't from 2000-01-01 to 2150-01-01" % settle) from None
 
@@ -266,7 +268,7 @@ def _totals(files: list[Series], needs: dict[date, int], table: Optional[BondFil
     lines = []
     for series in files:
         issue = series.issue
-        if table is not None and not issue.bonds and not issue.needs:
+        if not issue.bonds and not issue.needs and (table is not None or series.name == BY_WORDS):
             continue
         paid = [bond_total(bond, issue.settlement, issue.call) for bond in issue.bonds]
         called = sum(is_called(bond, issue.call) for bond in issue.bonds)

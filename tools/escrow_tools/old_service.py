@@ -18,7 +18,14 @@ from .yields import ONE, high_value, low_value
 
 # Of an issue file that has no `bond` rows, what `savings` says of old service is no figure of the refunding.
 NO_BONDS = "old service is counted from `bond` rows alone, and %s has none: its `old` is 0.00, and `saved` isn't what the refunding saves"
-SERIES_WAY = "`./escrow savings --series FILE.. -- %s` says beside it the old service of the files of the bonds"
+SERIES_WAY = "`./escrow savings --series %s -- %s` says beside it the old service of the files of the bonds"
+
+
+def series_way(words: list) -> str:
+    """How the old service is had of the words of a case, ISSUE first: of the bonds that are kept beside it, where they are."""
+    from .bonds_asked import kept_bonds
+
+    return SERIES_WAY % (kept_bonds(words[0]) or "FILE..", " ".join(words))
 
 
 @dataclass(frozen=True)

@@ -20,7 +20,7 @@ from .explaining.case_reading import read_whole_case
 from .inputs import REPORT, beside, read_case, read_certificate_file, read_file
 from .needs_asked import Series, read_series
 from .offering import COMMENTS
-from .old_service import NO_BONDS, SERIES_WAY
+from .old_service import NO_BONDS, series_way
 from .outputs import FORCE, Outputs, status_if_stopped
 from .page.comments import Comments, cusips, digest_of, facts_of, price_comments, rate_comments, table_day
 from .page.figures import Figures, figures_of, is_restricted
@@ -350,8 +350,8 @@ def _no_bonds(maker: Maker, figures: Figures) -> list[str]:
     chosen = maker.chosen
     if figures.case.issue.bonds or maker.series_names:
         return []
-    words_of_it = " ".join((chosen.issue, chosen.rates, chosen.prices, chosen.cert))
-    return ["of `savings`: " + NO_BONDS % chosen.issue + "; " + SERIES_WAY % words_of_it]
+    words_of_it = [chosen.issue, chosen.rates, chosen.prices, chosen.cert]
+    return ["of `savings`: " + NO_BONDS % chosen.issue + "; " + series_way(words_of_it)]
 
 
 def _write_further(outputs: Outputs, chosen, page: Page, figures: Figures) -> None:

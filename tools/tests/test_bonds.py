@@ -138,7 +138,7 @@ class BondsTest(FolderTest):
         """Tables with changes: each is read whole or refused; each row is a bond or is passed over; what is kept of a table is read again as
         the same bonds; and each principal stands in the table."""
         draw, reading, numbers = Random(69), Reading(date(2026, 2, 17)), [0, 0]
-        for _ in range(400):
+        for _ in range(300):
             data = mutated(draw, (SHEET if draw.random() < 0.5 else table_of_series()).encode())
             try:
                 table = read_bond_table(data, reading)

@@ -220,6 +220,17 @@ class ExhibitsTest(FolderTest):
         self.assertEqual(text.count("</style>"), 1)
         self.assertIn('@top-left { content: "\\3c /style\\3e \\3c b\\3e \\22 \\5c \\a ";', text)
 
+    @unittest.skipUnless(shutil.which("chromium"), "chromium isn't there")
+    def test_screen(self) -> None:
+        """On a screen of 1,200 pixels no table is cut."""
+        script = "<script>document.title = [...document.querySelectorAll('.scroll')].filter(e => e.scrollWidth > e.clientWidth).length + ' cut'</script>"
+        for name in ("partial", "holdings"):
+            text = self.page(*self.example(name)).out.decode()
+            self.write("page.html", text.replace("</body>", script + "</body>"))
+            how = ["chromium", "--headless", "--no-sandbox", "--disable-gpu", "--window-size=1200,900", "--dump-dom", "page.html"]
+            done = subprocess.run(how, cwd=self.folder, stdin=subprocess.DEVNULL, stdout=subprocess.PIPE, stderr=subprocess.DEVNULL, check=False, timeout=300)
+            self.assertIn("<title>0 cut</title>", done.stdout.decode("utf-8", "replace"))
+
     @unittest.skipUnless(shutil.which("chromium") and shutil.which("pdftotext"), "chromium and pdftotext aren't there")
     def test_printed(self) -> None:
         """Each printed page has its number and the running head, and no row of a table is cut."""

@@ -8,14 +8,14 @@ from datetime import date
 from typing import Optional
 
 from .. import program
-from ..amounts import counted, money, money_for_people, rate_text, read_hundredths, yield_text
+from ..amounts import GREATEST_YIELD, counted, money, money_for_people, rate_text, read_hundredths, yield_text
 from ..case_files import CERT, HELD, ISSUE, PRICES, RATES, Refusal
 from ..certificate import Certificate, read_certificate
 from ..commands import read_commands
-from ..old_service import NO_BONDS, SERIES_WAY
+from ..old_service import NO_BONDS, series_way
 from ..report import BadReport, Summary, cents_of, read_summary
 from ..securities import indexed
-from ..yields import interval
+from ..yields import MATERIALLY_HIGHER, interval
 from .case_reading import CaseRead, at_cap, read_whole_case
 from .cautions import Cautions
 from .explanation import shown
@@ -154,9 +154,12 @@ def _found(run: Run, summary: Summary) -> list[str]:
     verdict, which = ("accepted", "the purchases") if run.first_line == "yes" else ("found", "these purchases")
     if run.has_holdings and summary.cost == 0:
         return ["%s: nothing has to be bought, since the holdings pay every need" % verdict]
-    cost, gap, limit = money_for_people(summary.cost), money_for_people(summary.gap), yield_text(summary.limit)
+    cost, gap = money_for_people(summary.cost), money_for_people(summary.gap)
+    keeps = "and keep to the yield limit of %s percent" % yield_text(summary.limit)
+    if summary.limit == GREATEST_YIELD + MATERIALLY_HIGHER:
+        keeps = "and their yield isn't restricted, for which 29.99 percent stands"
     return [
-        "%s: %s pay every need%s, cost %s, and keep to the yield limit of %s percent" % (verdict, which, run.beside, cost, limit),
+        "%s: %s pay every need%s, cost %s, %s" % (verdict, which, run.beside, cost, keeps),
         "no rival costs less by more than %s: a rival is permitted, pays every need%s and keeps below the limit" % (gap, run.beside),
     ]
 
@@ -190,11 +193,14 @@ def _saved(run: Run) -> list[str]:
     if not {"old", "new", "saved", "idle"} <= said.keys():
         return []
     lines = ["accepted, as by `check`; all values are present values at the restricted yield, on the settlement day"]
-    issue = run.read_case().issue
+    case = run.read_case()
+    issue = case.issue
     has_bonds = issue is None or bool(issue.bonds)
+    if case.limit == GREATEST_YIELD + MATERIALLY_HIGHER:
+        lines.append("caution: they are discounted at 29.99 percent, which stands for a yield that isn't restricted: they say nothing of use")
     if not has_bonds:
         lines.append("caution: " + NO_BONDS % run.names[ISSUE])
-        lines.append(SERIES_WAY % " ".join(run.names[file] for file in (ISSUE, RATES, PRICES, CERT)))
+        lines.append(series_way([run.names[file] for file in (ISSUE, RATES, PRICES, CERT)]))
     if said["saved"] == "none":
         lines.append(
             "what the refunding saves isn't known, since the restricted yield is given: in its place the issue file may have the "

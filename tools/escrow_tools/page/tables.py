@@ -226,7 +226,7 @@ def notes(figures: Figures, cusips: dict) -> Table:
             )
     columns = [
         count_column("line"),
-        text_column("CUSIP"),
+        Column("CUSIP", "code"),
         day_column("maturity"),
         rate_column("coupon, %"),
         Column("clean price, %", "price"),
@@ -243,7 +243,7 @@ def _names(figures: Figures) -> list[Column]:
     bonds = figures.refunded
     columns = [text_column("file")] if len({one.file for one in bonds}) > 1 else []
     columns += [text_column("series")] if any(one.series for one in bonds) else []
-    return columns + ([text_column("CUSIP")] if any(one.cusip for one in bonds) else [])
+    return columns + ([Column("CUSIP", "code")] if any(one.cusip for one in bonds) else [])
 
 
 def _named(one: Refunded, columns: list[Column]) -> tuple:

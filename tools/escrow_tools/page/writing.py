@@ -44,7 +44,7 @@ class Page:
 
 
 def _class(column: Column) -> str:
-    return ' class="number"' if column.kind in NUMBERS else ""
+    return ' class="number"' if column.kind in NUMBERS else ' class="words"' if column.kind == "text" else ""
 
 
 def _foot_row(table: Table, values: list) -> str:
