@@ -11,13 +11,13 @@ from typing import Optional
 
 from . import program
 from .amounts import GREATEST_YIELD, counted, money, money_for_people
-from .best_command import SMALL_GAP, Search, with_room
 from .case_files import HELD, ISSUE, PRICES, RATES
 from .explaining import explain_refusal
 from .explaining.case_reading import CaseRead, read_whole_case
 from .inputs import read_case
 from .issue_text import GREATEST_ALLOWANCE, compact, with_allowance
 from .outputs import FORCE, Outputs
+from .plan_search import SMALL_GAP, Search, with_room
 from .report import cents_of
 from .speaking import Stop, Words, as_bytes, put_out, tell
 from .variants import Variant, listed, read_cap, read_limit, settled, variants_of

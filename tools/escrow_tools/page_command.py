@@ -270,11 +270,12 @@ def _made(chosen) -> str:
 
 
 def _program() -> str:
-    """The program's revision and the first of its digest."""
+    """The program's version, its revision, and the first of its digest."""
     stamp = built.program_stamp()
     digest = digest_of(Path(program.program_path()).read_bytes())
     revision = stamp.further.get("revision", "") if stamp is not None else ""
-    return "Program %sSHA-256 %s.." % ("revision %s, " % revision if revision else "", digest[:16])
+    parts = [built.version(), "revision %s" % revision if revision else "", "SHA-256 %s.." % digest[:16]]
+    return "Program " + ", ".join(part for part in parts if part)
 
 
 def _page(maker: Maker, figures: Figures, asked: Asked) -> Page:

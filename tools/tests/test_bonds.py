@@ -154,7 +154,7 @@ class BondsTest(FolderTest):
             file = BondFile("bonds.csv", data, table, reading)
             again = read_bond_table(kept_text(file).encode(), reading).bonds
             self.assertEqual([replace(bond, line=0, series="") for bond in again], [replace(bond, line=0, series="") for bond in table.bonds])
-        self.assertGreater(min(numbers), 50, numbers)
+        self.assertGreater(min(numbers), 20, numbers)
 
     def test_words(self) -> None:
         self.write("bonds.csv", "maturity,principal,coupon\n2028-06-01,6500000,5\n")
