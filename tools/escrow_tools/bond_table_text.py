@@ -54,6 +54,8 @@ HEADINGS_WITHIN = 20
 TOTAL = re.compile(r"(?i)^(?:grand |sub-?)? ?totals?\b")
 THOUSANDS = re.compile(r"(?i)\(\s*(?:in\s+)?(?:us)?\$?\s*(?:000'?s?|thousands|millions|mm)\s*\)|\bin (?:thousands|millions)\b|\b000s\b")
 MOST_TOLD = 6
+# A term bond has at most so many instalments.
+MOST_INSTALMENTS = 60
 
 
 @dataclass(frozen=True)
@@ -314,27 +316,33 @@ def _rows_of(data: bytes, sheet: Optional[str], what: str) -> tuple[list, list]:
     return [(line, _try_cells(line.plain, mark) or None) for line in given.lines], given.told
 
 
+def _parts_of(bonds: list[ListedBond], place: int, step: int) -> list[ListedBond]:
+    """The bonds beside one, of its CUSIP or of its series and coupon, that come together to its principal; none where they don't."""
+    whole, parts, total = bonds[place], [], 0
+    for number in range(1, MOST_INSTALMENTS + 1):
+        beside = place + step * number
+        if not 0 <= beside < len(bonds) or _alike(bonds[beside]) != _alike(whole) or total >= whole.principal:
+            break
+        parts.append(bonds[beside])
+        total += bonds[beside].principal
+    return parts if total == whole.principal and len(parts) > 1 else []
+
+
+def _alike(bond: ListedBond) -> tuple:
+    return (bond.cusip,) if bond.cusip else (bond.series, bond.coupon)
+
+
 def _twice_in_parts(bonds: list[ListedBond]) -> None:
     """Refuses a term bond that stands whole and again in its instalments: it would be paid twice."""
-    alike = defaultdict(list)
-    for bond in bonds:
-        alike[bond.cusip or (bond.series, bond.coupon)].append(bond)
-    for group in alike.values():
-        for whole in group:
-            place = bonds.index(whole)
-            for step in (1, -1):
-                parts, total = [], 0
-                for other in bonds[place + step :: step] if step > 0 else bonds[:place][::-1]:
-                    if other not in group or total >= whole.principal:
-                        break
-                    parts.append(other)
-                    total += other.principal
-                if total == whole.principal and len(parts) > 1 and whole.maturity in {part.maturity for part in parts}:
-                    lines = sorted(part.line for part in parts)
-                    raise Stop(
-                        "the bond of line %d, %s of %s, stands again in its instalments of lines %d to %d: delete the whole one, or them"
-                        % (whole.line, money_for_people(whole.principal), whole.maturity, lines[0], lines[-1])
-                    )
+    for place, whole in enumerate(bonds):
+        for step in (1, -1):
+            parts = _parts_of(bonds, place, step)
+            if whole.maturity in {part.maturity for part in parts}:
+                lines = sorted(part.line for part in parts)
+                raise Stop(
+                    "the bond of line %d, %s of %s, stands again in its instalments of lines %d to %d: delete the whole one, or them"
+                    % (whole.line, money_for_people(whole.principal), whole.maturity, lines[0], lines[-1])
+                )
 
 
 def _cautions(bonds: list[ListedBond]) -> list[str]:

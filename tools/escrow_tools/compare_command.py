@@ -12,7 +12,7 @@ from typing import Optional
 from . import program
 from .amounts import GREATEST_YIELD, counted, money, money_for_people
 from .case_files import HELD, ISSUE, PRICES, RATES
-from .explaining import explain_refusal
+from .explaining.told import explain_refusal
 from .explaining.case_reading import CaseRead, read_whole_case
 from .inputs import read_case
 from .issue_text import GREATEST_ALLOWANCE, compact, with_allowance

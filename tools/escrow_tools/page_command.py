@@ -26,7 +26,7 @@ from .page.comments import Comments, cusips, digest_of, facts_of, price_comments
 from .page.figures import Figures, figures_of, is_restricted
 from .page.meaning import MEANING, certification
 from .page.picture import picture
-from .page.tables import Asked, remainder, subscription_form, summary_rows, tables_of
+from .page.tables import Asked, remainder, subscription_form, summary_rows, tables_of, yield_sentence
 from .page.writing import Page, page_html, page_json, table_csv
 from .program import Answer
 from .report import Report, Summary, read_summary
@@ -215,9 +215,9 @@ def verdict(summary: Optional[Summary], check: str = "check", restricted: bool =
             "No permitted purchases of what the files offer%s pay the needs at a yield within the limit; the certificate proves it." % beside,
         )
     limit = "which doesn't exceed the limit of %s percent" % yield_text(summary.limit) if restricted else "which isn't restricted"
-    yields = "have no yield"
+    yields = "their yield is " + yield_sentence(summary.yields)
     if len(summary.yields.split(" ")) == 2:
-        yields = "yield between %s and %s percent, %s" % (*summary.yields.split(" "), limit)
+        yields = "they yield between %s and %s percent, %s" % (*summary.yields.split(" "), limit)
     return (
         check + " says: yes",
         "The receipts of the purchases below%s suffice to pay each need on its day, and on no day the cash balance is negative. They cost %s, opening cash "
@@ -291,7 +291,7 @@ def _page(maker: Maker, figures: Figures, asked: Asked) -> Page:
         _files(maker),
         tables,
         MEANING,
-        certification(chosen.certification, needs.replace("Exhibit ", "")),
+        certification(chosen.certification, needs.replace("Exhibit ", ""), figures.report is not None),
         _made(chosen),
         _program(),
         picture(figures.report.balances) if figures.report else "",

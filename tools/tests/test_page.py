@@ -180,6 +180,9 @@ class PageTest(FolderTest):
         reader = self.make(*words)
         self.assertIn("needs", reader.tables)
         self.assertNotIn("sources", reader.tables)
+        text = run_tool(self.folder, "page", *words).out.decode()
+        self.assertIn("On that ground no permitted purchases of what these files offer", text)
+        self.assertNotIn("suffice", text)
 
     def test_closed_days(self) -> None:
         """A receipt of a closed day stands with the day on which it is due, and counts on that on which it is paid."""

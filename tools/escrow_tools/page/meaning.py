@@ -43,10 +43,18 @@ CERTIFICATION = (
 )
 
 
-def certification(path, exhibit: str) -> list[str]:
+NO_ESCROW = (
+    "We have run the program on the files whose digests stand above, and it gave the answer that stands there. On that ground no permitted purchases of "
+    "what these files offer pay the needs at a yield within the limit."
+)
+
+
+def certification(path, exhibit: str, has_escrow: bool) -> list[str]:
     """The paragraphs that are signed: those of a file, which blank lines part, or the usual ones with blanks."""
     if path is None:
-        return [paragraph.replace("%(needs)s", exhibit) for paragraph in CERTIFICATION]
+        first, second, last = CERTIFICATION
+        found = second.replace("Exhibit %(needs)s shows", "Exhibit %s shows" % exhibit if exhibit else "is needed")
+        return [first, found if has_escrow else NO_ESCROW, last]
     try:
         text = read_file(path, 100_000).decode("utf-8-sig")
     except UnicodeDecodeError:
