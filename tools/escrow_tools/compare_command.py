@@ -140,26 +140,28 @@ def table_csv(rows: list[Row]) -> str:
     return text.getvalue()
 
 
-WIDTH, LEFT, BAR, TOP, EACH = 1100, 330, 480, 50, 30
+# Lengths of the picture; a letter of a name is less than LETTER wide.
+BAR, TOP, EACH, LETTER, AMOUNT = 480, 50, 30, 8, 180
 
 
 def picture(rows: list[Row]) -> str:
     """By how much each plan costs more than the least, as bars."""
     costs = [row.cost for row in rows if row.cost is not None]
     least, most = (min(costs), max(costs)) if costs else (0, 0)
+    left = 20 + LETTER * max(len(row.name) for row in rows)
     head = '<svg xmlns="http://www.w3.org/2000/svg" viewBox="0 0 %d %d" font-family="Arial, sans-serif" font-size="14" fill="#1d2733">'
-    parts = [head % (WIDTH, TOP + EACH * len(rows) + 10)]
+    parts = [head % (left + BAR + AMOUNT, TOP + EACH * len(rows) + 10)]
     parts.append('<rect width="100%" height="100%" fill="#fff"/>')
     parts.append('<text x="10" y="28" font-weight="bold">What each plan costs more than the least, which is %s</text>' % money_for_people(least))
     for place, row in enumerate(rows):
         middle = TOP + EACH * place
-        parts.append('<text x="%d" y="%d" text-anchor="end">%s</text>' % (LEFT - 10, middle + 16, escape(row.name)))
+        parts.append('<text x="%d" y="%d" text-anchor="end">%s</text>' % (left - 10, middle + 16, escape(row.name)))
         if row.cost is None:
-            parts.append('<text x="%d" y="%d" fill="#b4562f">%s</text>' % (LEFT, middle + 16, escape(row.answer)))
+            parts.append('<text x="%d" y="%d" fill="#b4562f">%s</text>' % (left, middle + 16, escape(row.answer)))
             continue
         width = max(BAR * (row.cost - least) // max(most - least, 1), 2)
-        parts.append('<rect x="%d" y="%d" width="%d" height="20" fill="#2b6c99"/>' % (LEFT, middle, width))
-        parts.append('<text x="%d" y="%d">%s</text>' % (LEFT + width + 8, middle + 16, money_for_people(row.cost - least)))
+        parts.append('<rect x="%d" y="%d" width="%d" height="20" fill="#2b6c99"/>' % (left, middle, width))
+        parts.append('<text x="%d" y="%d">%s</text>' % (left + width + 8, middle + 16, money_for_people(row.cost - least)))
     return "\n".join(parts + ["</svg>", ""])
 
 
