@@ -164,7 +164,8 @@ class _TableReader:
         self.columns = BondColumns(heads)
         missing = [what for what in NEEDED if self.columns.places[what] is None]
         if missing:
-            raise Stop("the headings of the table of bonds, in line %d, have no %s: they are %s" % (self.line.number, " and no ".join(missing), ", ".join("`%s`" % head for head in heads)))
+            named = ", ".join("`%s`" % head for head in heads)
+            raise Stop("the headings of the table of bonds, in line %d, have no %s: they are %s" % (self.line.number, " and no ".join(missing), named))
         self.reading, self.told = reading, told
         self.bonds: list[ListedBond] = []
         self.skipped: list = []
@@ -179,7 +180,8 @@ class _TableReader:
         columns = self.columns
         for line, cells in above + [(self.line, columns.written)]:
             if any(THOUSANDS.search(cell) for cell in cells or [line.plain]):
-                raise Stop("line %d of the table of bonds says that amounts are in thousands or millions: write them in dollars, and delete that" % line.number)
+                why = "line %d of the table of bonds says that amounts are in thousands or millions: write them in dollars, and delete that"
+                raise Stop(why % line.number)
         if self.reading.call is not None and columns.places["call date"] is not None:
             raise Stop("--call: the table has calls of its own, in the column `%s`" % columns.heading("call date"))
         if columns.places["call price"] is not None and columns.places["call date"] is None:
@@ -359,7 +361,8 @@ def _cautions(bonds: list[ListedBond]) -> list[str]:
             lines.append("line %d of the table matures on its call on %s or before it, and is paid at maturity" % (bond.line, bond.call.day))
     for cusip, group in by_cusip.items():
         if len({bond.coupon for bond in group}) > 1:
-            raise Stop("lines %d and %d of the table have one CUSIP, %s, and other coupons" % (group[0].line, next(bond.line for bond in group if bond.coupon != group[0].coupon), cusip))
+            other = next(bond for bond in group if bond.coupon != group[0].coupon)
+            raise Stop("lines %d and %d of the table have one CUSIP, %s, and other coupons" % (group[0].line, other.line, cusip))
         days = {bond.maturity for bond in group}
         if len(days) > 1:
             lines.append(

@@ -111,7 +111,8 @@ def asked_bond_needs(file: BondFile) -> dict[date, int]:
             own[payment.day] += payment.total
     for day in sorted(set(asked) | set(own)):
         if asked[day] != own[day]:
-            raise Stop("%s: on %s the program needs %s, and bond by bond it is %s; nothing is made of it" % (file.name, day, money(asked[day]), money(own[day])))
+            both = (file.name, day, money(asked[day]), money(own[day]))
+            raise Stop("%s: on %s the program needs %s, and bond by bond it is %s; nothing is made of it" % both)
     return {day: asked[day] for day in sorted(asked) if asked[day]}
 
 
@@ -186,8 +187,9 @@ def told_totals(file: BondFile) -> list[str]:
     """What to compare with the official statement: of each series its bonds, their principal, and what the escrow pays of them."""
     table = file.table
     skipped = Counter(why for _, why in table.skipped)
-    lines = ["%s: %s below its headings in line %d: %s, principal %s" % (
-        file.name, counted(table.rows, "row"), table.heading_line, counted(len(file.bonds), "bond"), money_for_people(sum(bond.principal for bond in file.bonds)))]
+    principal = money_for_people(sum(bond.principal for bond in file.bonds))
+    read = (file.name, counted(table.rows, "row"), table.heading_line, counted(len(file.bonds), "bond"), principal)
+    lines = ["%s: %s below its headings in line %d: %s, principal %s" % read]
     for why, count in skipped.items():
         first = next(line for line, reason in table.skipped if reason == why)
         lines.append("%s passed over, the first in line %d: %s" % (counted(count, "row"), first, why))

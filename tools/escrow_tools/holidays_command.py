@@ -68,7 +68,9 @@ def with_closed(series: Series, holidays: list[Holiday]) -> tuple[bytes, list[da
     data = series.data if series.data.endswith((b"\n", b"\r")) else series.data + b"\n"
     made = data + "".join(row + "\n" for row in rows).encode()
     if len(issue.closed) + len(days) > GREATEST_CLOSED_ROWS or len(made) > INPUT_LIMIT:
-        raise Stop("%s would have %s, of which there may be %s: --to says an earlier end" % (series.name, counted(len(issue.closed) + len(days), "`closed` row"), format(GREATEST_CLOSED_ROWS, ",")))
+        rows_then = counted(len(issue.closed) + len(days), "`closed` row")
+        most = format(GREATEST_CLOSED_ROWS, ",")
+        raise Stop("%s would have %s, of which there may be %s: --to says an earlier end" % (series.name, rows_then, most))
     return made, days
 
 

@@ -114,7 +114,9 @@ def run(arguments: list[str]) -> int:
     files = [read_series(name) for name in chosen.issues]
     files += _further(chosen, files)
     _try_settlements(files)
-    table = None if chosen.bonds is None else read_bond_file(chosen.bonds, Reading(files[0].issue.settlement, asked_call(chosen.call), chosen.sheet, chosen.dates))
+    table = None
+    if chosen.bonds is not None:
+        table = read_bond_file(chosen.bonds, Reading(files[0].issue.settlement, asked_call(chosen.call), chosen.sheet, chosen.dates))
     needs: Counter = Counter() if table is None else Counter(asked_bond_needs(table))
     for series in files:
         needs.update(asked_needs(series))

@@ -334,7 +334,8 @@ def _cautions(maker: Maker, figures: Figures, asked: Asked, page: Page) -> list[
         lines.append("caution: the sources that are named fall short of the uses by %s, which the page says" % money_for_people(-left))
     too_long = [table for table in page.tables if not table.is_shown]
     if too_long:
-        lines.append("%s too long for the page: --csv DIR has them" % ", ".join("`%s` has %d rows and is" % (table.title, len(table.rows)) for table in too_long))
+        named = ", ".join("`%s` has %d rows and is" % (table.title, len(table.rows)) for table in too_long)
+        lines.append("%s too long for the page: --csv DIR has them" % named)
     return lines
 
 

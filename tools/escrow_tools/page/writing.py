@@ -179,7 +179,8 @@ def page_html(page: Page) -> str:
     for table in page.shown:
         parts.append(table_html(table))
         if table.key == "cash" and page.picture:
-            parts += ['<section class="whole">', '<h2 id="picture">Receipts, needs and idle cash over time</h2>', '<div class="scroll">', page.picture, "</div>", "</section>"]
+            head = '<h2 id="picture">Receipts, needs and idle cash over time</h2>'
+            parts += ['<section class="whole">', head, '<div class="scroll">', page.picture, "</div>", "</section>"]
     parts += _files(page) + _meaning(page) + _certification(page) + ["</body>", "</html>", ""]
     return "\n".join(parts)
 
