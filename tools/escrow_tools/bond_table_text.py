@@ -196,7 +196,7 @@ class _TableReader:
 
     def _day_order(self) -> DayOrder:
         days = [self.columns.cell(cells, what).split("@")[0] for _, cells in self.rows if cells for what in ("maturity", "call date")]
-        order = DayOrder([bare(text) for text in days])
+        order = DayOrder([bare(text) for text in days], ", or give --dates month-first or --dates day-first")
         if self.reading.dates is not None:
             order.month_first, order.day_first = self.reading.dates == "month-first", self.reading.dates == "day-first"
         return order

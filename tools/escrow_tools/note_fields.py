@@ -56,9 +56,10 @@ def slashed_parts(text: str) -> Optional[tuple[int, int]]:
 
 
 class DayOrder:
-    """Whether dates as 7/15/2026 have the month or the day first, as the other dates of the list show it."""
+    """Whether dates as 7/15/2026 have the month or the day first, as the other dates of the list show it; `way` is how else to say it."""
 
-    def __init__(self, texts: list) -> None:
+    def __init__(self, texts: list, way: str = "") -> None:
+        self.way = way
         pairs = [pair for pair in (slashed_parts(text) for text in texts) if pair]
         self.month_first = any(second > 12 for _, second in pairs)
         self.day_first = any(first > 12 for first, _ in pairs)
@@ -66,7 +67,7 @@ class DayOrder:
     def read(self, found, text: str) -> date:
         first, second = int(found.group(1)), int(found.group(3))
         if first != second and max(first, second) <= 12 and self.month_first == self.day_first:
-            raise LineFault("the maturity `%s` may be month and day or day and month: write it as 2027-06-30" % text)
+            raise LineFault("the maturity `%s` may be month and day or day and month: write it as 2027-06-30%s" % (text, self.way))
         is_day_first = first > 12 if max(first, second) > 12 else self.day_first
         month, day = (second, first) if is_day_first else (first, second)
         return _calendar(_year(found.group(4)), month, day, text)

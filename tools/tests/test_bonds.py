@@ -66,6 +66,7 @@ class BondsTest(FolderTest):
         ran = run_tool(self.folder, "needs", "--bonds", "bonds.csv", *SETTLE, "-o", "issue.csv")
         self.assertEqual((ran.status, ran.out), (124, b""))
         self.assertIn("line 2 of bonds.csv: 6/1/2028,6500000,5: the maturity `6/1/2028` may be month and day", ran.err)
+        self.assertIn("or give --dates month-first or --dates day-first", ran.err)
         self.assertEqual([path.name for path in self.folder.iterdir()], ["bonds.csv"])
 
     def test_as_by_issue_files(self) -> None:
