@@ -4,6 +4,8 @@ from __future__ import annotations
 
 import io
 import re
+import site
+import sys
 import warnings
 from datetime import date, datetime
 from decimal import Decimal
@@ -23,6 +25,9 @@ def is_sheet(data: bytes) -> bool:
 
 
 def _opened(data: bytes, what: str):
+    # ./escrow starts Python without the places of packages beside its own, so that the tools begin sooner.
+    if sys.flags.no_site:
+        site.main()
     try:
         import openpyxl
     except ImportError:
