@@ -31,7 +31,8 @@ case_with issue book = do
   Ok (record { book = book; limit = limit; allowance = issue.allowance.0; budget = issue.budget })
 
 -- the case of the rows of the input files, or the first refusal: of the issue file's rows; of the rate file's; of the price
--- file's; of an offer that breaks a rule; of too many lines; and of a restricted yield that is out of range
+-- file's; of an offer that breaks a rule; of a note that opens too late; of too many lines; and of a restricted yield that is
+-- out of range
 unfoldable pub rows_case : List Row → List Row → List Row → Result CaseContents Refusal
 rows_case issue_rows rate_rows price_rows = do
   issue ← issue_of issue_rows

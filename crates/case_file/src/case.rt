@@ -93,9 +93,9 @@ fn case_of_book(alloc: Global, issue: &Issue, book: Book) -> Result<Case, CaseEr
 ///
 /// `Refused` with the first that stands, in this order: the refusal of the issue file, as `read_issue` has it; of the rate
 /// file, as `read_rates`; of the price file, as `read_notes`; of an offer that breaks a rule of SLGS securities, or else of
-/// more than 512 lines, as `make_book`; and, where the restricted yield is to be computed, `OutOfRange` of the issue file at
-/// its price's row, where the issue's own payments come to less than its price, or the lower end of their yield is over 29.99
-/// percent. `NoMemory` where memory ran out.
+/// the first note that opens more than 40 years after settlement, or else of more than 512 lines, as `make_book`; and, where
+/// the restricted yield is to be computed, `OutOfRange` of the issue file at its price's row, where the issue's own payments
+/// come to less than its price, or the lower end of their yield is over 29.99 percent. `NoMemory` where memory ran out.
 #[tactic(auto, unfolding(crate::specs::Case::rows_case))]
 pub fn read_case(
     alloc: Global,

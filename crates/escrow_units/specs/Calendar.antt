@@ -11,9 +11,11 @@ use Rattle.escrow_units.specs.declared.security.StepRule.TheVariants as rule
 abbrev pub month_place : CivilDate → ℤ
 month_place date = date.year *ℤ pos 12 +ℤ pos (date.month - 1)
 
+-- the year so many months after a date
 abbrev pub later_year : CivilDate → ℤ → ℤ
 later_year date months = int_div_euclid (month_place date +ℤ months) (pos 12)
 
+-- the month of the year so many months after a date, from 1 to 12
 abbrev pub later_month : CivilDate → ℤ → ℕ
 later_month date months = unsigned_abs (int_rem_euclid (month_place date +ℤ months) (pos 12)) + 1
 
@@ -29,6 +31,7 @@ months_later date months = record {
 abbrev pub month_end : CivilDate → CivilDate
 month_end date = record date { day = days_in_month date.year date.month }
 
+-- a date is the last of its month
 abbrev pub is_month_end : CivilDate → Bool
 is_month_end date = date.day == days_in_month date.year date.month
 

@@ -22,6 +22,7 @@ parted_of most places front back =
     option_and_then (λ whole. option_map (λ part. whole * 10 ^ places + part * 10 ^ (places - length back))
     (whole_of places back)) (whole_of most front)
 
+-- the point before the decimals
 abbrev pub is_point : ℕ → Bool
 is_point byte = byte == 46
 

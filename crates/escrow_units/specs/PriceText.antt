@@ -31,6 +31,7 @@ unfoldable pub quoted_of : List ℕ → List ℕ → Option ℕ
 quoted_of front back =
     option_and_then (λ whole. option_map (λ part. whole * 100_000_000 + part) (fraction_of back)) (whole_of 3 front)
 
+-- the hyphen before the thirty-seconds
 abbrev pub is_hyphen : ℕ → Bool
 is_hyphen byte = byte == 45
 

@@ -169,6 +169,7 @@ with_read_row read (issue_row.Budget budget) = with_budget read budget
 with_read_row read issue_row.Weekends = with_weekends read
 with_read_row read (issue_row.Closed day) = with_closed read day
 
+-- what was read, with one more row, whose number is given; or why the row is refused
 abbrev pub with_row : IssueRead → ℕ → Row → Result IssueRead RefusalKind
 with_row read number row = issue_row_of (years_after_of read.settle 40) number row >>= with_read_row read
 

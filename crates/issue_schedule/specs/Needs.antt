@@ -19,6 +19,7 @@ interest_dates settle last maturity = filter (λ date. int_le date last) (dates_
 abbrev pub half_coupon : Bond → ℕ
 half_coupon bond = half_coupon_of bond.principal.0 bond.coupon.0
 
+-- half of a bond's coupon on each date of its series after settlement, up to a last day
 abbrev pub interest : ℤ → ℤ → Bond → List Flow
 interest settle last bond = map (λ date. on date (half_coupon bond)) (interest_dates settle last bond.maturity)
 

@@ -21,6 +21,7 @@ pub use Rattle.row_fields.specs.RowForm.{Row, field_of, is_word, ◌>>=◌, or_r
 abbrev pub has_matured_of : ℤ → ℤ → Bool
 has_matured_of settle maturity = int_le maturity settle || (index360_of settle maturity == 0)
 
+-- a note, or the refusal where it has matured
 abbrev pub unmatured : Note → Result Note RefusalKind
 unmatured note = if has_matured_of note.settle note.maturity then Err kind.Matured else Ok note
 
@@ -49,6 +50,7 @@ abbrev pub with_read_row : NotesRead → PriceRow → Result NotesRead RefusalKi
 with_read_row before (price_row.Terms terms) = Err kind.Repeated
 with_read_row before (price_row.Note note) = with_note before note
 
+-- what was read, with one more row; or why the row is refused
 abbrev pub with_row : NotesRead → Row → Result NotesRead RefusalKind
 with_row before row = price_row_of before.settle before.terms row >>= with_read_row before
 

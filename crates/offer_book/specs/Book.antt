@@ -89,6 +89,7 @@ IsKindWithoutInterest Cash = ⊥
 IsKindWithoutInterest (Security slgs) = slgs.rate.0 ≡ 0
 IsKindWithoutInterest (Market note) = ⊥
 
+-- a line is a SLGS security of rate 0
 abbrev pub IsWithoutInterest : Line → Type 0
 IsWithoutInterest line = IsKindWithoutInterest line.kind
 

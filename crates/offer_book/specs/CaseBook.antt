@@ -43,6 +43,7 @@ lines_on_offer rates notes = length rates.offers + length notes.notes
 abbrev pub too_many_lines : Refusal
 too_many_lines = refusal_of Prices 0 TooManyLines
 
+-- the files offer at most so many lines, opening cash aside; or the refusal
 abbrev pub within_most_lines : ℕ → Result (Unit {0}) Refusal
 within_most_lines count = if nat_lt MOST_LINES count then Err too_many_lines else Ok tt
 

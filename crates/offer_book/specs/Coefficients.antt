@@ -35,6 +35,7 @@ pub record Encloses (within : Enclosure) (units cents : ℕ) : Type 0 where
 abbrev pub interest_low : ℕ → ℕ → Accrual → ℕ
 interest_low face rate accrual = COEFFICIENT_SCALE * (face * rate * accrual.parts) / (100_000 * accrual.year)
 
+-- interest of a part of a year, scaled and rounded up, with half a cent more where there is a rate
 abbrev pub interest_high : ℕ → ℕ → Accrual → ℕ
 interest_high face rate accrual = div_ceil (COEFFICIENT_SCALE * (face * rate * accrual.parts)) (100_000 * accrual.year)
 

@@ -80,6 +80,7 @@ with_read_row file (rate_row.Terms terms) = Err kind.Repeated
 with_read_row file (rate_row.Range range) = with_range file range
 with_read_row file (rate_row.Offer offer) = with_offer file offer
 
+-- what was read, with one more row, whose number is given; or why the row is refused
 abbrev pub with_row : Terms → RateFile → ℕ → Row → Result RateFile RefusalKind
 with_row terms file number row = rate_row_of terms number row >>= with_read_row file
 

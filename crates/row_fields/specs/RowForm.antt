@@ -40,6 +40,7 @@ refusal_kind_of fault.BadDate = kind.BadDate
 refusal_kind_of fault.OutOfRange = kind.OutOfRange
 refusal_kind_of fault.PriceRange = kind.PriceRange
 
+-- what a field holds, or the refusal that has the name of its fault
 abbrev pub or_refused : {T : Type 0} → Result T NumberFault → Result T RefusalKind
 or_refused (Ok value) = Ok value
 or_refused (Err fault) = Err (refusal_kind_of fault)

@@ -13,6 +13,7 @@ use Rattle.escrow_units.specs.declared.security.StepRule.TheVariants as rule
 use Rattle.payment_schedule.specs.Schedule.{due_on, half_year_accrual}
 use Rattle.payment_schedule.specs.declared.schedule.ScheduledPayment.{ScheduledPayment}
 
+-- a day, by its number, is a 29 February
 abbrev pub is_leap_day : ℤ → Bool
 is_leap_day day = ((date_of day).month == 2) && ((date_of day).day == 29)
 
@@ -33,6 +34,7 @@ payment_dates slgs = filter (int_le slgs.first) (series_of slgs.maturity rule.Sa
 abbrev pub before_first : Slgs → ℤ
 before_first slgs = half_back_of slgs.maturity (length (payment_dates slgs)) rule.SameDay
 
+-- the date of the series two before the first payment
 abbrev pub second_before_first : Slgs → ℤ
 second_before_first slgs = half_back_of slgs.maturity (length (payment_dates slgs) + 1) rule.SameDay
 
@@ -54,6 +56,7 @@ accrual_to settle first before second =
 abbrev pub first_period_accrual : Slgs → Accrual
 first_period_accrual slgs = accrual_to slgs.settle slgs.first (before_first slgs) (second_before_first slgs)
 
+-- the accrual that a first payment is of: a certificate's, or that of a note or bond
 abbrev pub accrual_of_kind : SlgsKind → Slgs → Accrual
 accrual_of_kind kind.Certificate slgs = certificate_accrual slgs
 accrual_of_kind kind.Note slgs = first_period_accrual slgs
