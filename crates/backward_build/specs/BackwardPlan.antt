@@ -30,9 +30,11 @@ abbrev pub bought : BookContents → ℕ → List ℕ → Option ℕ → Result 
 bought book place plan None = Err (NoOwnOffer (need_at book.needs place).day)
 bought book place plan (Some number) = put_or_over plan number (fewest_of book.days (residual_of book plan place) (line_at book.lines number))
 
+-- a plan with what the own offer of the need date at a place has to cover
 abbrev pub with_date : BookContents → ℕ → List ℕ → Result (List ℕ) BuildEnd
 with_date book place plan = bought book place plan (own_offer_of book (need_at book.needs place).day)
 
+-- the same, unless a later need date couldn't be covered
 abbrev pub and_date : BookContents → ℕ → Result (List ℕ) BuildEnd → Result (List ℕ) BuildEnd
 and_date book place (Err fault) = Err fault
 and_date book place (Ok plan) = with_date book place plan

@@ -26,5 +26,6 @@ own_offer_of book day = position (λ line. ends_on book.days day line.kind) book
 abbrev pub need_at : List Flow → ℕ → Flow
 need_at needs place = slice_index_or needs place (record { day = pos 0; cents = record { 0 = 0 } })
 
+-- the line of a number, from 0. What is read past the end means nothing
 abbrev pub line_at : List Line → ℕ → Line
 line_at lines number = slice_index_or lines number (cash_line 0)

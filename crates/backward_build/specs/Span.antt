@@ -9,9 +9,11 @@ abbrev pub date_before : List Flow → ℕ → Option ℤ
 date_before needs zero = None
 date_before needs (suc place) = Some (need_at needs place).day
 
+-- the span of the need date at a place
 abbrev pub span_of : List Flow → ℕ → Span
 span_of needs place = record { after = date_before needs place; until = (need_at needs place).day }
 
+-- a day is after another, if there is another
 abbrev pub is_after : Option ℤ → ℤ → Bool
 is_after None day = true
 is_after (Some before) day = int_lt before day

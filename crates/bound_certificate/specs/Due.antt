@@ -52,6 +52,7 @@ width_of dates name.End = 1
 abbrev pub from_to : ℕ → ℕ → Range
 from_to least most = record { least = least; most = most }
 
+-- a number lies in a range
 abbrev pub is_in : Range → ℕ → Bool
 is_in range number = nat_le range.least number && nat_le number range.most
 

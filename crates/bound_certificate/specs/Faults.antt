@@ -16,6 +16,7 @@ use Rattle.bound_certificate.specs.Grammar.{line_fault, line_item}
 abbrev pub is_feed : ℕ → Bool
 is_feed byte = byte == 10
 
+-- what stands before each line feed, and last what stands behind the last one
 abbrev pub lines_in : List ℕ → List (List ℕ)
 lines_in bytes = slice_split is_feed bytes
 

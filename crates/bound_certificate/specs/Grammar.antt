@@ -21,6 +21,7 @@ use Rattle.bound_certificate.specs.Due.{first_names, is_closed_early, is_in, is_
 abbrev pub is_space : ℕ → Bool
 is_space byte = byte == 32
 
+-- what stands before, between and behind the spaces of a line
 abbrev pub words_of : List ℕ → List (List ℕ)
 words_of line = slice_split is_space line
 
@@ -79,6 +80,7 @@ named_fault dates d (Some n) others =
     if is_closed_early d || not (1 + length others == width_of dates n) then Some kind.Count
     else numbers_fault d n (line_numbers d n others)
 
+-- the same, by all words: the first has to be a name that may stand there
 abbrev pub words_fault : ℕ → Due → List (List ℕ) → Option FaultKind
 words_fault dates d [] = Some kind.Header
 words_fault dates d (first ∷ others) = named_fault dates d (name_in d first) others
@@ -107,14 +109,17 @@ said_by name.Leaf _ = item.Leaf
 said_by name.End _ = item.End
 said_by _ _ = item.Nothing
 
+-- what a line says by its numbers, if they are numbers
 abbrev pub numbers_item : Name → Option (List ℕ) → Item
 numbers_item n None = item.Nothing
 numbers_item n (Some numbers) = said_by n numbers
 
+-- what a line says by its name, if it is one that may stand there, and by the words behind it
 abbrev pub named_item : Due → Option Name → List (List ℕ) → Item
 named_item d None others = item.Nothing
 named_item d (Some n) others = numbers_item n (line_numbers d n others)
 
+-- what a line says by its words
 abbrev pub words_item : Due → List (List ℕ) → Item
 words_item d [] = item.Nothing
 words_item d (first ∷ others) = named_item d (name_in d first) others

@@ -75,6 +75,7 @@ pub record IsPackedLeaf (dates : ℕ) (vectors : List (List ℕ)) (whole : Bool)
   pub changes_are : AreChanges dates (vector_of vectors vector) changes
   pub leaf : IsLeaf dates (leaf_with vectors whole mu vector changes)
 
+-- a node as it may stand: a split or a point, or a leaf of a vector that is there
 abbrev pub IsPackedNode : ℕ → List (List ℕ) → PackedNode → Type 0
 IsPackedNode dates vectors (node.Split line at) = (line ≤ 65_535) × (at ≤ GREATEST_UNITS)
 IsPackedNode dates vectors node.Point = Unit {0}

@@ -37,6 +37,7 @@ are_rising [] = true
 are_rising (first ∷ []) = true
 are_rising (first ∷ second ∷ places) = nat_lt first second && are_rising (second ∷ places)
 
+-- the places of changes, in order
 abbrev pub places_of : List Change → List ℕ
 places_of changes = map (λ change. change.place) changes
 
@@ -66,6 +67,7 @@ said_by vectors row.Leaf (rho ∷ mu ∷ vector ∷ numbers) = leaf_said (vector
 said_by vectors row.End _ = Ok line.End
 said_by vectors _ _ = Err kind.Count
 
+-- what the numbers of a line say, or the fault that was found in its words
 abbrev pub said_or : List (List ℕ) → Row → Result (List ℕ) FaultKind → Result PackedLine FaultKind
 said_or vectors r (Err found) = Err found
 said_or vectors r (Ok numbers) = said_by vectors r numbers
@@ -78,6 +80,7 @@ row_line dates vectors r may bytes = said_or vectors r (row_said dates (length v
 abbrev pub begins_with : List ℕ → List ℕ → Bool
 begins_with word bytes = pointwise nat_eq word (slice_index_or (words_of bytes) 0 [])
 
+-- the row of a node's line: a split, a point or a leaf
 abbrev pub node_row : List ℕ → Row
 node_row bytes = if begins_with (codes "s") bytes then row.Split else if begins_with (codes "p") bytes then row.Point else row.Leaf
 

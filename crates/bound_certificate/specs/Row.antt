@@ -66,6 +66,7 @@ numbers_by range place [] = Some []
 numbers_by range place (word ∷ words) =
     option_and_then (λ number. option_map (λ numbers. number ∷ numbers) (numbers_by range (place + 1) words)) (number_in (range place) word)
 
+-- the numbers, or `Number` where a word is none of its range
 abbrev pub numbers_or : Option (List ℕ) → Result (List ℕ) FaultKind
 numbers_or None = Err kind.Number
 numbers_or (Some numbers) = Ok numbers
@@ -79,6 +80,7 @@ row_words dates vectors r may (first ∷ others) =
     else if not (may && row_fits dates r (length others)) then Err kind.Count
     else numbers_or (numbers_by (row_range dates vectors r) 1 others)
 
+-- the same of the bytes of a line
 abbrev pub row_said : ℕ → ℕ → Row → Bool → List ℕ → Result (List ℕ) FaultKind
 row_said dates vectors r may line = row_words dates vectors r may (words_of line)
 

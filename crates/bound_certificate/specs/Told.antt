@@ -31,6 +31,7 @@ pub record Told : Type 0 where
 abbrev pub plain_told : Due → List ℕ → Told
 plain_told d bytes = record { item = line_item d bytes; leaf = leaf_said (line_leaf d bytes) }
 
+-- nothing more is told from a line at fault on
 abbrev pub unless_fault : Option FaultKind → List Told → List Told
 unless_fault None told = told
 unless_fault (Some found) told = []
@@ -57,17 +58,21 @@ packed_item (line.Node node.Point) = item.Point
 packed_item (line.Node (node.Closed whole mu vector changes)) = item.Leaf
 packed_item line.End = item.End
 
+-- the leaf that a line says, with its prices written out; of other lines the leaf that stands for none
 abbrev pub packed_leaf : List (List ℕ) → PackedLine → Leaf
 packed_leaf vectors (line.Node (node.Closed whole mu vector changes)) = leaf_with vectors whole mu vector changes
 packed_leaf vectors said = leaf_said None
 
+-- what a line says, with its leaf
 abbrev pub packed_told : List (List ℕ) → PackedLine → Told
 packed_told vectors said = record { item = packed_item said; leaf = packed_leaf vectors said }
 
+-- nothing more is told from a line at fault on
 abbrev pub told_or : Result PackedLine FaultKind → (PackedLine → List Told) → List Told
 told_or (Err found) more = []
 told_or (Ok said) more = more said
 
+-- what lines say, up to the first that is at fault, where this is due and these vectors were said
 abbrev pub packed_lines : ℕ → PackedDue → List (List ℕ) → List (List ℕ) → List Told
 packed_lines dates d vectors [] = []
 packed_lines dates d vectors (rest ∷ []) = []

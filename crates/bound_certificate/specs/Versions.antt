@@ -16,6 +16,7 @@ begin_packed [] = false
 begin_packed (first ∷ []) = false
 begin_packed (first ∷ next ∷ lines) = pointwise nat_eq (codes "escrow-certificate 2") first
 
+-- bytes begin as a packed certificate does
 abbrev pub is_packed_text : List ℕ → Bool
 is_packed_text bytes = begin_packed (lines_in bytes)
 

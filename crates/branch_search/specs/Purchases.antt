@@ -10,6 +10,7 @@ purchases_from line [] = []
 purchases_from line (units ∷ plan) =
     if nat_lt 0 units then record { line = line; units = units } ∷ purchases_from (line + 1) plan else purchases_from (line + 1) plan
 
+-- the purchases of a portfolio: the lines of which some units are bought, in order
 abbrev pub purchases_of : List ℕ → List Buy
 purchases_of plan = purchases_from 0 plan
 

@@ -43,9 +43,11 @@ need_row k cents = row (codes "need") (date_text (date k) ∷ fixed 2 cents ∷ 
 abbrev pub offer_row : ℕ → List ℕ → List ℕ
 offer_row k rate = row (codes "offer") (date_text (date k) ∷ rate ∷ [] ∷ codes "100000000" ∷ [])
 
+-- an offer for date k at the table's greatest rate
 unfoldable pub greatest_offer_row : ℕ → List ℕ
 greatest_offer_row k = offer_row k (codes "max")
 
+-- an offer for date k at a rate in hundredths of a percentage point
 unfoldable pub lower_offer_row : ℕ → ℕ → List ℕ
 lower_offer_row k rate = offer_row k (fixed 2 rate)
 
@@ -87,8 +89,10 @@ prices_rows number =
 unfoldable pub issue_text : ℕ → List ℕ
 issue_text number = text_of (issue_rows number)
 
+-- the text of the rate file
 unfoldable pub rates_text : ℕ → List ℕ
 rates_text number = text_of (rates_rows number)
 
+-- the text of the price file
 unfoldable pub prices_text : ℕ → List ℕ
 prices_text number = text_of (prices_rows number)

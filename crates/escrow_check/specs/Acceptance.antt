@@ -82,6 +82,7 @@ abbrev pub yes_of : CaseContents → Option (List Buy) → ℕ → Verdict
 yes_of case None gap = verdict.YesNone
 yes_of case (Some buys) gap = verdict.Yes (portfolio_of case buys gap)
 
+-- no for the reason that stands, or else yes
 abbrev pub verdict_by : CaseContents → Certificate → Option Reason → Verdict
 verdict_by case cert None = yes_of case cert.buys cert.gap
 verdict_by case cert (Some why) = verdict.No why

@@ -41,6 +41,7 @@ HasSound case (Some buys) = IsSound case buys
 abbrev pub nodes_of : CaseContents → Certificate → List (TreeNode × List Interval)
 nodes_of case cert = placed_nodes case.book cert.nodes
 
+-- a leaf or point bears the claim of its certificate out over its own ranges; splits have nothing to bear out
 abbrev pub IsClosed : CaseContents → Certificate → TreeNode × List Interval → Type 0
 IsClosed case cert p = is_weak case (claim_of case.book cert) p ≡ false
 

@@ -15,6 +15,7 @@ abbrev pub verdict_by_fault : CaseContents → List ℕ → Option CertFault →
 verdict_by_fault case bytes (Some fault) = verdict.No (reason.Grammar fault)
 verdict_by_fault case bytes None = judged case (certificate_told (told_in (length case.book.needs) bytes))
 
+-- the verdict on bytes: the first fault of the text, or else the verdict on the certificate that it says
 unfoldable pub verdict_of : CaseContents → List ℕ → Verdict
 verdict_of case bytes = verdict_by_fault case bytes (certificate_fault (length case.book.needs) bytes)
 

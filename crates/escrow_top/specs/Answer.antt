@@ -46,6 +46,7 @@ pub record Answer : Type 0 where
   pub status : Status
   pub text : List ℕ
 
+-- what a fault of a certificate's line is called
 abbrev pub fault_word : FaultKind → List ℕ
 fault_word fault.Header = codes "Header"
 fault_word fault.Number = codes "Number"
@@ -88,6 +89,7 @@ verdict_answer words (verdict.Yes portfolio) = record { status = status.Done; te
 verdict_answer words verdict.YesNone = record { status = status.Done; text = none_text }
 verdict_answer words (verdict.No why) = record { status = status.No; text = reason_text why }
 
+-- what a file is called
 abbrev pub file_word : FileKind → List ℕ
 file_word file.Issue = codes "issue"
 file_word file.Rates = codes "rates"
@@ -95,6 +97,7 @@ file_word file.Prices = codes "prices"
 file_word file.Held = codes "held"
 file_word file.Cert = codes "cert"
 
+-- what a refusal is called
 abbrev pub kind_word : RefusalKind → List ℕ
 kind_word kind.TooLong = codes "TooLong"
 kind_word kind.Missing = codes "Missing"
@@ -124,6 +127,7 @@ abbrev pub refused_text : Refusal → List ℕ
 refused_text refusal =
     text_line (codes "refused ") (file_word refusal.file ++ codes " row " ++ decimal refusal.row ++ 32 ∷ kind_word refusal.kind)
 
+-- the status `Refused`, and that text
 abbrev pub refused : Refusal → Answer
 refused refusal = record { status = status.Refused; text = refused_text refusal }
 
@@ -142,6 +146,7 @@ abbrev pub case_of_texts : Option FileKind → InputFiles → Result CaseContent
 case_of_texts (Some too_long) texts = Err (refusal_of too_long 0 kind.TooLong)
 case_of_texts None texts = rows_case (rows_of texts.issue) (rows_of texts.rates) (rows_of texts.prices)
 
+-- the case of the bytes of the input files, or what is first to refuse it
 abbrev pub case_of : InputFiles → Result CaseContents Refusal
 case_of texts = case_of_texts (first_too_long texts) texts
 
@@ -163,10 +168,12 @@ judged_case inquiry.Roll held case = Ok case
 judged_case inquiry.Held held case = beside (option_map rows_of held) case
 judged_case (inquiry.AtCap cap) held case = Ok (case_at cap case)
 
+-- the same, unless a file was refused before
 abbrev pub judged_by : Inquiry → Option (List ℕ) → Result CaseContents Refusal → Result CaseContents Refusal
 judged_by inquiry held (Err refusal) = Err refusal
 judged_by inquiry held (Ok case) = judged_case inquiry held case
 
+-- the same of the bytes of the input files
 abbrev pub judged_of : Inquiry → InputFiles → Result CaseContents Refusal
 judged_of inquiry texts = judged_by inquiry texts.held (case_of texts)
 
@@ -178,6 +185,7 @@ searched_of texts = judged_of inquiry.Held texts
 abbrev pub answer_for : Inquiry → InputFiles → CaseContents → List ℕ → Answer
 answer_for inquiry texts case cert = answer_with (portfolio_text inquiry texts case) case cert
 
+-- the refusal of a file, or the answer to the certificate
 abbrev pub case_answer : Inquiry → InputFiles → Result CaseContents Refusal → List ℕ → Answer
 case_answer inquiry texts (Err refusal) cert = refused refusal
 case_answer inquiry texts (Ok case) cert = answer_for inquiry texts case cert
@@ -206,9 +214,11 @@ usage_words =
     ++ codes " | structure-held ISSUE RATES PRICES HELD CERT | check-held ISSUE RATES PRICES HELD CERT"
     ++ codes " | savings ISSUE RATES PRICES CERT"
 
+-- the line that says how the program is used
 abbrev pub usage_text : List ℕ
 usage_text = text_line (codes "usage: ") usage_words
 
+-- the status `Usage`, and that line
 abbrev pub usage : Answer
 usage = record { status = status.Usage; text = usage_text }
 
@@ -270,9 +280,11 @@ check_cap_words words = None
 abbrev pub asks : Inquiry → Option FileNames → Option Asking
 asks inquiry names = option_map (λ names. record { inquiry = inquiry; names = names }) names
 
+-- what `check-cap` asks, if the words are its own
 abbrev pub asks_at_cap : Option CapWords → Option Asking
 asks_at_cap found = option_map (λ capped. record { inquiry = inquiry.AtCap capped.cap; names = capped.names }) found
 
+-- what words ask of a certificate, if they are those of one of the five commands that ask
 abbrev pub asking_of : List (List ℕ) → Option Asking
 asking_of words =
     option_or (asks inquiry.Check (check_names words))
@@ -280,6 +292,7 @@ asking_of words =
     (option_or (asks inquiry.Roll (roll_names words))
     (option_or (asks inquiry.Held (check_held_names words)) (asks_at_cap (check_cap_words words)))))
 
+-- how the program is used where nothing is asked, or else the answer; None where a file that is read isn't there
 abbrev pub answer_to_asking : Content → Option Asking → Option Answer
 answer_to_asking content None = Some usage
 answer_to_asking content (Some asking) = asked_answer content asking

@@ -172,6 +172,7 @@ abbrev pub PutsOutCap : Told → List ℕ → CapDraft → Status → Told → T
 PutsOutCap old name (draft.Found texts) reached new = (reached ≡ status.Done) × WroteAndSaid old name texts.cert.items texts.said.items new
 PutsOutCap old name (draft.Said answer) reached new = (reached ≡ answer.status) × SaidAll old answer.text new
 
+-- the same where a write failed: the certificate's file is as before or holds a part, or a part was said
 abbrev pub PutsOutCapPart : Told → List ℕ → CapDraft → Told → Type 0
 PutsOutCapPart old name (draft.Found texts) new = WroteOrSaidPart old name texts.cert.items texts.said.items new
 PutsOutCapPart old name (draft.Said answer) new = SaidPart old answer.text new
@@ -182,6 +183,7 @@ Caps None names reached new = new ≡ None
 Caps (Some content) names reached new =
     IsSomeAnd (inputs_of content names) (λ texts. IsCapPut content names.cert (case_of texts) reached new)
 
+-- what stands where a write failed, for the input files of the names
 abbrev pub CapsPart : Told → FileNames → Told → Type 0
 CapsPart None names new = new ≡ None
 CapsPart (Some content) names new =

@@ -76,6 +76,7 @@ abbrev pub AnswersOf : Option Making → Told → List (List ℕ) → Status →
 AnswersOf (Some making) told words status new = Makes told making status new
 AnswersOf None told words status new = AnswersFor (cap_names words) told words status new
 
+-- the status, and what stands then, are the answer to the words over what the desk tells
 abbrev pub Answers : Told → List (List ℕ) → Status → Told → Type 0
 Answers told words status new = AnswersOf (make_words words) told words status new
 
@@ -85,14 +86,17 @@ AnswersPartBy (Some names) told words new = StructuresPart told names new
 AnswersPartBy None None words new = new ≡ None
 AnswersPartBy None (Some content) words new = IsSaidPart content (answer_to words content) new
 
+-- the same where the words may be those of `cap`
 abbrev pub AnswersPartFor : Option FileNames → Told → List (List ℕ) → Told → Type 0
 AnswersPartFor (Some names) told words new = CapsPart told names new
 AnswersPartFor None told words new = AnswersPartBy (structure_names words) told words new
 
+-- the same of all words
 abbrev pub AnswersPartOf : Option Making → Told → List (List ℕ) → Told → Type 0
 AnswersPartOf (Some making) told words new = MakesPart told making new
 AnswersPartOf None told words new = AnswersPartFor (cap_names words) told words new
 
+-- what stands where a write failed is a part of what the answer to the words puts out
 abbrev pub AnswersPart : Told → List (List ℕ) → Told → Type 0
 AnswersPart told words new = AnswersPartOf (make_words words) told words new
 
@@ -102,6 +106,7 @@ LacksFileBy (Some names) told words = LacksInput told names
 LacksFileBy None None words = Unit {0}
 LacksFileBy None (Some content) words = answer_to words content ≡ None
 
+-- the same where the words may be those of `cap`
 abbrev pub LacksFileFor : Option FileNames → Told → List (List ℕ) → Type 0
 LacksFileFor (Some names) told words = LacksInput told names
 LacksFileFor None told words = LacksFileBy (structure_names words) told words
@@ -111,6 +116,7 @@ abbrev pub LacksFileOf : Option Making → Told → List (List ℕ) → Type 0
 LacksFileOf (Some making) told words = ⊥
 LacksFileOf None told words = LacksFileFor (cap_names words) told words
 
+-- a file that is read by the words isn't there
 abbrev pub LacksFile : Told → List (List ℕ) → Type 0
 LacksFile told words = LacksFileOf (make_words words) told words
 

@@ -66,10 +66,12 @@ abbrev pub AcceptedBeside : Option (List ℕ) → InputFiles → List ℕ → Li
 AcceptedBeside None = Accepted
 AcceptedBeside (Some holdings) = AcceptedHolding holdings
 
+-- a certificate is not accepted, beside the holdings where they are given
 abbrev pub NotAcceptedBeside : Option (List ℕ) → InputFiles → List ℕ → List ℕ → Type 0
 NotAcceptedBeside None = NotAccepted
 NotAcceptedBeside (Some holdings) = NotAcceptedHolding holdings
 
+-- a certificate that is written, beside the holdings where they are given
 abbrev pub IsAcceptedTextBeside : Option (List ℕ) → InputFiles → List ℕ → Type 0
 IsAcceptedTextBeside None = IsAcceptedText
 IsAcceptedTextBeside (Some holdings) = IsAcceptedTextHolding holdings

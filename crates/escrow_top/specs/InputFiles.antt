@@ -5,6 +5,7 @@ use Rattle.escrow_desk.specs.declared.limits.TheConstants.{FILE_LIMIT}
 use Rattle.escrow_desk.specs.declared.refusal.FileKind.{FileKind}
 use Rattle.escrow_desk.specs.declared.refusal.FileKind.TheVariants as file
 
+-- what follows where something is there
 infixl 10 ◌>>=◌
 abbrev pub ◌>>=◌ : {A B : Type 0} → Option A → (A → Option B) → Option B
 o >>= f = option_and_then f o

@@ -20,6 +20,7 @@ pub record Making : Type 0 where
   pub number : ℕ
   pub names : MadeNames
 
+-- what is to be made, by its words in order
 abbrev pub making_of : ℕ → List ℕ → List ℕ → List ℕ → Making
 making_of number issue rates prices = record { number = number; names = record { issue = issue; rates = rates; prices = prices } }
 

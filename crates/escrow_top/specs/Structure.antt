@@ -66,6 +66,7 @@ abbrev pub telling_for : Option (List ℕ) → Telling
 telling_for None = telling.Report
 telling_for (Some holdings) = telling.Summary
 
+-- the text that is said of a portfolio that was found
 abbrev pub told_text : Telling → CaseContents → List ℕ → ℕ → List ℕ
 told_text telling.Report case plan gap = report_text case plan gap
 told_text telling.Summary case plan gap = summary_text (figures_of case plan gap)
@@ -212,6 +213,7 @@ Structures None names reached new = new ≡ None
 Structures (Some content) names reached new =
     IsSomeAnd (inputs_of content names) (λ texts. IsPutOut content names.cert (telling_for texts.held) (searched_of texts) reached new)
 
+-- what stands where a write failed, for the input files of the names
 abbrev pub StructuresPart : Told → FileNames → Told → Type 0
 StructuresPart None names new = new ≡ None
 StructuresPart (Some content) names new =

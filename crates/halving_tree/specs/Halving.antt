@@ -23,6 +23,8 @@ abbrev pub claim_within : CaseContents → Result (List ℕ) BuildEnd → Claim
 claim_within case (Err fault) = None
 claim_within case (Ok plan) = if is_within_limit case.limit case.book plan then Some (pos (cost case.book plan) -ℤ pos case.allowance) else None
 
+-- what the backward plan claims: that no rival costs less than it by more than the allowance; where there is no such plan within
+-- the limit, that there is no rival
 abbrev pub backward_claim : CaseContents → Claim
 backward_claim case = claim_within case (backward_plan case.book)
 

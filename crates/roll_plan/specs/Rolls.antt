@@ -40,6 +40,7 @@ MayRoll closed entries day next = IsNext entries day next × IsRollTerm closed d
 abbrev pub taken : List Roll → List Flow
 taken rolls = map (λ roll. on roll.day roll.cents.0) rolls
 
+-- what rolls bring back on their later days
 abbrev pub returned : List Roll → List Flow
 returned rolls = map (λ roll. on roll.next roll.cents.0) rolls
 

@@ -25,6 +25,7 @@ abbrev pub most_subscribed : Terms → ℕ → ℕ
 most_subscribed terms free =
     if nat_lt (free - free % (100 * terms.step)) (100 * terms.minimum) then 0 else free - free % (100 * terms.step)
 
+-- the most cents that are rolled from one day to another, of so many: nothing where no certificate runs between them
 abbrev pub most_rolled : Closings → Terms → ℤ → ℤ → ℕ → ℕ
 most_rolled closed terms from to free = if is_roll_term closed from to then most_subscribed terms free else 0
 
@@ -43,6 +44,7 @@ rolls_from closed terms flows back entry (next ∷ behind) =
     roll_of entry next (rolled_on closed terms flows back entry next)
     ++ rolls_from closed terms flows (rolled_on closed terms flows back entry next) next behind
 
+-- the rolls of all entries, one after another; nothing comes back on the first
 abbrev pub rolls_along : Closings → Terms → List Flow → List Balance → List Roll
 rolls_along closed terms flows [] = []
 rolls_along closed terms flows (entry ∷ behind) = rolls_from closed terms flows 0 entry behind

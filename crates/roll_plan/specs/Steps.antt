@@ -41,5 +41,6 @@ pub record IsMostRolled (closed : Closings) (terms : Terms) (from to : ℤ) (fre
 abbrev pub left_of : List Flow → Flow → Option Flow
 left_of away flow = if nat_lt (cents_on flow.day away) flow.cents.0 then Some (on flow.day (flow.cents.0 - cents_on flow.day away)) else None
 
+-- flows less what is taken from their days; a flow of which nothing is left goes
 abbrev pub lessened_by : List Flow → List Flow → List Flow
 lessened_by away flows = filter_map (left_of away) flows

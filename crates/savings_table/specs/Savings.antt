@@ -59,9 +59,11 @@ difference amount less = record { lo = pos amount.lo -ℤ pos less.hi; hi = pos 
 abbrev pub old_value : Issue → ℕ → PvRange
 old_value issue n = present_range issue.settle n (old_service_of issue.settle issue.bonds)
 
+-- what the new service is worth at a yield, where it is known
 abbrev pub new_value : Issue → ℕ → Option PvRange
 new_value issue n = option_map (present_range issue.settle n) (new_service issue.restricted issue.pays)
 
+-- what the receipts of the securities are worth at a yield
 abbrev pub securities_value : CaseContents → ℕ → List ℕ → PvRange
 securities_value case n plan = present_range case.book.days.settle n (security_flows case.book plan)
 

@@ -35,6 +35,7 @@ figures_of case plan gap = record {
   gap = record { 0 = gap };
 }
 
+-- what a SLGS security is called
 abbrev pub slgs_word : SlgsKind → List ℕ
 slgs_word slgs.Certificate = codes "certificate"
 slgs_word slgs.Note = codes "note"
@@ -90,6 +91,7 @@ cash_lines (entry ∷ entries) = date_line entry ++ idle_line entry entries ++ c
 abbrev pub discounted_down : ℕ → ℕ → ℕ
 discounted_down cents power = cents * power / one
 
+-- cents discounted by a power, in whole cents, rounded up
 abbrev pub discounted_up : ℕ → ℕ → ℕ
 discounted_up cents power = div_ceil (cents * power) one
 
