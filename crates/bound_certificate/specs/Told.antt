@@ -28,6 +28,7 @@ pub record Told : Type 0 where
   pub leaf : Leaf
 
 -- ---- version 1
+-- what a line says, with its leaf
 abbrev pub plain_told : Due → List ℕ → Told
 plain_told d bytes = record { item = line_item d bytes; leaf = leaf_said (line_leaf d bytes) }
 
@@ -44,6 +45,7 @@ plain_lines dates d (bytes ∷ next ∷ lines) =
     unless_fault (whole_fault dates d bytes) (plain_told d bytes ∷ plain_lines dates (next_due d (line_item d bytes)) (next ∷ lines))
 
 -- ---- version 2
+-- what a line says, whatever the version it stands in; a leaf's prices are told apart
 abbrev pub packed_item : PackedLine → Item
 packed_item line.Title = item.Header
 packed_item (line.Portfolio None) = item.Portfolio None

@@ -62,6 +62,7 @@ pub record IsAcceptedTextHolding (holdings : List ℕ) (files : InputFiles) (cer
   pub unopposed : HasNoReason accepted.kept cert
 
 -- ---- whether holdings are given or not
+-- a certificate is accepted, beside the holdings where they are given
 abbrev pub AcceptedBeside : Option (List ℕ) → InputFiles → List ℕ → List ℕ → Type 0
 AcceptedBeside None = Accepted
 AcceptedBeside (Some holdings) = AcceptedHolding holdings
