@@ -1,4 +1,4 @@
-"""What a reader of the clauses reads: of a small repository; and docs/DEFINITIONS.md explains all of this one."""
+"""What a reader of the clauses reads: of a small repository; and docs/DEFINITIONS.md is made of all of this one."""
 
 from __future__ import annotations
 
@@ -6,18 +6,20 @@ import unittest
 
 from harness import ROOT, FolderTest
 from escrow_tools.reading.clauses import Clauses
-from escrow_tools.reading.definitions_page import compare, read_page
+from escrow_tools.reading.definitions_page import page_of, uncommented
 from escrow_tools.reading.library import Library
 from escrow_tools.reading.mentions import Mention, Piece, mentions_of
 from escrow_tools.reading.spec_files import Place
 
 FILES = {
     "crates/escrow_top/src/program.rt": """\
-ghost use Rattle.escrow_top.specs.Ending.{IsAccepted};
+ghost use Rattle.escrow_top.specs.Ending.{IsAccepted, last};
 use crate::status::Status;
 pub fn run(words: &[String]) -> Status
     ensures yes { result ≡ Status.Done → IsAccepted words.now }
     ensures no { result ≡ Status.No → ⊥ }
+    ensures wrote { result ≡ Status.Done → last }
+    ensures counts { result ≡ Status.Done }
 {
 }
 """,
@@ -64,28 +66,80 @@ pub record Line : Type 0 where
   pub kind : Kind
 
 -- what a line costs,
--- in cents
+-- in cents | of a unit
 abbrev pub cost : Line → ℕ
 cost line = do
   found ← part line
   record { part = found }
 
+-- ---- what follows
+-- what follows
 infixl 10 ◌>>=◌
 abbrev pub ◌>>=◌ : ℕ → ℕ
 a >>= b = a
 """,
     "crates/offer_book/specs/Parts.antt": "abbrev pub part : ℕ → ℕ\npart a = a\n\nabbrev pub other : ℕ\nother = 0\n",
     "crates/offer_book/src/limits.rt": "/// The most.\npub const MOST: u64 = 3;\n",
-    "docs/DEFINITIONS.md": """\
-## 1. Ends (`escrow_top`)
-
-| definition | in plain words | file |
-|---|---|---|
-| `IsAccepted`, `Bought` | with `words` | Ending |
-| `cost`, `part`, `nothing` | what it costs | offer_book: Book, Parts; src/limits |
-| `MOST` | the most | offer_book: Book |
-""",
 }
+PAGE = """\
+
+## 1. What `yes` leads to
+
+The clause: `yes` to `Status`, `IsAccepted`.
+
+### escrow_top/src/status.rt
+
+| definition | in plain words |
+|---|---|
+| `Status` | How a run ends. |
+
+### escrow_top/specs/Ending.antt
+
+How a run ends.
+
+| definition | in plain words |
+|---|---|
+| `Bought` | a record, whose field isn't the definition of its name |
+| `IsAccepted` | what words buy: `unread` is bound here |
+
+### offer_book/src/limits.rt
+
+| definition | in plain words |
+|---|---|
+| `MOST` | The most. |
+
+### offer_book/specs/Book.antt
+
+| definition | in plain words |
+|---|---|
+| `Kind` |  |
+| `Line` |  |
+| `cost` | what a line costs, in cents \\| of a unit |
+| `◌>>=◌` | what follows |
+
+### offer_book/specs/Parts.antt
+
+| definition | in plain words |
+|---|---|
+| `part` |  |
+
+## 2. What `no` and `wrote` lead to besides
+
+The clauses: `no` to `Status`; `wrote` to `Status`, `last`.
+
+### escrow_top/specs/Ending.antt
+
+How a run ends.
+
+| definition | in plain words |
+|---|---|
+| `unread` |  |
+| `last` |  |
+
+## 3. What the other clauses lead to besides
+
+The clause: `counts` to `Status`.
+"""
 REACHED = [
     ("Status", 5),
     ("IsAccepted", 4),
@@ -94,7 +148,7 @@ REACHED = [
     ("Kind", 2),
     ("Line", 2),
     ("cost", 6),
-    ("◌>>=◌", 3),
+    ("◌>>=◌", 5),
     ("part", 2),
 ]
 
@@ -125,14 +179,13 @@ class SmallTest(FolderTest):
             self.library.next_of(found)
         self.assertFalse(self.library.unknown & {"IsProp", "bought_path"})
 
-    def test_compared(self) -> None:
-        page = read_page(self.folder / "docs" / "DEFINITIONS.md")
-        compared = compare(self.clauses.reached(["yes"]), self.library.defined(), page)
-        self.assertEqual([found.name for found in compared.missing], ["Status", "MOST", "Kind", "Line", "◌>>=◌"])
-        self.assertEqual([(row.name, row.line) for row in compared.in_no_spec], [("nothing", 6)])
-        self.assertEqual([(row.name, row.line) for row in compared.elsewhere], [("MOST", 7)])
-        places = (("offer_book", "Book"), ("offer_book", "Parts"), ("escrow_top", "src/limits"))
-        self.assertEqual(page[2].files, {Place(*place) for place in places})
+    def test_page(self) -> None:
+        page = page_of(self.library, self.clauses)
+        self.assertEqual(page[page.index("\n## 1.") :], PAGE)
+
+    def test_uncommented(self) -> None:
+        lacking = uncommented(self.clauses.reached(["yes", "no"]))
+        self.assertEqual([found.name for found in lacking], ["Kind", "Line", "part"])
 
 
 class MentionTest(unittest.TestCase):
@@ -151,13 +204,12 @@ class MentionTest(unittest.TestCase):
 
 class RepositoryTest(unittest.TestCase):
     def test_page(self) -> None:
-        """Each name that the clauses lead to is explained, and no other name is without its definition."""
+        """Each definition that the clauses lead to has its own words, and the page is made from them."""
         library = Library(ROOT)
         clauses = Clauses(ROOT, library)
-        reached = clauses.reached(list(clauses.texts))
-        compared = compare(reached, library.defined(), read_page(ROOT / "docs" / "DEFINITIONS.md"))
-        self.assertEqual([], ["%s (%s)" % (found.name, found.place) for found in compared.missing])
-        self.assertEqual([], compared.in_no_spec + compared.elsewhere)
+        lacking = uncommented(clauses.reached(list(clauses.texts)))
+        self.assertEqual([], ["%s (%s)" % (found.name, found.place) for found in lacking])
+        self.assertEqual(page_of(library, clauses), (ROOT / "docs" / "DEFINITIONS.md").read_text(encoding="utf-8"))
 
     def test_names(self) -> None:
         """What no file gives is the kit's own without a `use` line."""

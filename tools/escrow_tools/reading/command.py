@@ -1,4 +1,4 @@
-"""`tools/reading_path`: what a reader of the clauses of `run` reads, and whether docs/DEFINITIONS.md explains it."""
+"""`tools/reading_path`: what a reader of the clauses of `run` reads, and docs/DEFINITIONS.md, which explains it."""
 
 from __future__ import annotations
 
@@ -6,7 +6,7 @@ import argparse
 from pathlib import Path
 
 from .clauses import Clauses, reached_from
-from .definitions_page import Compared, compare, read_page
+from .definitions_page import page_of, path_of, uncommented
 from .library import Library
 from .spec_files import Definition, Place
 
@@ -40,7 +40,12 @@ def words() -> argparse.ArgumentParser:
         "--costs", action="store_true", help="the definitions without which most lines wouldn't be reached"
     )
     kinds.add_argument(
-        "--compare", action="store_true", help="compare with docs/DEFINITIONS.md; ends with 1 where they differ"
+        "--page", action="store_true", help="docs/DEFINITIONS.md, made from the comments above the definitions"
+    )
+    kinds.add_argument(
+        "--compare",
+        action="store_true",
+        help="which definitions have no comment, and whether docs/DEFINITIONS.md is as --page has it; ends with 1 where not",
     )
     return parser
 
@@ -52,10 +57,13 @@ def run(arguments: list[str]) -> int:
     clauses = Clauses(ROOT, library)
     _try_names(parser, chosen.clauses, ["all"] + list(clauses.texts))
     _try_names(parser, chosen.without, [found.name for found in library.defined()])
+    if chosen.page:
+        print(page_of(library, clauses), end="")
+        return 0
     if chosen.compare:
-        compared = compare(clauses.reached(_names(chosen, clauses)), library.defined(), read_page(PAGE))
-        print("\n".join(_comparison(compared)))
-        return 1 if any(vars(compared).values()) else 0
+        faults = _comparison(library, clauses)
+        print("\n".join(faults or ["docs/DEFINITIONS.md is up to date"]))
+        return 1 if faults else 0
     print("\n".join(_counted(chosen, library, clauses)))
     return 0
 
@@ -131,10 +139,10 @@ def _specs_of(reached: list[Definition]) -> set[Definition]:
     return {found for found in reached if not is_declared(found)}
 
 
-def _comparison(compared: Compared) -> list[str]:
-    missing = ["    %s (%s)" % (found.name, found.place) for found in compared.missing]
-    unknown = ["    line %d: %s" % (row.line, row.name) for row in compared.in_no_spec]
-    elsewhere = ["    line %d: %s" % (row.line, row.name) for row in compared.elsewhere]
-    lines = ["%d names that are reached aren't explained" % len(missing)] + missing
-    lines += ["%d names that are explained stand nowhere" % len(unknown)] + unknown
-    return lines + ["%d names stand in other files than those beside them" % len(elsewhere)] + elsewhere
+def _comparison(library: Library, clauses: Clauses) -> list[str]:
+    """What is to be mended: a definition without words, or a page that was made before the comments changed."""
+    lacking = uncommented(clauses.reached(list(clauses.texts)))
+    lines = ["%s (%s) has no comment" % (found.name, path_of(found.place)) for found in lacking]
+    if PAGE.read_text(encoding="utf-8") != page_of(library, clauses):
+        lines.append("docs/DEFINITIONS.md is out of date; tools/reading_path --page > docs/DEFINITIONS.md makes it anew")
+    return lines

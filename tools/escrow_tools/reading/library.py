@@ -34,11 +34,13 @@ class Library:
         files = list(self.specs.values()) + list(self.sources.values())
         return [found for file in files for found in file.definitions.values()]
 
+    def file_at(self, place: Place) -> SpecFile:
+        return self.specs.get(place) or self.sources[place]
+
     def next_of(self, definition: Definition) -> list[Definition]:
         """The definitions that one mentions, in order."""
         if definition not in self._next:
-            file = self.specs.get(definition.place) or self.sources[definition.place]
-            self._next[definition] = self.meant(definition.mentions, file)
+            self._next[definition] = self.meant(definition.mentions, self.file_at(definition.place))
         return self._next[definition]
 
     def meant(self, mentions, file: SpecFile) -> list[Definition]:

@@ -6,7 +6,7 @@ import re
 from pathlib import Path
 
 from .mentions import NAME, Mention
-from .spec_files import Definition, Imports, Place, SpecFile, Taken
+from .spec_files import Definition, Imports, Place, SpecFile, Taken, words_of
 
 ITEM = re.compile(r"^(?:pub(?:\(crate\))? )?(struct|enum|const) (\w+)")
 USE = re.compile(r"^\s*(?:pub(?:\(crate\))? )?use ([\w:]+?)(?:::\{([^}]*)\})?;", re.MULTILINE)
@@ -15,17 +15,19 @@ VARIANT = re.compile(r"^ {4}\w+")
 
 
 def read_source(path: Path, place: Place) -> SpecFile:
-    """The types and constants of a source, each with its lines and those of the comment above it."""
+    """The types and constants of a source, each with its lines and the comment above it."""
     text = path.read_text(encoding="utf-8")
-    read = SpecFile(place, _imports_of(text, place.crate))
-    above = 0
     lines = text.splitlines()
+    read = SpecFile(place, _imports_of(text, place.crate), about=words_of(lines, "//! "))
+    above: list[str] = []
     for number, line in enumerate(lines):
         found = ITEM.match(line)
         if found:
             body = _item_at(lines, number)
-            read.definitions[found[2]] = Definition(place, found[2], above + len(body), _types_in(body, found[1]))
-        above = above + 1 if line.startswith("//") else above if line.startswith("#[") else 0
+            types = _types_in(body, found[1])
+            said = words_of(above, "/// ") or words_of(above, "// ")
+            read.definitions[found[2]] = Definition(place, found[2], len(above) + len(body), types, said)
+        above = above + [line] if line.startswith("//") else above if line.startswith("#[") else []
     return read
 
 

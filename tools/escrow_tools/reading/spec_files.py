@@ -4,6 +4,7 @@ from __future__ import annotations
 
 import re
 from dataclasses import dataclass, field
+from itertools import takewhile
 from pathlib import Path
 
 from .mentions import NAME, Mention, Piece, mentions_of
@@ -12,6 +13,7 @@ USE = re.compile(r"^(?:unfoldable |pub |ghost )*use ([\w.]+?)(?:\.\{([^}]*)\}| a
 DEFINED = re.compile(r"^(?:abbrev |unfoldable )?pub (?!mod |use )(?:record |data )?(\S+)")
 # A lemma, that a fact has one proof at most: a field of a struct asks for it, and no clause means it.
 LEMMA = re.compile(r"^pub \S+ : (?:.* )?IsProp ")
+DIVIDER = "-- --"
 FIXITY = re.compile(r"^infix[lr]? ")
 CONSTRUCTOR = re.compile(r"^\s+(%s)\s+:" % NAME, re.MULTILINE)
 
@@ -45,26 +47,30 @@ class Imports:
 
 @dataclass(frozen=True)
 class Definition:
-    """A definition, how many lines it has with the comment above it, and what it mentions."""
+    """A definition, how many lines it has with the comment above it, what it mentions, and what the comment says."""
 
     place: Place
     name: str
     lines: int = field(compare=False)
     mentions: tuple[Mention, ...] = field(default=(), compare=False)
+    comment: str = field(default="", compare=False)
 
 
 @dataclass
 class SpecFile:
+    """A file, and what the first lines of it say that it is about."""
+
     place: Place
     imports: Imports
     definitions: dict[str, Definition] = field(default_factory=dict)
     # the constructors of its own data, by name, with the name of the data
     constructors: dict[str, str] = field(default_factory=dict)
+    about: str = ""
 
 
 def read_spec(path: Path, place: Place) -> SpecFile:
     text = path.read_text(encoding="utf-8")
-    read = SpecFile(place, imports_of(text))
+    read = SpecFile(place, imports_of(text), about=words_of(text.splitlines(), "-- "))
     for lines in _blocks(text.splitlines()):
         _read_block(read, lines)
     return read
@@ -79,6 +85,12 @@ def imports_of(text: str) -> Imports:
             theirs, _, ours = name.partition(" as ")
             imports.names[ours or theirs] = Taken(module, theirs)
     return imports
+
+
+def words_of(lines: list[str], mark: str) -> str:
+    """What the comment says that the lines begin with, as one line. A line across the file parts it and says nothing."""
+    said = takewhile(lambda line: line.startswith(mark.rstrip()), lines)
+    return " ".join(line[len(mark) :].strip() for line in said if not line.startswith(DIVIDER)).strip()
 
 
 def _blocks(lines: list[str]) -> list[list[str]]:
@@ -108,7 +120,8 @@ def _read_block(read: SpecFile, lines: list[str]) -> None:
     name = DEFINED.match(body[0])[1]
     known = set(read.imports.names) | set(read.constructors)
     found = [mention for piece in _pieces(body) for mention in mentions_of(piece, known)]
-    read.definitions[name] = Definition(read.place, name, len(lines), tuple(found))
+    above = [line for line in lines if not FIXITY.match(line)]
+    read.definitions[name] = Definition(read.place, name, len(lines), tuple(found), words_of(above, "-- "))
     if body[0].startswith("pub data"):
         read.constructors.update((made, name) for made in CONSTRUCTOR.findall("\n".join(body[1:])))
 
