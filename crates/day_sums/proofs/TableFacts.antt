@@ -1,14 +1,14 @@
 -- Tables of the cents of days: what they sum to.
-use Rattle.std.proofs.Common.{◌≡◌, ◌∙◌, refl, sym, ap, arith, ℕ, zero, suc, ◌+◌, ◌<◌, ◌≤◌, List, [], ◌∷◌, ◌++◌, length, get_or, set, take, drop, replicate, Bool, true, false, ℤ, pos, ◌+ℤ◌, ◌-ℤ◌, ◌≤ℤ◌, nat_abs, append_assoc}
-use Rattle.std.specs.Prelude.{◌<ℤ◌}
+use Rattle.std.proofs.Common.{◌≡◌, ◌∙◌, refl, sym, ap, arith, ℕ, zero, suc, ◌+◌, ◌<◌, ◌≤◌, List, [], ◌∷◌, ◌++◌, length, get_or, set, take, drop, Bool, true, false, ℤ, pos, ◌+ℤ◌, ◌≤ℤ◌, append_assoc}
+use Rattle.std.specs.Prelude.{All, ◌<ℤ◌}
 use Rattle.std.specs.Ordering.{int_cmp, int_eq}
 use Rattle.std.specs.declared.cmp.Ordering.{Ordering}
 use Rattle.std.specs.declared.cmp.Ordering.TheVariants.{Less, Equal, Greater}
 use Rattle.std.proofs.lemmas.Int.{ints}
-use Rattle.std.proofs.lemmas.List.{append-nil, take_more, take_all}
+use Rattle.std.proofs.lemmas.List.{append-nil, length-set, take_more, take_all, take-append-le}
 use Rattle.std.proofs.lemmas.List.Elements.{All-nil, All-cons, All-head, All-tail, All-weaker}
 use Rattle.std.proofs.lemmas.List.Sums.{sum_by-cons, sum_by-drop_more, sum_by_push}
-use Rattle.escrow_units.specs.Flows.{total}
+use Rattle.escrow_units.specs.Flows.{FallWithin, total}
 use Rattle.escrow_units.specs.declared.security.Flow.{Flow}
 use Rattle.day_sums.specs.Summed.{cents_on, on, summed, with_amount}
 use Rattle.day_sums.specs.Table.{HasPlace, SpanSums, day_amounts}
@@ -80,6 +80,17 @@ summed-set first cents i e flow short day =
     omega (arith, count-set (λ y. int_eq y d) first cents i flow.cents.0 e short, count-append (λ y. int_eq y d) old (flow ∷ []), count-cons (λ y. int_eq y d) flow [], there))
     ∙ sym (in-steps old (flow ∷ []))
 
+-- cents that are put at a place of a table's own list, which is longer by what stands behind it
+pub put-sums : (first : ℤ) (own cents new behind : List ℕ) (len place : ℕ) (flow : Flow) (sums : List Flow)
+    → cents ≡ own → new ≡ set cents place (get_or cents place 0 + flow.cents.0) → length cents ≡ len → place < len → flow.day ≡ first +ℤ pos place
+    → summed (day_amounts first own) ≡ sums → summed (day_amounts first (take len (new ++ behind))) ≡ summed (sums ++ flow ∷ [])
+put-sums first own cents new behind len place flow sums same is long short day before =
+    let own_sums = ap (λ (cs : List ℕ). summed (day_amounts first cs)) same ∙ before in
+    let kept : length new ≡ len = ap length is ∙ (length-set cents place (get_or cents place 0 + flow.cents.0) ∙ long) in
+    let whole : take len (new ++ behind) ≡ new = take-append-le len new behind (omega (arith, kept)) ∙ take_all len new (omega (arith, kept)) in
+    ap (λ (cs : List ℕ). summed (day_amounts first cs)) (whole ∙ is)
+    ∙ (summed-set first cents place 0 flow (omega (arith, long, short)) day ∙ ap (λ (before : List Flow). summed (before ++ flow ∷ [])) own_sums)
+
 -- the cents of a day are at most the total
 amount-total : (first : ℤ) (cents : List ℕ) (i e : ℕ) → i < length cents → get_or cents i e ≤ total (day_amounts first cents)
 unfolding day_amounts
@@ -91,11 +102,10 @@ amount-total first (c ∷ cs) (suc i) e short =
 pub amount-sums : (first : ℤ) (cents : List ℕ) (i e : ℕ) → i < length cents → get_or cents i e ≤ total (summed (day_amounts first cents))
 amount-sums first cents i e short = omega (arith, amount-total first cents i e short, keep-total (day_amounts first cents))
 
--- a table without amounts has no sums
-pub summed-none : (first : ℤ) (n : ℕ) → summed (day_amounts first (replicate n 0)) ≡ []
+-- a table without places has no sums
+pub summed-none : (first : ℤ) → summed (day_amounts first []) ≡ []
 unfolding day_amounts summed
-summed-none first zero = refl
-summed-none first (suc n) = summed-none (first +ℤ pos 1) n
+summed-none first = refl
 
 last-at : (flow sum : Flow) (sums : List Flow) → sum.day <ℤ flow.day → with_amount flow sums ≡ sums ++ flow ∷ [] → (order : Ordering) → int_cmp flow.day sum.day ≡ order
     → with_amount flow (sum ∷ sums) ≡ (sum ∷ sums) ++ flow ∷ []
@@ -145,12 +155,10 @@ total-left sums more flows i d all short before is =
     let kept = ap total is ∙ (keep-total (sums ++ get_or flows i d ∷ []) ∙ sum_by_push (λ (f : Flow). f.cents.0) sums (get_or flows i d)) in
     omega (arith, before, left, kept)
 
--- the place of a day of the span
-pub place_is : (day from : ℤ) → from ≤ℤ day → day ≡ from +ℤ pos (nat_abs (day -ℤ from))
-place_is day from after = omega (arith, ints, after)
-
-pub place_in : (first : ℤ) (cents : List ℕ) (flow : Flow) → HasPlace first cents flow → nat_abs (flow.day -ℤ first) < length cents
-place_in first cents flow place = omega (arith, ints, place.after, place.before)
+-- each amount between two days has its place
+pub places-within : (from to : ℤ) (days : ℕ) (flows : List Flow) → (to +ℤ pos 1) ≡ (from +ℤ pos days) → FallWithin from to flows → All (HasPlace from days) flows
+places-within from to days flows same within =
+    All-weaker (λ (f : Flow). (from ≤ℤ f.day) × (f.day ≤ℤ to)) (HasPlace from days) (λ f falls. record { after = falls.0; before = omega (arith, ints, same, falls.1) }) flows within
 
 abbrev pub span : ℤ → ℤ → List Flow → SpanSums
 span from to sums = record { from = from; to = to; sums = sums }
@@ -203,8 +211,35 @@ on-place first (c ∷ cs) (suc i) e short =
     let rest = ap (λ (day : ℤ). cents_on day others) (next-place first i) ∙ on-place (first +ℤ pos 1) cs i e (omega (arith, short)) in
     omega (arith, on-cons (first +ℤ pos (suc i)) (on first c) others, none, rest)
 
+-- nothing falls on a day behind the last place
+past-place : (first day : ℤ) (cents : List ℕ) → (first +ℤ pos (length cents)) ≤ℤ day → cents_on day (day_amounts first cents) ≡ 0
+unfolding day_amounts
+past-place first day [] past = refl
+past-place first day (c ∷ cs) past =
+    let others = day_amounts (first +ℤ pos 1) cs in
+    let none : here day (on first c) ≡ 0 = rw (earlier-day first day (omega (arith, ints, past))) refl in
+    omega (arith, on-cons day (on first c) others, none, past-place (first +ℤ pos 1) day cs (omega (arith, ints, past)))
+
+pub sum-past : (first day : ℤ) (cents : List ℕ) (i : ℕ) → day ≡ first +ℤ pos i → length cents ≤ i → 0 ≡ cents_on day (summed (day_amounts first cents))
+sum-past first day cents i there past =
+    sym (past-place first day cents (omega (arith, ints, there, past))) ∙ sym (count-summed (λ d. int_eq d day) (day_amounts first cents))
+
+-- one more place, with nothing on it
+amounts-longer : (first : ℤ) (cents : List ℕ) (more : ℕ) → day_amounts first (cents ++ more ∷ []) ≡ day_amounts first cents ++ on (first +ℤ pos (length cents)) more ∷ []
+unfolding day_amounts
+amounts-longer first [] more = ap (λ (day : ℤ). on day more ∷ []) (sym (first-place first))
+amounts-longer first (c ∷ cs) more =
+    ap (λ (fs : List Flow). on first c ∷ fs)
+    (amounts-longer (first +ℤ pos 1) cs more ∙ ap (λ (day : ℤ). day_amounts (first +ℤ pos 1) cs ++ on day more ∷ []) (sym (next-place first (length cs))))
+
+pub summed-longer : (first : ℤ) (cents : List ℕ) → summed (day_amounts first (cents ++ 0 ∷ [])) ≡ summed (day_amounts first cents)
+summed-longer first cents =
+    let flow = on (first +ℤ pos (length cents)) 0 in
+    let so_far = day_amounts first cents in
+    ap (λ (fs : List Flow). summed fs) (amounts-longer first cents 0)
+    ∙ sym (in-steps so_far (flow ∷ [])) ∙ sym (nothing-more flow (summed so_far) (rising-summed so_far) (above-summed so_far) refl)
+
 -- the sum of the day at a place
-pub sum-at : (first day : ℤ) (cents : List ℕ) (e : ℕ) → first ≤ℤ day → nat_abs (day -ℤ first) < length cents → get_or cents (nat_abs (day -ℤ first)) e ≡ cents_on day (summed (day_amounts first cents))
-sum-at first day cents e after within =
-    let there = place_is day first after in
-    sym (on-place first cents (nat_abs (day -ℤ first)) e within) ∙ ap (λ (d : ℤ). cents_on d (day_amounts first cents)) (sym there) ∙ sym (count-summed (λ d. int_eq d day) (day_amounts first cents))
+pub sum-at : (first day : ℤ) (cents : List ℕ) (i e : ℕ) → day ≡ first +ℤ pos i → i < length cents → get_or cents i e ≡ cents_on day (summed (day_amounts first cents))
+sum-at first day cents i e there within =
+    sym (on-place first cents i e within) ∙ ap (λ (d : ℤ). cents_on d (day_amounts first cents)) (sym there) ∙ sym (count-summed (λ d. int_eq d day) (day_amounts first cents))

@@ -1,5 +1,5 @@
 -- Sums as code keeps them: a table with the cents of each day of a span.
-use Rattle.std.specs.Prelude.{◌≡◌, ℕ, List, [], ◌∷◌, length, ℤ, pos, ◌+ℤ◌, ◌≤ℤ◌, ◌<ℤ◌}
+use Rattle.std.specs.Prelude.{◌≡◌, ℕ, ◌≤◌, List, [], ◌∷◌, ℤ, pos, ◌+ℤ◌, ◌≤ℤ◌, ◌<ℤ◌}
 use Rattle.escrow_units.specs.DayNumber.{IsDayNumber}
 use Rattle.escrow_units.specs.declared.security.Flow.{Flow}
 use Rattle.day_sums.specs.Summed.{on, summed}
@@ -15,17 +15,18 @@ unfoldable pub day_amounts : ℤ → List ℕ → List Flow
 day_amounts first [] = []
 day_amounts first (cents ∷ others) = on first cents ∷ day_amounts (first +ℤ pos 1) others
 
--- a table has a place for each day of its span
-pub record IsTable (from to : ℤ) (cents : List ℕ) : Type 0 where
+-- a table has places for the first days of its span, so many, and room for all
+pub record IsTable (from to : ℤ) (places room : ℕ) : Type 0 where
   pub first : IsDayNumber from
   pub last : IsDayNumber to
-  pub places : (to +ℤ pos 1) ≡ (from +ℤ pos (length cents))
+  pub few : places ≤ room
+  pub days : (to +ℤ pos 1) ≡ (from +ℤ pos room)
 
 -- the sums that a table stands for
 abbrev pub sums_of : ℤ → List ℕ → List Flow
 sums_of first cents = summed (day_amounts first cents)
 
--- an amount falls on a day of a table that begins on a first day
-pub record HasPlace (first : ℤ) (cents : List ℕ) (flow : Flow) : Type 0 where
+-- an amount falls on one of so many days from a first day on
+pub record HasPlace (first : ℤ) (days : ℕ) (flow : Flow) : Type 0 where
   pub after : first ≤ℤ flow.day
-  pub before : flow.day <ℤ (first +ℤ pos (length cents))
+  pub before : flow.day <ℤ (first +ℤ pos days)

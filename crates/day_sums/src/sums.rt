@@ -1,5 +1,5 @@
 //! Sums of amounts by day, to which amounts are added.
-ghost use Rattle.std.specs.Prelude.{◌≡◌, ◌<◌, ◌≤ℤ◌, ◌+◌, ◌^◌, [], ◌∷◌, ◌++◌, All, IfOk};
+ghost use Rattle.std.specs.Prelude.{◌≡◌, ◌<◌, ◌≤◌, ◌≤ℤ◌, ◌+◌, ◌^◌, [], ◌∷◌, ◌++◌, All, IfOk, ℤ, pos, ◌+ℤ◌, length, slice_index_or, slice_set, vec_len, vec_capacity};
 ghost use Rattle.escrow_units.specs.Flows.{Rise, total, FallWithin};
 ghost use Rattle.day_sums.specs.Summed.{cents_on, summed};
 ghost use Rattle.day_sums.specs.SummedLaws.{AreAboveZero};
@@ -12,40 +12,76 @@ use std::marker::Model;
 
 /// Sums of amounts that fall on the days of a span, in cents. Contracts see the span and the sums in order of day.
 ///
-/// It is a table with a place for each day, so that an amount is added by one look.
+/// It is a table with a place for each day up to the last on which an amount falls, so that an amount is added by one look.
 #[derive(Drop)]
 pub struct DaySums {
     from: Day,
     to: Day,
-    // the cents of each day from the first on
+    // the cents of each day from the first on, up to the last on which an amount falls; there is room for all days
     cents: Vec<u64>,
 }
 
 impl Model for DaySums {
+    ghost use Rattle.std.specs.Prelude.{vec_len, vec_capacity};
     ghost use Rattle.day_sums.specs.Table.{IsTable, SpanSums, sums_of};
 
     ghost Value = { SpanSums };
 
     ghost view = { λ s. record { from = s.from; to = s.to; sums = sums_of s.from s.cents.items } };
 
-    ghost invariant = { λ s. IsTable s.from s.to s.cents.items };
+    ghost invariant = { λ s. IsTable s.from s.to (vec_len s.cents) (vec_capacity s.cents) };
+}
+
+// The place of a day in a table that begins on a first day.
+fn place_of(first: Day, day: Day) -> usize
+    requires { first ≤ℤ day }
+    ensures { day ≡ first +ℤ pos result }
+{
+    (day.number() - first.number()) as usize
+}
+
+// Places up to this one, with nothing on the new ones.
+fn reach(cents: &mut Vec<u64>, place: usize)
+    requires { place < vec_capacity cents.old }
+    ensures there { place < vec_len cents.new }
+    ensures few { vec_len cents.old ≤ vec_capacity cents.old → vec_len cents.new ≤ vec_capacity cents.old }
+    ensures capacity { vec_capacity cents.new ≡ vec_capacity cents.old }
+    ensures sums { (first : ℤ) → sums_of first cents.new.items ≡ sums_of first cents.old.items }
+{
+    for _ in cents.len()..place + 1 {
+        cents.push_reserved(0);
+    }
+}
+
+// Cents, added to those of the day at a place.
+fn add_at(cents: &mut [u64], place: usize, more: Cents)
+    requires place { place < length cents.old }
+    requires room { slice_index_or cents.old place 0 + more.0 < 2 ^ 64 }
+    ensures { cents.new ≡ slice_set cents.old place (slice_index_or cents.old place 0 + more.0) }
+{
+    cents[place] += more.0;
 }
 
 // An amount, added to that of its day in a table that begins on a first day.
-fn put(cents: &mut [u64], first: Day, flow: &Flow)
-    requires place { HasPlace first cents.old flow.now }
-    requires room { total (sums_of first cents.old) + flow.now.cents.0 < 2 ^ 64 }
-    ensures { sums_of first cents.new ≡ summed (sums_of first cents.old ++ flow.now ∷ []) }
+fn put(cents: &mut Vec<u64>, first: Day, flow: &Flow)
+    requires place { HasPlace first (vec_capacity cents.old) flow.now }
+    requires room { total (sums_of first cents.old.items) + flow.now.cents.0 < 2 ^ 64 }
+    ensures few { vec_len cents.old ≤ vec_capacity cents.old → vec_len cents.new ≤ vec_capacity cents.old }
+    ensures capacity { vec_capacity cents.new ≡ vec_capacity cents.old }
+    ensures sums { sums_of first cents.new.items ≡ summed (sums_of first cents.old.items ++ flow.now ∷ []) }
 {
-    let place = (flow.day.number() - first.number()) as usize;
-    cents[place] += flow.cents.0;
+    let place = place_of(first, flow.day);
+    reach(cents, place);
+    add_at(cents.as_mut_slice(), place, flow.cents);
 }
 
 // Amounts added, each to that of its day in a table that begins on a first day.
-fn put_all(cents: &mut [u64], first: Day, flows: &[Flow])
-    requires places { All (HasPlace first cents.old) flows.now }
-    requires room { total (sums_of first cents.old) + total flows.now < 2 ^ 64 }
-    ensures { sums_of first cents.new ≡ summed (sums_of first cents.old ++ flows.now) }
+fn put_all(cents: &mut Vec<u64>, first: Day, flows: &[Flow])
+    requires places { All (HasPlace first (vec_capacity cents.old)) flows.now }
+    requires room { total (sums_of first cents.old.items) + total flows.now < 2 ^ 64 }
+    ensures few { vec_len cents.old ≤ vec_capacity cents.old → vec_len cents.new ≤ vec_capacity cents.old }
+    ensures capacity { vec_capacity cents.new ≡ vec_capacity cents.old }
+    ensures sums { sums_of first cents.new.items ≡ summed (sums_of first cents.old.items ++ flows.now) }
 {
     for flow in flows {
         put(cents, first, flow);
@@ -62,8 +98,7 @@ impl DaySums {
         requires { from ≤ℤ to }
         ensures { IfOk result (λ sums. sums ≡ record { from = from; to = to; sums = [] }) }
     {
-        let days = (to.number() - from.number()) as usize + 1;
-        let cents = vec![in alloc; 0; days]?;
+        let cents = Vec::with_capacity(alloc, place_of(from, to) + 1)?;
         Ok(DaySums { from, to, cents })
     }
 
@@ -73,7 +108,7 @@ impl DaySums {
         requires room { total self.old.sums + total flows.now < 2 ^ 64 }
         ensures { self.new ≡ record self.old { sums = summed (self.old.sums ++ flows.now) } }
     {
-        put_all(self.cents.as_mut_slice(), self.from, flows);
+        put_all(&mut self.cents, self.from, flows);
     }
 
     /// The sum of a day of the span, in cents: 0 where nothing falls on it.
@@ -82,8 +117,10 @@ impl DaySums {
         requires to { day ≤ℤ self.now.to }
         ensures { result.0 ≡ cents_on day self.now.sums }
     {
-        let place = (day.number() - self.from.number()) as usize;
-        Cents(self.cents[place])
+        Cents(match self.cents.get(place_of(self.from, day)) {
+            Some(cents) => *cents,
+            None => 0,
+        })
     }
 
     /// The sums in order of day, each above 0.

@@ -5,4 +5,4 @@ use Rattle.day_sums.proofs.sums.DaySums.between.Goals as goal
 
 pub returns : goal.returns
 returns c =
-    ap (span c.args.from c.args.to) (ap (λ (cents : List ℕ). sums_of c.args.from cents) (c.in_ok-cents.ensures.items_if_clones_equal (λ y is. is)) ∙ summed-none c.args.from _)
+    ap (span c.args.from c.args.to) (ap (λ (cents : List ℕ). sums_of c.args.from cents) c.in_ok-cents.ensures.items ∙ summed-none c.args.from)
