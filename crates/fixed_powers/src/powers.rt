@@ -61,10 +61,10 @@ fn powers_of(alloc: Global, factor: u64, side: Side, longest: u32) -> Result<Vec
 {
     let mut table = Vec::with_capacity(alloc, longest as usize + 1)?;
     let mut power = ONE;
-    table.push(power)?;
+    table.push_reserved(power);
     for _ in 0..longest {
         power = step(side, power, factor);
-        table.push(power)?;
+        table.push_reserved(power);
     }
     Ok(table)
 }
