@@ -1,7 +1,7 @@
 -- What standard error says of a run that was cut off. The words are this project's own.
 use Rattle.std.specs.Prelude.{ℕ, List, Option, Some, None, codes}
-use Rattle.escrow_top.specs.declared.status.Status.{Status}
-use Rattle.escrow_top.specs.declared.status.Status.TheVariants as status
+use Rattle.certificate_answers.specs.declared.status.Status.{Status}
+use Rattle.certificate_answers.specs.declared.status.Status.TheVariants as status
 
 -- why the run was cut off; nothing where it came to its answer
 abbrev pub complaint_of : Status → Option (List ℕ)

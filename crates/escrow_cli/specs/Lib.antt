@@ -1,2 +1,2 @@
-pub use Rattle.escrow_top.specs.Stopping
+pub use Rattle.certificate_answers.specs.Stopping
 pub mod Complaint

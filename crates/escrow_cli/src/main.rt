@@ -4,7 +4,7 @@
 mod real;
 
 ghost use Rattle.std.specs.Prelude.{◌≡◌, is_some, not, option_map};
-ghost use Rattle.escrow_top.specs.Stopping.{is_reached};
+ghost use Rattle.certificate_answers.specs.Stopping.{is_reached};
 ghost use Rattle.escrow_cli.specs.Complaint.{complaint_of};
 
 use escrow_desk::NoMemory;

@@ -28,23 +28,23 @@ use Rattle.offer_book.specs.Rival.{IsRival}
 use Rattle.rate_cap.specs.CaseAt.{CasesAtCapsAreOne, IsAtCap, IsTopOf, case_at, slgs_rates}
 use Rattle.rate_cap.specs.Search.{zero_cap}
 use Rattle.verification_report.specs.Report.{figures_of}
-use Rattle.escrow_top.proofs.CapFacts.{book-at, terms-at}
-use Rattle.escrow_top.specs.Answer.{Answer, case_of, certificate_answer, yes_text}
+use Rattle.certificate_answers.proofs.CapFacts.{book-at, terms-at}
+use Rattle.certificate_answers.specs.Answer.{Answer, case_of, certificate_answer, yes_text}
 use Rattle.escrow_top.specs.Capping.{AreCapTexts, Caps, CapsPart, HasObstacle, IsCapCertificate, IsCapDraft, IsCapDraftFor, IsCapDraftOf, IsCapEnded, IsCapPartPut, IsCapPut, IsNextKnown, IsObstacle, IsUncapped, Obstructs, PutsOutCap, PutsOutCapPart, cap_text, cap_words, obstacle_answer, uncapped}
-use Rattle.escrow_top.specs.Accepted.{HasPortfolio}
+use Rattle.certificate_answers.specs.Accepted.{HasPortfolio}
 use Rattle.escrow_top.specs.Capped.{Capped, HasNoCap, IsCappedDraft, IsCappedFor, SaysNoCap, WroteCapped}
-use Rattle.escrow_top.specs.CaseOf.{AreWithin, GiveCase}
-use Rattle.escrow_top.specs.InputFiles.{FileNames, InputFiles, inputs_of}
-use Rattle.escrow_top.specs.Reading.{AreRead}
+use Rattle.certificate_answers.specs.CaseOf.{AreWithin, GiveCase}
+use Rattle.certificate_answers.specs.InputFiles.{FileNames, InputFiles, inputs_of}
+use Rattle.certificate_answers.specs.Reading.{AreRead}
 use Rattle.escrow_top.specs.Settling.{OfCase}
 use Rattle.escrow_top.specs.Structure.{accepted_with}
-use Rattle.escrow_top.proofs.InputFacts.{read-all}
-use Rattle.escrow_top.proofs.YieldFacts.{printed_yield}
+use Rattle.certificate_answers.proofs.InputFacts.{read-all}
+use Rattle.certificate_answers.proofs.YieldFacts.{printed_yield}
 use Rattle.escrow_top.proofs.StructureLaws.{part_untold, short_from, uncovered}
 use Rattle.escrow_top.specs.declared.capping.CapDraft.{CapDraft}
 use Rattle.escrow_top.specs.declared.capping.CapDraft.TheVariants as draft
-use Rattle.escrow_top.specs.declared.status.Status.{Status}
-use Rattle.escrow_top.specs.declared.status.Status.TheVariants as status
+use Rattle.certificate_answers.specs.declared.status.Status.{Status}
+use Rattle.certificate_answers.specs.declared.status.Status.TheVariants as status
 
 -- ---- where no escrow is found
 no_obstacle : (own : Obstacle) → end_of own ≡ ended.NoMemory → ⊥

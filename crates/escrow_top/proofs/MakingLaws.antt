@@ -9,16 +9,16 @@ use Rattle.branch_search.specs.Search.{IsFound, IsFoundBy, IsNoneFound}
 use Rattle.case_file.specs.Case.{CaseContents, HasTerms}
 use Rattle.proof_tree.specs.declared.tree.TreeNode.{TreeNode}
 use Rattle.offer_book.specs.Book.{IsBook}
-use Rattle.escrow_top.specs.Answer.{Answer, case_of}
+use Rattle.certificate_answers.specs.Answer.{Answer, case_of}
 use Rattle.escrow_top.specs.Covered.{IsCovered}
-use Rattle.escrow_top.specs.InputFiles.{InputFiles}
-use Rattle.escrow_top.specs.CaseOf.{GiveCase}
+use Rattle.certificate_answers.specs.InputFiles.{InputFiles}
+use Rattle.certificate_answers.specs.CaseOf.{GiveCase}
 use Rattle.escrow_top.specs.Making.{HasAcceptedText, IsAnswerToNumber, IsMadeAnswer, IsMadeNone, IsMadeOf, made_answer, made_files, none_answer}
 use Rattle.escrow_top.specs.Settling.{SaysReach, SettlesCovered}
 use Rattle.escrow_top.specs.Structure.{IsEnd}
-use Rattle.escrow_top.specs.declared.status.Status.{Status}
-use Rattle.escrow_top.specs.declared.status.Status.TheVariants as status
-use Rattle.escrow_top.proofs.AcceptedLaws.{accepted_text}
+use Rattle.certificate_answers.specs.declared.status.Status.{Status}
+use Rattle.certificate_answers.specs.declared.status.Status.TheVariants as status
+use Rattle.certificate_answers.proofs.AcceptedLaws.{accepted_text}
 use Rattle.escrow_top.proofs.StructureLaws.{none_accepted, text_accepted, unreached}
 
 -- what was found is what is answered

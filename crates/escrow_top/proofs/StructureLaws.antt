@@ -22,24 +22,24 @@ use Rattle.escrow_check.specs.declared.verdict.Verdict.TheVariants as verdict
 use Rattle.offer_book.specs.Book.{IsBook}
 use Rattle.escrow_desk.specs.declared.refusal.Refusal.{Refusal}
 use Rattle.branch_search.specs.Plain.{IsPlainWithin}
-use Rattle.escrow_top.specs.Answer.{Answer, certificate_answer, searched_of}
-use Rattle.escrow_top.specs.InputFiles.{FileNames, InputFiles, inputs_of}
+use Rattle.certificate_answers.specs.Answer.{Answer, certificate_answer, searched_of}
+use Rattle.certificate_answers.specs.InputFiles.{FileNames, InputFiles, inputs_of}
 use Rattle.escrow_top.specs.Covered.{CoversPortfolios, CoversTree, IsCovered}
 use Rattle.escrow_top.specs.Settling.{OfSearched, SaysReach, SettlesCovered, SettlesPlain}
-use Rattle.escrow_top.specs.Stopping.{is_reached, is_structured, is_unfound}
+use Rattle.certificate_answers.specs.Stopping.{is_reached, is_structured, is_unfound}
 use Rattle.escrow_top.specs.Structure.{FindsPlain, FindsPlainFor, IsAcceptedDraft, IsAcceptedFor, IsDraft, IsDraftFor, IsDraftOf, IsEnd, IsFoundDraft, IsPartPutOut, IsPutOut, IsShortFrom, IsStructuredDraft, PutsOut, PutsOutPart, Structures, StructuresPart, WroteAccepted, WroteOrSaidPart, accepted_none, accepted_with, budget_spent, infeasible, telling_for}
-use Rattle.escrow_top.specs.Judged.{IsJudged}
-use Rattle.escrow_top.proofs.AcceptedLaws.{searched_text}
-use Rattle.escrow_top.proofs.InputFacts.{read-all}
-use Rattle.escrow_top.specs.CaseOf.{AreWithin}
-use Rattle.escrow_top.specs.Reading.{AreRead}
+use Rattle.certificate_answers.specs.Judged.{IsJudged}
+use Rattle.certificate_answers.proofs.AcceptedLaws.{searched_text}
+use Rattle.certificate_answers.proofs.InputFacts.{read-all}
+use Rattle.certificate_answers.specs.CaseOf.{AreWithin}
+use Rattle.certificate_answers.specs.Reading.{AreRead}
 use Rattle.bound_certificate.proofs.PackedSize.{certificate_fits}
 use Rattle.escrow_top.specs.declared.draft.Draft.{Draft}
 use Rattle.escrow_top.specs.declared.draft.Draft.TheVariants as draft
 use Rattle.escrow_top.specs.declared.draft.Telling.{Telling}
-use Rattle.escrow_top.specs.declared.inquiry.Inquiry.TheVariants as inquiry
-use Rattle.escrow_top.specs.declared.status.Status.{Status}
-use Rattle.escrow_top.specs.declared.status.Status.TheVariants as status
+use Rattle.certificate_answers.specs.declared.inquiry.Inquiry.TheVariants as inquiry
+use Rattle.certificate_answers.specs.declared.status.Status.{Status}
+use Rattle.certificate_answers.specs.declared.status.Status.TheVariants as status
 
 pub unfound_reached : (s : Status) → IsTrue (is_unfound s) → IsTrue (is_reached s)
 unfound_reached status.Refused is = refl

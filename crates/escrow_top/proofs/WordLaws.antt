@@ -5,12 +5,12 @@ use Rattle.std.specs.Bool.{then_some}
 use Rattle.std.specs.Option.{option_or}
 use lib.ListN.{get_or}
 use lib.Pointwise.{pointwise, bytes_decides}
-use Rattle.escrow_top.specs.Answer.{Asking, CapWords, asking_of, asks_at_cap, cap_names, check_cap_words, check_held_names, check_names, names_behind, names_with_holdings, roll_names, savings_names, structure_names}
+use Rattle.certificate_answers.specs.Answer.{Asking, CapWords, asking_of, asks_at_cap, cap_names, check_cap_words, check_held_names, check_names, names_behind, names_with_holdings, roll_names, savings_names, structure_names}
 use Rattle.escrow_top.specs.Ending.{IsNoCommand}
-use Rattle.escrow_top.specs.InputFiles.{FileNames}
+use Rattle.certificate_answers.specs.InputFiles.{FileNames}
 use Rattle.escrow_top.specs.MakeWords.{Making, make_words, making_of, number_of_word}
-use Rattle.escrow_top.specs.declared.inquiry.Inquiry.{Inquiry}
-use Rattle.escrow_top.specs.declared.inquiry.Inquiry.TheVariants as inquiry
+use Rattle.certificate_answers.specs.declared.inquiry.Inquiry.{Inquiry}
+use Rattle.certificate_answers.specs.declared.inquiry.Inquiry.TheVariants as inquiry
 
 -- the word of a command is no other command
 other-word : (own command word : List ℕ) (names : FileNames) → pointwise nat_eq own command ≡ false → pointwise nat_eq word own ≡ true → then_some {T = FileNames} (pointwise nat_eq word command) names ≡ None

@@ -12,15 +12,15 @@ use Rattle.escrow_check.specs.declared.verdict.Portfolio.{Portfolio}
 use Rattle.rate_cap.specs.CaseAt.{IsTopOf, case_at, slgs_rates}
 use Rattle.rate_cap.specs.Search.{IsCapUpTo, zero_cap}
 use Rattle.verification_report.specs.declared.figures.Figures.{Figures}
-use Rattle.escrow_top.specs.Accepted.{HasPortfolio}
+use Rattle.certificate_answers.specs.Accepted.{HasPortfolio}
 use Rattle.escrow_top.specs.Capping.{HasObstacle, IsNextKnown, IsObstacle, cap_words, obstacle_answer}
-use Rattle.escrow_top.specs.CaseOf.{GiveCase}
-use Rattle.escrow_top.specs.InputFiles.{FileNames, InputFiles}
-use Rattle.escrow_top.specs.Reading.{AreThere}
+use Rattle.certificate_answers.specs.CaseOf.{GiveCase}
+use Rattle.certificate_answers.specs.InputFiles.{FileNames, InputFiles}
+use Rattle.certificate_answers.specs.Reading.{AreThere}
 use Rattle.escrow_top.specs.declared.capping.CapDraft.{CapDraft}
 use Rattle.escrow_top.specs.declared.capping.CapDraft.TheVariants as draft
-use Rattle.escrow_top.specs.declared.status.Status.{Status}
-use Rattle.escrow_top.specs.declared.status.Status.TheVariants as status
+use Rattle.certificate_answers.specs.declared.status.Status.{Status}
+use Rattle.certificate_answers.specs.declared.status.Status.TheVariants as status
 
 -- ---- with a certificate
 -- the figures of a portfolio

@@ -22,15 +22,15 @@ use Rattle.rate_cap.specs.Search.{IsCapUpTo, zero_cap}
 use Rattle.verification_report.specs.Report.{figures_of}
 use Rattle.verification_report.specs.Summary.{summary_text, text_line}
 use Rattle.verification_report.specs.declared.figures.Figures.{Figures}
-use Rattle.escrow_top.specs.Answer.{Answer, case_of, certificate_answer, refused, refused_text}
+use Rattle.certificate_answers.specs.Answer.{Answer, case_of, certificate_answer, refused, refused_text}
 use Rattle.escrow_top.specs.Covered.{IsCovered}
-use Rattle.escrow_top.specs.InputFiles.{FileNames, inputs_of}
-use Rattle.escrow_top.specs.Stopping.{is_structured}
+use Rattle.certificate_answers.specs.InputFiles.{FileNames, inputs_of}
+use Rattle.certificate_answers.specs.Stopping.{is_structured}
 use Rattle.escrow_top.specs.Structure.{IsShortFrom, WroteAndSaid, WroteOrSaidPart, accepted_with, budget_spent, infeasible, none_within_text}
 use Rattle.escrow_top.specs.declared.capping.CapDraft.{CapDraft}
 use Rattle.escrow_top.specs.declared.capping.CapDraft.TheVariants as draft
-use Rattle.escrow_top.specs.declared.status.Status.{Status}
-use Rattle.escrow_top.specs.declared.status.Status.TheVariants as status
+use Rattle.certificate_answers.specs.declared.status.Status.{Status}
+use Rattle.certificate_answers.specs.declared.status.Status.TheVariants as status
 
 -- ---- texts
 -- why no escrow was found at a cap, after the cap

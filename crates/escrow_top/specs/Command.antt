@@ -2,10 +2,10 @@
 use Rattle.std.specs.Prelude.{◌≡◌, ℕ, List, Some, None}
 use Rattle.escrow_top.specs.declared.command.Command.{Command}
 use Rattle.escrow_top.specs.declared.command.Command.TheVariants.{Structure, Cap, Ask, Make}
-use Rattle.escrow_top.specs.Answer.{asking_of, cap_names, structure_names}
+use Rattle.certificate_answers.specs.Answer.{asking_of, cap_names, structure_names}
 use Rattle.escrow_top.specs.MakeWords.{make_words}
 use Rattle.escrow_top.specs.Making.{making_view}
-use Rattle.escrow_top.specs.Reading.{asking_view, names_view}
+use Rattle.certificate_answers.specs.Reading.{asking_view, names_view}
 
 -- the words are those of this command
 abbrev pub IsCommand : Command → List (List ℕ) → Type 0

@@ -1,45 +1,22 @@
 -- How a run ends.
-use Rattle.std.specs.Prelude.{◌≡◌, ℕ, Bool, true, false, List, Option, Some, None, IfSome, IsSomeAnd, MatchOption}
-use Rattle.escrow_desk.specs.Content.{Content, Told, file_of, with_said, SaidAll, SaidPart}
-use Rattle.escrow_top.specs.Accepted.{Accepted}
-use Rattle.escrow_top.specs.NotAccepted.{NotAccepted}
-use Rattle.escrow_top.specs.Rolled.{Rolled}
-use Rattle.escrow_top.specs.Saved.{Saved}
-use Rattle.escrow_top.specs.AtCap.{AcceptedAt, NotAcceptedAt}
-use Rattle.escrow_top.specs.Holding.{AcceptedBeside, NotAcceptedBeside}
-use Rattle.escrow_top.specs.InputFiles.{InputFiles, FileNames, holdings_in}
-use Rattle.escrow_top.specs.Answer.{Answer, Asking, answer_to, asked_answer, asking_of, cap_names, check_cap_words, check_held_names, check_names, files_answer, roll_names, savings_names, structure_names}
+use Rattle.std.specs.Prelude.{◌≡◌, ℕ, List, Option, Some, None, IfSome, IsSomeAnd}
+use Rattle.escrow_desk.specs.Content.{Content, Told, with_said, SaidAll, SaidPart}
+use Rattle.certificate_answers.specs.Accepted.{Accepted}
+use Rattle.certificate_answers.specs.Meaning.{HoldsWhereTold, MeansNo, OfNamedFiles}
+use Rattle.certificate_answers.specs.Rolled.{Rolled}
+use Rattle.certificate_answers.specs.Saved.{Saved}
+use Rattle.certificate_answers.specs.AtCap.{AcceptedAt}
+use Rattle.certificate_answers.specs.Holding.{AcceptedBeside}
+use Rattle.certificate_answers.specs.InputFiles.{InputFiles, FileNames}
+use Rattle.certificate_answers.specs.Answer.{Answer, Asking, answer_to, asked_answer, asking_of, cap_names, check_cap_words, check_held_names, check_names, files_answer, roll_names, savings_names, structure_names}
 use Rattle.escrow_top.specs.Capped.{WroteCapped}
 use Rattle.escrow_top.specs.Capping.{Caps, CapsPart}
 use Rattle.escrow_top.specs.MakeWords.{Making, make_words}
 use Rattle.escrow_top.specs.Making.{Makes, MakesPart}
-use Rattle.escrow_top.specs.Reading.{AreThere, LacksInput}
+use Rattle.certificate_answers.specs.Reading.{LacksInput}
 use Rattle.escrow_top.specs.Structure.{Structures, StructuresPart, WroteAccepted}
-use Rattle.escrow_top.specs.declared.inquiry.Inquiry.{Inquiry}
-use Rattle.escrow_top.specs.declared.inquiry.Inquiry.TheVariants as inquiry
-use Rattle.escrow_top.specs.declared.status.Status.{Status}
-use Rattle.escrow_top.specs.declared.status.Status.TheVariants as status
-
--- the exit status of the program
-abbrev pub code_of : Status → ℕ
-code_of status.Done = 0
-code_of status.No = 1
-code_of status.Usage = 2
-code_of status.Refused = 3
-code_of status.Infeasible = 4
-code_of status.NoneWithinYield = 5
-code_of status.BudgetSpent = 6
-code_of status.ReadFault = 8
-code_of status.WriteFault = 9
-code_of status.NoFile = 10
-code_of status.NoMemory = 11
-
--- the statuses that `check`, `check-cap`, `check-held`, `savings` and `roll` come to
-abbrev pub is_checked : Status → Bool
-is_checked status.Done = true
-is_checked status.No = true
-is_checked status.Refused = true
-is_checked status = false
+use Rattle.certificate_answers.specs.declared.inquiry.Inquiry.{Inquiry}
+use Rattle.certificate_answers.specs.declared.status.Status.{Status}
 
 -- of an answer, where there is one: this is the status, and its text was said; no file changed
 abbrev pub IsSaid : Content → Option Answer → Status → Told → Type 0
@@ -131,23 +108,6 @@ pub record IsNoCommand (words : List (List ℕ)) : Type 0 where
   pub no_check_held : check_held_names words ≡ None
   pub no_check_cap : check_cap_words words ≡ None
 
--- the four files of these names are there, and this holds of their bytes
-abbrev pub HoldsOfFiles : (InputFiles → List ℕ → Type 0) → Content → FileNames → Type 0
-HoldsOfFiles Holds content names =
-    IsSomeAnd (file_of content names.issue) (λ issue. IsSomeAnd (file_of content names.rates) (λ rates.
-    IsSomeAnd (file_of content names.prices) (λ prices. IsSomeAnd (holdings_in content names.held) (λ held.
-    IsSomeAnd (file_of content names.cert) (λ cert. Holds (record { issue = issue; rates = rates; prices = prices; held = held }) cert)))))
-
--- the same where the desk tells
-abbrev pub HoldsWhereTold : (InputFiles → List ℕ → Type 0) → Told → FileNames → Type 0
-HoldsWhereTold Holds told names = MatchOption told (Unit {0}) (λ content. HoldsOfFiles Holds content names)
-
--- where the desk tells and the four files of these names are there: what then holds of their bytes
-abbrev pub OfNamedFiles : (InputFiles → List ℕ → Type 0) → Told → FileNames → Type 0
-OfNamedFiles Holds told names =
-    (content : Content) (files : InputFiles) (cert : List ℕ)
-    → told ≡ Some content → AreThere content names files → file_of content names.cert ≡ Some cert → Holds files cert
-
 -- the same where the words ask something of them
 abbrev pub OfFiles : (Inquiry → InputFiles → List ℕ → Type 0) → Told → List (List ℕ) → Type 0
 OfFiles Holds told words = (asking : Asking) → asking_of words ≡ Some asking → OfNamedFiles (Holds asking.inquiry) told asking.names
@@ -187,23 +147,6 @@ IsAcceptedAtCap told words new = IfSome (check_cap_words words) (λ capped. Said
 -- where they are those of `check-held`: the files that they name are accepted beside the holdings, and this was said
 abbrev pub IsAcceptedHolding : Told → List (List ℕ) → Told → Type 0
 IsAcceptedHolding told words new = IfSome (check_held_names words) (λ names. SaidOfFiles (λ files. AcceptedBeside files.held files) told names new)
-
--- ---- by what is asked
--- what an answer of `Done` means, of the bytes of four files and what was said
-abbrev pub MeansYes : Inquiry → InputFiles → List ℕ → List ℕ → Type 0
-MeansYes inquiry.Check = Accepted
-MeansYes inquiry.Savings = Saved
-MeansYes inquiry.Roll = Rolled
-MeansYes inquiry.Held = λ files. AcceptedBeside files.held files
-MeansYes (inquiry.AtCap cap) = AcceptedAt cap
-
--- what an answer of `No` means
-abbrev pub MeansNo : Inquiry → InputFiles → List ℕ → List ℕ → Type 0
-MeansNo inquiry.Check = NotAccepted
-MeansNo inquiry.Savings = NotAccepted
-MeansNo inquiry.Roll = NotAccepted
-MeansNo inquiry.Held = λ files. NotAcceptedBeside files.held files
-MeansNo (inquiry.AtCap cap) = NotAcceptedAt cap
 
 -- the words ask something of a certificate: the four files that they name aren't accepted, and this was said
 abbrev pub IsNotAccepted : Told → List (List ℕ) → Told → Type 0

@@ -11,15 +11,15 @@ use Rattle.case_maker.specs.Files.{issue_text, prices_text, rates_text}
 use Rattle.proof_tree.specs.declared.tree.TreeNode.{TreeNode}
 use Rattle.verification_report.specs.Report.{figures_of}
 use Rattle.verification_report.specs.Summary.{summary_text, text_line}
-use Rattle.escrow_top.specs.Answer.{Answer, case_of, certificate_answer, refused}
-use Rattle.escrow_top.specs.InputFiles.{InputFiles, three_files}
+use Rattle.certificate_answers.specs.Answer.{Answer, case_of, certificate_answer, refused}
+use Rattle.certificate_answers.specs.InputFiles.{InputFiles, three_files}
 use Rattle.escrow_top.specs.MakeWords.{MadeNames, Making}
-use Rattle.escrow_top.specs.Accepted.{IsAcceptedText}
+use Rattle.certificate_answers.specs.Accepted.{IsAcceptedText}
 use Rattle.escrow_top.specs.Structure.{IsEnd, accepted_none, accepted_with, nodes_line, none_within_text}
 use Rattle.escrow_top.specs.declared.making.MadeNames.{MadeNames as CodeNames}
 use Rattle.escrow_top.specs.declared.making.Making.{Making as CodeMaking}
-use Rattle.escrow_top.specs.declared.status.Status.{Status}
-use Rattle.escrow_top.specs.declared.status.Status.TheVariants as status
+use Rattle.certificate_answers.specs.declared.status.Status.{Status}
+use Rattle.certificate_answers.specs.declared.status.Status.TheVariants as status
 
 -- ---- the words as they were read
 abbrev pub made_names_view : CodeNames → MadeNames

@@ -4,11 +4,11 @@ use Rattle.branch_search.specs.Plain.{IsPlainWithin}
 use Rattle.case_file.specs.Case.{CaseContents}
 use Rattle.cash_table.specs.Reach.{IsInReach}
 use Rattle.escrow_desk.specs.Content.{Told}
-use Rattle.escrow_top.specs.Answer.{case_of, searched_of}
+use Rattle.certificate_answers.specs.Answer.{case_of, searched_of}
 use Rattle.escrow_top.specs.Covered.{IsCovered}
-use Rattle.escrow_top.specs.InputFiles.{FileNames, InputFiles, inputs_of}
-use Rattle.escrow_top.specs.declared.status.Status.{Status}
-use Rattle.escrow_top.specs.declared.status.Status.TheVariants as status
+use Rattle.certificate_answers.specs.InputFiles.{FileNames, InputFiles, inputs_of}
+use Rattle.certificate_answers.specs.declared.status.Status.{Status}
+use Rattle.certificate_answers.specs.declared.status.Status.TheVariants as status
 
 -- where the desk tells, and the input files of names give a case: this holds of it
 abbrev pub OfCase : (CaseContents → Type 0) → Told → FileNames → Type 0

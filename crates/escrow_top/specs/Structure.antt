@@ -16,18 +16,18 @@ use Rattle.offer_book.specs.Book.{BookContents}
 use Rattle.offer_book.specs.Portfolio.{IsFirstShort, cost}
 use Rattle.verification_report.specs.Report.{figures_of, report_text}
 use Rattle.verification_report.specs.Summary.{summary_text, text_line}
-use Rattle.escrow_top.specs.Answer.{Answer, certificate_answer, none_text, refused_text, searched_of}
+use Rattle.certificate_answers.specs.Answer.{Answer, certificate_answer, none_text, refused_text, searched_of}
 use Rattle.escrow_top.specs.Covered.{IsCovered}
-use Rattle.escrow_top.specs.Holding.{IsAcceptedTextBeside}
-use Rattle.escrow_top.specs.InputFiles.{FileNames, InputFiles, inputs_of}
-use Rattle.escrow_top.specs.Reading.{AreThere}
-use Rattle.escrow_top.specs.Stopping.{is_unfound}
+use Rattle.certificate_answers.specs.Holding.{IsAcceptedTextBeside}
+use Rattle.certificate_answers.specs.InputFiles.{FileNames, InputFiles, inputs_of}
+use Rattle.certificate_answers.specs.Reading.{AreThere}
+use Rattle.certificate_answers.specs.Stopping.{is_unfound}
 use Rattle.escrow_top.specs.declared.draft.Draft.{Draft}
 use Rattle.escrow_top.specs.declared.draft.Draft.TheVariants as draft
 use Rattle.escrow_top.specs.declared.draft.Telling.{Telling}
 use Rattle.escrow_top.specs.declared.draft.Telling.TheVariants as telling
-use Rattle.escrow_top.specs.declared.status.Status.{Status}
-use Rattle.escrow_top.specs.declared.status.Status.TheVariants as status
+use Rattle.certificate_answers.specs.declared.status.Status.{Status}
+use Rattle.certificate_answers.specs.declared.status.Status.TheVariants as status
 
 -- by this day all that is on offer falls short
 abbrev pub infeasible : ℤ → Answer

@@ -7,24 +7,21 @@ ghost use Rattle.case_file.specs.Case.{HasTerms, case_view};
 ghost use Rattle.offer_book.specs.Portfolio.{IsPermitted};
 ghost use Rattle.rate_cap.specs.CaseAt.{slgs_rates};
 ghost use Rattle.rate_table.specs.Table.{IsTableRate};
-ghost use Rattle.escrow_top.specs.Answer.{case_of, certificate_answer};
+ghost use Rattle.certificate_answers.specs.Answer.{case_of, certificate_answer};
 ghost use Rattle.escrow_top.specs.Capped.{IsCappedDraft, IsCappedFor};
-ghost use Rattle.escrow_top.specs.CaseOf.{AreWithin};
+ghost use Rattle.certificate_answers.specs.CaseOf.{AreWithin};
 ghost use Rattle.escrow_top.specs.Capping.{IsCapDraft, IsCapDraftFor, IsCapCertificate, IsCapDraftOf, IsCapEnded, IsUncappedStatus, cap_text as cap_text_of, next_line, obstacle_answer as obstacle_answer_of, obstacle_line, uncapped as uncapped_of};
-ghost use Rattle.escrow_top.specs.Reading.{LacksInput, files_view, names_view};
-ghost use Rattle.escrow_top.specs.Stopping.{CountsStep, is_unfound};
+ghost use Rattle.certificate_answers.specs.Reading.{LacksInput, files_view, names_view};
+ghost use Rattle.certificate_answers.specs.Stopping.{CountsStep, is_unfound};
 ghost use Rattle.escrow_top.specs.Structure.{accepted_with};
 
-use crate::answer::{Answer, budget_spent, infeasible, none_within, refused, too_long};
 use crate::certificate_text::certificate_text;
 use crate::draft::Texts;
-use crate::files::{FileNames, InputFiles, Inputs, read_inputs};
-use crate::judging::given_case;
-use crate::status::Status;
-use crate::stop::Stop;
+use crate::unfound::{budget_spent, infeasible, none_within};
 use branch_search::{found_laws, settled_laws};
 use cap_finder::{CapEnd, CappedEscrow, CaseAtZero, GreatestCap, Obstacle, Unfound, find_cap};
 use case_file::Case;
+use certificate_answers::{Answer, FileNames, InputFiles, Inputs, Status, Stop, given_case, read_inputs, refused, too_long};
 use escrow_desk::{CaseError, Desk, NoMemory};
 use escrow_units::{Cents, print_cents, print_day, print_rate};
 use halving_tree::halving_laws;
@@ -110,10 +107,10 @@ fn obstacle_answer(alloc: Global, case: &Case, obstacle: &Obstacle) -> Result<An
 {
     match obstacle {
         Obstacle::Short(day) => infeasible(alloc, *day),
-        Obstacle::NoneWithinYield(nodes) => Ok(Answer {
-            status: Status::NoneWithinYield,
-            text: none_within(alloc, nodes)?,
-        }),
+        Obstacle::NoneWithinYield(nodes) => Ok(Answer::new(
+            Status::NoneWithinYield,
+            none_within(alloc, nodes)?,
+        )),
         Obstacle::BudgetSpent(spent) => budget_spent(alloc, &case.book, spent),
     }
 }
@@ -124,11 +121,11 @@ fn uncapped(alloc: Global, zero: &CaseAtZero) -> Result<Answer, NoMemory>
     ensures answer { IfOk result (λ answer. answer ≡ uncapped_of zero.now) }
     ensures status { IfOk result (λ answer. IsUncappedStatus answer.status) }
 {
-    let Answer { status, text: own } = obstacle_answer(alloc, &zero.case, &zero.obstacle)?;
+    let own = obstacle_answer(alloc, &zero.case, &zero.obstacle)?;
     let mut text = Vec::new(alloc);
     push_line(&mut text, b"cap ", b"none")?;
-    text.extend_from_slice(own.as_slice())?;
-    Ok(Answer { status, text })
+    text.extend_from_slice(own.text())?;
+    Ok(Answer::new(own.status(), text))
 }
 
 // What is put out for a case. It isn't inlined: the tables of the search would stand on the stack while rows are read.

@@ -4,12 +4,11 @@ ghost use Rattle.std.specs.Prelude.{◌≡◌, ◌∷◌, [], map, string_bytes,
 ghost use Rattle.escrow_top.specs.Command.{IsCommand};
 ghost use Rattle.escrow_top.specs.Ending.{IsNoCommand};
 ghost use Rattle.escrow_top.specs.MakeWords.{number_of_word};
-ghost use Rattle.escrow_top.specs.Answer.{cap_of as cap_of_rate};
+ghost use Rattle.certificate_answers.specs.Answer.{cap_of as cap_of_rate};
 ghost use Rattle.escrow_units.specs.NumberText.{rate_of};
 
-use crate::files::FileNames;
-use crate::inquiry::{Asking, Inquiry};
 use crate::making::{MadeNames, Making};
+use certificate_answers::{Asking, FileNames, Inquiry};
 use escrow_units::{Rate, read_rate};
 use itoa::Buffer;
 

@@ -1,6 +1,6 @@
 //! What `structure` and `structure-held` are about to put out.
 
-use crate::answer::Answer;
+use certificate_answers::Answer;
 
 /// A certificate that is written, and what is said after it.
 #[derive(Drop)]

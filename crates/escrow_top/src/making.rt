@@ -7,20 +7,18 @@ ghost use Rattle.branch_search.specs.declared.found.SearchEnd.TheVariants.{NoMem
 ghost use Rattle.case_file.specs.Case.{HasTerms, case_view};
 ghost use Rattle.offer_book.specs.Book.{IsBook};
 ghost use Rattle.offer_book.specs.Portfolio.{IsPermitted};
-ghost use Rattle.escrow_top.specs.Answer.{case_of};
+ghost use Rattle.certificate_answers.specs.Answer.{case_of};
 ghost use Rattle.escrow_top.specs.Making.{HasAcceptedText, IsAnswerToNumber, IsMadeAnswer, made_answer, made_files, made_text as made_text_of, none_answer as none_answer_of};
-ghost use Rattle.escrow_top.specs.CaseOf.{AreWithin};
-ghost use Rattle.escrow_top.specs.Reading.{files_view};
+ghost use Rattle.certificate_answers.specs.CaseOf.{AreWithin};
+ghost use Rattle.certificate_answers.specs.Reading.{files_view};
 ghost use Rattle.escrow_top.specs.Settling.{SettlesPlain};
-ghost use Rattle.escrow_top.specs.Stopping.{is_structured};
+ghost use Rattle.certificate_answers.specs.Stopping.{is_structured};
 
-use crate::answer::{Answer, budget_spent, infeasible, none_within, push_nodes, refused};
-use crate::files::InputFiles;
-use crate::judging::given_case;
-use crate::status::Status;
+use crate::unfound::{budget_spent, infeasible, none_within, push_nodes};
 use branch_search::{Found, SearchEnd, search};
 use case_file::Case;
 use case_maker::make;
+use certificate_answers::{Answer, InputFiles, Status, given_case, refused};
 use escrow_desk::{CaseError, NoMemory};
 use escrow_units::Cents;
 use halving_tree::halving_laws;
@@ -74,20 +72,20 @@ fn found_answer(alloc: Global, number: u64, case: &Case, found: &Found) -> Resul
     requires { IsPermitted case.now.book found.now.plan }
     ensures { IfOk result (λ answer. answer ≡ made_answer number (case_view case.now) found.now.plan found.now.gap found.now.tree) }
 {
-    Ok(Answer {
-        status: Status::Done,
-        text: made_text(alloc, number, case, found)?,
-    })
+    Ok(Answer::new(
+        Status::Done,
+        made_text(alloc, number, case, found)?,
+    ))
 }
 
 // The answer that there is no rival.
 fn none_answer(alloc: Global, nodes: &Nodes) -> Result<Answer, NoMemory>
     ensures { IfOk result (λ answer. answer ≡ none_answer_of nodes.now) }
 {
-    Ok(Answer {
-        status: Status::NoneWithinYield,
-        text: none_within(alloc, nodes)?,
-    })
+    Ok(Answer::new(
+        Status::NoneWithinYield,
+        none_within(alloc, nodes)?,
+    ))
 }
 
 // The answer where a search found no portfolio.

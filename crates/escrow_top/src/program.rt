@@ -3,27 +3,26 @@
 ghost use Rattle.std.specs.Prelude.{◌≡◌, ◌≢◌, ◌↔◌, map, string_bytes, IfSome, IsTrue, OnErr, OnOk};
 ghost use Rattle.escrow_desk.specs.Content.{SaidAll, SaidPart, told_map};
 ghost use Rattle.escrow_desk.specs.Counts.{AllSteady, CountsWrite};
-ghost use Rattle.escrow_top.specs.Ending.{Answers, AnswersPart, AskedAnswers, AskedAnswersPart, IsAccepted, IsAcceptedAtCap, IsAcceptedHolding, IsAnswerTo, IsCapped, IsNoCommand, IsNotAccepted, IsRolled, IsSaved, LacksFile, MeansNo, MeansYes, OfFiles, OfNamedFiles, SaidOfFiles, WroteCertificate, is_checked};
-ghost use Rattle.escrow_top.specs.Accepted.{YesExactly};
-ghost use Rattle.escrow_top.specs.Answer.{asking_of, cap_names, structure_names};
+ghost use Rattle.certificate_answers.specs.Meaning.{MeansNo, MeansYes, OfNamedFiles};
+ghost use Rattle.certificate_answers.specs.Statuses.{is_checked};
+ghost use Rattle.escrow_top.specs.Ending.{Answers, AnswersPart, AskedAnswers, AskedAnswersPart, IsAccepted, IsAcceptedAtCap, IsAcceptedHolding, IsAnswerTo, IsCapped, IsNoCommand, IsNotAccepted, IsRolled, IsSaved, LacksFile, OfFiles, SaidOfFiles, WroteCertificate};
+ghost use Rattle.certificate_answers.specs.Accepted.{YesExactly};
+ghost use Rattle.certificate_answers.specs.Answer.{asking_of, cap_names, structure_names};
 ghost use Rattle.escrow_top.specs.Capped.{SaysNoCap, WroteCapped};
 ghost use Rattle.escrow_top.specs.Capping.{Caps, CapsPart, IsCapEnded, PutsOutCap, PutsOutCapPart};
 ghost use Rattle.escrow_top.specs.Structure.{IsStructuredDraft, PutsOut, PutsOutPart, Structures, StructuresPart, WroteAccepted, WroteAndSaid, WroteOrSaidPart};
 ghost use Rattle.escrow_top.specs.Settling.{OfCase, OfSearched, SaysReach, SettlesCovered, SettlesPlain};
 ghost use Rattle.escrow_top.specs.MakeWords.{make_words};
 ghost use Rattle.escrow_top.specs.Making.{HasAcceptedText, Makes, MakesPart, OfMadeCase, WroteFilesAndSaid, WroteFilesOrSaidPart, WroteSome, made_files, made_names_view, making_view, named_files, with_files};
-ghost use Rattle.escrow_top.specs.Reading.{LacksAsked, LacksInput, asking_view, files_view, names_view};
-ghost use Rattle.escrow_top.specs.Stopping.{EndedAs, is_reached, is_structured};
+ghost use Rattle.certificate_answers.specs.Reading.{LacksAsked, LacksInput, asking_view, files_view, names_view};
+ghost use Rattle.certificate_answers.specs.Stopping.{EndedAs, is_reached, is_structured};
 
 use crate::capping::{CapDraft, cap};
-use crate::check::check;
 use crate::command::{Command, command_of};
 use crate::draft::{Draft, Texts};
-use crate::files::{FileNames, InputFiles};
-use crate::inquiry::Asking;
 use crate::making::{MadeDraft, MadeNames, Making, made};
-use crate::status::Status;
 use crate::structure::structure;
+use certificate_answers::{Asking, FileNames, InputFiles, Status, check};
 use escrow_desk::{Desk, Failed, say_all, write_all};
 use std::alloc::Global;
 
@@ -62,7 +61,7 @@ fn run_asking<D: Desk>(alloc: Global, asking: &Asking<'_>, desk: &mut D) -> Stat
     ensures counts { EndedAs result (D.counts desk.old) (D.counts desk.new) (D.told desk.old) (D.told desk.new) }
 {
     match check(alloc, desk, asking) {
-        Ok(answer) => say_answer(desk, answer.status, answer.text.as_slice()),
+        Ok(answer) => say_answer(desk, answer.status(), answer.text()),
         Err(stop) => stop.status(),
     }
 }
@@ -96,7 +95,7 @@ fn put_out<D: Desk>(desk: &mut D, name: &str, draft: &Draft) -> Status
         Draft::NoneWithinYield(texts) => {
             put_out_texts(desk, name, Status::NoneWithinYield, texts)
         }
-        Draft::Said(answer) => say_answer(desk, answer.status, answer.text.as_slice()),
+        Draft::Said(answer) => say_answer(desk, answer.status(), answer.text()),
     }
 }
 
@@ -111,7 +110,7 @@ fn put_out_cap<D: Desk>(desk: &mut D, name: &str, draft: &CapDraft) -> Status
 {
     match draft {
         CapDraft::Found(texts) => put_out_texts(desk, name, Status::Done, texts),
-        CapDraft::Said(answer) => say_answer(desk, answer.status, answer.text.as_slice()),
+        CapDraft::Said(answer) => say_answer(desk, answer.status(), answer.text()),
     }
 }
 
@@ -174,7 +173,7 @@ fn put_out_made<D: Desk>(desk: &mut D, names: &MadeNames<'_>, draft: &MadeDraft)
     ensures counts { EndedAs result (D.counts desk.old) (D.counts desk.new) (D.told desk.old) (D.told desk.new) }
 {
     match write_files(desk, names, &draft.files) {
-        Ok(()) => say_answer(desk, draft.answer.status, draft.answer.text.as_slice()),
+        Ok(()) => say_answer(desk, draft.answer.status(), draft.answer.text()),
         Err(_) => Status::WriteFault,
     }
 }

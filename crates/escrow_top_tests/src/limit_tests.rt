@@ -2,8 +2,9 @@
 //! `escrow_cases`.
 
 use crate::test_runs::{CHECK, FIRST, FIRST_TEXT, Files, named, outcome_of};
+use certificate_answers::Status;
 use escrow_desk::MemoryDesk;
-use escrow_top::{Status, run};
+use escrow_top::run;
 use escrow_units::{Day, print_day};
 use std::alloc::Global;
 use std::process::Abort;

@@ -2,7 +2,8 @@
 
 use crate::test_runs::{FIRST, Files, Outcome, outcome_of};
 use case_maker::{Made, make};
-use escrow_top::{Status, run};
+use certificate_answers::Status;
+use escrow_top::run;
 use std::alloc::Global;
 use std::process::Abort;
 use std::test::Fail;

@@ -2,8 +2,9 @@
 
 ghost use Rattle.std.specs.Prelude.{◌≡◌, IfOk, string_bytes};
 
+use certificate_answers::Status;
 use escrow_desk::{MemoryDesk, NamedBytes};
-use escrow_top::{Status, run};
+use escrow_top::run;
 use std::alloc::Global;
 use std::process::Abort;
 use std::test::Fail;

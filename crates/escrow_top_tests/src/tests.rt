@@ -1,6 +1,6 @@
 //! The numbers of exit statuses, of which no case can have all.
 
-use escrow_top::{Status, case_laws};
+use certificate_answers::{Status, case_laws};
 
 #[test]
 fn exit_statuses(rt: HostRuntime) {

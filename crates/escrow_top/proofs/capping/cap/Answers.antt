@@ -1,4 +1,4 @@
-use Rattle.escrow_top.specs.Reading.{files_view, names_view}
+use Rattle.certificate_answers.specs.Reading.{files_view, names_view}
 use Rattle.escrow_top.proofs.CappingLaws.{cap_draft_for, capped_for}
 use Rattle.escrow_top.proofs.capping.cap.Goals as goal
 

@@ -2,7 +2,7 @@ use Rattle.std.proofs.lemmas.Result.{IfOk-weaker}
 use Rattle.case_file.specs.Case.{case_view}
 use Rattle.escrow_top.specs.Capped.{IsCappedDraft}
 use Rattle.escrow_top.specs.Capping.{IsCapDraftOf}
-use Rattle.escrow_top.specs.Reading.{files_view}
+use Rattle.certificate_answers.specs.Reading.{files_view}
 use Rattle.escrow_top.proofs.CappingLaws.{capped_draft}
 use Rattle.escrow_top.proofs.capping.draft_of_files.Goals as goal
 

@@ -1,9 +1,9 @@
 use Rattle.std.proofs.Common.{◌≡◌, Ok}
 use Rattle.std.proofs.lemmas.Result.{IfOk-weaker}
 use Rattle.case_file.specs.Case.{case_view}
-use Rattle.escrow_top.specs.Reading.{files_view}
+use Rattle.certificate_answers.specs.Reading.{files_view}
 use Rattle.escrow_top.specs.Making.{HasAcceptedText, IsMadeAnswer}
-use Rattle.escrow_top.specs.declared.status.Status.TheVariants as status
+use Rattle.certificate_answers.specs.declared.status.Status.TheVariants as status
 use Rattle.escrow_top.proofs.MakingLaws.{made_accepted, made_accepted_none}
 use Rattle.escrow_top.proofs.making.answer_of_files.Goals as goal
 

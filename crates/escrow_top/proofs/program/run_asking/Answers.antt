@@ -1,13 +1,14 @@
 use Rattle.std.proofs.Common.{◌≡◌, ◌∙◌, ap, refl, sym, subst}
 use Rattle.std.specs.Prelude.{IsTrue}
 use Rattle.escrow_desk.specs.Content.{SaidAll}
-use Rattle.escrow_top.specs.Accepted.{YesExactly}
-use Rattle.escrow_top.specs.Answer.{Answer}
-use Rattle.escrow_top.specs.Ending.{OfNamedFiles}
-use Rattle.escrow_top.specs.Reading.{asking_view, names_view}
-use Rattle.escrow_top.specs.Stopping.{is_reached}
-use Rattle.escrow_top.proofs.AnswerLaws.{asked_said}
-use Rattle.escrow_top.proofs.ExactLaws.{bytes-answered, reached-where_steady}
+use Rattle.certificate_answers.specs.Accepted.{YesExactly}
+use Rattle.certificate_answers.specs.Answer.{Answer}
+use Rattle.certificate_answers.specs.Meaning.{OfNamedFiles}
+use Rattle.certificate_answers.specs.Reading.{asking_view, names_view}
+use Rattle.certificate_answers.specs.Stopping.{is_reached}
+use Rattle.escrow_top.proofs.SaidLaws.{asked_said}
+use Rattle.certificate_answers.proofs.ExactLaws.{reached-where_steady}
+use Rattle.escrow_top.proofs.AskedLaws.{bytes-answered}
 use Rattle.escrow_top.proofs.program.run_asking.Goals as goal
 
 pub returns-in-Ok-clause-exactly : goal.returns-in-Ok-clause-exactly

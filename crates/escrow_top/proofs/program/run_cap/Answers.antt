@@ -1,9 +1,9 @@
 use Rattle.std.proofs.Common.{refl, subst, sym}
 use Rattle.std.specs.Prelude.{IsTrue}
 use Rattle.rate_cap.proofs.CaseFacts.{cases-are_one}
-use Rattle.escrow_top.specs.Reading.{names_view}
-use Rattle.escrow_top.specs.Stopping.{is_reached}
-use Rattle.escrow_top.specs.declared.status.Status.{Status}
+use Rattle.certificate_answers.specs.Reading.{names_view}
+use Rattle.certificate_answers.specs.Stopping.{is_reached}
+use Rattle.certificate_answers.specs.declared.status.Status.{Status}
 use Rattle.escrow_top.proofs.CappingLaws.{caps, caps_part, says_no_cap, wrote_capped}
 use Rattle.escrow_top.proofs.program.run_cap.Goals as goal
 

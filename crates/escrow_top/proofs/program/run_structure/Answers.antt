@@ -1,8 +1,8 @@
 use Rattle.std.proofs.Common.{sym, subst, refl}
 use Rattle.std.specs.Prelude.{IsTrue}
-use Rattle.escrow_top.specs.Reading.{names_view}
-use Rattle.escrow_top.specs.Stopping.{is_reached}
-use Rattle.escrow_top.specs.declared.status.Status.{Status}
+use Rattle.certificate_answers.specs.Reading.{names_view}
+use Rattle.certificate_answers.specs.Stopping.{is_reached}
+use Rattle.certificate_answers.specs.declared.status.Status.{Status}
 use Rattle.escrow_top.proofs.StructureLaws.{says_reach, settles_covered, settles_plain, structures, structures_part, wrote, wrote_none}
 use Rattle.escrow_top.proofs.program.run_structure.Goals as goal
 

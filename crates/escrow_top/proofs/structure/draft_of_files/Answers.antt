@@ -1,6 +1,6 @@
 use Rattle.std.proofs.lemmas.Result.{IfOk-weaker}
 use Rattle.case_file.specs.Case.{case_view}
-use Rattle.escrow_top.specs.Reading.{files_view}
+use Rattle.certificate_answers.specs.Reading.{files_view}
 use Rattle.escrow_top.specs.Structure.{IsAcceptedDraft, IsDraftOf, telling_for}
 use Rattle.escrow_top.proofs.StructureLaws.{accepted_draft}
 use Rattle.escrow_top.proofs.structure.draft_of_files.Goals as goal

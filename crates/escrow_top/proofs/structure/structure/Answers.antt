@@ -1,4 +1,4 @@
-use Rattle.escrow_top.specs.Reading.{files_view, names_view}
+use Rattle.certificate_answers.specs.Reading.{files_view, names_view}
 use Rattle.escrow_top.proofs.StructureLaws.{accepted_for, draft_for, finds_plain_for}
 use Rattle.escrow_top.proofs.structure.structure.Goals as goal
 

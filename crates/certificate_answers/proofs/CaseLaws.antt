@@ -1,0 +1,262 @@
+-- The case that files give is the one that is worked out of their rows.
+use Rattle.std.proofs.Common.{◌≡◌, ◌∙◌, ℕ, ℤ, ◌+◌, ◌-◌, ◌*◌, ◌/◌, ◌<◌, ◌≤◌, true, false, List, [], ◌∷◌, ◌++◌, length, Option, Some, None, Result, Ok, refl, sym, ap, subst, inl, inr, arith}
+use Rattle.std.specs.Prelude.{All, Bool, ◌&&◌, nat_le, nat_eq}
+use Rattle.std.specs.List.{AllZip}
+use Rattle.std.proofs.lemmas.Bool.{cases_lt, le-leb, le-ltb, lt-leb, ne_eqb}
+use Rattle.std.proofs.lemmas.List.{length-append}
+use Rattle.std.proofs.lemmas.List.Elements.{All-nil, All-cons, All-head, All-tail}
+use Rattle.std.proofs.lemmas.Nat.{div-mul-add}
+use Rattle.escrow_units.specs.Flows.{indexed}
+use Rattle.escrow_units.specs.PresentValue.{IndexedFlow}
+use Rattle.escrow_units.specs.SlgsTerms.{IsSettlement}
+use Rattle.escrow_units.specs.declared.limits.TheConstants.{GREATEST_GIVEN_YIELD, MOST_LINES}
+use Rattle.escrow_units.specs.declared.security.Flow.{Flow}
+use Rattle.escrow_units.specs.declared.security.Terms.{Terms}
+use Rattle.fixed_powers.specs.DiscountPowers.{one}
+use Rattle.fixed_powers.specs.PresentValues.{present_value, total_cents}
+use Rattle.fixed_powers.specs.declared.side.Side.TheVariants.{Low}
+use Rattle.fixed_powers.proofs.PresentValueFacts.{value-within}
+use Rattle.escrow_desk.specs.declared.refusal.FileKind.TheVariants.{Prices, Rates}
+use Rattle.row_fields.specs.RowForm.{Row, ◌>>=◌, answer_of_row}
+use Rattle.yield_enclosure.specs.YieldAnswers.{AreYieldEnds, lower_end, upper_end, yield_answer_of}
+use Rattle.yield_enclosure.specs.declared.answer.YieldAnswer.TheVariants.{Between}
+use Rattle.yield_enclosure.proofs.EndFacts.{lower_end-only}
+use Rattle.slgs_rules.proofs.ClassificationFacts.{classified-only}
+use Rattle.slgs_rules.specs.Classification.{classified}
+use Rattle.issue_schedule.specs.IssueForm.{issue_of}
+use Rattle.issue_schedule.specs.declared.issue.Issue.{Issue}
+use Rattle.issue_schedule.specs.declared.issue.Restricted.{Restricted}
+use Rattle.issue_schedule.specs.declared.issue.Restricted.TheVariants.{Given, Computed}
+use Rattle.rate_table.specs.RateForm.{rate_file_of}
+use Rattle.rate_table.specs.declared.table.Offer.{Offer}
+use Rattle.rate_table.specs.declared.table.RateFile.{RateFile}
+use Rattle.market_notes.specs.PriceForm.{note_file_of}
+use Rattle.market_notes.specs.declared.note.Note.{Note}
+use Rattle.market_notes.specs.declared.note.NoteFile.{NoteFile}
+use Rattle.offer_book.specs.Book.{AreLines, BookContents, IsBook, IsSecurityLine}
+use Rattle.offer_book.specs.CaseBook.{IsBookOf, book_of, book_of_files, cash_line, issue_days, lines_on_offer}
+use Rattle.offer_book.specs.Denominations.{IsDenominated, line_of}
+use Rattle.offer_book.specs.MarketLines.{AreLinesOfNotes, IsLineOfNote, note_line, note_lines_from, note_lines_of}
+use Rattle.offer_book.specs.Offers.{AreLinesOf, IsLineOf, line_or_refused, offered_line, offered_lines, request_of, slgs_lines_of}
+use Rattle.offer_book.specs.declared.line.Line.{Line}
+use Rattle.offer_book.specs.declared.line.LineKind.{LineKind}
+use Rattle.offer_book.specs.declared.line.LineKind.TheVariants.{Market, Security}
+use Rattle.offer_book.proofs.OfferFacts.{bound-ok, ending-kept, file-lines, lines-count, no-lines, zipped-length}
+use Rattle.case_file.specs.Case.{CaseContents, case_with, rows_case}
+use Rattle.case_file.specs.Limit.{IsRestrictedYield, RestsOn, limit_of, restricted_yield_of}
+use Rattle.case_file.specs.Case.{IsKept}
+use Rattle.escrow_desk.specs.Rows.{rows_of}
+use Rattle.certificate_answers.specs.Answer.{case_of}
+use Rattle.certificate_answers.specs.CaseOf.{AreWithin, CasesAreWorkedOut, GiveCase, InputsRead, IsCaseOf}
+use Rattle.certificate_answers.specs.InputFiles.{InputFiles}
+use Rattle.certificate_answers.proofs.InputFacts.{rows_alone}
+use Rattle.offer_book.specs.declared.payment_days.PaymentDays.{PaymentDays}
+
+-- ---- the lines of offers and notes
+-- a quotient, by the multiples between which a number lies
+quotient : (n q step : ℕ) → 1 ≤ step → q * step ≤ n → n < (q + 1) * step → n / step ≡ q
+quotient n q step some low high =
+    let same : q * step + (n - q * step) ≡ n = omega (arith, low) in
+    let small : n - q * step < step = omega (arith, low, high) in
+    ap (λ m. m / step) (sym same) ∙ div-mul-add q step (n - q * step) small
+
+some-same : {A : Type 0} (a b : A) → Some a ≡ Some b → a ≡ b
+some-same a b is = cc
+
+-- a line is the one of its denominations
+line-same : (line : Line) (terms : Terms) (bought : LineKind) (cap : ℕ) → line.kind ≡ bought → IsDenominated terms cap line → 1 ≤ terms.step → line ≡ line_of terms bought cap
+line-same line terms bought cap kind is some =
+    let least : line.least ≡ terms.minimum / terms.step = sym (quotient terms.minimum line.least terms.step some (omega (arith, is.least)) (omega (arith, is.least, some))) in
+    let most : line.most ≡ cap / terms.step = sym (quotient cap line.most terms.step some is.most is.greatest) in
+    λ i. record { kind = kind i; step = is.step i; least = least i; most = most i }
+
+-- a step is above 0
+step-some : (days : PaymentDays) (line : Line) (terms : Terms) (cap : ℕ) → IsSecurityLine days line → IsDenominated terms cap line → 1 ≤ terms.step
+step-some days line terms cap good is = omega (arith, good.step_at_least, is.step)
+
+line-offered : (days : PaymentDays) (file : RateFile) (terms : Terms) (offer : Offer) (line : Line) → IsSettlement days.settle → file.terms ≡ Some terms → IsLineOf days file offer line
+    → IsSecurityLine days line → offered_line days file.ranges terms offer ≡ Ok line
+line-offered days file terms offer line h stated is good =
+    let one : is.terms ≡ terms = some-same is.terms terms (sym is.stated ∙ stated) in
+    let by : IsDenominated terms offer.cap line = subst (λ (t : Terms). IsDenominated t offer.cap line) one is.denominated in
+    let sold : Ok is.slgs ≡ classified (request_of days.settle file.ranges offer) = classified-only (request_of days.settle file.ranges offer) (Ok is.slgs) h is.sold.rules in
+    ap (λ found. answer_of_row Rates offer.row (line_or_refused days terms offer.cap found)) (sym sold)
+    ∙ ap (answer_of_row Rates offer.row) (ending-kept days is.slgs.maturity (line_of terms (Security is.slgs) offer.cap) is.sold.in_time)
+    ∙ ap (λ l. Ok l) (sym (line-same line terms (Security is.slgs) offer.cap is.security by (step-some days line terms offer.cap good by)))
+
+lines-offered : (days : PaymentDays) (file : RateFile) (terms : Terms) (offers : List Offer) (lines : List Line) → IsSettlement days.settle → file.terms ≡ Some terms
+    → AllZip (IsLineOf days file) offers lines → All (IsSecurityLine days) lines → offered_lines days file.ranges terms offers ≡ Ok lines
+lines-offered days file terms [] [] h stated are good = refl
+lines-offered days file terms [] (line ∷ lines) h stated are good = absurd are
+lines-offered days file terms (offer ∷ offers) [] h stated are good = absurd are
+lines-offered days file terms (offer ∷ offers) (line ∷ lines) h stated are good =
+    rw (
+      line-offered days file terms offer line h stated are.0 (All-head (IsSecurityLine days) line lines good),
+      lines-offered days file terms offers lines h stated are.1 (All-tail (IsSecurityLine days) line lines good),
+    ) refl
+
+-- a file without terms offers nothing
+no-lines_of : (days : PaymentDays) (file : RateFile) (offers : List Offer) (lines : List Line) → file.terms ≡ None → AllZip (IsLineOf days file) offers lines → lines ≡ []
+no-lines_of days file [] [] none are = refl
+no-lines_of days file [] (line ∷ lines) none are = absurd are
+no-lines_of days file (offer ∷ offers) [] none are = absurd are
+no-lines_of days file (offer ∷ offers) (line ∷ lines) none are = absurd (let clash : None ≡ Some are.0.terms = sym none ∙ are.0.stated in cc)
+
+slgs-lines : (days : PaymentDays) (file : RateFile) (lines : List Line) (terms : Option Terms) → file.terms ≡ terms → IsSettlement days.settle → AreLinesOf days file lines
+    → All (IsSecurityLine days) lines → slgs_lines_of days file ≡ Ok lines
+slgs-lines days file lines None stated h are good = no-lines days file stated ∙ ap (λ ls. Ok ls) (sym (no-lines_of days file file.offers lines stated are))
+slgs-lines days file lines (Some terms) stated h are good =
+    file-lines days file terms (Ok lines) stated (lines-offered days file terms file.offers lines h stated are good)
+
+-- the lines of notes
+note-offered : (days : PaymentDays) (file : NoteFile) (terms : Terms) (row : ℕ) (note : Note) (line : Line) → file.terms ≡ Some terms → IsLineOfNote days file note line
+    → IsSecurityLine days line → answer_of_row Prices row (note_line days terms note) ≡ Ok line
+note-offered days file terms row note line stated is good =
+    let one : is.terms ≡ terms = some-same is.terms terms (sym is.stated ∙ stated) in
+    let by : IsDenominated terms note.cap line = subst (λ (t : Terms). IsDenominated t note.cap line) one is.denominated in
+    ap (answer_of_row Prices row) (ending-kept days note.maturity (line_of terms (Market note) note.cap) is.in_time)
+    ∙ ap (λ l. Ok l) (sym (line-same line terms (Market note) note.cap is.bought by (step-some days line terms note.cap good by)))
+
+notes-offered : (days : PaymentDays) (file : NoteFile) (terms : Terms) (row : ℕ) (notes : List Note) (lines : List Line) → file.terms ≡ Some terms → AllZip (IsLineOfNote days file) notes lines
+    → All (IsSecurityLine days) lines → note_lines_from days terms row notes ≡ Ok lines
+notes-offered days file terms row [] [] stated are good = refl
+notes-offered days file terms row [] (line ∷ lines) stated are good = absurd are
+notes-offered days file terms row (note ∷ notes) [] stated are good = absurd are
+notes-offered days file terms row (note ∷ notes) (line ∷ lines) stated are good =
+    rw (
+      note-offered days file terms row note line stated are.0 (All-head (IsSecurityLine days) line lines good),
+      notes-offered days file terms (row + 1) notes lines stated are.1 (All-tail (IsSecurityLine days) line lines good),
+    ) refl
+
+no-notes_of : (days : PaymentDays) (file : NoteFile) (notes : List Note) (lines : List Line) → file.terms ≡ None → AllZip (IsLineOfNote days file) notes lines → lines ≡ []
+no-notes_of days file [] [] none are = refl
+no-notes_of days file [] (line ∷ lines) none are = absurd are
+no-notes_of days file (note ∷ notes) [] none are = absurd are
+no-notes_of days file (note ∷ notes) (line ∷ lines) none are = absurd (let clash : None ≡ Some are.0.terms = sym none ∙ are.0.stated in cc)
+
+note-lines : (days : PaymentDays) (file : NoteFile) (lines : List Line) (terms : Option Terms) → file.terms ≡ terms → AreLinesOfNotes days file lines
+    → All (IsSecurityLine days) lines → note_lines_of days file ≡ Ok lines
+unfolding note_lines_of
+note-lines days file lines None stated are good = rw stated (ap (λ ls. Ok ls) (sym (no-notes_of days file file.notes lines stated are)))
+note-lines days file lines (Some terms) stated are good = rw stated (notes-offered days file terms 2 file.notes lines stated are good)
+
+-- ---- the book
+front : {A : Type 0} (P : A → Type 0) (xs ys : List A) → All P (xs ++ ys) → All P xs
+front P [] ys all = All-nil P
+front P (x ∷ xs) ys all = All-cons P x xs (All-head P x (xs ++ ys) all) (front P xs ys (All-tail P x (xs ++ ys) all))
+
+back : {A : Type 0} (P : A → Type 0) (xs ys : List A) → All P (xs ++ ys) → All P ys
+back P [] ys all = all
+back P (x ∷ xs) ys all = back P xs ys (All-tail P x (xs ++ ys) all)
+
+book-lines : (book : BookContents) (cash : Line) (lines : List Line) → IsBook book → book.lines ≡ cash ∷ lines → All (IsSecurityLine book.days) lines × (length lines ≤ MOST_LINES)
+book-lines book cash lines limits is = let all : AreLines book.days (cash ∷ lines) = subst (AreLines book.days) is limits.lines in (all.1, all.2)
+
+book-is : (issue : Issue) (rates : RateFile) (notes : NoteFile) (book : BookContents) → IsBook book → IsBookOf issue rates notes book → book_of_files issue rates notes ≡ Ok book
+unfolding book_of_files
+book-is issue rates notes book limits is =
+    let days = issue_days issue in
+    let good = book-lines book (cash_line issue.cash.0) (is.offers ++ is.market) limits is.lines in
+    let own : All (IsSecurityLine days) (is.offers ++ is.market) = subst (λ (d : PaymentDays). All (IsSecurityLine d) (is.offers ++ is.market)) is.days good.0 in
+    let h : IsSettlement issue.settle = subst (λ (d : PaymentDays). IsSettlement d.settle) is.days limits.settlement in
+    let offers = slgs-lines days rates is.offers rates.terms refl h is.of_offers (front (IsSecurityLine days) is.offers is.market own) in
+    let market = note-lines days notes is.market notes.terms refl is.of_notes (back (IsSecurityLine days) is.offers is.market own) in
+    let few : lines_on_offer rates notes ≤ MOST_LINES =
+    omega (arith, length-append is.offers is.market, lines-count days rates is.offers is.of_offers, zipped-length (IsLineOfNote days notes) notes.notes is.market is.of_notes, good.1) in
+    let same : book_of issue (is.offers ++ is.market) ≡ book = λ i. record { days = sym is.days i; needs = sym is.needs i; lines = sym is.lines i } in
+    rw (offers, market, le-ltb MOST_LINES (lines_on_offer rates notes) few) (ap (λ b. Ok b) same)
+
+-- ---- the limit
+-- the yield of payments is the interval that starts at its lower end
+record IsCovered (flows : List IndexedFlow) (cost lo : ℕ) : Type 0 where
+  less : present_value Low 3_000_000_000 flows < one * cost
+  covered : cost ≤ total_cents flows
+
+covered-by : (flows : List IndexedFlow) (cost lo hi : ℕ) → AreYieldEnds flows cost lo hi → IsCovered flows cost lo
+covered-by flows cost lo hi ends = record {
+  less = elim (cases_lt (present_value Low 3_000_000_000 flows) (one * cost)) [
+    | inl less ↦ less
+    | inr worth ↦ absurd (omega (arith, ends.lower.greatest 3_000_000_000 worth, ends.below))
+  ];
+  covered = omega (arith, ends.lower.worth, value-within Low lo flows);
+}
+
+answer-by : (flows : List IndexedFlow) (cost lo hi : ℕ) → AreYieldEnds flows cost lo hi
+    → yield_answer_of flows cost ≡ Between (record { 0 = lower_end flows cost }) (record { 0 = upper_end flows cost })
+answer-by flows cost lo hi ends =
+    let is = covered-by flows cost lo hi ends in
+    let some : nat_eq cost 0 ≡ false = ne_eqb cost 0 (λ none. omega (arith, none, is.less)) in
+    let empty : ((nat_eq (length flows) 0) && (nat_eq cost 0)) ≡ false = rw some (and-false (nat_eq (length flows) 0)) in
+    rw (empty, le-ltb (total_cents flows) cost is.covered, lt-leb (one * cost) (present_value Low 3_000_000_000 flows) is.less) refl
+  where
+    and-false : (b : Bool) → (b && false) ≡ false
+    and-false true = refl
+    and-false false = refl
+
+restricted-is : (settle : ℤ) (pays : List Flow) (restricted : Restricted) (n : ℕ) → IsRestrictedYield settle pays restricted n → n ≤ GREATEST_GIVEN_YIELD
+    → restricted_yield_of settle pays restricted ≡ Ok n
+restricted-is settle pays (Given units) n is most = ap (λ m. Ok m) (sym is)
+restricted-is settle pays (Computed row price) n (hi, ends) most =
+    let flows = indexed settle pays in
+    let is = covered-by flows price.0 n hi ends in
+    let low : n ≡ lower_end flows price.0 = lower_end-only flows price.0 n is.covered is.less ends.lower in
+    let within : nat_le (lower_end flows price.0) GREATEST_GIVEN_YIELD ≡ true = le-leb (lower_end flows price.0) GREATEST_GIVEN_YIELD (omega (arith, low, most)) in
+    rw (answer-by flows price.0 n hi ends, within) (ap (λ m. Ok m) (sym low))
+
+limit-is : (issue : Issue) (limit : ℕ) → RestsOn issue limit → limit_of issue ≡ Ok limit
+limit-is issue limit rests =
+    rw (restricted-is issue.settle issue.pays issue.restricted rests.restricted rests.yields rests.most) (ap (λ n. Ok n) (sym rests.above))
+
+-- ---- the case
+rows_give_case : (issue_rows rate_rows price_rows : List Row) (read : InputsRead) (case : CaseContents) → issue_of issue_rows ≡ Ok read.issue → rate_file_of rate_rows ≡ Ok read.rates
+    → note_file_of read.issue.settle price_rows ≡ Ok read.notes → IsCaseOf read case → rows_case issue_rows rate_rows price_rows ≡ Ok case
+unfolding rows_case
+rows_give_case issue_rows rate_rows price_rows read case is_issue is_rates is_notes is =
+    let issue = read.issue in
+    let book = book-is issue read.rates read.notes case.book is.limits is.rows in
+    let limit = limit-is issue case.limit is.limit in
+    let same : record { book = case.book; limit = case.limit; allowance = issue.allowance.0; budget = issue.budget } ≡ case =
+    λ i. record { book = case.book; limit = case.limit; allowance = sym is.allowance i; budget = sym is.budget i } in
+    rw (is_issue, is_rates, is_notes, book, limit) (ap (λ c. Ok c) same)
+
+-- files that give a case give the one that is worked out of their rows
+pub gives_is : CasesAreWorkedOut
+gives_is files case give =
+    rows_alone files give.within
+    ∙ rows_give_case (rows_of files.issue) (rows_of files.rates) (rows_of files.prices) give.read case give.says.issue give.says.rates give.says.notes give.obeys
+
+-- ---- what is worked out
+record HasOwnTerms (issue : Issue) (case : CaseContents) : Type 0 where
+  allowance : case.allowance ≡ issue.allowance.0
+  budget : case.budget ≡ issue.budget
+
+ok-same : {A E : Type 0} (found : Result A E) (a b : A) → found ≡ Ok a → found ≡ Ok b → a ≡ b
+ok-same found a b first second = let both = sym first ∙ second in cc
+
+case-terms : (issue_rows rate_rows price_rows : List Row) (issue : Issue) (case : CaseContents) → issue_of issue_rows ≡ Ok issue
+    → rows_case issue_rows rate_rows price_rows ≡ Ok case → HasOwnTerms issue case
+unfolding rows_case
+case-terms issue_rows rate_rows price_rows issue case is_issue e =
+    let one = bound-ok (issue_of issue_rows) (λ found. rate_file_of rate_rows >>= (λ rates. note_file_of found.settle price_rows >>= (λ notes. book_of_files found rates notes >>= (λ book. case_with found book)))) case e in
+    let two = bound-ok (rate_file_of rate_rows) (λ rates. note_file_of one.first.settle price_rows >>= (λ notes. book_of_files one.first rates notes >>= (λ book. case_with one.first book))) case one.rest in
+    let three = bound-ok (note_file_of one.first.settle price_rows) (λ notes. book_of_files one.first two.first notes >>= (λ book. case_with one.first book)) case two.rest in
+    let four = bound-ok (book_of_files one.first two.first three.first) (λ book. case_with one.first book) case three.rest in
+    let five = bound-ok (limit_of one.first) (λ limit. Ok (record { book = four.first; limit = limit; allowance = one.first.allowance.0; budget = one.first.budget })) case four.rest in
+    let same : one.first ≡ issue = ok-same (issue_of issue_rows) one.first issue one.is is_issue in
+    let own = ok-same (case_with one.first four.first) _ case (ap (λ found. found >>= (λ limit. Ok (record { book = four.first; limit = limit; allowance = one.first.allowance.0; budget = one.first.budget }))) five.is) four.rest in
+    record {
+      allowance = sym (ap (λ (c : CaseContents). c.allowance) own) ∙ ap (λ (x : Issue). x.allowance.0) same;
+      budget = sym (ap (λ (c : CaseContents). c.budget) own) ∙ ap (λ (x : Issue). x.budget) same;
+    }
+
+-- and files within their limit give what is worked out of their rows, where that keeps its limits
+pub given : (files : InputFiles) (case : CaseContents) → AreWithin files → case_of files ≡ Ok case
+    → IsKept (rows_of files.issue) (rows_of files.rates) (rows_of files.prices) case → GiveCase files case
+given files case within is kept =
+    let own = case-terms (rows_of files.issue) (rows_of files.rates) (rows_of files.prices) kept.issue case kept.is_issue (sym (rows_alone files within) ∙ is) in
+    record {
+      within = within;
+      read = record { issue = kept.issue; rates = kept.rates; notes = kept.notes };
+      says = record { issue = kept.is_issue; rates = kept.is_rates; notes = kept.is_notes };
+      obeys = record { limits = kept.book; rows = kept.rows; limit = kept.limit; allowance = own.allowance; budget = own.budget };
+    }

@@ -1,0 +1,12 @@
+pub mod InputFacts
+pub mod CaseLaws
+pub mod RollingFacts
+pub mod SavingsFacts
+pub mod CapFacts
+pub mod JudgedFacts
+pub mod AcceptedLaws
+pub mod NotAcceptedLaws
+pub mod AnswerLaws
+pub mod ExactLaws
+pub mod HearingFacts
+pub mod YieldFacts

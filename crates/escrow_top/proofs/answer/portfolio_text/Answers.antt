@@ -1,4 +1,0 @@
-use Rattle.escrow_top.proofs.answer.portfolio_text.Goals as goal
-
-pub saved_text-requires-clause-kept : goal.saved_text-requires-clause-kept
-saved_text-requires-clause-kept c = rw c.in-Savings.is at c.requires.kept

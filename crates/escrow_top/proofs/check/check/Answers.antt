@@ -1,4 +1,0 @@
-use Rattle.escrow_top.proofs.check.check.Goals as goal
-
-pub returns-in-Within-clause-exactly : goal.returns-in-Within-clause-exactly
-returns-in-Within-clause-exactly g c = rw (c.in_ok-files.ensures.told) at c.answer_to_files.ensures.exactly

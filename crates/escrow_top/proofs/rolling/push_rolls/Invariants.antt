@@ -1,7 +1,0 @@
-use Rattle.std.proofs.Common.{◌≡◌, ◌++◌, drop}
-use Rattle.std.specs.List.{flat_map}
-use Rattle.escrow_top.specs.RollsText.{roll_text}
-use Rattle.escrow_top.proofs.rolling.push_rolls.Given as goal
-
-abbrev pub invariant-loop-roll : goal.invariant-loop-roll
-invariant-loop-roll l = l.text.items ++ flat_map roll_text (drop l.roll-index l.rolls) ≡ l.fn.text.items ++ flat_map roll_text l.rolls

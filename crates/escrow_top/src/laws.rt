@@ -1,7 +1,0 @@
-//! What is known beforehand of the case that files give.
-ghost use Rattle.escrow_top.specs.CaseOf.{CasesAreWorkedOut};
-
-/// Input files that give a case give the one that is worked out of their rows, so none give two.
-pub fn case_laws()
-    ensures { CasesAreWorkedOut }
-{}
