@@ -3,17 +3,21 @@
 from __future__ import annotations
 
 import re
+from pathlib import Path
+
+from escrow_build.version import read_version
 
 from .commands import Command, Commands, option_lines, read_commands
 from .speaking import Words, put_out
 from .statuses import DONE
 
+ROOT = Path(__file__).resolve().parents[2]
 WHAT = """\
 The manual page of these commands, as roff on standard output: ./escrow manual > escrow.1, and then man -l escrow.1. It is kept as
 docs/escrow.1."""
 
 HEAD = """\
-.TH ESCROW 1 "" "escrow" "The refunding escrow structurer"
+.TH ESCROW 1 "" "escrow %s" "The refunding escrow structurer"
 .SH NAME
 escrow \\- finds and proves the cheapest permitted purchases that pay refunded bonds
 .SH SYNOPSIS
@@ -33,7 +37,7 @@ OPTIONS = (
     ("--force", "Likewise: replace a file that stands where one is written, though the command didn't make it. An input is never written over."),
     ("--help", "The words of a command, what it reads and writes, and its exit statuses."),
     ("--program", "Where the program is that is run; it is built where there is none."),
-    ("--version", "Which sources the program is of, and whether it is proved."),
+    ("--version", "The version, the revision and the sources of the program; whether it is proved here or elsewhere, by which kit, or a trial build; and its digest."),
 )
 FOOT = """\
 .SH FILES
@@ -82,7 +86,7 @@ def manual(table: Commands, statuses: dict[str, str]) -> str:
     lines += [".SH OPTIONS"] + [line for option in OPTIONS for line in _term(*option)]
     lines += [".SH WORDS"] + [line for word, text in table.words.items() for line in _term(word, text)]
     lines += [".SH EXIT STATUS"] + [line for number, text in statuses.items() for line in _term(number, text)]
-    return HEAD + "\n".join(lines) + "\n" + FOOT
+    return HEAD % read_version(ROOT) + "\n".join(lines) + "\n" + FOOT
 
 
 def run(arguments: list[str]) -> int:

@@ -9,7 +9,6 @@ from typing import Optional
 from ..amounts import counted, money_for_people, price_text, rate_text, yield_text
 from ..bond_fields import ALL, PRINCIPAL
 from ..case_files import Issue, RateIndex
-from ..report import Idle
 from .figures import Figures, Held, Refunded, YieldProof, is_restricted, restricted_units
 
 KINDS = {
@@ -389,33 +388,30 @@ def _by_day(held: list[Held]) -> dict:
 
 
 def cash(figures: Figures, asked: Asked) -> Table:
-    idle: dict[date, Idle] = {one.day: one for one in figures.report.idle}
-    paid, kept = _by_day(figures.held), figures.case.receipts_held
-    rows, marked = [], set()
-    for row in figures.report.balances:
-        principal, interest = paid.get(row.day, (0, 0))
-        until = idle[row.day].until if row.day in idle else None
-        if until is not None and row.left > asked.idle:
-            marked.add(len(rows))
-        opening = row.receipts - principal - interest - kept.get(row.day, 0)
-        rows.append(
-            (
-                row.day,
-                opening,
-                *((kept.get(row.day, 0),) if kept else ()),
-                principal,
-                interest,
-                row.receipts,
-                row.needs,
-                row.left,
-                until,
-                (until - row.day).days if until else None,
-            )
-        )
-    columns = [
+    ends = _idle_until(figures)
+    balances = enumerate(figures.report.balances)
+    marked = frozenset(place for place, row in balances if row.day in ends and row.left > asked.idle)
+    above = "more than %s lies idle." % money_for_people(asked.idle)
+    return Table(
+        "cash",
+        "Receipts and disbursements, and the cash balance",
+        _cash_columns(bool(figures.case.receipts_held)),
+        _cash_rows(figures),
+        "What is left over lies idle, at no interest, until the next day of the table. %s %s"
+        % ("Days are marked after which" if marked else "On no day", above),
+        marked,
+    )
+
+
+def _idle_until(figures: Figures) -> dict[date, date]:
+    return {one.day: one.until for one in figures.report.idle}
+
+
+def _cash_columns(with_holdings: bool) -> list[Column]:
+    return [
         day_column("date"),
         money_column("opening cash"),
-        *([money_column("holdings")] if kept else []),
+        *([money_column("holdings")] if with_holdings else []),
         money_column("principal"),
         money_column("interest"),
         money_column("received"),
@@ -424,19 +420,19 @@ def cash(figures: Figures, asked: Asked) -> Table:
         day_column("idle until"),
         count_column("idle days"),
     ]
-    return Table(
-        "cash",
-        "Receipts and disbursements, and the cash balance",
-        columns,
-        rows,
-        "What is left over lies idle, at no interest, until the next day of the table. %s"
-        % (
-            "Days are marked after which more than %s lies idle." % money_for_people(asked.idle)
-            if marked
-            else "On no day more than %s lies idle." % money_for_people(asked.idle)
-        ),
-        frozenset(marked),
-    )
+
+
+def _cash_rows(figures: Figures) -> list[tuple]:
+    ends, paid, kept = _idle_until(figures), _by_day(figures.held), figures.case.receipts_held
+    rows = []
+    for row in figures.report.balances:
+        principal, interest = paid.get(row.day, (0, 0))
+        held, until = kept.get(row.day, 0), ends.get(row.day)
+        opening = row.receipts - principal - interest - held
+        sources = (opening, *((held,) if kept else ()), principal, interest)
+        days = (until - row.day).days if until else None
+        rows.append((row.day, *sources, row.receipts, row.needs, row.left, until, days))
+    return rows
 
 
 def yield_proof(key: str, title: str, proof: YieldProof, what: str) -> Table:
