@@ -95,25 +95,54 @@ pub(crate) fn price_at(prices: &[u64], place: usize) -> u64
     }
 }
 
+// What a cent on a day is worth, at prices and with a multiplier of the limit.
+#[inline(always)]
+fn worth_of(prices: &[u64], multiplier: u64, day: PricedDay) -> Worth
+    requires multiplier { multiplier ≤ PRICE_SCALE }
+    requires power { day.power ≤ one }
+    ensures { result ≡ worth_between_of (slice_index prices.now day.need) (multiplier * day.power / one) }
+{
+    worth_between(
+        price_at(prices, day.need),
+        limit_part(multiplier, day.power),
+    )
+}
+
 /// What a cent on a day is worth at a leaf that keeps its limits.
 pub(crate) fn price_day(leaf: &Leaf, day: PricedDay) -> Worth
     requires leaf { leaf.now.mu ≤ PRICE_SCALE }
     requires power { day.power ≤ one }
     ensures { result ≡ worth_on leaf.now day }
 {
-    let price = price_at(leaf.prices.as_slice(), day.need);
-    worth_between(price, limit_part(leaf.mu, day.power))
+    worth_of(leaf.prices.as_slice(), leaf.mu, day)
 }
 
-/// Prices each of some days at a leaf that keeps its limits: once for each day, however many lines pay on it.
+// Prices each of some days, at prices and with a multiplier of the limit.
+#[inline(always)]
+fn price_all(prices: &[u64], multiplier: u64, days: &[PricedDay], worths: &mut [Worth])
+    requires multiplier { multiplier ≤ PRICE_SCALE }
+    requires powers { All (λ priced. priced.power ≤ one) days.now }
+    requires same { length worths.old ≡ length days.now }
+    ensures { worths.new ≡ map (λ (day : PricedDayOf). worth_between_of (slice_index prices.now day.need) (multiplier * day.power / one)) days.now }
+{
+    for place in 0..days.len() {
+        worths[place] = worth_of(prices, multiplier, days[place]);
+    }
+}
+
+/// Prices each of some days at a leaf that keeps its limits: once for each day, however many lines pay on it. Where the limit has
+/// no multiplier, the loop is compiled without a product.
 pub(crate) fn price_days(leaf: &Leaf, days: &[PricedDay], worths: &mut [Worth])
     requires leaf { leaf.now.mu ≤ PRICE_SCALE }
     requires powers { All (λ priced. priced.power ≤ one) days.now }
     requires same { length worths.old ≡ length days.now }
     ensures { worths.new ≡ map (worth_on leaf.now) days.now }
 {
-    for place in 0..days.len() {
-        worths[place] = price_day(leaf, days[place]);
+    let prices = leaf.prices.as_slice();
+    if leaf.mu == 0 {
+        price_all(prices, 0, days, worths);
+    } else {
+        price_all(prices, leaf.mu, days, worths);
     }
 }
 
