@@ -1,5 +1,5 @@
 -- A line of a certificate, read whole: what comes of its words one by one.
-use Rattle.std.specs.Prelude.{◌≡◌, ℕ, ◌+◌, true, false, if◌then◌else◌, List, [], ◌∷◌, length, Option, Some, None, option_map, slice_index_or}
+use Rattle.std.specs.Prelude.{◌≡◌, ℕ, ◌+◌, ◌≤◌, ◌++◌, take, true, false, if◌then◌else◌, List, [], ◌∷◌, length, Option, Some, None, option_map, slice_index_or}
 use denote.Ref.{Bor}
 use Rattle.proof_tree.specs.declared.tree.Leaf.{Leaf}
 use Rattle.bound_certificate.specs.declared.due.Due.{Due}
@@ -10,6 +10,7 @@ use Rattle.bound_certificate.specs.declared.fault.FaultKind.{FaultKind}
 use Rattle.bound_certificate.specs.declared.fault.FaultKind.TheVariants as kind
 use Rattle.bound_certificate.specs.declared.item.Item.{Item}
 use Rattle.bound_certificate.specs.declared.plain_line.Pair.{Pair}
+use Rattle.bound_certificate.specs.declared.plain_line.PutPrices.{PutPrices}
 use Rattle.bound_certificate.specs.declared.front.Taken.{Taken}
 use Rattle.bound_certificate.specs.Due.{is_closed_early, is_in, range_at, width_of}
 use Rattle.bound_certificate.specs.Grammar.{is_name, leaf_of, line_numbers, name_in, number_in, numbers_fault, numbers_in, numbers_item, whole_number, words_fault, words_item, words_numbers, words_of}
@@ -63,6 +64,13 @@ pub record IsTwo (d : Due) (n : Name) (words : List (List ℕ)) (pair : Pair) : 
 -- the words behind a name say this, without a fault
 abbrev pub IsSaidAs : Due → Name → List (List ℕ) → Item → Type 0
 IsSaidAs d n words item = (numbers_fault d n (line_numbers d n words) ≡ None) × (item ≡ numbers_item n (line_numbers d n words))
+
+-- so many of the words behind a leaf's weights were put as prices, and these words are left
+pub record ArePut (d : Due) (words : List (List ℕ)) (prices : List ℕ) (put : PutPrices) : Type 0 where
+  pub within : put.count ≤ length prices
+  pub left : put.count + length (parts_behind 32 put.rest) ≡ length words
+  pub so_far : numbers_in d name.Leaf 3 words
+      ≡ option_map (λ numbers. take put.count prices ++ numbers) (numbers_in d name.Leaf (3 + put.count) (parts_behind 32 put.rest))
 
 -- the words behind a leaf's name are numbers, one for each weight, and say this leaf
 pub record AreWeights (d : Due) (words : List (List ℕ)) (leaf : Leaf) : Type 0 where

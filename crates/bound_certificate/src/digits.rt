@@ -1,5 +1,5 @@
 //! Numbers as they are written.
-ghost use Rattle.std.specs.Prelude.{◌≡◌, ◌≤◌, ◌<◌, ◌*◌, ◌^◌, ℕ, List, All, IfSome, length, take};
+ghost use Rattle.std.specs.Prelude.{◌≡◌, ◌≤◌, ◌<◌, ◌*◌, ◌^◌, ℕ, List, All, IfSome, IsTrue, length, take};
 ghost use Rattle.std.specs.Int.Digits.{number_from_digits};
 ghost use Rattle.bound_certificate.specs.Digits.{HoldsDigits, IsFirstDigit, IsFirstNumber};
 ghost use Rattle.bound_certificate.specs.Grammar.{whole_number as whole_number_of};
@@ -80,6 +80,15 @@ fn leading_digits(lanes: u8x16) -> usize
     lanes.simd_gt(u8x16::splat(9)).to_bitmask().trailing_zeros() as usize
 }
 
+// Whether so many lanes lead that are digits, and no more.
+#[inline(always)]
+fn lead(lanes: u8x16, count: usize) -> bool
+    requires { count < TOGETHER }
+    ensures { IsTrue result → All (λ digit. digit ≤ 9) (take count lanes) }
+{
+    leading_digits(lanes) == count
+}
+
 // The number that the first lanes write, more than eight of them; it doesn't matter what stands in the others.
 #[inline(always)]
 fn together(lanes: [u8; 16], count: usize) -> u64
@@ -96,6 +105,35 @@ fn together(lanes: [u8; 16], count: usize) -> u64
     front * POWERS_OF_TEN[count - 8] + behind
 }
 
+/// So many digits at the front of a piece, from nine to fifteen, the first of them above 0, which are read together: where the piece
+/// goes on behind them, no digit follows, and the piece has room for sixteen.
+#[inline(always)]
+pub(crate) fn digits_together(piece: &[u8], count: usize) -> Option<Digits>
+    ensures number { IfSome result (IsFirstNumber piece.now) }
+    ensures more { IfSome result (λ digits. digits.count < length piece.now) }
+{
+    if piece.len() < TOGETHER || piece[0] == b'0' || count <= 8 || count >= TOGETHER {
+        return None;
+    }
+    let lanes = u8x16::from_slice(piece) - u8x16::splat(b'0');
+    if !lead(lanes, count) {
+        return None;
+    }
+    Some(Digits {
+        number: together(lanes.to_array(), count),
+        count,
+    })
+}
+
+/// How many digits lead a piece, where it has room for sixteen bytes and not all of them are digits, and else any number.
+#[inline(always)]
+pub(crate) fn digit_count(piece: &[u8]) -> usize {
+    if piece.len() < TOGETHER {
+        return TOGETHER;
+    }
+    leading_digits(u8x16::from_slice(piece) - u8x16::splat(b'0'))
+}
+
 /// From nine to fifteen digits at the front of a piece, the first of them above 0, which are read together: where the piece goes on
 /// behind them, and has room for sixteen.
 #[inline(always)]
@@ -103,18 +141,7 @@ pub(crate) fn many_digits(piece: &[u8]) -> Option<Digits>
     ensures number { IfSome result (IsFirstNumber piece.now) }
     ensures more { IfSome result (λ digits. digits.count < length piece.now) }
 {
-    if piece.len() < TOGETHER || piece[0] == b'0' {
-        return None;
-    }
-    let lanes = u8x16::from_slice(piece) - u8x16::splat(b'0');
-    let count = leading_digits(lanes);
-    if count <= 8 || count >= TOGETHER {
-        return None;
-    }
-    Some(Digits {
-        number: together(lanes.to_array(), count),
-        count,
-    })
+    digits_together(piece, digit_count(piece))
 }
 
 // The digits of the number at the front of a piece, read one by one.

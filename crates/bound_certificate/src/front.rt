@@ -5,7 +5,7 @@ ghost use Rattle.bound_certificate.specs.Grammar.{number_in, whole_number as who
 ghost use Rattle.bound_certificate.specs.PlainLine.{IsFrontNumber, IsFrontOf, first_word};
 
 use crate::cut::cut_at;
-use crate::digits::{Digits, first_number, many_digits, whole_number};
+use crate::digits::{Digits, digits_together, first_number, whole_number};
 use crate::due::Range;
 
 /// A number at the front of words, and the words behind it.
@@ -31,12 +31,12 @@ fn before_space(bytes: &[u8], digits: Digits) -> Option<Taken<'_>>
     })
 }
 
-/// The number at the front of bytes, where a space stands behind its digits, which are read together, or nothing.
+/// The number at the front of bytes, where it has so many digits, which are read together, and a space stands behind them, or nothing.
 #[inline(always)]
-pub(crate) fn quick_front_number(bytes: &[u8]) -> Option<Taken<'_>>
+pub(crate) fn quick_front_number(bytes: &[u8], count: usize) -> Option<Taken<'_>>
     ensures { IfSome result (IsFrontNumber bytes.now) }
 {
-    let digits = many_digits(bytes)?;
+    let digits = digits_together(bytes, count)?;
     before_space(bytes, digits)
 }
 

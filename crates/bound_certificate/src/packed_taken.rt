@@ -102,6 +102,23 @@ fn take_prices(prices: &mut Prices, vector: &[u64], changes: &[Change]) -> Resul
     Ok(())
 }
 
+// Takes over the prices that a vector has after the many changes that numbers are. It isn't inlined: their room would stand on the
+// stack while any line is read.
+#[inline(never)]
+fn take_many(prices: &mut Prices, vector: &[u64], numbers: &[u64]) -> Result<(), FaultKind>
+    requires same { length prices.old ≡ length vector.now }
+    requires falling { AllPairs (λ earlier later. later ≤ earlier) vector.now }
+    requires dates { length vector.now ≤ MOST_DATES }
+    requires places { ArePlaces (length vector.now) (changes_of numbers.now) }
+    requires few { length numbers.now ≤ 2 * MOST_DATES }
+    ensures dates { length prices.new ≡ length prices.old }
+    ensures ok { IfOk result (λ _. ArePricesAfter vector.now (changes_of numbers.now) prices.new) }
+    ensures err { IfErr result (AreFaulty vector.now (changes_of numbers.now)) }
+{
+    let many = list_changes::<MOST_DATES>(numbers);
+    take_prices(prices, vector, many.as_slice())
+}
+
 // Takes over the prices that a vector has after the changes that numbers are.
 fn take_changed(prices: &mut Prices, vector: &[u64], numbers: &[u64]) -> Result<(), FaultKind>
     requires same { length prices.old ≡ length vector.now }
@@ -117,8 +134,7 @@ fn take_changed(prices: &mut Prices, vector: &[u64], numbers: &[u64]) -> Result<
         let few = list_changes::<FEW_CHANGES>(numbers);
         take_prices(prices, vector, few.as_slice())
     } else {
-        let many = list_changes::<MOST_DATES>(numbers);
-        take_prices(prices, vector, many.as_slice())
+        take_many(prices, vector, numbers)
     }
 }
 

@@ -1,16 +1,18 @@
 //! A line of a certificate, at hand whole.
-ghost use Rattle.std.specs.Prelude.{◌≡◌, ◌≢◌, ◌==◌, ◌≤◌, ◌+◌, ℕ, IfOk, IfErr, IfSome, None, Ok, Some, count_by, length, option_map};
+ghost use Rattle.std.specs.Prelude.{◌≡◌, ◌≢◌, ◌==◌, ◌≤◌, ◌<◌, ◌+◌, ℕ, IfOk, IfErr, IfSome, None, Ok, Some, count_by, length, option_map};
+ghost use Rattle.bound_certificate.specs.declared.due.Due.{Due as DueOf};
 ghost use Rattle.bound_certificate.specs.declared.due.Due.TheVariants as due_of;
 ghost use Rattle.bound_certificate.specs.declared.due.Name.TheVariants as name_of;
 ghost use Rattle.bound_certificate.specs.declared.item.Item.TheVariants as item_of;
 ghost use Rattle.bound_certificate.specs.Due.{width_of};
 ghost use Rattle.bound_certificate.specs.Faults.{whole_fault};
 ghost use Rattle.bound_certificate.specs.Grammar.{is_space, leaf_of, line_item, line_leaf, numbers_in, words_fault, words_item, words_numbers, words_of};
-ghost use Rattle.bound_certificate.specs.PlainLine.{AreWeights, IsBegun, IsFaultOf, IsNamed, IsNoNumber, IsOne, IsOnlyName, IsSaidAs, IsTaken, IsTwo};
+ghost use Rattle.bound_certificate.specs.PlainLine.{ArePut, AreWeights, IsBegun, IsFaultOf, IsNamed, IsNoNumber, IsOne, IsOnlyName, IsSaidAs, IsTaken, IsTwo};
 ghost use Rattle.bound_certificate.specs.Row.{parts_behind};
 
 use crate::certificate::Buy;
 use crate::cut::cut_at;
+use crate::digits::digit_count;
 use crate::due::{Due, Name, range_at};
 use crate::fault::FaultKind;
 use crate::front::{Taken, front_number, quick_front_number};
@@ -18,13 +20,20 @@ use crate::item::Item;
 use crate::limits::MOST_DATES;
 use crate::packed_line::{begins_with, rises};
 use crate::row::count_spaces;
-use proof_tree::{Leaf, Prices};
+use proof_tree::{Leaf, PRICE_SCALE, Prices};
 
 // The two numbers of a line.
 #[derive(Clone, Copy, Debug)]
 struct Pair {
     first: u64,
     second: u64,
+}
+
+// How many prices of a leaf were put, and the words behind them.
+#[derive(Clone, Copy, Debug)]
+struct PutPrices<'a> {
+    count: u16,
+    rest: Option<&'a [u8]>,
 }
 
 // The words behind the name of a line that may begin with no other; they aren't counted.
@@ -170,41 +179,83 @@ fn split(left: u16, trees: u16, words: Option<&[u8]>) -> Result<Item, FaultKind>
     })
 }
 
-// The price that the first of the words is, where it is quickly read.
+// The price that the first of the words is, where it has so many digits and is quickly read.
 #[inline(always)]
-fn quick_price(due: Due, place: u16, words: Option<&[u8]>) -> Option<Taken<'_>>
-    ensures { IfSome result (IsTaken due name_of.Leaf place (parts_behind 32 words.entry)) }
+fn quick_price(words: Option<&[u8]>, digits: usize) -> Option<Taken<'_>>
+    ensures { (due : DueOf) (place : ℕ) → 3 ≤ place → IfSome result (IsTaken due name_of.Leaf place (parts_behind 32 words.entry)) }
 {
-    match quick_front_number(words?) {
-        Some(taken) if range_at(due, Name::Leaf, place).contains(taken.number) => Some(taken),
+    match quick_front_number(words?, digits) {
+        Some(taken) if taken.number <= 2 * PRICE_SCALE => Some(taken),
         _ => None,
     }
 }
 
-// The price that the first of the words is: what is seldom, and would take registers of the loop.
+// How many digits the first of the words has, as far as that is quickly seen.
 #[inline(never)]
-fn slow_price(due: Due, place: u16, words: Option<&[u8]>) -> Result<Taken<'_>, FaultKind>
-    ensures ok { IfOk result (IsTaken due name_of.Leaf place (parts_behind 32 words.entry)) }
-    ensures err { IfErr result (λ found. 1 ≤ length (parts_behind 32 words.entry) → IsNoNumber due name_of.Leaf place (parts_behind 32 words.entry) found) }
-{
-    next_number(due, Name::Leaf, place, words)
-}
-
-// The price that the first of the words is, at a place of the line.
-#[inline(always)]
-fn next_price(due: Due, place: u16, words: Option<&[u8]>) -> Result<Taken<'_>, FaultKind>
-    ensures ok { IfOk result (IsTaken due name_of.Leaf place (parts_behind 32 words.entry)) }
-    ensures err { IfErr result (λ found. 1 ≤ length (parts_behind 32 words.entry) → IsNoNumber due name_of.Leaf place (parts_behind 32 words.entry) found) }
-{
-    match quick_price(due, place, words) {
-        Some(price) => Ok(price),
-        None => slow_price(due, place, words),
+fn digits_of(words: Option<&[u8]>) -> usize {
+    match words {
+        Some(bytes) => digit_count(bytes),
+        None => 0,
     }
 }
 
-// Puts the prices of a leaf that the words are, from the third place of its line on. It fails where they aren't a number for each
-// price; with as many words one isn't a number then. It isn't inlined, so that its loop has the registers.
+// Puts prices behind those that were put, as long as they have so many digits: how long a price is doesn't have to be found before
+// the next is looked at. It isn't inlined, so that its loop has the registers.
 #[inline(never)]
+fn put_alike<'a>(
+    due: Due,
+    words: Option<&[u8]>,
+    begun: PutPrices<'a>,
+    digits: usize,
+    prices: &mut Prices,
+) -> PutPrices<'a>
+    requires dates { length prices.old ≤ MOST_DATES }
+    requires begun { ArePut due (parts_behind 32 words) prices.old begun }
+    ensures dates { length prices.new ≡ length prices.old }
+    ensures put { ArePut due (parts_behind 32 words.entry) prices.new result }
+    ensures more { begun.entry.count ≤ result.count }
+{
+    let dates = prices.as_slice().len() as u16;
+    let PutPrices {
+        mut count,
+        mut rest,
+    } = begun;
+    while count < dates {
+        let Some(price) = quick_price(rest, digits) else {
+            break;
+        };
+        prices.put(count, price.number);
+        rest = price.rest;
+        count += 1;
+    }
+    PutPrices { count, rest }
+}
+
+// Puts one price behind those that were put.
+fn put_next<'a>(
+    due: Due,
+    words: Option<&[u8]>,
+    begun: PutPrices<'a>,
+    prices: &mut Prices,
+) -> Result<PutPrices<'a>, FaultKind>
+    requires dates { length prices.old ≤ MOST_DATES }
+    requires begun { ArePut due (parts_behind 32 words) prices.old begun }
+    requires room { begun.count < length prices.old }
+    ensures dates { length prices.new ≡ length prices.old }
+    ensures put { IfOk result (ArePut due (parts_behind 32 words.entry) prices.new) }
+    ensures more { IfOk result (λ put. put.count ≡ begun.entry.count + 1) }
+    ensures err { IfErr result (λ found. length (parts_behind 32 words.entry) ≡ length prices.old → IsNoNumber due name_of.Leaf 3 (parts_behind 32 words.entry) found) }
+{
+    let price = next_number(due, Name::Leaf, 3 + begun.count, begun.rest)?;
+    prices.put(begun.count, price.number);
+    Ok(PutPrices {
+        count: begun.count + 1,
+        rest: price.rest,
+    })
+}
+
+// Puts the prices of a leaf that the words are, from the third place of its line on. It fails where they aren't a number for each
+// price; with as many words one isn't a number then. Prices fall, so that most have as many digits as the one before.
 fn put_prices(due: Due, words: Option<&[u8]>, prices: &mut Prices) -> Result<(), FaultKind>
     requires { length prices.old ≤ MOST_DATES }
     ensures dates { length prices.new ≡ length prices.old }
@@ -213,13 +264,17 @@ fn put_prices(due: Due, words: Option<&[u8]>, prices: &mut Prices) -> Result<(),
     ensures err { IfErr result (λ found. length (parts_behind 32 words.entry) ≡ length prices.old → IsNoNumber due name_of.Leaf 3 (parts_behind 32 words.entry) found) }
 {
     let dates = prices.as_slice().len() as u16;
-    let mut rest = words;
-    for place in 0..dates {
-        let price = next_price(due, 3 + place, rest)?;
-        prices.put(place, price.number);
-        rest = price.rest;
+    let mut done = PutPrices {
+        count: 0,
+        rest: words,
+    };
+    while done.count < dates {
+        done = put_alike(due, words, done, digits_of(done.rest), prices);
+        if done.count < dates {
+            done = put_next(due, words, done, prices)?;
+        }
     }
-    match rest {
+    match done.rest {
         None => Ok(()),
         Some(_) => Err(FaultKind::Number),
     }

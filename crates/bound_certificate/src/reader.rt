@@ -49,6 +49,15 @@ fn nothing(used: u32) -> Fed
     }
 }
 
+// Room for the numbers of a packed line. It isn't inlined: they would stand on the stack where a reader is made.
+#[inline(never)]
+fn numbers_room(alloc: Global) -> Result<Box<Numbers>, NoMemory> {
+    match Box::new(alloc, ArrayVec::new()) {
+        Ok(numbers) => Ok(numbers),
+        Err(_) => Err(NoMemory),
+    }
+}
+
 impl CertReader {
     /// A reader of a certificate for so many need dates. All memory is taken here.
     ///
@@ -69,9 +78,7 @@ impl CertReader {
             leaf: empty_leaf(alloc, dates)?,
             fault: None,
         };
-        let Ok(numbers) = Box::new(alloc, ArrayVec::new()) else {
-            return Err(NoMemory);
-        };
+        let numbers = numbers_room(alloc)?;
         Ok(CertReader { reading, numbers })
     }
 
