@@ -79,11 +79,7 @@ fn answer_to_files<D: Desk>(
 /// # Errors
 ///
 /// `NoFile` where a file that is read isn't there, `ReadFault` where a read failed, and `NoMemory`.
-pub fn check<D: Desk>(
-    alloc: Global,
-    desk: &mut D,
-    asking: &Asking<'_>,
-) -> Result<Answer, Stop>
+pub fn check<D: Desk>(alloc: Global, desk: &mut D, asking: &Asking<'_>) -> Result<Answer, Stop>
     ensures answer { IfOk result (λ answer. FilesAnswer (D.told desk.old) (asking_view asking.now) answer) }
     ensures status { IfOk result (λ answer. IsTrue (is_checked answer.status)) }
     ensures yes { IfOk result (λ answer. answer.status ≡ Status.Done → HoldsWhereTold (λ files cert. MeansYes asking.now.inquiry files cert answer.text) (D.told desk.old) (names_view asking.now.names)) }

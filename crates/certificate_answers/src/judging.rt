@@ -84,11 +84,7 @@ fn judged_by(
 /// # Errors
 ///
 /// `Refused` with the first refusal of the input files' rows, or else of the holdings' rows where they are asked for; and `NoMemory`.
-pub fn judged_case(
-    alloc: Global,
-    inquiry: Inquiry,
-    files: &InputFiles,
-) -> Result<Case, CaseError>
+pub fn judged_case(alloc: Global, inquiry: Inquiry, files: &InputFiles) -> Result<Case, CaseError>
     requires { AreWithin (files_view files.now) }
     ensures case { CaseAnswers result (judged_of inquiry (files_view files.now)) }
     ensures judged { IfOk result (λ case. IsJudged inquiry (files_view files.now) (case_view case)) }

@@ -31,7 +31,6 @@ use Rattle.certificate_answers.specs.Judged.{IsJudged}
 use Rattle.certificate_answers.proofs.InputFacts.{AreThreeWithin, holdings-within, over-held, over-issue, over-prices, over-rates, read-all, read-long_issue, read-long_prices, read-long_rates, read-there, within-all}
 use Rattle.certificate_answers.proofs.JudgedFacts.{judged-keeps, judged_is, one-case}
 
-
 pub bytes-answered : (told told_new : Told) (asking : Asking) (reached : Status) → AskedAnswers told asking reached told_new → OfNamedFiles (IsAnswerTo told reached told_new asking.inquiry) told asking.names
 bytes-answered None told_new asking reached said = λ content files cert tells there is. absurd (cc)
 bytes-answered (Some found) told_new asking reached said = λ content files cert tells there is.

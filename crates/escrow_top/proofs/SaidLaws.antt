@@ -32,7 +32,6 @@ use Rattle.certificate_answers.specs.declared.stop.Stop.{Stop}
 use Rattle.certificate_answers.proofs.InputFacts.{read-all}
 use Rattle.escrow_top.proofs.WordLaws.{asking-caps_none, asking-makes_none, asks_of, cap-makes_none, check-asks, check_cap-asks, check_held-asks, one-asking, roll-asks, savings-asks, structure-caps_none, structure-makes_none}
 
-
 -- the answer to what is asked of named files was said
 pub asked_said : (told new : Told) (asking : Asking) (reply : Answer) (reached : Status) → FilesAnswer told asking reply → reached ≡ reply.status → SaidAll told reply.text new → AskedAnswers told asking reached new
 asked_said None new asking reply reached is ends said = said

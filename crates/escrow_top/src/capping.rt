@@ -21,7 +21,9 @@ use crate::unfound::{budget_spent, infeasible, none_within};
 use branch_search::{found_laws, settled_laws};
 use cap_finder::{CapEnd, CappedEscrow, CaseAtZero, GreatestCap, Obstacle, Unfound, find_cap};
 use case_file::Case;
-use certificate_answers::{Answer, FileNames, InputFiles, Inputs, Status, Stop, given_case, read_inputs, refused, too_long};
+use certificate_answers::{
+    Answer, FileNames, InputFiles, Inputs, Status, Stop, given_case, read_inputs, refused, too_long,
+};
 use escrow_desk::{CaseError, Desk, NoMemory};
 use escrow_units::{Cents, print_cents, print_day, print_rate};
 use halving_tree::halving_laws;

@@ -72,20 +72,14 @@ fn found_answer(alloc: Global, number: u64, case: &Case, found: &Found) -> Resul
     requires { IsPermitted case.now.book found.now.plan }
     ensures { IfOk result (λ answer. answer ≡ made_answer number (case_view case.now) found.now.plan found.now.gap found.now.tree) }
 {
-    Ok(Answer::new(
-        Status::Done,
-        made_text(alloc, number, case, found)?,
-    ))
+    Ok(Answer::new(Status::Done, made_text(alloc, number, case, found)?))
 }
 
 // The answer that there is no rival.
 fn none_answer(alloc: Global, nodes: &Nodes) -> Result<Answer, NoMemory>
     ensures { IfOk result (λ answer. answer ≡ none_answer_of nodes.now) }
 {
-    Ok(Answer::new(
-        Status::NoneWithinYield,
-        none_within(alloc, nodes)?,
-    ))
+    Ok(Answer::new(Status::NoneWithinYield, none_within(alloc, nodes)?))
 }
 
 // The answer where a search found no portfolio.

@@ -18,7 +18,9 @@ use crate::unfound::{budget_spent, infeasible, none_within};
 use bound_certificate::Certificate;
 use branch_search::{Found, SearchEnd, search};
 use case_file::Case;
-use certificate_answers::{FileNames, InputFiles, Inputs, Inquiry, Stop, judged_case, read_inputs, refused, too_long};
+use certificate_answers::{
+    FileNames, InputFiles, Inputs, Inquiry, Stop, judged_case, read_inputs, refused, too_long,
+};
 use escrow_desk::{CaseError, Desk, NoMemory};
 use escrow_units::Cents;
 use halving_tree::halving_laws;
