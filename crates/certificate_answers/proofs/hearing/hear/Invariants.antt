@@ -7,7 +7,7 @@ abbrev pub invariant-pieces : goal.invariant-pieces
 invariant-pieces g l = record {
   so_far : HasRead (g.D.Desk.told l.fn.desk) l.name (case_view l.fn.case) l.checker l.read;
   told : g.D.Desk.told l.desk ≡ g.D.Desk.told l.fn.desk;
-  room : length l.piece ≡ 65536;
+  room : length l.piece ≡ 16384;
   counts : g.D.Desk.counts l.desk ≡ g.D.Desk.counts l.fn.desk;
 }
 
