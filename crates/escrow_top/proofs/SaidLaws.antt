@@ -1,35 +1,24 @@
 -- What was said to words, by what they ask.
-use Rattle.std.proofs.Common.{◌≡◌, ◌∙◌, ℕ, List, [], Option, Some, None, Result, Ok, Err, refl, sym, ap, subst}
-use Rattle.std.specs.Prelude.{IfOk, IfSome, IsSomeAnd, option_and_then, is_ok, if◌then◌else◌}
-use Rattle.escrow_desk.specs.Content.{Content, Told, file_of, SaidAll, SaidPart}
-use Rattle.escrow_desk.specs.declared.refusal.FileKind.{FileKind}
-use Rattle.escrow_desk.specs.declared.refusal.RefusalKind.TheVariants as too_long
-use Rattle.row_fields.specs.RowForm.{refusal_of}
-use Rattle.certificate_answers.specs.InputFiles.{InputFiles, FileNames, first_too_long, inputs_of}
-use Rattle.case_file.specs.Case.{CaseContents}
-use Rattle.certificate_answers.specs.Answer.{Answer, Asking, CapWords, answer_for, answer_to, asked_answer, asking_of, cap_names, case_answer, check_cap_words, check_held_names, check_names, judged_of, refused, roll_names, savings_names, structure_names, usage, usage_text}
+use Rattle.std.proofs.Common.{◌≡◌, ℕ, List, Option, Some, None, refl, subst}
+use Rattle.std.specs.Prelude.{IfSome}
+use Rattle.escrow_desk.specs.Content.{Content, Told, SaidAll, SaidPart}
+use Rattle.certificate_answers.specs.InputFiles.{FileNames}
+use Rattle.certificate_answers.specs.Answer.{Answer, Asking, CapWords, answer_to, asking_of, cap_names, check_cap_words, check_held_names, check_names, roll_names, savings_names, structure_names, usage, usage_text}
 use Rattle.certificate_answers.specs.Accepted.{Accepted}
 use Rattle.certificate_answers.specs.AtCap.{AcceptedAt}
 use Rattle.certificate_answers.specs.Holding.{AcceptedBeside}
-use Rattle.certificate_answers.specs.Judged.{IsJudged}
 use Rattle.certificate_answers.specs.Rolled.{Rolled}
 use Rattle.certificate_answers.specs.Saved.{Saved}
-use Rattle.certificate_answers.specs.Meaning.{HoldsWhereTold, MeansNo, MeansYes}
+use Rattle.certificate_answers.specs.Meaning.{MeansNo, MeansYes}
 use Rattle.escrow_top.specs.Ending.{Answers, AnswersPart, AskedAnswers, AskedAnswersPart, IsAccepted, IsAcceptedAtCap, IsAcceptedHolding, IsNotAccepted, IsNoCommand, IsRolled, IsSaved, LacksFile, SaidOfFiles}
 use Rattle.escrow_top.specs.MakeWords.{Making, make_words}
 use Rattle.escrow_top.specs.Capping.{Caps, CapsPart}
 use Rattle.escrow_top.specs.Making.{Makes, MakesPart}
 use Rattle.escrow_top.specs.Structure.{Structures, StructuresPart}
-use Rattle.certificate_answers.specs.CaseOf.{AreWithin}
-use Rattle.certificate_answers.specs.Reading.{AreRead, CertificateAnswers, FilesAnswer, IsTooLong, LacksAsked, LacksCertificate, LacksInput}
-use Rattle.escrow_desk.specs.declared.refusal.Refusal.{Refusal}
+use Rattle.certificate_answers.specs.Reading.{FilesAnswer, LacksAsked, LacksInput}
 use Rattle.certificate_answers.specs.declared.inquiry.Inquiry.TheVariants as inquiry
 use Rattle.certificate_answers.specs.declared.status.Status.{Status}
 use Rattle.certificate_answers.specs.declared.status.Status.TheVariants as status
-use Rattle.certificate_answers.proofs.AcceptedLaws.{means_yes}
-use Rattle.certificate_answers.proofs.NotAcceptedLaws.{means_no}
-use Rattle.certificate_answers.specs.declared.stop.Stop.{Stop}
-use Rattle.certificate_answers.proofs.InputFacts.{read-all}
 use Rattle.escrow_top.proofs.WordLaws.{asking-caps_none, asking-makes_none, asks_of, cap-makes_none, check-asks, check_cap-asks, check_held-asks, one-asking, roll-asks, savings-asks, structure-caps_none, structure-makes_none}
 
 -- the answer to what is asked of named files was said
