@@ -6,6 +6,8 @@
 #[cfg(test)]
 mod held_escrow_tests;
 #[cfg(test)]
+mod plans;
+#[cfg(test)]
 mod rate_cap_tests;
 #[cfg(test)]
 mod roll_plan_tests;

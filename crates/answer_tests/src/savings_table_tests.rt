@@ -6,12 +6,12 @@ ghost use Rattle.issue_schedule.specs.IssueTerms.{IsIssue};
 ghost use Rattle.case_file.specs.Case.{IsKept, case_view};
 ghost use Rattle.savings_table.specs.Savings.{AreOfOneSet};
 
+use crate::plans::plan_with;
 use case_file::{Case, read_case};
-use cash_table::{Plan, first_unpermitted};
+use cash_table::first_unpermitted;
 use escrow_desk::{FILE_LIMIT, read_rows};
 use escrow_units::{Cents, Day, Flow, YieldUnits, read_day, years_after};
 use issue_schedule::{Issue, read_issue};
-use offer_book::Book;
 use savings_table::{
     PvRange, SERVICE_LIMIT, Savings, SignedRange, old_service, one_set, present, print_signed,
     savings_of,
@@ -167,19 +167,6 @@ fn case_of(alloc: Global, row: &Row) -> Result<Case, Fail>
     ensures { IfOk result (λ case. IsKept (rows_of row.now.issue.now) (rows_of row.now.rates.now) (rows_of row.now.prices.now) (case_view case)) }
 {
     Ok(read_case(alloc, row.issue, row.rates, row.prices)?)
-}
-
-// The portfolio of these units.
-fn plan_with(rt: &impl Abort, alloc: Global, book: &Book, units: &[u64]) -> Result<Plan, Fail>
-    ensures { IfOk result (λ plan. length plan ≡ length book.now.lines) }
-{
-    let mut plan = Plan::zero(alloc, book)?;
-    let count = book.line_count();
-    assert!(rt; units.len() == usize::from(count));
-    for line in 0..count {
-        plan.put(line, units[usize::from(line)]);
-    }
-    Ok(plan)
 }
 
 // The savings of a portfolio are those of the row.

@@ -1,11 +1,11 @@
 //! Reports of four escrows: one of a certificate, one of a marketable note, one with cash that lies idle, and one with closed days.
-ghost use Rattle.std.specs.Prelude.{◌≡◌, length, IfOk};
+ghost use Rattle.std.specs.Prelude.{◌≡◌, length};
 
+use crate::plans::plan_with;
 use case_file::{Case, read_case};
 use cash_table::{Plan, first_short, first_unpermitted};
 use escrow_desk::FILE_LIMIT;
 use escrow_units::Cents;
-use offer_book::Book;
 use std::alloc::Global;
 use std::process::Abort;
 use std::test::Fail;
@@ -31,19 +31,6 @@ fn case_of(rt: &impl Abort, alloc: Global, row: &Row) -> Result<Case, Fail> {
             && row.prices.len() as u64 <= FILE_LIMIT
     );
     Ok(read_case(alloc, row.issue, row.rates, row.prices)?)
-}
-
-// The portfolio of these units.
-fn plan_with(rt: &impl Abort, alloc: Global, book: &Book, units: &[u64]) -> Result<Plan, Fail>
-    ensures { IfOk result (λ plan. length plan ≡ length book.now.lines) }
-{
-    let mut plan = Plan::zero(alloc, book)?;
-    let count = book.line_count();
-    assert!(rt; units.len() == usize::from(count));
-    for line in 0..count {
-        plan.put(line, units[usize::from(line)]);
-    }
-    Ok(plan)
 }
 
 // The texts of a permitted portfolio that meets the needs are those of the row.

@@ -11,15 +11,11 @@ mod price_curve;
 mod residual;
 mod span;
 mod spare;
-#[cfg(test)]
-mod tests;
 mod trimming;
-#[cfg(test)]
-mod trimming_tests;
 
 pub use backward::{BuildEnd, build};
 pub use bisection::least_passing;
 pub use laws::{offer_laws, plan_laws, price_laws};
 pub use offers::own_offer;
 pub use price_curve::bootstrap;
-pub use trimming::trim;
+pub use trimming::{trim, trim_at};

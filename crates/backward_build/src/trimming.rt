@@ -107,7 +107,7 @@ fn trim_lines(book: &Book, plan: &mut Plan, spare: &mut [u64; MOST_NEED_DATES], 
 /// # Errors
 ///
 /// [`NoMemory`] where there is no memory for the new plan and the order of the lines.
-pub(crate) fn trim_at(
+pub fn trim_at(
     alloc: Global,
     book: &Book,
     plan: &Plan,

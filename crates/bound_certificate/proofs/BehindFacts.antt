@@ -3,7 +3,7 @@ use Rattle.std.proofs.Common.{◌≡◌, ◌∙◌, ◌<◌, ℕ, Bool, List, []
 use denote.Ref.{Bor}
 use Rattle.bound_certificate.specs.declared.fault.FaultKind.{FaultKind}
 use Rattle.bound_certificate.specs.Faults.{lines_in, rest_fault}
-use Rattle.bound_certificate.specs.Row.{parts_behind}
+use Rattle.line_words.specs.Words.{parts_behind}
 use Rattle.bound_certificate.proofs.TextFacts.{some-lines}
 
 pub lines-behind : (rest : Option (Bor (List ℕ))) (bytes : Bor (List ℕ)) → rest ≡ Some bytes → parts_behind 10 rest ≡ lines_in bytes.now

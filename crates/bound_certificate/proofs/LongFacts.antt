@@ -1,29 +1,28 @@
 -- A line that is longer than any right one.
-use Rattle.std.proofs.Common.{◌≡◌, ◌∙◌, ℕ, ◌+◌, ◌*◌, ◌-◌, ◌<◌, ◌≤◌, Bool, true, false, ◌&&◌, ◌||◌, ◌==◌, not, nat_eq, nat_lt, if◌then◌else◌, List, [], ◌∷◌, ◌++◌, length, drop, map, count_by, refl, sym, ap, arith, subst, Option, Some, None, Result, Err, slice_index_or, decimal, codes}
-use Rattle.std.specs.List.{find, join_with_byte, onto_first}
+use Rattle.std.proofs.Common.{◌≡◌, ◌∙◌, ℕ, ◌+◌, ◌*◌, ◌<◌, ◌≤◌, Bool, true, false, ◌&&◌, not, nat_eq, nat_lt, if◌then◌else◌, List, [], ◌∷◌, ◌++◌, length, drop, map, count_by, refl, sym, ap, arith, subst, Option, Some, None, Result, Ok, Err, slice_index_or, decimal, codes}
+use Rattle.std.specs.List.{join_with_byte, onto_first}
 use lib.Pointwise.{pointwise, bytes_decides}
 use Rattle.std.proofs.lemmas.Fmt.{length-decimal-le}
 use Rattle.std.proofs.lemmas.List.{length-append, length-take-le, take-append-drop}
 use Rattle.std.proofs.lemmas.List.Splits.{join_with_byte-slice_split, length-slice_split, slice_split-cons_no, slice_split-cons_yes}
-use Rattle.bound_certificate.specs.declared.due.Due.{Due}
 use Rattle.bound_certificate.specs.declared.due.Due.TheVariants as due
-use Rattle.bound_certificate.specs.declared.due.Name.{Name}
-use Rattle.bound_certificate.specs.declared.due.Name.TheVariants as name
-use Rattle.bound_certificate.specs.declared.due.Range.{Range}
+use Rattle.line_words.specs.declared.range.Range.{Range}
 use Rattle.bound_certificate.specs.declared.fault.FaultKind.{FaultKind}
 use Rattle.bound_certificate.specs.declared.fault.FaultKind.TheVariants as kind
 use Rattle.bound_certificate.specs.declared.limits.TheConstants.{LINE_ROOM, MOST_DATES, MOST_NUMBERS, SPACES_COUNTED}
 use Rattle.bound_certificate.specs.declared.row.Row.{Row}
 use Rattle.bound_certificate.specs.declared.row.Row.TheVariants as row
-use Rattle.bound_certificate.specs.Due.{first_names, is_closed_early, width_of, word_of}
-use Rattle.bound_certificate.specs.Grammar.{is_name, is_space, line_numbers, name_in, named_fault, numbers_fault, numbers_in, words_fault, words_of}
+use Rattle.bound_certificate.specs.declared.line.Line.TheVariants as line_of
+use Rattle.bound_certificate.specs.declared.version.Version.{Version}
+use Rattle.bound_certificate.specs.declared.version.Version.TheVariants as version
+use Rattle.bound_certificate.specs.Grammar.{begins_with, leaf_row, line_said, node_row, row_line, said_or, title_version, title_word}
 use Rattle.bound_certificate.specs.LongLine.{IsCounted, IsLongLine}
-use Rattle.bound_certificate.specs.PackedGrammar.{begins_with, node_row, row_line, said_or}
-use Rattle.bound_certificate.specs.PlainLine.{IsOnlyName, first_word}
 use Rattle.bound_certificate.specs.Row.{numbers_by, numbers_or, row_fits, row_range, row_said, row_word, row_words}
-use Rattle.bound_certificate.proofs.PackedRowFacts.{by-found}
-use Rattle.bound_certificate.proofs.ReadRowFacts.{few-numbers}
-use Rattle.bound_certificate.proofs.RowFacts.{AreWritten, numbers-found}
+use Rattle.line_words.specs.Words.{first_word, is_space, words_of}
+use Rattle.line_words.proofs.LaneFacts.{less}
+use Rattle.bound_certificate.proofs.ReadRowFacts.{few-numbers, spaces}
+use Rattle.bound_certificate.proofs.RowFacts.{AreWritten}
+use Rattle.bound_certificate.proofs.TableFacts.{by-found}
 
 -- the first word of bytes, byte by byte
 first_onto : (byte : ℕ) (words : List (List ℕ)) → slice_index_or (onto_first byte words) 0 [] ≡ byte ∷ slice_index_or words 0 []
@@ -61,31 +60,6 @@ long-begins word head line spaces is few =
     let room : length head ≡ LINE_ROOM = ap length is.front ∙ length-take-le LINE_ROOM line (omega (arith, is.long)) in
     ap (λ (l : List ℕ). begins_with word l) (sym whole) ∙ begins_head head word (drop LINE_ROOM line) (omega (arith, few, room))
 
-name_length : (n : Name) → length (word_of n) ≤ 20
-name_length name.Title = omega arith
-name_length name.Portfolio = omega arith
-name_length name.Absent = omega arith
-name_length name.Buy = omega arith
-name_length name.Gap = omega arith
-name_length name.Nodes = omega arith
-name_length name.Split = omega arith
-name_length name.Point = omega arith
-name_length name.Leaf = omega arith
-name_length name.End = omega arith
-
-pub long-name : (head line : List ℕ) (spaces : ℕ) → IsLongLine head spaces line → (n : Name) → is_name (first_word line) n ≡ is_name (first_word head) n
-long-name head line spaces is n = long-begins (word_of n) head line spaces is (name_length n)
-
-find_same : (p q : Name → Bool) (names : List Name) → ((n : Name) → p n ≡ q n) → find p names ≡ find q names
-find_same p q [] same = refl
-find_same p q (n ∷ names) same =
-    ap (λ (b : Bool). if b then Some n else find p names) (same n) ∙ ap (λ (o : Option Name). if q n then Some n else o) (find_same p q names same)
-
-pub long-only : (d : Due) (n : Name) (head line : List ℕ) (spaces : ℕ) → IsLongLine head spaces line → IsOnlyName d n head → IsOnlyName d n line
-long-only d n head line spaces is only =
-    find_same (is_name (first_word line)) (is_name (first_word head)) (first_names d) (long-name head line spaces is)
-    ∙ only ∙ ap (λ (b : Bool). if b then Some n else None) (sym (long-name head line spaces is n))
-
 -- words of at most 16 bytes
 abbrev AreShort : List (List ℕ) → Type 0
 AreShort [] = Unit {0}
@@ -106,31 +80,8 @@ short_written : (numbers : List ℕ) → AreWritten numbers → AreShort (map de
 short_written [] few = tt
 short_written (number ∷ numbers) few = (length-decimal-le 16 number (omega arith) (omega (arith, few.0)) (omega (arith, few.0)), short_written numbers few.1)
 
-short_in : (d : Due) (n : Name) (place : ℕ) (words : List (List ℕ)) (numbers : List ℕ) → numbers_in d n place words ≡ Some numbers → AreShort words
-short_in d n place words numbers h = let are = numbers-found d n place words numbers h in subst AreShort (sym are.texts) (short_written numbers are.small)
-
 short_by : (range : ℕ → Range) (place : ℕ) (words : List (List ℕ)) (numbers : List ℕ) → numbers_by range place words ≡ Some numbers → AreShort words
 short_by range place words numbers h = let are = by-found range place words numbers h in subst AreShort (sym are.texts) (short_written numbers are.small)
-
--- `none`, or how many purchases
-short_none : (n : Name) (word : List ℕ) (words : List (List ℕ)) (numbers : List ℕ) (b : Bool) → is_name word name.Absent ≡ b →
-    (if b then numbers_in due.Portfolio n 2 words else numbers_in due.Portfolio n 1 (word ∷ words)) ≡ Some numbers → AreShort (word ∷ words)
-short_none n word words numbers true e h =
-    let same : codes "none" ≡ word = (bytes_decides (codes "none") word).0 e in
-    let four : 4 ≡ length word = ap length same in
-    (omega (arith, four), short_in due.Portfolio n 2 words numbers h)
-short_none n word words numbers false e h = short_in due.Portfolio n 1 (word ∷ words) numbers h
-
-short_numbers : (d : Due) (n : Name) (words : List (List ℕ)) (numbers : List ℕ) → line_numbers d n words ≡ Some numbers → AreShort words
-short_numbers d n [] numbers h = tt
-short_numbers due.Portfolio n (word ∷ words) numbers h = short_none n word words numbers _ refl h
-short_numbers due.Title n (word ∷ words) numbers h = short_in due.Title n 1 (word ∷ words) numbers h
-short_numbers (due.Buy left least) n (word ∷ words) numbers h = short_in (due.Buy left least) n 1 (word ∷ words) numbers h
-short_numbers (due.Gap most) n (word ∷ words) numbers h = short_in (due.Gap most) n 1 (word ∷ words) numbers h
-short_numbers due.Count n (word ∷ words) numbers h = short_in due.Count n 1 (word ∷ words) numbers h
-short_numbers (due.Node left trees) n (word ∷ words) numbers h = short_in (due.Node left trees) n 1 (word ∷ words) numbers h
-short_numbers (due.End trees) n (word ∷ words) numbers h = short_in (due.End trees) n 1 (word ∷ words) numbers h
-short_numbers due.Nothing n (word ∷ words) numbers h = short_in due.Nothing n 1 (word ∷ words) numbers h
 
 none_by : (o : Option (List ℕ)) → ((numbers : List ℕ) → o ≡ Some numbers → ⊥) → o ≡ None
 none_by None never = refl
@@ -151,107 +102,8 @@ other_words : (line : List ℕ) → length (others_of line) ≡ count_by is_spac
 other_words line =
     let count : 1 + length (others_of line) ≡ count_by is_space line + 1 = omega (arith, sym (ap length (line_parted line)), length-slice_split is_space line) in omega (arith, count)
 
--- how many spaces a line has is told where they are few
-counted_by : (count spaces k : ℕ) (b : Bool) → nat_lt count SPACES_COUNTED ≡ b → IsCounted count spaces → k < SPACES_COUNTED → spaces ≡ k → count ≡ k
-counted_by count spaces k true e is small h = let few : count < SPACES_COUNTED = grind (arith, e) in sym (is.few few) ∙ h
-counted_by count spaces k false e is small h =
-    let many : SPACES_COUNTED ≤ count = grind (arith, e) in absurd (omega (arith, is.many many, small, h))
-
-counted : (count spaces k : ℕ) → IsCounted count spaces → k < SPACES_COUNTED → spaces ≡ k → count ≡ k
-counted count spaces k is small h = counted_by count spaces k _ refl is small h
-
-counted_back : (count spaces k : ℕ) → IsCounted count spaces → k < SPACES_COUNTED → count ≡ k → spaces ≡ k
-counted_back count spaces k is small h = is.few (omega (arith, small, h)) ∙ h
-
-pub some-width : (dates : ℕ) (n : Name) → 1 ≤ width_of dates n
-some-width dates name.Title = omega arith
-some-width dates name.Portfolio = omega arith
-some-width dates name.Absent = omega arith
-some-width dates name.Buy = omega arith
-some-width dates name.Gap = omega arith
-some-width dates name.Nodes = omega arith
-some-width dates name.Split = omega arith
-some-width dates name.Point = omega arith
-some-width dates name.Leaf = omega arith
-some-width dates name.End = omega arith
-
-few_words : (dates : ℕ) (n : Name) → dates ≤ MOST_DATES → width_of dates n ≤ 483
-few_words dates name.Title few = omega arith
-few_words dates name.Portfolio few = omega arith
-few_words dates name.Absent few = omega arith
-few_words dates name.Buy few = omega arith
-few_words dates name.Gap few = omega arith
-few_words dates name.Nodes few = omega arith
-few_words dates name.Split few = omega arith
-few_words dates name.Point few = omega arith
-few_words dates name.Leaf few = omega (arith, few)
-few_words dates name.End few = omega arith
-
--- version 1
-long_words : (dates : ℕ) (d : Due) (line : List ℕ) (o : Option Name) → name_in d (first_word line) ≡ o → words_fault dates d (words_of line) ≡ named_fault dates d o (others_of line)
-long_words dates d line o h = ap (λ (ws : List (List ℕ)). words_fault dates d ws) (line_parted line) ∙ ap (λ (m : Option Name). named_fault dates d m (others_of line)) h
-
-pub long-header : (dates : ℕ) (d : Due) (n : Name) (head line : List ℕ) (spaces : ℕ) → IsLongLine head spaces line → IsOnlyName d n head → begins_with (word_of n) head ≡ false →
-    words_fault dates d (words_of line) ≡ Some kind.Header
-long-header dates d n head line spaces is only other =
-    let named : is_name (first_word line) n ≡ false = long-name head line spaces is n ∙ other in
-    long_words dates d line None (long-only d n head line spaces is only ∙ ap (λ (b : Bool). if b then Some n else None) named)
-
--- a long line that begins with its name
-long_named : (d : Due) (n : Name) (head line : List ℕ) (spaces : ℕ) → IsLongLine head spaces line → IsOnlyName d n head → begins_with (word_of n) head ≡ true →
-    name_in d (first_word line) ≡ Some n
-long_named d n head line spaces is only begins =
-    let named : is_name (first_word line) n ≡ true = long-name head line spaces is n ∙ begins in
-    long-only d n head line spaces is only ∙ ap (λ (b : Bool). if b then Some n else None) named
-
-pub long-closed : (dates : ℕ) (d : Due) (n : Name) (head line : List ℕ) (spaces : ℕ) → IsLongLine head spaces line → IsOnlyName d n head → begins_with (word_of n) head ≡ true →
-    is_closed_early d ≡ true → words_fault dates d (words_of line) ≡ Some kind.Count
-long-closed dates d n head line spaces is only begins closed =
-    long_words dates d line (Some n) (long_named d n head line spaces is only begins)
-    ∙ ap (λ (b : Bool). if b || not (1 + length (others_of line) == width_of dates n) then Some kind.Count else numbers_fault d n (line_numbers d n (others_of line))) closed
-
-equal_count : (count width : ℕ) → count ≡ width → not (count == width) ≡ false
-equal_count count width same = grind (arith, same)
-
-other_count : (count width : ℕ) → (count ≡ width → ⊥) → not (count == width) ≡ true
-other_count count width other = grind (arith, other)
-
-or_true : (b c : Bool) → c ≡ true → (b || c) ≡ true
-or_true true c h = refl
-or_true false c h = h
-
-or_false : (b c : Bool) → b ≡ false → c ≡ false → (b || c) ≡ false
-or_false true c g h = absurd (cc)
-or_false false c g h = h
-
-pub long-unfit : (dates : ℕ) (d : Due) (n : Name) (head line : List ℕ) (spaces : ℕ) → IsLongLine head spaces line → IsOnlyName d n head → begins_with (word_of n) head ≡ true →
-    dates ≤ MOST_DATES → (spaces ≡ width_of dates n - 1 → ⊥) → words_fault dates d (words_of line) ≡ Some kind.Count
-long-unfit dates d n head line spaces is only begins few other =
-    let differ : 1 + length (others_of line) ≡ width_of dates n → ⊥ = λ e.
-    other (counted_back (count_by is_space line) spaces (width_of dates n - 1) is.counted (omega (arith, few_words dates n few)) (omega (arith, e, other_words line))) in
-    long_words dates d line (Some n) (long_named d n head line spaces is only begins)
-    ∙ ap (λ (b : Bool). if b then Some kind.Count else numbers_fault d n (line_numbers d n (others_of line)))
-    (or_true (is_closed_early d) _ (other_count (1 + length (others_of line)) (width_of dates n) differ))
-
-pub long-number : (dates : ℕ) (d : Due) (n : Name) (head line : List ℕ) (spaces : ℕ) → IsLongLine head spaces line → IsOnlyName d n head → begins_with (word_of n) head ≡ true →
-    dates ≤ MOST_DATES → is_closed_early d ≡ false → spaces ≡ width_of dates n - 1 → words_fault dates d (words_of line) ≡ Some kind.Number
-long-number dates d n head line spaces is only begins few going fits =
-    let others : List (List ℕ) = others_of line in
-    let width : width_of dates n ≤ 483 = few_words dates n few in
-    let count : count_by is_space line ≡ width_of dates n - 1 = counted (count_by is_space line) spaces (width_of dates n - 1) is.counted (omega (arith, width)) fits in
-    let same : 1 + length others ≡ width_of dates n = omega (arith, count, other_words line, some-width dates n) in
-    let named : is_name (first_word line) n ≡ true = long-name head line spaces is n ∙ begins in
-    let first : length (first_word line) ≤ 20 = omega (arith, ap length ((bytes_decides (word_of n) (first_word line)).0 named), name_length n) in
-    let none : line_numbers d n others ≡ None = none_by (line_numbers d n others) (λ numbers e.
-    omega (arith, is.long, first, same, width, short_line line (first_word line) others (line_parted line) (short_numbers d n others numbers e))) in
-    long_words dates d line (Some n) (long_named d n head line spaces is only begins)
-    ∙ ap (λ (b : Bool). if b then Some kind.Count else numbers_fault d n (line_numbers d n others))
-    (or_false (is_closed_early d) _ going (equal_count (1 + length others) (width_of dates n) same))
-    ∙ ap (λ (o : Option (List ℕ)). numbers_fault d n o) none
-
--- version 2
 row_length : (r : Row) → length (row_word r) ≤ 20
-row_length row.Portfolio = omega arith
+row_length (row.Portfolio most) = omega arith
 row_length (row.Buy least) = omega arith
 row_length (row.Gap most) = omega arith
 row_length row.Vectors = omega arith
@@ -259,6 +111,7 @@ row_length row.Vector = omega arith
 row_length row.Nodes = omega arith
 row_length row.Split = omega arith
 row_length row.Point = omega arith
+row_length row.Priced = omega arith
 row_length row.Leaf = omega arith
 row_length row.End = omega arith
 
@@ -346,7 +199,18 @@ other_by word line true e less = absurd (omega (arith, less, ap length ((bytes_d
 pub long-other : (word head line : List ℕ) (spaces : ℕ) → IsLongLine head spaces line → length word ≤ 20 → pointwise nat_eq word line ≡ false
 long-other word head line spaces is few = other_by word line _ refl (omega (arith, is.long, few))
 
-pub long-node : (head line : List ℕ) (spaces : ℕ) → IsLongLine head spaces line → node_row line ≡ node_row head
-long-node head line spaces is =
-    ap (λ (b : Bool). if b then row.Split else if begins_with (codes "p") line then row.Point else row.Leaf) (long-begins (codes "s") head line spaces is (omega arith))
-    ∙ ap (λ (b : Bool). if begins_with (codes "s") head then row.Split else if b then row.Point else row.Leaf) (long-begins (codes "p") head line spaces is (omega arith))
+pub long-node : (v : Version) (head line : List ℕ) (spaces : ℕ) → IsLongLine head spaces line → node_row v line ≡ node_row v head
+long-node v head line spaces is =
+    ap (λ (b : Bool). if b then row.Split else if begins_with (codes "p") line then row.Point else leaf_row v) (long-begins (codes "s") head line spaces is (omega arith))
+    ∙ ap (λ (b : Bool). if begins_with (codes "s") head then row.Split else if b then row.Point else leaf_row v) (long-begins (codes "p") head line spaces is (omega arith))
+
+title_by : (v : Version) (head line : List ℕ) (spaces : ℕ) → IsLongLine head spaces line → pointwise nat_eq (title_word v) line ≡ false
+title_by version.One head line spaces is = long-other (title_word version.One) head line spaces is (omega arith)
+title_by version.Two head line spaces is = long-other (title_word version.Two) head line spaces is (omega arith)
+
+-- a long line is no first line, and says no version but 1
+pub long-title : (v : Version) (dates : ℕ) (vectors : List (List ℕ)) (head line : List ℕ) (spaces : ℕ) → IsLongLine head spaces line → line_said v dates vectors due.Title line ≡ Err kind.Header
+long-title v dates vectors head line spaces is = ap (λ (b : Bool). if b then Ok (line_of.Title v) else Err kind.Header) (title_by v head line spaces is)
+
+pub long-version : (head line : List ℕ) (spaces : ℕ) → IsLongLine head spaces line → title_version line ≡ version.One
+long-version head line spaces is = ap (λ (b : Bool). if b then version.Two else version.One) (title_by version.Two head line spaces is)

@@ -4,10 +4,9 @@ use Rattle.std.proofs.lemmas.Bool.{cases_lt}
 use Rattle.std.proofs.lemmas.List.{get_or_past}
 use Rattle.std.proofs.lemmas.List.Elements.{All-head, All-tail}
 use Rattle.bound_certificate.specs.declared.packed.Change.{Change}
-use Rattle.bound_certificate.specs.Grammar.{rises}
+use Rattle.bound_certificate.specs.Grammar.{ArePlaces, rises}
 use Rattle.bound_certificate.specs.Packed.{changed}
-use Rattle.bound_certificate.specs.PackedGrammar.{ArePlaces}
-use Rattle.bound_certificate.proofs.SaidFacts.{NotAbove, neither, order-falling}
+use Rattle.bound_certificate.proofs.PriceFacts.{NotAbove, neither, order-falling}
 
 -- the price at a place is above the one before it, or below the one behind it
 abbrev pub at_place : List ℕ → ℕ → Bool

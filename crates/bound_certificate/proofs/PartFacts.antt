@@ -4,9 +4,9 @@ use Rattle.std.proofs.lemmas.List.{append-nil, length-take, take-append-le}
 use Rattle.std.proofs.lemmas.List.Sums.{sum_by-append}
 use Rattle.std.proofs.Math.Seq.{take-append-add, take_all}
 use Rattle.bound_certificate.specs.declared.limits.TheConstants.{LINE_ROOM}
-use Rattle.bound_certificate.specs.Grammar.{is_space}
 use Rattle.bound_certificate.specs.Kept.{IsKept, Kept}
 use Rattle.bound_certificate.specs.LongLine.{IsCounted}
+use Rattle.line_words.specs.Words.{is_space}
 
 more_head : (before bytes : List ℕ) (most left : ℕ) (b : Bool) → nat_lt most (length before) ≡ b → left + length (take most before) ≡ most →
     take most before ++ take left bytes ≡ take most (before ++ bytes)

@@ -13,28 +13,29 @@ use Rattle.bound_certificate.specs.declared.certificate.Certificate.{Certificate
 use Rattle.bound_certificate.specs.declared.due.Due.{Due}
 use Rattle.bound_certificate.specs.declared.due.Due.TheVariants as due
 use Rattle.bound_certificate.specs.declared.fault.CertFault.{CertFault}
+use Rattle.bound_certificate.specs.declared.fault.FaultKind.{FaultKind}
 use Rattle.bound_certificate.specs.declared.fault.FaultKind.TheVariants as kind
+use Rattle.bound_certificate.specs.declared.version.Version.{Version}
 use Rattle.bound_certificate.specs.declared.item.Fed.{Fed}
 use Rattle.bound_certificate.specs.declared.item.Item.{Item}
 use Rattle.bound_certificate.specs.declared.item.Item.TheVariants as item
 use Rattle.bound_certificate.specs.declared.limits.TheConstants.{MOST_DATES, MOST_NODES}
-use Rattle.bound_certificate.specs.declared.packed_line.PackedDue.TheVariants as packed_due
 use Rattle.bound_certificate.specs.declared.text_reading.Stage.{Stage}
 use Rattle.bound_certificate.specs.declared.text_reading.Stage.TheVariants as stage
 use Rattle.bound_certificate.specs.declared.text_reading.TextReading.{TextReading}
 use Rattle.bound_certificate.specs.Draft.{no_lines}
 use Rattle.bound_certificate.specs.Due.{is_over}
-use Rattle.bound_certificate.specs.Faults.{first_fault, is_feed, lines_in}
+use Rattle.bound_certificate.specs.Faults.{first_fault, lines_in, on_line}
 use Rattle.bound_certificate.specs.Kept.{IsKept, Kept}
-use Rattle.bound_certificate.specs.Lines.{IsOneLine, NotFeed}
 use Rattle.bound_certificate.specs.Moves.{EndsFault, EndsLine, Moves, Stops, fault_at}
-use Rattle.bound_certificate.specs.PackedGrammar as packed
-use Rattle.bound_certificate.specs.Row.{parts_behind}
 use Rattle.bound_certificate.specs.Step.{IsSuited, due_after}
-use Rattle.bound_certificate.specs.TextReading.{EndsText, FewNodes, HasRead, IsAtLine, Reads, ReadsFault, stage_due, stage_fault, stage_told}
+use Rattle.bound_certificate.specs.Text.{IsOneLine, NotFeed}
+use Rattle.bound_certificate.specs.TextReading.{EndsText, FewNodes, HasRead, IsAtLine, Reads, ReadsFault, stage_due, stage_fault, stage_place, stage_told, stage_version}
 use Rattle.bound_certificate.specs.Told.{Told, certificate_told, told_in}
 use Rattle.bound_certificate.specs.Versions.{IsCertificateText, certificate_fault}
-use Rattle.bound_certificate.proofs.TextFacts.{AreOneLine, lines-one, lines-cons, no-feeds, some-lines}
+use Rattle.line_words.specs.Words.{is_feed, parts_behind}
+use Rattle.bound_certificate.proofs.MoveFacts.{seen-over}
+use Rattle.bound_certificate.proofs.TextFacts.{AreOneLine, lines-cons, lines-one, no-feeds, over-rest, rest-due, some-lines}
 use Rattle.bound_certificate.proofs.ToldFacts.{lines-tell, with_told}
 use Rattle.bound_certificate.proofs.VersionFacts.{texts-have-no-fault}
 
@@ -107,9 +108,7 @@ take_front front rest =
 
 -- ---- what is told so far
 none_told : (dates : ℕ) (at : Stage) (vectors : List (List ℕ)) (part : List ℕ) → stage_told dates at vectors (part ∷ []) ≡ []
-none_told dates stage.First vectors part = refl
-none_told dates (stage.Plain d) vectors part = refl
-none_told dates (stage.Packed d) vectors part = refl
+none_told dates at vectors part = refl
 
 one_line : (part : List ℕ) → IsOneLine part → lines_in part ≡ part ∷ []
 one_line part one = slice_split_none is_feed part (no-feeds part one)
@@ -299,27 +298,23 @@ again-fault dates bytes piece fault old is read =
     stopped_read dates bytes piece fault old old read refl is (λ more. read.stopped fault is (piece ++ more))
 
 -- nothing is due any more
-plain_trailing : (dates number : ℕ) (byte : ℕ) (bytes : List ℕ) (lines : List (List ℕ)) → join_with_byte 10 lines ≡ byte ∷ bytes → 0 < length lines →
-    first_fault dates number due.Nothing lines ≡ Some (record { line = number; kind = kind.Trailing })
-plain_trailing dates number byte bytes [] same some = absurd (omega arith)
-plain_trailing dates number byte bytes ([] ∷ []) same some = absurd (cc)
-plain_trailing dates number byte bytes ((b ∷ bs) ∷ []) same some = refl
-plain_trailing dates number byte bytes (line ∷ next ∷ lines) same some = refl
+nothing_due : (d : Due) → is_over d ≡ true → d ≡ due.Nothing
+nothing_due due.Nothing over = refl
+nothing_due d over = absurd (cc)
 
-packed_trailing : (dates number : ℕ) (vectors : List (List ℕ)) (byte : ℕ) (bytes : List ℕ) (lines : List (List ℕ)) → join_with_byte 10 lines ≡ byte ∷ bytes → 0 < length lines →
-    packed.first_fault dates number packed_due.Nothing vectors lines ≡ Some (record { line = number; kind = kind.Trailing })
-packed_trailing dates number vectors byte bytes [] same some = absurd (omega arith)
-packed_trailing dates number vectors byte bytes ([] ∷ []) same some = absurd (cc)
-packed_trailing dates number vectors byte bytes ((b ∷ bs) ∷ []) same some = refl
-packed_trailing dates number vectors byte bytes (line ∷ next ∷ lines) same some = refl
+trailing_by : (v : Version) (dates number : ℕ) (vectors : List (List ℕ)) (byte : ℕ) (bytes : List ℕ) (lines : List (List ℕ)) → join_with_byte 10 lines ≡ byte ∷ bytes → 0 < length lines →
+    first_fault v dates number due.Nothing vectors lines ≡ Some (record { line = number; kind = kind.Trailing })
+trailing_by v dates number vectors byte bytes [] same some = absurd (omega arith)
+trailing_by v dates number vectors byte bytes ([] ∷ []) same some = absurd (cc)
+trailing_by v dates number vectors byte bytes ((b ∷ bs) ∷ []) same some = refl
+trailing_by v dates number vectors byte bytes (line ∷ next ∷ lines) same some = refl
 
 trailing : (dates number : ℕ) (at : Stage) (vectors : List (List ℕ)) (byte : ℕ) (bytes : List ℕ) → is_over (stage_due at) ≡ true →
     stage_fault dates number at vectors (lines_in (byte ∷ bytes)) ≡ Some (record { line = number; kind = kind.Trailing })
-trailing dates number (stage.Plain due.Nothing) vectors byte bytes over =
-    plain_trailing dates number byte bytes (lines_in (byte ∷ bytes)) (join_with_byte-slice_split 10 (byte ∷ bytes)) (some-lines (byte ∷ bytes))
-trailing dates number (stage.Packed packed_due.Nothing) vectors byte bytes over =
-    packed_trailing dates number vectors byte bytes (lines_in (byte ∷ bytes)) (join_with_byte-slice_split 10 (byte ∷ bytes)) (some-lines (byte ∷ bytes))
-trailing dates number at vectors byte bytes over = absurd (cc)
+trailing dates number at vectors byte bytes over =
+    let lines : List (List ℕ) = lines_in (byte ∷ bytes) in
+    ap (λ (d : Due). first_fault (stage_version at lines) dates number d vectors lines) (nothing_due (stage_place at) (sym (seen-over (stage_place at)) ∙ over))
+    ∙ trailing_by (stage_version at lines) dates number vectors byte bytes lines (join_with_byte-slice_split 10 (byte ∷ bytes)) (some-lines (byte ∷ bytes))
 
 pub over-fault : (dates : ℕ) (bytes piece : List ℕ) (fault : CertFault) (old new : TextReading) → old.fault ≡ None → is_over (stage_due old.stage) ≡ true → 0 < length piece →
     fault ≡ fault_at old kind.Trailing → new.fault ≡ Some fault → new.leaf ≡ old.leaf → HasRead dates bytes old → ReadsFault dates bytes piece fault new
@@ -335,30 +330,12 @@ over-fault dates bytes (byte ∷ piece) fault old new going over some fault_is s
 -- ---- the end
 end_fault : (dates number : ℕ) (at : Stage) (vectors : List (List ℕ)) (part : List ℕ) → is_over (stage_due at) ≡ false →
     stage_fault dates number at vectors (part ∷ []) ≡ Some (record { line = number; kind = kind.Truncated })
-end_fault dates number stage.First vectors part more = refl
-end_fault dates number (stage.Plain due.Title) vectors part more = refl
-end_fault dates number (stage.Plain due.Portfolio) vectors part more = refl
-end_fault dates number (stage.Plain (due.Buy left least)) vectors part more = refl
-end_fault dates number (stage.Plain (due.Gap most)) vectors part more = refl
-end_fault dates number (stage.Plain due.Count) vectors part more = refl
-end_fault dates number (stage.Plain (due.Node left trees)) vectors part more = refl
-end_fault dates number (stage.Plain (due.End trees)) vectors part more = refl
-end_fault dates number (stage.Plain due.Nothing) vectors part more = absurd (cc)
-end_fault dates number (stage.Packed packed_due.Title) vectors part more = refl
-end_fault dates number (stage.Packed packed_due.Portfolio) vectors part more = refl
-end_fault dates number (stage.Packed (packed_due.Buy left least)) vectors part more = refl
-end_fault dates number (stage.Packed (packed_due.Gap most)) vectors part more = refl
-end_fault dates number (stage.Packed packed_due.VectorCount) vectors part more = refl
-end_fault dates number (stage.Packed (packed_due.Vector left)) vectors part more = refl
-end_fault dates number (stage.Packed packed_due.NodeCount) vectors part more = refl
-end_fault dates number (stage.Packed (packed_due.Node left trees)) vectors part more = refl
-end_fault dates number (stage.Packed (packed_due.End trees)) vectors part more = refl
-end_fault dates number (stage.Packed packed_due.Nothing) vectors part more = absurd (cc)
+end_fault dates number at vectors part more =
+    ap (λ (o : Option FaultKind). on_line number o) (rest-due (is_over (stage_place at)) part (sym (seen-over (stage_place at)) ∙ more))
 
 end_none : (dates number : ℕ) (at : Stage) (vectors : List (List ℕ)) → is_over (stage_due at) ≡ true → stage_fault dates number at vectors ([] ∷ []) ≡ None
-end_none dates number (stage.Plain due.Nothing) vectors over = refl
-end_none dates number (stage.Packed packed_due.Nothing) vectors over = refl
-end_none dates number at vectors over = absurd (cc)
+end_none dates number at vectors over =
+    ap (λ (o : Option FaultKind). on_line number o) (over-rest (is_over (stage_place at)) [] (sym (seen-over (stage_place at)) ∙ over))
 
 fault_now : (dates : ℕ) (bytes : List ℕ) (reading : TextReading) (at : IsAtLine dates bytes reading) →
     certificate_fault dates bytes ≡ stage_fault dates reading.line reading.stage reading.vectors (at.part ∷ [])

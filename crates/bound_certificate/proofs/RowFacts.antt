@@ -1,5 +1,5 @@
 -- A line of a word and numbers, and its words.
-use Rattle.std.proofs.Common.{◌≡◌, ◌∙◌, ℕ, ◌+◌, ◌%◌, ◌<◌, ◌≤◌, Bool, true, false, ◌&&◌, nat_le, nat_eq, if◌then◌else◌, List, [], ◌∷◌, ◌++◌, map, All, refl, sym, ap, arith, Option, Some, None, option_and_then, option_map, decimal}
+use Rattle.std.proofs.Common.{◌≡◌, ◌∙◌, ℕ, ◌+◌, ◌%◌, ◌<◌, ◌≤◌, Bool, true, false, ◌&&◌, nat_le, nat_eq, if◌then◌else◌, List, [], ◌∷◌, ◌++◌, map, All, refl, sym, ap, arith, Option, Some, None, option_and_then, decimal}
 use lib.Pointwise.{pointwise, bytes_decides}
 use Rattle.std.specs.List.{join_with_byte}
 use Rattle.std.specs.Str.Parse.{digits_value}
@@ -8,14 +8,11 @@ use Rattle.std.proofs.lemmas.Fmt.{decimal_by_steps}
 use Rattle.std.proofs.lemmas.List.{append-nil}
 use Rattle.std.proofs.lemmas.List.Elements.{All-append, All-cons, All-nil}
 use Rattle.std.proofs.lemmas.List.Splits.{join_with_byte-slice_split, slice_split_at, slice_split_none}
-use Rattle.bound_certificate.specs.declared.due.Due.{Due}
-use Rattle.bound_certificate.specs.declared.due.Name.{Name}
-use Rattle.bound_certificate.specs.declared.due.Range.{Range}
+use Rattle.line_words.specs.declared.range.Range.{Range}
 use Rattle.bound_certificate.specs.declared.limits.TheConstants.{GREATEST_GAP}
-use Rattle.bound_certificate.specs.Due.{is_in, range_at}
-use Rattle.bound_certificate.specs.Grammar.{is_space, number_in, numbers_in, whole_number, words_of}
 use Rattle.bound_certificate.specs.Text.{spaced_numbers}
-use Rattle.bound_certificate.proofs.NumberFacts.{whole-decimal}
+use Rattle.line_words.specs.Words.{is_in, is_space, number_in, whole_number, words_of}
+use Rattle.line_words.proofs.NumberFacts.{whole-decimal}
 
 -- a digit
 abbrev pub IsDigit : ℕ → Type 0
@@ -65,11 +62,6 @@ joined (number ∷ numbers) word = ap (λ (bs : List ℕ). word ++ 32 ∷ bs) (j
 pub words-row : (line word numbers : List ℕ) → words_of line ≡ word ∷ map decimal numbers → line ≡ word ++ spaced_numbers numbers
 words-row line word numbers e = sym (join_with_byte-slice_split 32 line) ∙ ap (λ (ws : List (List ℕ)). join_with_byte 32 ws) e ∙ joined numbers word
 
--- numbers in the ranges of their places
-abbrev pub AreInRange : Due → Name → ℕ → List ℕ → Type 0
-AreInRange d n place [] = Unit {0}
-AreInRange d n place (number ∷ numbers) = (is_in (range_at d n place) number ≡ true) × AreInRange d n (place + 1) numbers
-
 -- a word that is a number is what writes it
 whole_by : (word : List ℕ) (n : ℕ) (b : Bool) → (pointwise nat_eq (decimal (digits_value 10 word)) word && nat_le (digits_value 10 word) GREATEST_GAP) ≡ b →
     (if b then Some (digits_value 10 word) else None) ≡ Some n → (word ≡ decimal n) × (n ≤ GREATEST_GAP)
@@ -109,42 +101,3 @@ pub number-read : (range : Range) (n : ℕ) → n ≤ GREATEST_GAP → is_in ran
 number-read range n limit inside =
     ap (λ (o : Option ℕ). option_and_then (λ number. if is_in range number then Some number else None) o) (whole-decimal n limit)
     ∙ ap (λ (b : Bool). if b then Some n else None) inside
-
--- the numbers that words are
-pub record AreNumbers (d : Due) (n : Name) (place : ℕ) (words : List (List ℕ)) (numbers : List ℕ) : Type 0 where
-  pub texts : words ≡ map decimal numbers
-  pub small : AreWritten numbers
-  pub ranges : AreInRange d n place numbers
-
-found_by : (d : Due) (n : Name) (place : ℕ) (word : List ℕ) (words : List (List ℕ)) (o : Option ℕ) (rest : Option (List ℕ)) (numbers : List ℕ) →
-    number_in (range_at d n place) word ≡ o → ((others : List ℕ) → rest ≡ Some others → AreNumbers d n (place + 1) words others) →
-    option_and_then (λ number. option_map (λ others. number ∷ others) rest) o ≡ Some numbers → AreNumbers d n place (word ∷ words) numbers
-found_by d n place word words None rest numbers here later h = absurd (cc)
-found_by d n place word words (Some number) None numbers here later h = absurd (cc)
-found_by d n place word words (Some number) (Some others) numbers here later h =
-    let same : number ∷ others ≡ numbers = cc in
-    let found : IsNumber (range_at d n place) word number = number-found (range_at d n place) word number here in
-    let behind : AreNumbers d n (place + 1) words others = later others refl in
-    let all : AreNumbers d n place (word ∷ words) (number ∷ others) = record {
-      texts = ap (λ (w : List ℕ). w ∷ words) found.text ∙ ap (λ (ws : List (List ℕ)). decimal number ∷ ws) behind.texts;
-      small = (found.small, behind.small);
-      ranges = (found.range_in, behind.ranges);
-    } in
-    rw (sym same) all
-
-pub numbers-found : (d : Due) (n : Name) (place : ℕ) (words : List (List ℕ)) (numbers : List ℕ) → numbers_in d n place words ≡ Some numbers → AreNumbers d n place words numbers
-numbers-found d n place [] numbers h =
-    let none : [] ≡ numbers = cc in
-    let all : AreNumbers d n place [] [] = record { texts = refl; small = tt; ranges = tt } in
-    rw (sym none) all
-numbers-found d n place (word ∷ words) numbers h =
-    found_by d n place word words (number_in (range_at d n place) word) (numbers_in d n (place + 1) words) numbers refl
-    (λ others e. numbers-found d n (place + 1) words others e) h
-
-pub numbers-read : (d : Due) (n : Name) (place : ℕ) (numbers : List ℕ) → AreWritten numbers → AreInRange d n place numbers →
-    numbers_in d n place (map decimal numbers) ≡ Some numbers
-numbers-read d n place [] few inside = refl
-numbers-read d n place (number ∷ numbers) few inside =
-    ap (λ (o : Option ℕ). option_and_then (λ first. option_map (λ others. first ∷ others) (numbers_in d n (place + 1) (map decimal numbers))) o)
-    (number-read (range_at d n place) number few.0 inside.0)
-    ∙ ap (λ (o : Option (List ℕ)). option_map (λ others. number ∷ others) o) (numbers-read d n (place + 1) numbers few.1 inside.1)

@@ -6,10 +6,10 @@ use Rattle.bound_certificate.specs.declared.fault.CertFault.{CertFault}
 use Rattle.bound_certificate.specs.declared.item.Fed.{Fed}
 use Rattle.bound_certificate.specs.declared.item.Item.TheVariants as item
 use Rattle.bound_certificate.specs.declared.text_reading.TextReading.{TextReading}
-use Rattle.bound_certificate.specs.Faults.{is_feed}
-use Rattle.bound_certificate.specs.Lines.{IsOneLine}
+use Rattle.bound_certificate.specs.Text.{IsOneLine}
 use Rattle.bound_certificate.specs.TextReading.{TakesLine}
-use Rattle.bound_certificate.proofs.CutFacts.{first_place, no_place}
+use Rattle.line_words.specs.Words.{is_feed}
+use Rattle.line_words.proofs.CutFacts.{first_place, no_place}
 use Rattle.bound_certificate.proofs.ReadFacts.{Piece}
 use Rattle.bound_certificate.proofs.TextFacts.{no-feeds}
 

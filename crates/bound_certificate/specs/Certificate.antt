@@ -10,20 +10,20 @@ use Rattle.proof_tree.specs.declared.tree.TheConstants.{GREATEST_UNITS}
 abbrev pub IsBuy : Buy → Type 0
 IsBuy buy = (buy.line ≤ 65_535) × (1 ≤ buy.units) × (buy.units ≤ GREATEST_UNITS)
 
--- purchases, at most 257, by rising lines
-pub record AreBuys (buys : List Buy) : Type 0 where
-  pub few : length buys ≤ MOST_BUYS
+-- purchases, so many at most, by rising lines
+pub record AreBuys (most : ℕ) (buys : List Buy) : Type 0 where
+  pub few : length buys ≤ most
   pub range : All IsBuy buys
   pub rising : AllPairs (λ earlier later. earlier.line < later.line) buys
 
 -- without a portfolio there is no gap
-abbrev pub IsPortfolio : Option (List Buy) → ℕ → Type 0
-IsPortfolio None gap = gap ≡ 0
-IsPortfolio (Some buys) gap = AreBuys buys × (gap ≤ GREATEST_GAP)
+abbrev pub IsPortfolio : ℕ → Option (List Buy) → ℕ → Type 0
+IsPortfolio most None gap = gap ≡ 0
+IsPortfolio most (Some buys) gap = AreBuys most buys × (gap ≤ GREATEST_GAP)
 
--- a certificate for so many need dates: its portfolio, and the nodes of one tree, from 1 to 10,000
+-- a certificate for so many need dates: its portfolio, of at most 257 purchases, and the nodes of one tree, from 1 to 10,000
 pub record IsWellFormed (dates : ℕ) (cert : Certificate) : Type 0 where
-  pub portfolio : IsPortfolio cert.buys cert.gap
+  pub portfolio : IsPortfolio MOST_BUYS cert.buys cert.gap
   pub few : length cert.nodes ≤ MOST_NODES
   pub nodes : All (IsNode dates) cert.nodes
   pub tree : AreTrees 1 cert.nodes

@@ -1,7 +1,6 @@
 -- The first fault of a text, by its lines. The grammar is this project's own.
-use Rattle.std.specs.Prelude.{◌≡◌, ℕ, ◌+◌, Bool, true, false, ◌==◌, List, [], ◌∷◌, Option, Some, None, option_map}
+use Rattle.std.specs.Prelude.{◌≡◌, ℕ, ◌+◌, Bool, true, false, List, [], ◌∷◌, Option, Some, None, option_map, Result, Ok, Err}
 use Rattle.std.specs.List.{slice_split}
-use Rattle.std.specs.Option.{option_or}
 use Rattle.bound_certificate.specs.declared.due.Due.{Due}
 use Rattle.bound_certificate.specs.declared.due.Due.TheVariants as due
 use Rattle.bound_certificate.specs.declared.fault.CertError.{CertError}
@@ -9,21 +8,16 @@ use Rattle.bound_certificate.specs.declared.fault.CertError.TheVariants as error
 use Rattle.bound_certificate.specs.declared.fault.CertFault.{CertFault}
 use Rattle.bound_certificate.specs.declared.fault.FaultKind.{FaultKind}
 use Rattle.bound_certificate.specs.declared.fault.FaultKind.TheVariants as kind
+use Rattle.bound_certificate.specs.declared.line.Line.{Line}
+use Rattle.bound_certificate.specs.declared.version.Version.{Version}
+use Rattle.bound_certificate.specs.declared.version.Version.TheVariants as version
 use Rattle.bound_certificate.specs.Due.{is_over, next_due}
-use Rattle.bound_certificate.specs.Grammar.{line_fault, line_item}
+use Rattle.bound_certificate.specs.Grammar.{line_item, line_said, vectors_with}
+use Rattle.line_words.specs.Words.{is_feed}
 
 -- the lines of a text: what stands before each line feed, and last what stands behind the last one
-abbrev pub is_feed : ℕ → Bool
-is_feed byte = byte == 10
-
--- what stands before each line feed, and last what stands behind the last one
 abbrev pub lines_in : List ℕ → List (List ℕ)
 lines_in bytes = slice_split is_feed bytes
-
--- why a line that a line feed ends isn't one that is due: the last line came before it, or its words don't fit
-abbrev pub whole_fault : ℕ → Due → List ℕ → Option FaultKind
-whole_fault dates due.Nothing line = Some kind.Trailing
-whole_fault dates d line = line_fault dates d line
 
 -- why the bytes behind the last line feed don't end a text, where the last line came or didn't: there are any behind it, or a line is still due
 abbrev pub rest_fault : Bool → List ℕ → Option FaultKind
@@ -35,18 +29,31 @@ rest_fault true (byte ∷ bytes) = Some kind.Trailing
 abbrev pub on_line : ℕ → Option FaultKind → Option CertFault
 on_line number found = option_map (λ kind. record { line = number; kind = kind }) found
 
--- the first fault of lines, from the line of a number on, where this is due
-abbrev pub first_fault : ℕ → ℕ → Due → List (List ℕ) → Option CertFault
-first_fault dates number d [] = None
-first_fault dates number d (rest ∷ []) = on_line number (rest_fault (is_over d) rest)
-first_fault dates number d (line ∷ next ∷ lines) =
-    option_or (on_line number (whole_fault dates d line)) (first_fault dates (number + 1) (next_due d (line_item d line)) (next ∷ lines))
+-- the fault of a line, or else the first one behind it
+abbrev pub fault_or : ℕ → Result Line FaultKind → (Line → Option CertFault) → Option CertFault
+fault_or number (Err found) more = on_line number (Some found)
+fault_or number (Ok said) more = more said
 
--- the first fault of a text, where a leaf has a price for each of so many dates
-abbrev pub text_fault : ℕ → List ℕ → Option CertFault
-text_fault dates bytes = first_fault dates 1 due.Title (lines_in bytes)
+-- the first fault of lines, from the line of a number on, where this is due and these vectors came
+abbrev pub first_fault : Version → ℕ → ℕ → Due → List (List ℕ) → List (List ℕ) → Option CertFault
+first_fault v dates number d vectors [] = None
+first_fault v dates number d vectors (rest ∷ []) = on_line number (rest_fault (is_over d) rest)
+first_fault v dates number d vectors (bytes ∷ next ∷ lines) =
+    fault_or number (line_said v dates vectors d bytes)
+    (λ said. first_fault v dates (number + 1) (next_due v d (line_item said)) (vectors_with vectors said) (next ∷ lines))
 
--- why a text isn't read
+-- the first fault of a text of a version, where a leaf has a price for each of so many dates
+abbrev pub text_fault : Version → ℕ → List ℕ → Option CertFault
+text_fault v dates bytes = first_fault v dates 1 due.Title [] (lines_in bytes)
+
+-- why a text of a version isn't read
+abbrev pub IsCauseIn : Version → ℕ → List ℕ → CertError → Type 0
+IsCauseIn v dates bytes error.NoMemory = Unit {0}
+IsCauseIn v dates bytes (error.Fault fault) = text_fault v dates bytes ≡ Some fault
+
+-- why a text of version 1 isn't read, and one of version 2
 abbrev pub IsCause : ℕ → List ℕ → CertError → Type 0
-IsCause dates bytes error.NoMemory = Unit {0}
-IsCause dates bytes (error.Fault fault) = text_fault dates bytes ≡ Some fault
+IsCause dates bytes found = IsCauseIn version.One dates bytes found
+
+abbrev pub IsPackedCause : ℕ → List ℕ → CertError → Type 0
+IsPackedCause dates bytes found = IsCauseIn version.Two dates bytes found

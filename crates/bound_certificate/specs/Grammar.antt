@@ -1,142 +1,150 @@
--- The lines of a certificate, by their words: what a line says, and why it isn't one that is due. The grammar is this project's own.
-use Rattle.std.specs.Prelude.{ℕ, ◌+◌, Bool, false, ◌==◌, ◌&&◌, ◌||◌, not, nat_eq, nat_lt, nat_le, if◌then◌else◌, List, [], ◌∷◌, length, drop, slice_index, Option, Some, None, option_and_then, option_map}
-use Rattle.std.specs.Fmt.{decimal}
-use Rattle.std.specs.List.{find, slice_split}
-use Rattle.std.specs.Str.Parse.{digits_value}
+-- The lines of a certificate, by their words: what a line says, or why it isn't one that is due. The grammar is this project's own.
+use Rattle.std.specs.Prelude.{ℕ, ◌-◌, ◌≤◌, All, Bool, true, false, ◌==◌, ◌&&◌, ◌||◌, not, nat_eq, nat_lt, if◌then◌else◌, List, [], ◌∷◌, ◌++◌, length, map, slice_index, Some, None, Result, Ok, Err, codes}
+use Rattle.std.specs.List.{list_any}
 use lib.Pointwise.{pointwise}
-use Rattle.proof_tree.specs.declared.tree.Leaf.{Leaf}
 use Rattle.bound_certificate.specs.declared.due.Due.{Due}
 use Rattle.bound_certificate.specs.declared.due.Due.TheVariants as due
-use Rattle.bound_certificate.specs.declared.due.Name.{Name}
-use Rattle.bound_certificate.specs.declared.due.Name.TheVariants as name
-use Rattle.bound_certificate.specs.declared.due.Range.{Range}
-use Rattle.bound_certificate.specs.declared.item.Item.{Item}
-use Rattle.bound_certificate.specs.declared.item.Item.TheVariants as item
 use Rattle.bound_certificate.specs.declared.fault.FaultKind.{FaultKind}
 use Rattle.bound_certificate.specs.declared.fault.FaultKind.TheVariants as kind
-use Rattle.bound_certificate.specs.declared.limits.TheConstants.{GREATEST_GAP}
-use Rattle.bound_certificate.specs.Due.{first_names, is_closed_early, is_in, is_title, is_unclosed, range_at, width_of, word_of}
+use Rattle.bound_certificate.specs.declared.item.Item.{Item}
+use Rattle.bound_certificate.specs.declared.item.Item.TheVariants as item
+use Rattle.bound_certificate.specs.declared.limits.TheConstants.{MOST_BUYS, MOST_PACKED_BUYS}
+use Rattle.bound_certificate.specs.declared.line.Line.{Line}
+use Rattle.bound_certificate.specs.declared.line.Line.TheVariants as line
+use Rattle.bound_certificate.specs.declared.packed.Change.{Change}
+use Rattle.bound_certificate.specs.declared.packed.PackedNode.TheVariants as node
+use Rattle.bound_certificate.specs.declared.row.Row.{Row}
+use Rattle.bound_certificate.specs.declared.row.Row.TheVariants as row
+use Rattle.bound_certificate.specs.declared.version.Version.{Version}
+use Rattle.bound_certificate.specs.declared.version.Version.TheVariants as version
+use Rattle.bound_certificate.specs.Packed.{changed, vector_of}
+use Rattle.bound_certificate.specs.Row.{row_said}
+use Rattle.line_words.specs.Words.{first_word}
 
--- the words of a line: what stands between its spaces
-abbrev pub is_space : ℕ → Bool
-is_space byte = byte == 32
+-- ---- what a version has of its own
+-- the first line of a version
+abbrev pub title_word : Version → List ℕ
+title_word version.One = codes "escrow-certificate 1"
+title_word version.Two = codes "escrow-certificate 2"
 
--- what stands before, between and behind the spaces of a line
-abbrev pub words_of : List ℕ → List (List ℕ)
-words_of line = slice_split is_space line
+-- the version that a first line says: 1 unless it is that of version 2
+abbrev pub title_version : List ℕ → Version
+title_version line = if pointwise nat_eq (title_word version.Two) line then version.Two else version.One
 
--- a word is this name
-abbrev pub is_name : List ℕ → Name → Bool
-is_name word n = pointwise nat_eq (word_of n) word
+-- the most purchases of a version
+abbrev pub most_buys : Version → ℕ
+most_buys version.One = MOST_BUYS
+most_buys version.Two = MOST_PACKED_BUYS
 
--- the name that a line's first word is, where it may stand
-abbrev pub name_in : Due → List ℕ → Option Name
-name_in d word = find (is_name word) (first_names d)
+-- the row of the leaves of a version
+abbrev pub leaf_row : Version → Row
+leaf_row version.One = row.Priced
+leaf_row version.Two = row.Leaf
 
--- the number that a word is: it is what writes the number, so it has no leading zero; no number is above the greatest gap
-abbrev pub whole_number : List ℕ → Option ℕ
-whole_number word =
-    if pointwise nat_eq (decimal (digits_value 10 word)) word && nat_le (digits_value 10 word) GREATEST_GAP
-    then Some (digits_value 10 word) else None
+-- ---- what the numbers of a line say
+-- numbers by turns are the place of a change and its price
+abbrev pub changes_of : List ℕ → List Change
+changes_of (place ∷ price ∷ numbers) = record { place = place; price = price } ∷ changes_of numbers
+changes_of others = []
 
--- the number of a range that a word is
-abbrev pub number_in : Range → List ℕ → Option ℕ
-number_in range word = option_and_then (λ number. if is_in range number then Some number else None) (whole_number word)
+-- a change is to the vector's own price
+abbrev pub restates : List ℕ → List Change → Bool
+restates vector changes = list_any (λ change. change.price == slice_index vector (change.place - 1)) changes
 
--- the numbers that words are, from a place of the line on
-abbrev pub numbers_in : Due → Name → ℕ → List (List ℕ) → Option (List ℕ)
-numbers_in d n place [] = Some []
-numbers_in d n place (word ∷ words) =
-    option_and_then (λ number. option_map (λ numbers. number ∷ numbers) (numbers_in d n (place + 1) words))
-    (number_in (range_at d n place) word)
+-- each place is above the one before
+abbrev pub are_rising : List ℕ → Bool
+are_rising (first ∷ second ∷ places) = nat_lt first second && are_rising (second ∷ places)
+are_rising places = true
 
--- the numbers behind a line's first word; `portfolio none` has none
-abbrev pub line_numbers : Due → Name → List (List ℕ) → Option (List ℕ)
-line_numbers due.Portfolio n (word ∷ words) =
-    if is_name word name.Absent then numbers_in due.Portfolio n 2 words else numbers_in due.Portfolio n 1 (word ∷ words)
-line_numbers d n words = numbers_in d n 1 words
+-- the places of changes, in order
+abbrev pub places_of : List Change → List ℕ
+places_of changes = map (λ change. change.place) changes
 
--- a number is above the one before
+-- places count from 1 to the last
+abbrev pub ArePlaces : ℕ → List Change → Type 0
+ArePlaces last changes = All (λ change. (1 ≤ change.place) × (change.place ≤ last)) changes
+
+-- a price is above the one before
 abbrev pub rises : List ℕ → Bool
-rises [] = false
-rises (x ∷ []) = false
 rises (x ∷ y ∷ ys) = nat_lt x y || rises (y ∷ ys)
+rises prices = false
 
--- the line of a purchase isn't above the one before, or a price is above the one before
-abbrev pub are_disordered : Due → Name → List ℕ → Bool
-are_disordered (due.Buy left least) n numbers = nat_lt (slice_index numbers 0) least
-are_disordered d name.Leaf numbers = rises (drop 2 numbers)
-are_disordered d n numbers = false
+-- a leaf with all its prices: none rises
+abbrev pub priced_said : ℕ → ℕ → List ℕ → Result Line FaultKind
+priced_said rho mu prices = if rises prices then Err kind.Order else Ok (line.Leaf (record { whole = rho == 1; mu = mu; prices = prices }))
 
--- why the numbers of a line aren't those of one that is due
-abbrev pub numbers_fault : Due → Name → Option (List ℕ) → Option FaultKind
-numbers_fault d n None = Some kind.Number
-numbers_fault d n (Some numbers) = if are_disordered d n numbers then Some kind.Order else None
+-- the leaf of a vector and changes: no change is to the vector's own price, places rise, and after the changes no price rises
+abbrev pub leaf_said : List ℕ → ℕ → ℕ → ℕ → List Change → Result Line FaultKind
+leaf_said prices rho mu vector changes =
+    if restates prices changes then Err kind.Number
+    else if not (are_rising (places_of changes)) || rises (changed prices changes) then Err kind.Order
+    else Ok (line.Node (node.Closed (rho == 1) mu vector changes))
 
--- why the words of a line aren't those of one that is due, where a leaf has a price for each of so many dates
-abbrev pub named_fault : ℕ → Due → Option Name → List (List ℕ) → Option FaultKind
-named_fault dates d None others = Some kind.Header
-named_fault dates d (Some n) others =
-    if is_closed_early d || not (1 + length others == width_of dates n) then Some kind.Count
-    else numbers_fault d n (line_numbers d n others)
+-- what the numbers of a line say
+abbrev pub said_by : List (List ℕ) → Row → List ℕ → Result Line FaultKind
+said_by vectors (row.Portfolio most) (count ∷ _) = Ok (line.Portfolio (Some count))
+said_by vectors (row.Buy least) (number ∷ units ∷ _) =
+    if nat_lt number least then Err kind.Order else Ok (line.Purchase (record { line = number; units = units }))
+said_by vectors (row.Gap most) (cents ∷ _) = Ok (line.Gap cents)
+said_by vectors row.Vectors (count ∷ _) = Ok (line.Vectors count)
+said_by vectors row.Vector prices = if rises prices then Err kind.Order else Ok (line.Vector prices)
+said_by vectors row.Nodes (count ∷ _) = Ok (line.Nodes count)
+said_by vectors row.Split (number ∷ at ∷ _) = Ok (line.Node (node.Split number at))
+said_by vectors row.Point _ = Ok (line.Node node.Point)
+said_by vectors row.Priced (rho ∷ mu ∷ prices) = priced_said rho mu prices
+said_by vectors row.Leaf (rho ∷ mu ∷ vector ∷ numbers) = leaf_said (vector_of vectors vector) rho mu vector (changes_of numbers)
+said_by vectors row.End _ = Ok line.End
+said_by vectors _ _ = Err kind.Count
 
--- the same, by all words: the first has to be a name that may stand there
-abbrev pub words_fault : ℕ → Due → List (List ℕ) → Option FaultKind
-words_fault dates d [] = Some kind.Header
-words_fault dates d (first ∷ others) = named_fault dates d (name_in d first) others
+-- what the numbers of a line say, or the fault that was found in its words
+abbrev pub said_or : List (List ℕ) → Row → Result (List ℕ) FaultKind → Result Line FaultKind
+said_or vectors r (Err found) = Err found
+said_or vectors r (Ok numbers) = said_by vectors r numbers
 
--- why a line behind the first isn't one that is due
-abbrev pub later_fault : ℕ → Due → List ℕ → Option FaultKind
-later_fault dates d line = if is_unclosed d then Some kind.Count else words_fault dates d (words_of line)
+-- what a line of a name says, where one may stand
+abbrev pub row_line : ℕ → List (List ℕ) → Row → Bool → List ℕ → Result Line FaultKind
+row_line dates vectors r may bytes = said_or vectors r (row_said dates (length vectors) r may bytes)
 
--- why a line isn't one that is due: where the tree hasn't closed and should have, `Count`; else the first of `Header`, `Count`,
--- `Number` and `Order` that stands. The first line is one word, with a space in it.
-abbrev pub line_fault : ℕ → Due → List ℕ → Option FaultKind
-line_fault dates d line =
-    if is_title d then (if is_name line name.Title then None else Some kind.Header) else later_fault dates d line
+-- ---- a line where it is due
+-- a line begins with a word
+abbrev pub begins_with : List ℕ → List ℕ → Bool
+begins_with word bytes = pointwise nat_eq word (first_word bytes)
 
--- what a line says that begins with a name and has these numbers
-abbrev pub said_by : Name → List ℕ → Item
-said_by name.Title _ = item.Header
-said_by name.Portfolio [] = item.Portfolio None
-said_by name.Portfolio (count ∷ _) = item.Portfolio (Some count)
-said_by name.Buy (line ∷ units ∷ _) = item.Buy (record { line = line; units = units })
-said_by name.Gap (cents ∷ _) = item.Gap cents
-said_by name.Nodes (count ∷ _) = item.Nodes count
-said_by name.Split (line ∷ at ∷ _) = item.Split line at
-said_by name.Point _ = item.Point
-said_by name.Leaf _ = item.Leaf
-said_by name.End _ = item.End
-said_by _ _ = item.Nothing
+-- the row of a node's line: a split, a point or a leaf; a word that names none is no leaf's either
+abbrev pub node_row : Version → List ℕ → Row
+node_row v bytes = if begins_with (codes "s") bytes then row.Split else if begins_with (codes "p") bytes then row.Point else leaf_row v
 
--- what a line says by its numbers, if they are numbers
-abbrev pub numbers_item : Name → Option (List ℕ) → Item
-numbers_item n None = item.Nothing
-numbers_item n (Some numbers) = said_by n numbers
+-- what a line says that is due, or the first of its faults. Where the tree has closed a node is `Count`; where it hasn't closed behind its
+-- last node any line is.
+abbrev pub line_said : Version → ℕ → List (List ℕ) → Due → List ℕ → Result Line FaultKind
+line_said v dates vectors due.Title bytes = if pointwise nat_eq (title_word v) bytes then Ok (line.Title v) else Err kind.Header
+line_said v dates vectors due.Portfolio bytes =
+    if pointwise nat_eq (codes "portfolio none") bytes then Ok (line.Portfolio None) else row_line dates vectors (row.Portfolio (most_buys v)) true bytes
+line_said v dates vectors (due.Buy left least) bytes = row_line dates vectors (row.Buy least) true bytes
+line_said v dates vectors (due.Gap most) bytes = row_line dates vectors (row.Gap most) true bytes
+line_said v dates vectors due.VectorCount bytes = row_line dates vectors row.Vectors true bytes
+line_said v dates vectors (due.Vector left) bytes = row_line dates vectors row.Vector true bytes
+line_said v dates vectors due.Count bytes = row_line dates vectors row.Nodes true bytes
+line_said v dates vectors (due.Node left trees) bytes = row_line dates vectors (node_row v bytes) (nat_lt 0 trees) bytes
+line_said v dates vectors (due.End trees) bytes = if nat_lt 0 trees then Err kind.Count else row_line dates vectors row.End true bytes
+line_said v dates vectors due.Nothing bytes = Err kind.Trailing
 
--- what a line says by its name, if it is one that may stand there, and by the words behind it
-abbrev pub named_item : Due → Option Name → List (List ℕ) → Item
-named_item d None others = item.Nothing
-named_item d (Some n) others = numbers_item n (line_numbers d n others)
+-- what a line says, as a reader gives it; a leaf's weights are told apart
+abbrev pub line_item : Line → Item
+line_item (line.Title v) = item.Header
+line_item (line.Portfolio count) = item.Portfolio count
+line_item (line.Purchase buy) = item.Buy buy
+line_item (line.Gap cents) = item.Gap cents
+line_item (line.Vectors count) = item.Vectors count
+line_item (line.Vector prices) = item.Vector
+line_item (line.Nodes count) = item.Nodes count
+line_item (line.Node (node.Split number at)) = item.Split number at
+line_item (line.Node node.Point) = item.Point
+line_item (line.Node (node.Closed whole mu vector changes)) = item.Leaf
+line_item (line.Leaf leaf) = item.Leaf
+line_item line.End = item.End
 
--- what a line says by its words
-abbrev pub words_item : Due → List (List ℕ) → Item
-words_item d [] = item.Nothing
-words_item d (first ∷ others) = named_item d (name_in d first) others
-
--- what a line says that has no fault
-abbrev pub line_item : Due → List ℕ → Item
-line_item d line = if is_title d then item.Header else words_item d (words_of line)
-
--- the leaf that numbers say: whether the cost counts, the multiplier of the limit, and prices
-abbrev pub leaf_of : List ℕ → Leaf
-leaf_of numbers = record { whole = slice_index numbers 0 == 1; mu = slice_index numbers 1; prices = drop 2 numbers }
-
--- the numbers of a line that begins with a name
-abbrev pub words_numbers : Due → List (List ℕ) → Option (List ℕ)
-words_numbers d [] = None
-words_numbers d (first ∷ others) = option_and_then (λ n. line_numbers d n others) (name_in d first)
-
--- the leaf that a line says
-abbrev pub line_leaf : Due → List ℕ → Option Leaf
-line_leaf d line = option_map leaf_of (words_numbers d (words_of line))
+-- the vectors so far, with the one that a line says
+abbrev pub vectors_with : List (List ℕ) → Line → List (List ℕ)
+vectors_with vectors (line.Vector prices) = vectors ++ prices ∷ []
+vectors_with vectors said = vectors

@@ -1,8 +1,8 @@
 -- What is kept of the part of a line that came.
 use Rattle.std.specs.Prelude.{◌≡◌, ℕ, Bool, nat_lt, List, length, take, count_by}
 use Rattle.bound_certificate.specs.declared.limits.TheConstants.{LINE_ROOM}
-use Rattle.bound_certificate.specs.Grammar.{is_space}
 use Rattle.bound_certificate.specs.LongLine.{IsCounted}
+use Rattle.line_words.specs.Words.{is_space}
 
 -- its first bytes, how many spaces it has, and whether it is longer than any right line
 pub record Kept : Type 0 where

@@ -2,23 +2,21 @@
 use Rattle.std.specs.Prelude.{◌≡◌, ◌≢◌, ℕ, ◌+◌, ◌<◌, ◌≤◌, All, false, List, [], ◌∷◌, ◌++◌, length, None, Some}
 use Rattle.proof_tree.specs.declared.tree.Leaf.{Leaf}
 use Rattle.bound_certificate.specs.declared.certificate.Certificate.{Certificate}
+use Rattle.bound_certificate.specs.declared.due.Due.{Due}
+use Rattle.bound_certificate.specs.declared.due.Due.TheVariants as due
 use Rattle.bound_certificate.specs.declared.fault.CertFault.{CertFault}
 use Rattle.bound_certificate.specs.declared.fault.FaultKind.{FaultKind}
 use Rattle.bound_certificate.specs.declared.item.Item.{Item}
 use Rattle.bound_certificate.specs.declared.item.Item.TheVariants as item
 use Rattle.bound_certificate.specs.declared.limits.TheConstants.{MOST_DATES, MOST_VECTORS}
-use Rattle.bound_certificate.specs.declared.packed_line.PackedDue.{PackedDue}
-use Rattle.bound_certificate.specs.declared.packed_line.PackedDue.TheVariants as packed_due
 use Rattle.bound_certificate.specs.declared.text_reading.Stage.{Stage}
-use Rattle.bound_certificate.specs.declared.text_reading.Stage.TheVariants as stage
 use Rattle.bound_certificate.specs.declared.text_reading.TextReading.{TextReading}
-use Rattle.bound_certificate.specs.Due.{IsDue, is_over, lines_left}
 use Rattle.bound_certificate.specs.Draft.{with_item}
+use Rattle.bound_certificate.specs.Due.{IsDue, is_over, lines_left}
 use Rattle.bound_certificate.specs.Kept.{IsKept}
 use Rattle.bound_certificate.specs.Packed.{IsVector}
-use Rattle.bound_certificate.specs.PackedDraft.{IsPackedDue, packed_lines_left}
 use Rattle.bound_certificate.specs.Step.{IsSuited, due_after}
-use Rattle.bound_certificate.specs.TextReading.{FewNodes, stage_due, stage_fault, stage_told}
+use Rattle.bound_certificate.specs.TextReading.{FewNodes, stage_due, stage_fault, stage_place, stage_told}
 use Rattle.bound_certificate.specs.Told.{Told}
 
 -- a line without a fault leads from where it may stand to what may stand behind it, and says this; of a leaf's line it has the leaf
@@ -41,35 +39,32 @@ Stops dates old vectors line kind = (number : ℕ) (lines : List (List ℕ)) →
     stage_fault dates number old vectors (line ∷ lines) ≡ Some (record { line = number; kind = kind })
 
 -- how many vectors may still come
-abbrev pub vectors_left : PackedDue → ℕ
-vectors_left (packed_due.Vector left) = left
-vectors_left packed_due.NodeCount = 0
-vectors_left (packed_due.Node left trees) = 0
-vectors_left (packed_due.End trees) = 0
-vectors_left packed_due.Nothing = 0
+abbrev pub vectors_left : Due → ℕ
+vectors_left (due.Vector left) = left
+vectors_left due.Count = 0
+vectors_left (due.Node left trees) = 0
+vectors_left (due.End trees) = 0
+vectors_left due.Nothing = 0
 vectors_left other = MOST_VECTORS
 
 -- vectors that came, where this is due
-pub record AreVectors (dates : ℕ) (d : PackedDue) (vectors : List (List ℕ)) : Type 0 where
+pub record AreVectors (dates : ℕ) (d : Due) (vectors : List (List ℕ)) : Type 0 where
   pub all : All (IsVector dates) vectors
   pub room : length vectors + vectors_left d ≤ MOST_VECTORS
 
 -- what stands at the beginning of a line
-abbrev pub IsStage : ℕ → Stage → List (List ℕ) → Type 0
-IsStage dates stage.First vectors = AreVectors dates packed_due.Title vectors
-IsStage dates (stage.Plain d) vectors = IsDue d
-IsStage dates (stage.Packed d) vectors = IsPackedDue d × AreVectors dates d vectors
+pub record IsStage (dates : ℕ) (stage : Stage) (vectors : List (List ℕ)) : Type 0 where
+  pub due_is : IsDue (stage_place stage)
+  pub vectors_are : AreVectors dates (stage_place stage) vectors
 
 -- how many lines there may still be
 abbrev pub stage_lines_left : Stage → ℕ
-stage_lines_left stage.First = packed_lines_left packed_due.Title
-stage_lines_left (stage.Plain d) = lines_left d
-stage_lines_left (stage.Packed d) = packed_lines_left d
+stage_lines_left stage = lines_left (stage_place stage)
 
 -- a reader whose bytes had no fault so far
 pub record IsGoing (reading : TextReading) : Type 0 where
   pub stage_is : IsStage (length reading.leaf.prices) reading.stage reading.vectors
-  pub count : reading.line + stage_lines_left reading.stage ≤ 1 + packed_lines_left packed_due.Title
+  pub count : reading.line + stage_lines_left reading.stage ≤ 1 + lines_left due.Title
 
 abbrev pub IsTextReading : TextReading → Type 0
 IsTextReading reading = (length reading.leaf.prices ≤ MOST_DATES) × (reading.fault ≡ None → IsGoing reading)

@@ -1,22 +1,21 @@
--- A line of a word and numbers, by its words: the numbers that it says, or why it isn't one. The grammar is this project's own.
-use Rattle.std.specs.Prelude.{◌≡◌, ℕ, ◌+◌, ◌*◌, ◌%◌, Bool, true, ◌==◌, ◌&&◌, not, nat_eq, nat_le, if◌then◌else◌, List, [], ◌∷◌, length, Option, Some, None, option_and_then, option_map, Result, Ok, Err, codes}
-use Rattle.std.specs.List.{slice_split}
+-- The table of the lines of a word and numbers: how each begins, how many numbers it has, and their ranges; and the numbers that a line
+-- says, or why it isn't one. The grammar is this project's own.
+use Rattle.std.specs.Prelude.{◌≡◌, ℕ, ◌+◌, ◌*◌, ◌%◌, ◌<◌, ◌++◌, Bool, true, ◌==◌, ◌&&◌, not, nat_eq, nat_le, if◌then◌else◌, List, [], ◌∷◌, length, Option, Some, None, option_and_then, option_map, Result, Ok, Err, codes}
 use lib.Pointwise.{pointwise}
-use denote.Ref.{Bor}
 use Rattle.proof_tree.specs.declared.prices.TheConstants.{PRICE_SCALE}
-use Rattle.bound_certificate.specs.declared.due.Range.{Range}
-use Rattle.bound_certificate.specs.declared.row.Row.{Row}
-use Rattle.bound_certificate.specs.declared.row.Row.TheVariants as row
+use Rattle.proof_tree.specs.declared.tree.TheConstants.{GREATEST_UNITS}
+use Rattle.line_words.specs.declared.front.Taken.{Taken}
+use Rattle.line_words.specs.declared.range.Range.{Range}
 use Rattle.bound_certificate.specs.declared.fault.FaultKind.{FaultKind}
 use Rattle.bound_certificate.specs.declared.fault.FaultKind.TheVariants as kind
-use Rattle.bound_certificate.specs.declared.limits.TheConstants.{MOST_NODES, MOST_PACKED_BUYS, MOST_VECTORS}
-use Rattle.bound_certificate.specs.Due.{from_to, is_in}
-use Rattle.bound_certificate.specs.Grammar.{number_in, words_of}
-use Rattle.proof_tree.specs.declared.tree.TheConstants.{GREATEST_UNITS}
+use Rattle.bound_certificate.specs.declared.limits.TheConstants.{MOST_NODES, MOST_VECTORS}
+use Rattle.bound_certificate.specs.declared.row.Row.{Row}
+use Rattle.bound_certificate.specs.declared.row.Row.TheVariants as row
+use Rattle.line_words.specs.Words.{from_to, is_in, number_in, parts_behind, words_of}
 
 -- how the first word of a line is written
 abbrev pub row_word : Row → List ℕ
-row_word row.Portfolio = codes "portfolio"
+row_word (row.Portfolio most) = codes "portfolio"
 row_word (row.Buy least) = codes "buy"
 row_word (row.Gap most) = codes "gap"
 row_word row.Vectors = codes "vectors"
@@ -24,42 +23,51 @@ row_word row.Vector = codes "v"
 row_word row.Nodes = codes "nodes"
 row_word row.Split = codes "s"
 row_word row.Point = codes "p"
+row_word row.Priced = codes "l"
 row_word row.Leaf = codes "l"
 row_word row.End = codes "end"
 
--- the range of the number at a place of a leaf, from 1: whether the cost counts, the multiplier of the limit, the vector, and by turns
--- the place of a change and its price
+-- the range of a price
+abbrev pub price_range : Range
+price_range = from_to 0 (2 * PRICE_SCALE)
+
+-- the range of the number at a place of a leaf with all its prices, from 1: whether the cost counts, the multiplier of the limit, prices
+abbrev pub weight_range : ℕ → Range
+weight_range place = if place == 1 then from_to 0 1 else if place == 2 then from_to 0 PRICE_SCALE else price_range
+
+-- the range of the number at a place of a leaf with changes, from 1: whether the cost counts, the multiplier of the limit, the vector,
+-- and by turns the place of a change and its price
 abbrev pub leaf_range : ℕ → ℕ → ℕ → Range
 leaf_range dates vectors place =
     if place == 1 then from_to 0 1 else if place == 2 then from_to 0 PRICE_SCALE else if place == 3 then from_to 1 vectors
-    else if place % 2 == 0 then from_to 1 dates else from_to 0 (2 * PRICE_SCALE)
+    else if place % 2 == 0 then from_to 1 dates else price_range
 
 -- the range of the number at a place of a line, from 1 behind the line's first word
 abbrev pub row_range : ℕ → ℕ → Row → ℕ → Range
-row_range dates vectors row.Portfolio place = from_to 0 MOST_PACKED_BUYS
+row_range dates vectors (row.Portfolio most) place = from_to 0 most
 row_range dates vectors (row.Buy least) place = if place == 1 then from_to 0 65_535 else from_to 1 GREATEST_UNITS
 row_range dates vectors (row.Gap most) place = from_to 0 most
 row_range dates vectors row.Vectors place = from_to 0 MOST_VECTORS
-row_range dates vectors row.Vector place = from_to 0 (2 * PRICE_SCALE)
+row_range dates vectors row.Vector place = price_range
 row_range dates vectors row.Nodes place = from_to 1 MOST_NODES
 row_range dates vectors row.Split place = if place == 1 then from_to 0 65_535 else from_to 0 GREATEST_UNITS
-row_range dates vectors row.Point place = from_to 0 0
+row_range dates vectors row.Priced place = weight_range place
 row_range dates vectors row.Leaf place = leaf_range dates vectors place
-row_range dates vectors row.End place = from_to 0 0
+row_range dates vectors other place = from_to 0 0
 
--- whether so many numbers make a line: a vector has one for each need date, a leaf three and then two for each change
+-- whether so many numbers make a line: a vector has one for each need date, a leaf with all its prices two more, and one with changes
+-- three and then two for each change
 abbrev pub row_fits : ℕ → Row → ℕ → Bool
-row_fits dates row.Portfolio count = count == 1
 row_fits dates (row.Buy least) count = count == 2
-row_fits dates (row.Gap most) count = count == 1
-row_fits dates row.Vectors count = count == 1
 row_fits dates row.Vector count = count == dates
-row_fits dates row.Nodes count = count == 1
 row_fits dates row.Split count = count == 2
 row_fits dates row.Point count = count == 0
+row_fits dates row.Priced count = count == 2 + dates
 row_fits dates row.Leaf count = nat_le 3 count && nat_le count (3 + 2 * dates) && (count % 2 == 1)
 row_fits dates row.End count = count == 0
+row_fits dates other count = count == 1
 
+-- ---- the words of a line
 -- the numbers of their ranges that words are, from a place on
 abbrev pub numbers_by : (ℕ → Range) → ℕ → List (List ℕ) → Option (List ℕ)
 numbers_by range place [] = Some []
@@ -84,11 +92,6 @@ row_words dates vectors r may (first ∷ others) =
 abbrev pub row_said : ℕ → ℕ → Row → Bool → List ℕ → Result (List ℕ) FaultKind
 row_said dates vectors r may line = row_words dates vectors r may (words_of line)
 
--- the parts of bytes behind a cut
-abbrev pub parts_behind : ℕ → Option (Bor (List ℕ)) → List (List ℕ)
-parts_behind mark None = []
-parts_behind mark (Some rest) = slice_split (λ byte. byte == mark) rest.now
-
 -- numbers of the ranges of their places, from a place on
 abbrev pub InRanges : (ℕ → Range) → ℕ → List ℕ → Type 0
 InRanges range place [] = Unit {0}
@@ -98,3 +101,18 @@ InRanges range place (number ∷ numbers) = (is_in (range place) number ≡ true
 pub record AreRowNumbers (dates vectors : ℕ) (r : Row) (numbers : List ℕ) : Type 0 where
   pub fits : row_fits dates r (length numbers) ≡ true
   pub ranges : InRanges (row_range dates vectors r) 1 numbers
+
+-- ---- words that are read one after the other
+-- numbers are those of the first words, and these words are left
+abbrev pub AreReadTo : (ℕ → Range) → List (List ℕ) → List ℕ → List (List ℕ) → Type 0
+AreReadTo range words numbers left = numbers_by range 1 words ≡ option_map (λ others. numbers ++ others) (numbers_by range (length numbers + 1) left)
+
+-- all numbers behind so many are prices
+abbrev pub ArePricesBehind : (ℕ → Range) → ℕ → Type 0
+ArePricesBehind range count = (place : ℕ) → count < place → range place ≡ price_range
+
+-- the first of words is a number of a range, and these words are left
+pub record IsNextOf (range : Range) (words : List (List ℕ)) (taken : Taken) : Type 0 where
+  pub word : List ℕ
+  pub are : words ≡ word ∷ parts_behind 32 taken.rest
+  pub number : number_in range word ≡ Some taken.number

@@ -7,6 +7,7 @@ use Rattle.bound_certificate.specs.declared.due.Due.TheVariants as due
 use Rattle.bound_certificate.specs.declared.item.Item.{Item}
 use Rattle.bound_certificate.specs.declared.item.Item.TheVariants as item
 use Rattle.bound_certificate.specs.declared.limits.TheConstants.{GREATEST_GAP}
+use Rattle.bound_certificate.specs.declared.version.Version.TheVariants as version
 use Rattle.bound_certificate.specs.Due.{next_due}
 
 -- what a line says is due, and the leaf of a leaf's line has a price for each of so many dates
@@ -30,4 +31,4 @@ abbrev pub due_after : Due → Item → Due
 due_after d item.Nothing = d
 due_after d (item.Vectors count) = d
 due_after d item.Vector = d
-due_after d told = next_due d told
+due_after d told = next_due version.One d told

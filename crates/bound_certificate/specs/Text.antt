@@ -1,26 +1,21 @@
--- The text of a certificate. It is this project's own.
-use Rattle.std.specs.Prelude.{◌≡◌, ℕ, if◌then◌else◌, List, [], ◌∷◌, ◌++◌, length, map, Option, Some, None, codes}
+-- The text of a certificate, of each version. It is this project's own.
+use Rattle.std.specs.Prelude.{◌≡◌, ◌≢◌, ℕ, if◌then◌else◌, List, [], ◌∷◌, ◌++◌, All, length, map, Option, Some, None, codes}
 use Rattle.std.specs.Fmt.{decimal}
 use Rattle.std.specs.List.{flat_map}
 use Rattle.proof_tree.specs.declared.tree.TreeNode.{TreeNode}
-use Rattle.proof_tree.specs.declared.tree.TreeNode.TheVariants as node
+use Rattle.proof_tree.specs.declared.tree.TreeNode.TheVariants as tree
 use Rattle.bound_certificate.specs.declared.certificate.Buy.{Buy}
 use Rattle.bound_certificate.specs.declared.certificate.Certificate.{Certificate}
+use Rattle.bound_certificate.specs.declared.line.Line.{Line}
+use Rattle.bound_certificate.specs.declared.line.Line.TheVariants as line
+use Rattle.bound_certificate.specs.declared.packed.Change.{Change}
+use Rattle.bound_certificate.specs.declared.packed.Packed.{Packed}
+use Rattle.bound_certificate.specs.declared.packed.PackedNode.TheVariants as node
+use Rattle.bound_certificate.specs.declared.version.Version.{Version}
+use Rattle.bound_certificate.specs.declared.version.Version.TheVariants as version
 use Rattle.bound_certificate.specs.Certificate.{IsWellFormed}
-
--- what a line of a certificate says
-pub data Line : Type 0 where
-  Title : Line
-  Portfolio : Option ℕ → Line
-  Purchase : Buy → Line
-  Gap : ℕ → Line
-  Count : ℕ → Line
-  Node : TreeNode → Line
-  End : Line
-
--- words, with a space before each
-abbrev pub spaced : List (List ℕ) → List ℕ
-spaced words = flat_map (λ word. 32 ∷ word) words
+use Rattle.bound_certificate.specs.Grammar.{title_word}
+use Rattle.bound_certificate.specs.Packed.{IsPackedWellFormed}
 
 -- numbers, with a space before each
 abbrev pub spaced_numbers : List ℕ → List ℕ
@@ -30,34 +25,69 @@ spaced_numbers numbers = flat_map (λ number. 32 ∷ decimal number) numbers
 abbrev pub numbered : List ℕ → List ℕ → List ℕ
 numbered word numbers = word ++ spaced_numbers numbers ++ 10 ∷ []
 
+-- changes as numbers: place and price of each
+abbrev pub change_numbers : List Change → List ℕ
+change_numbers changes = flat_map (λ change. change.place ∷ change.price ∷ []) changes
+
 -- the text of a line
 abbrev pub line_text : Line → List ℕ
-line_text Title = codes "escrow-certificate 1" ++ 10 ∷ []
-line_text (Portfolio None) = codes "portfolio none" ++ 10 ∷ []
-line_text (Portfolio (Some count)) = numbered (codes "portfolio") (count ∷ [])
-line_text (Purchase buy) = numbered (codes "buy") (buy.line ∷ buy.units ∷ [])
-line_text (Gap cents) = numbered (codes "gap") (cents ∷ [])
-line_text (Count nodes) = numbered (codes "nodes") (nodes ∷ [])
-line_text (Node (node.Split line at)) = numbered (codes "s") (line ∷ at ∷ [])
-line_text (Node node.Point) = numbered (codes "p") []
-line_text (Node (node.Closed leaf)) = numbered (codes "l") ((if leaf.whole then 1 else 0) ∷ leaf.mu ∷ leaf.prices)
-line_text End = codes "end" ++ 10 ∷ []
+line_text (line.Title v) = title_word v ++ 10 ∷ []
+line_text (line.Portfolio None) = codes "portfolio none" ++ 10 ∷ []
+line_text (line.Portfolio (Some count)) = numbered (codes "portfolio") (count ∷ [])
+line_text (line.Purchase buy) = numbered (codes "buy") (buy.line ∷ buy.units ∷ [])
+line_text (line.Gap cents) = numbered (codes "gap") (cents ∷ [])
+line_text (line.Vectors count) = numbered (codes "vectors") (count ∷ [])
+line_text (line.Vector prices) = numbered (codes "v") prices
+line_text (line.Nodes count) = numbered (codes "nodes") (count ∷ [])
+line_text (line.Node (node.Split number at)) = numbered (codes "s") (number ∷ at ∷ [])
+line_text (line.Node node.Point) = numbered (codes "p") []
+line_text (line.Node (node.Closed whole mu vector changes)) =
+    numbered (codes "l") ((if whole then 1 else 0) ∷ mu ∷ vector ∷ change_numbers changes)
+line_text (line.Leaf leaf) = numbered (codes "l") ((if leaf.whole then 1 else 0) ∷ leaf.mu ∷ leaf.prices)
+line_text line.End = numbered (codes "end") []
 
 -- the lines of a portfolio
 abbrev pub portfolio_lines : Option (List Buy) → List Line
-portfolio_lines None = Portfolio None ∷ []
-portfolio_lines (Some buys) = Portfolio (Some (length buys)) ∷ map Purchase buys
+portfolio_lines None = line.Portfolio None ∷ []
+portfolio_lines (Some buys) = line.Portfolio (Some (length buys)) ∷ map line.Purchase buys
 
--- the lines of a certificate
-abbrev pub lines_of : Certificate → List Line
-lines_of cert =
-    Title ∷ portfolio_lines cert.buys ++ Gap cert.gap ∷ Count (length cert.nodes) ∷ map Node cert.nodes ++ End ∷ []
+-- the lines of vectors, where the version has them
+abbrev pub vector_lines : Version → List (List ℕ) → List Line
+vector_lines version.One vectors = []
+vector_lines version.Two vectors = line.Vectors (length vectors) ∷ map line.Vector vectors
 
--- the one text of a certificate
+-- the lines of a text, of which these are the nodes
+abbrev pub lines_of : Version → Option (List Buy) → ℕ → List (List ℕ) → List Line → List Line
+lines_of v buys gap vectors nodes =
+    line.Title v ∷ (portfolio_lines buys ++ line.Gap gap ∷ (vector_lines v vectors ++ line.Nodes (length nodes) ∷ (nodes ++ line.End ∷ [])))
+
+-- the line of a node whose leaf has all its prices
+abbrev pub tree_line : TreeNode → Line
+tree_line (tree.Split number at) = line.Node (node.Split number at)
+tree_line tree.Point = line.Node node.Point
+tree_line (tree.Closed leaf) = line.Leaf leaf
+
+-- the one text of a certificate in version 1
 abbrev pub text_of : Certificate → List ℕ
-text_of cert = flat_map line_text (lines_of cert)
+text_of cert = flat_map line_text (lines_of version.One cert.buys cert.gap [] (map tree_line cert.nodes))
+
+-- and that of a packed one in version 2
+abbrev pub packed_text_of : Packed → List ℕ
+packed_text_of packed = flat_map line_text (lines_of version.Two packed.buys packed.gap packed.vectors (map line.Node packed.nodes))
 
 -- bytes are the text of a well-formed certificate for so many need dates
 pub record IsTextOf (dates : ℕ) (cert : Certificate) (bytes : List ℕ) : Type 0 where
   pub well_formed : IsWellFormed dates cert
   pub text : bytes ≡ text_of cert
+
+-- and of a packed one
+pub record IsPackedTextOf (dates : ℕ) (packed : Packed) (bytes : List ℕ) : Type 0 where
+  pub well_formed : IsPackedWellFormed dates packed
+  pub text : bytes ≡ packed_text_of packed
+
+-- bytes without a line feed
+abbrev pub NotFeed : ℕ → Type 0
+NotFeed byte = byte ≢ 10
+
+abbrev pub IsOneLine : List ℕ → Type 0
+IsOneLine bytes = All NotFeed bytes

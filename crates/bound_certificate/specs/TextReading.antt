@@ -1,5 +1,5 @@
 -- What a reader of a certificate's text has read, and what a piece adds to it.
-use Rattle.std.specs.Prelude.{◌≡◌, ◌≢◌, ℕ, ◌+◌, ◌<◌, ◌≤◌, true, if◌then◌else◌, List, [], ◌++◌, length, take, position, Option, None, Some, MatchOption, Result, Ok, Err}
+use Rattle.std.specs.Prelude.{◌≡◌, ◌≢◌, ℕ, ◌+◌, ◌<◌, ◌≤◌, true, List, [], ◌++◌, length, take, position, Option, None, Some, MatchOption, Result, Ok, Err}
 use Rattle.bound_certificate.specs.declared.certificate.Certificate.{Certificate}
 use Rattle.bound_certificate.specs.declared.due.Due.{Due}
 use Rattle.bound_certificate.specs.declared.due.Due.TheVariants as due
@@ -7,52 +7,43 @@ use Rattle.bound_certificate.specs.declared.fault.CertFault.{CertFault}
 use Rattle.bound_certificate.specs.declared.item.Fed.{Fed}
 use Rattle.bound_certificate.specs.declared.item.Item.TheVariants as item
 use Rattle.bound_certificate.specs.declared.limits.TheConstants.{MOST_DATES, MOST_NODES}
-use Rattle.bound_certificate.specs.declared.packed_line.PackedDue.{PackedDue}
-use Rattle.bound_certificate.specs.declared.packed_line.PackedDue.TheVariants as packed_due
 use Rattle.bound_certificate.specs.declared.text_reading.Stage.{Stage}
 use Rattle.bound_certificate.specs.declared.text_reading.Stage.TheVariants as stage
 use Rattle.bound_certificate.specs.declared.text_reading.TextReading.{TextReading}
+use Rattle.bound_certificate.specs.declared.version.Version.{Version}
 use Rattle.bound_certificate.specs.Due.{is_over}
-use Rattle.bound_certificate.specs.Faults.{first_fault, is_feed, lines_in}
+use Rattle.bound_certificate.specs.Faults.{first_fault, lines_in}
 use Rattle.bound_certificate.specs.Kept.{IsKept}
-use Rattle.bound_certificate.specs.Lines.{IsOneLine}
-use Rattle.bound_certificate.specs.PackedGrammar as packed
 use Rattle.bound_certificate.specs.Step.{IsSuited, due_after}
-use Rattle.bound_certificate.specs.Told.{Tells, Told, certificate_told, packed_lines, plain_lines, told_in}
-use Rattle.bound_certificate.specs.Versions.{IsCertificateText, begin_packed, certificate_fault}
+use Rattle.bound_certificate.specs.Text.{IsOneLine}
+use Rattle.bound_certificate.specs.Told.{Tells, Told, certificate_told, told_in, told_lines}
+use Rattle.bound_certificate.specs.Versions.{IsCertificateText, certificate_fault, version_of}
+use Rattle.line_words.specs.Words.{is_feed}
+
+-- where a text stands: before the first line, or with this due in a version
+abbrev pub stage_place : Stage → Due
+stage_place stage.First = due.Title
+stage_place (stage.Later v d) = d
+
+abbrev pub stage_version : Stage → List (List ℕ) → Version
+stage_version stage.First lines = version_of lines
+stage_version (stage.Later v d) lines = v
 
 -- what is due, where vectors count as a part of what stands before the nodes
-abbrev pub plain_due : PackedDue → Due
-plain_due packed_due.Title = due.Title
-plain_due packed_due.Portfolio = due.Portfolio
-plain_due (packed_due.Buy left least) = due.Buy left least
-plain_due (packed_due.Gap most) = due.Gap most
-plain_due packed_due.VectorCount = due.Count
-plain_due (packed_due.Vector left) = due.Count
-plain_due packed_due.NodeCount = due.Count
-plain_due (packed_due.Node left trees) = due.Node left trees
-plain_due (packed_due.End trees) = due.End trees
-plain_due packed_due.Nothing = due.Nothing
+abbrev pub seen_due : Due → Due
+seen_due due.VectorCount = due.Count
+seen_due (due.Vector left) = due.Count
+seen_due d = d
 
 abbrev pub stage_due : Stage → Due
-stage_due stage.First = due.Title
-stage_due (stage.Plain d) = d
-stage_due (stage.Packed d) = plain_due d
+stage_due stage = seen_due (stage_place stage)
 
--- ---- what is still to come of a text, by what its lines so far led to
--- the first fault of lines, from the line of a number on
+-- what is still to come of a text, by what its lines so far led to: the first fault of lines, from the line of a number on, and what they say
 abbrev pub stage_fault : ℕ → ℕ → Stage → List (List ℕ) → List (List ℕ) → Option CertFault
-stage_fault dates number stage.First vectors lines =
-    if begin_packed lines then packed.first_fault dates number packed_due.Title vectors lines else first_fault dates number due.Title lines
-stage_fault dates number (stage.Plain d) vectors lines = first_fault dates number d lines
-stage_fault dates number (stage.Packed d) vectors lines = packed.first_fault dates number d vectors lines
+stage_fault dates number stage vectors lines = first_fault (stage_version stage lines) dates number (stage_place stage) vectors lines
 
--- what lines say
 abbrev pub stage_told : ℕ → Stage → List (List ℕ) → List (List ℕ) → List Told
-stage_told dates stage.First vectors lines =
-    if begin_packed lines then packed_lines dates packed_due.Title vectors lines else plain_lines dates due.Title lines
-stage_told dates (stage.Plain d) vectors lines = plain_lines dates d lines
-stage_told dates (stage.Packed d) vectors lines = packed_lines dates d vectors lines
+stage_told dates stage vectors lines = told_lines (stage_version stage lines) dates (stage_place stage) vectors lines
 
 -- the nodes so far, with those still due, are not too many
 abbrev pub FewNodes : Due → Certificate → Type 0

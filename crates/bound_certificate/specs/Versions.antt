@@ -1,28 +1,23 @@
 -- The text of a certificate, of whichever version its first line says. It is this project's own.
-use Rattle.std.specs.Prelude.{◌≡◌, ℕ, ◌⊎◌, Bool, false, nat_eq, if◌then◌else◌, List, [], ◌∷◌, Option, codes}
-use lib.Pointwise.{pointwise}
+use Rattle.std.specs.Prelude.{◌≡◌, ℕ, ◌⊎◌, List, ◌∷◌, Option}
 use Rattle.bound_certificate.specs.declared.certificate.Certificate.{Certificate}
 use Rattle.bound_certificate.specs.declared.fault.CertFault.{CertFault}
 use Rattle.bound_certificate.specs.declared.packed.Packed.{Packed}
+use Rattle.bound_certificate.specs.declared.version.Version.{Version}
+use Rattle.bound_certificate.specs.declared.version.Version.TheVariants as version
 use Rattle.bound_certificate.specs.Faults.{lines_in, text_fault}
+use Rattle.bound_certificate.specs.Grammar.{title_version}
 use Rattle.bound_certificate.specs.Packed.{unpacked}
-use Rattle.bound_certificate.specs.PackedGrammar.{packed_fault}
-use Rattle.bound_certificate.specs.PackedText.{IsPackedTextOf}
-use Rattle.bound_certificate.specs.Text.{IsTextOf}
+use Rattle.bound_certificate.specs.Text.{IsPackedTextOf, IsTextOf}
 
--- the first of lines, which a line feed ends, is that of a packed certificate
-abbrev pub begin_packed : List (List ℕ) → Bool
-begin_packed [] = false
-begin_packed (first ∷ []) = false
-begin_packed (first ∷ next ∷ lines) = pointwise nat_eq (codes "escrow-certificate 2") first
-
--- bytes begin as a packed certificate does
-abbrev pub is_packed_text : List ℕ → Bool
-is_packed_text bytes = begin_packed (lines_in bytes)
+-- the version that the first of lines says, where a line feed ends it
+abbrev pub version_of : List (List ℕ) → Version
+version_of (first ∷ next ∷ lines) = title_version first
+version_of lines = version.One
 
 -- the first fault of a text of either version, where a leaf has a price for each of so many dates
 unfoldable pub certificate_fault : ℕ → List ℕ → Option CertFault
-certificate_fault dates bytes = if is_packed_text bytes then packed_fault dates bytes else text_fault dates bytes
+certificate_fault dates bytes = text_fault (version_of (lines_in bytes)) dates bytes
 
 -- bytes are a text of a packed certificate, which is this one with the prices of its leaves written out
 pub record IsPackedFormOf (dates : ℕ) (cert : Certificate) (bytes : List ℕ) : Type 0 where

@@ -1,5 +1,5 @@
 //! What a certificate says.
-ghost use Rattle.std.specs.Prelude.{◌≡◌, ◌++◌, ◌∷◌, [], IfOk, OnOk, length};
+ghost use Rattle.std.specs.Prelude.{option_map, ◌≡◌, ◌++◌, ◌∷◌, [], IfOk, OnOk, length};
 ghost use Rattle.bound_certificate.specs.Draft.{no_lines, with_item};
 
 use crate::item::Item;
@@ -60,6 +60,20 @@ impl Buys {
     {
         self.buys.push(buy)?;
         Ok(())
+    }
+}
+
+/// A copy of the purchases of a portfolio.
+///
+/// # Errors
+///
+/// Where memory ran out.
+pub fn copied_buys(alloc: Global, buys: Option<&Buys>) -> Result<Option<Buys>, NoMemory>
+    ensures { IfOk result (λ copy. copy ≡ option_map (λ b. b.now) buys.entry) }
+{
+    match buys {
+        None => Ok(None),
+        Some(buys) => Ok(Some(Buys::new(buys.as_slice().to_vec(alloc)?))),
     }
 }
 

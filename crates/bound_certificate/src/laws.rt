@@ -1,7 +1,5 @@
 //! What the texts of certificates are.
-ghost use Rattle.bound_certificate.specs.Laws.{CertificatesHaveOneText, TextsAreOfOne, TextsHaveNoFault, TextsSayTheirCertificate};
-ghost use Rattle.bound_certificate.specs.PackedLaws.{PackedTextsAreOfOne, PackedTextsHaveNoFault};
-ghost use Rattle.bound_certificate.specs.VersionLaws.{CertificateTextsAreOfOne, CertificateTextsHaveNoFault, LinesTellTheCertificate};
+ghost use Rattle.bound_certificate.specs.Laws.{CertificateTextsAreOfOne, CertificateTextsHaveNoFault, CertificatesHaveOneText, LinesTellTheCertificate, PackedTextsAreOfOne, PackedTextsHaveNoFault, TextsAreOfOne, TextsHaveNoFault, TextsSayTheirCertificate};
 
 /// What the texts of certificates are. A text has no fault exactly where it is that of a well-formed certificate; it is that of
 /// one certificate alone, and a certificate has no other text; and the certificate that its lines say is that one. So what was

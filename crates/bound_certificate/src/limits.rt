@@ -1,10 +1,11 @@
 //! The limits of a certificate's numbers. They are this project's own.
+use line_words::GREATEST_NUMBER;
 
 /// The most purchases of a certificate of version 1.
 pub const MOST_BUYS: u64 = 257;
 
 /// The greatest gap, in cents.
-pub const GREATEST_GAP: u64 = 1_000_000_000_000_000;
+pub const GREATEST_GAP: u64 = GREATEST_NUMBER;
 
 /// The most nodes of a tree.
 pub const MOST_NODES: u64 = 10_000;

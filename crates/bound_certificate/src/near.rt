@@ -1,8 +1,7 @@
 //! Whether prices rise after changes to prices that never rise.
 ghost use Rattle.std.specs.Prelude.{◌≡◌, ◌+◌, ◌-◌, ◌<◌, ◌≤◌, ◌||◌, AllPairs, List, ℕ, length, nat_lt, slice_index};
-ghost use Rattle.bound_certificate.specs.Grammar.{rises};
+ghost use Rattle.bound_certificate.specs.Grammar.{ArePlaces, rises};
 ghost use Rattle.bound_certificate.specs.Packed.{changed};
-ghost use Rattle.bound_certificate.specs.PackedGrammar.{ArePlaces};
 
 use crate::packed::Change;
 

@@ -116,7 +116,11 @@ impl Vectors {
     }
 
     /// One more.
-    pub(crate) fn push(&mut self, prices: Prices) -> Result<(), NoMemory>
+    ///
+    /// # Errors
+    ///
+    /// Where memory ran out.
+    pub fn push(&mut self, prices: Prices) -> Result<(), NoMemory>
         ensures { OnOk result (self.new ≡ self.old ++ prices ∷ []) }
     {
         self.vectors.push(prices)?;

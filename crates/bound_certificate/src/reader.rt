@@ -5,7 +5,6 @@ ghost use Rattle.bound_certificate.specs.declared.item.Item.TheVariants as item_
 ghost use Rattle.bound_certificate.specs.TextReading.{Finishes, HasRead, Reads, ReadsFault, TakesLine, stage_due};
 
 use crate::certificate::empty_leaf;
-use crate::cut::cut_line;
 use crate::fault::{CertFault, FaultKind};
 use crate::item::{Fed, Item};
 use crate::limits::MOST_DATES;
@@ -13,8 +12,10 @@ use crate::part::Part;
 use crate::row::Numbers;
 use crate::text_reading::{Stage, TextReading};
 use crate::vector_room::VectorRoom;
+use crate::version::Version;
 use arrayvec::ArrayVec;
 use escrow_desk::NoMemory;
+use line_words::cut_line;
 use proof_tree::Leaf;
 use std::alloc::Global;
 use std::marker::Model;
@@ -23,7 +24,7 @@ use std::marker::Model;
 #[derive(Drop)]
 pub struct CertReader {
     reading: TextReading,
-    // The numbers of a packed line. They stand on the heap: a reader is moved where stacks are small.
+    // The numbers of a line. They stand on the heap: a reader is moved where stacks are small.
     numbers: Box<Numbers>,
 }
 
@@ -49,7 +50,7 @@ fn nothing(used: u32) -> Fed
     }
 }
 
-// Room for the numbers of a packed line. It isn't inlined: they would stand on the stack where a reader is made.
+// Room for the numbers of a line. It isn't inlined: they would stand on the stack where a reader is made.
 #[inline(never)]
 fn numbers_room(alloc: Global) -> Result<Box<Numbers>, NoMemory> {
     match Box::new(alloc, ArrayVec::new()) {
@@ -125,9 +126,15 @@ impl CertReader {
     /// The vector whose prices those of the leaf that was read last are but for its changes, counted from 0; 0 in version 1. It shows
     /// which leaves are near to each other, and nothing rests on it. It takes no memory.
     pub fn vector(&self) -> usize {
-        match self.numbers.as_slice().get(2) {
-            Some(number) => (*number as usize).saturating_sub(1),
-            None => 0,
+        match (self.reading.stage, self.numbers.as_slice().get(2)) {
+            (
+                Stage::Later {
+                    version: Version::Two,
+                    ..
+                },
+                Some(number),
+            ) => (*number as usize).saturating_sub(1),
+            _ => 0,
         }
     }
 

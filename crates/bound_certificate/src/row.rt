@@ -1,24 +1,23 @@
 //! A line of a word and numbers, at hand whole.
-ghost use Rattle.std.specs.Prelude.{◌≡◌, ◌≤◌, ◌+◌, ◌==◌, [], MatchResult, Ok, Err, None, Some, length, count_by};
+ghost use Rattle.std.specs.Prelude.{◌≡◌, ◌≤◌, ◌+◌, ◌==◌, ℕ, [], IfSome, IsTrue, MatchResult, Ok, Err, None, Some, length, count_by};
 ghost use Rattle.bound_certificate.specs.declared.fault.FaultKind.TheVariants as kind;
-ghost use Rattle.bound_certificate.specs.Row.{leaf_range as leaf_range_of, numbers_by, parts_behind, row_fits, row_range, row_said, row_word};
+ghost use Rattle.bound_certificate.specs.Row.{ArePricesBehind, AreReadTo, IsNextOf, leaf_range as leaf_range_of, numbers_by, price_range, row_fits, row_range, row_said, row_word, weight_range as weight_range_of};
+ghost use Rattle.line_words.specs.Words.{parts_behind};
 
-use crate::cut::cut_at;
-use crate::due::Range;
 use crate::fault::FaultKind;
-use crate::front::front_number_in;
-use crate::limits::{MOST_DATES, MOST_NODES, MOST_NUMBERS, MOST_PACKED_BUYS, MOST_VECTORS};
+use crate::limits::{MOST_DATES, MOST_NODES, MOST_NUMBERS, MOST_VECTORS};
 use arrayvec::ArrayVec;
+use line_words::{Range, Taken, cut_at, digit_count, front_number_in, quick_front_number};
 use proof_tree::{GREATEST_UNITS, PRICE_SCALE};
 
 /// The numbers of a line.
 pub(crate) type Numbers = ArrayVec<u64, MOST_NUMBERS>;
 
-/// What a line of a word and numbers is about.
+/// What a line of a word and numbers is about: a row of the table of lines.
 #[derive(Clone, Copy, Debug, PartialEq, Eq)]
 pub(crate) enum Row {
-    /// `portfolio`: how many purchases.
-    Portfolio,
+    /// `portfolio`: how many purchases, at most so many.
+    Portfolio { most: u64 },
     /// `buy`: a purchase of a line from `least` on.
     Buy { least: u32 },
     /// `gap`, with at most so many cents.
@@ -33,13 +32,33 @@ pub(crate) enum Row {
     Split,
     /// `p`: a point.
     Point,
-    /// `l`: a leaf.
+    /// `l`: a leaf with all its prices.
+    Priced,
+    /// `l`: a leaf of a vector, with changes.
     Leaf,
     /// `end`.
     End,
 }
 
-// The range of the number at a place of a leaf, from 1.
+// The range of a price.
+fn price() -> Range
+    ensures { result ≡ price_range }
+{
+    Range::new(0, 2 * PRICE_SCALE)
+}
+
+// The range of the number at a place of a leaf with all its prices, from 1.
+fn weight_range(place: usize) -> Range
+    ensures { result ≡ weight_range_of place }
+{
+    match place {
+        1 => Range::new(0, 1),
+        2 => Range::new(0, PRICE_SCALE),
+        _ => price(),
+    }
+}
+
+// The range of the number at a place of a leaf with changes, from 1.
 fn leaf_range(dates: u16, vectors: u16, place: usize) -> Range
     ensures { result ≡ leaf_range_of dates vectors place }
 {
@@ -48,7 +67,7 @@ fn leaf_range(dates: u16, vectors: u16, place: usize) -> Range
         2 => Range::new(0, PRICE_SCALE),
         3 => Range::new(1, u64::from(vectors)),
         _ if place % 2 == 0 => Range::new(1, u64::from(dates)),
-        _ => Range::new(0, 2 * PRICE_SCALE),
+        _ => price(),
     }
 }
 
@@ -58,7 +77,7 @@ impl Row {
         ensures { result.now ≡ row_word self }
     {
         match self {
-            Row::Portfolio => b"portfolio",
+            Row::Portfolio { .. } => b"portfolio",
             Row::Buy { .. } => b"buy",
             Row::Gap { .. } => b"gap",
             Row::Vectors => b"vectors",
@@ -66,7 +85,7 @@ impl Row {
             Row::Nodes => b"nodes",
             Row::Split => b"s",
             Row::Point => b"p",
-            Row::Leaf => b"l",
+            Row::Priced | Row::Leaf => b"l",
             Row::End => b"end",
         }
     }
@@ -78,10 +97,11 @@ impl Row {
     {
         let dates = usize::from(dates);
         match self {
-            Row::Portfolio | Row::Gap { .. } | Row::Vectors | Row::Nodes => count == 1,
+            Row::Portfolio { .. } | Row::Gap { .. } | Row::Vectors | Row::Nodes => count == 1,
             Row::Buy { .. } | Row::Split => count == 2,
             Row::Point | Row::End => count == 0,
             Row::Vector => count == dates,
+            Row::Priced => count == 2 + dates,
             Row::Leaf => 3 <= count && count <= 3 + 2 * dates && count % 2 == 1,
         }
     }
@@ -91,22 +111,81 @@ impl Row {
         ensures { result ≡ row_range dates vectors self place }
     {
         match self {
-            Row::Portfolio => Range::new(0, MOST_PACKED_BUYS),
+            Row::Portfolio { most } | Row::Gap { most } => Range::new(0, most),
             Row::Buy { .. } if place == 1 => Range::new(0, 65_535),
             Row::Buy { .. } => Range::new(1, GREATEST_UNITS),
-            Row::Gap { most } => Range::new(0, most),
             Row::Vectors => Range::new(0, MOST_VECTORS),
-            Row::Vector => Range::new(0, 2 * PRICE_SCALE),
+            Row::Vector => price(),
             Row::Nodes => Range::new(1, MOST_NODES),
             Row::Split if place == 1 => Range::new(0, 65_535),
             Row::Split => Range::new(0, GREATEST_UNITS),
+            Row::Priced => weight_range(place),
             Row::Leaf => leaf_range(dates, vectors, place),
             Row::Point | Row::End => Range::new(0, 0),
         }
     }
+
+    // Whether all numbers behind so many are prices.
+    fn are_prices_behind(self, count: usize) -> bool
+        ensures { IsTrue result → (dates vectors : ℕ) → ArePricesBehind (row_range dates vectors self) count }
+    {
+        match self {
+            Row::Vector => true,
+            Row::Priced => 2 <= count,
+            _ => false,
+        }
+    }
 }
 
-// Reads the numbers that words are.
+// The price that the first of the words is, where it has so many digits and is quickly read.
+#[inline(always)]
+fn quick_price(words: Option<&[u8]>, digits: usize) -> Option<Taken<'_>>
+    ensures { IfSome result (IsNextOf price_range (parts_behind 32 words.entry)) }
+{
+    match quick_front_number(words?, digits) {
+        Some(taken) if price().contains(taken.number) => Some(taken),
+        _ => None,
+    }
+}
+
+// How many digits the first of the words has, as far as that is quickly seen.
+#[inline(never)]
+fn digits_of(words: Option<&[u8]>) -> usize {
+    match words {
+        Some(bytes) => digit_count(bytes),
+        None => 0,
+    }
+}
+
+// Reads on, where all numbers that follow are prices, as long as they have so many digits: how long a price is doesn't have to be found
+// before the next is looked at. It isn't inlined, so that its loop has the registers.
+#[inline(never)]
+fn read_alike<'a>(
+    row: Row,
+    dates: u16,
+    vectors: u16,
+    words: Option<&[u8]>,
+    begun: Option<&'a [u8]>,
+    digits: usize,
+    numbers: &mut Numbers,
+) -> Option<&'a [u8]>
+    requires begun { AreReadTo (row_range dates vectors row) (parts_behind 32 words) numbers.old.items (parts_behind 32 begun) }
+    requires prices { ArePricesBehind (row_range dates vectors row) (length numbers.old.items) }
+    ensures read { AreReadTo (row_range dates vectors row) (parts_behind 32 words.entry) numbers.new.items (parts_behind 32 result) }
+    ensures left { length (parts_behind 32 result) ≤ length (parts_behind 32 begun.entry) }
+{
+    let mut rest = begun;
+    while numbers.len() < MOST_NUMBERS {
+        let Some(taken) = quick_price(rest, digits) else {
+            break;
+        };
+        numbers.push(taken.number);
+        rest = taken.rest;
+    }
+    rest
+}
+
+// Reads the numbers that words are. Prices fall, so that most have as many digits as the one before.
 fn read_numbers(
     row: Row,
     dates: u16,
@@ -115,18 +194,23 @@ fn read_numbers(
     numbers: &mut Numbers,
 ) -> Result<(), FaultKind>
     requires empty { numbers.old.items ≡ [] }
-    requires room { length (parts_behind 32 words) ≤ MOST_NUMBERS }
     ensures { MatchResult result (λ _. numbers_by (row_range dates vectors row) 1 (parts_behind 32 words.entry) ≡ Some numbers.new.items)
-        (λ found. (found ≡ kind.Number) × (numbers_by (row_range dates vectors row) 1 (parts_behind 32 words.entry) ≡ None)) }
+        (λ found. (found ≡ kind.Number) × (length (parts_behind 32 words.entry) ≤ MOST_NUMBERS → numbers_by (row_range dates vectors row) 1 (parts_behind 32 words.entry) ≡ None)) }
 {
     let mut rest = words;
     while let Some(bytes) = rest {
+        if numbers.len() >= MOST_NUMBERS {
+            return Err(FaultKind::Number);
+        }
         let range = row.range(dates, vectors, numbers.len() + 1);
         let Some(taken) = front_number_in(range, bytes) else {
             return Err(FaultKind::Number);
         };
         numbers.push(taken.number);
         rest = taken.rest;
+        if row.are_prices_behind(numbers.len()) {
+            rest = read_alike(row, dates, vectors, words, rest, digits_of(rest), numbers);
+        }
     }
     Ok(())
 }
@@ -166,8 +250,13 @@ pub(crate) fn read_row(
     if first.front != row.word() {
         return Err(FaultKind::Header);
     }
-    if !may || !row.fits(dates, count_spaces(line)) {
+    if !may {
         return Err(FaultKind::Count);
     }
-    read_numbers(row, dates, vectors, first.rest, numbers)
+    // A line may be long, so its words are counted only where they aren't the numbers of one.
+    match read_numbers(row, dates, vectors, first.rest, numbers) {
+        Ok(()) if row.fits(dates, numbers.len()) => Ok(()),
+        Err(kind) if row.fits(dates, count_spaces(line)) => Err(kind),
+        _ => Err(FaultKind::Count),
+    }
 }

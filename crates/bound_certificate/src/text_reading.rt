@@ -12,11 +12,11 @@ use crate::due::Due;
 use crate::fault::{CertFault, FaultKind};
 use crate::item::{Fed, Item};
 use crate::limits::MOST_DATES;
-use crate::line_step::{Step, long_fault, take_line};
-use crate::packed_line::PackedDue;
+use crate::line_step::{Step, long_step, take_step};
 use crate::part::Part;
 use crate::row::Numbers;
 use crate::vector_room::VectorRoom;
+use crate::version::Version;
 use proof_tree::Leaf;
 
 /// What may stand on the next line.
@@ -24,10 +24,8 @@ use proof_tree::Leaf;
 pub(crate) enum Stage {
     /// The first line, which says of which version the text is.
     First,
-    /// A line of version 1.
-    Plain(Due),
-    /// A line of version 2.
-    Packed(PackedDue),
+    /// A line of a version.
+    Later { version: Version, due: Due },
 }
 
 /// What has come of the text of a certificate.
@@ -37,7 +35,7 @@ pub(crate) struct TextReading {
     pub line: u32,
     /// What may stand on the line that is read.
     pub stage: Stage,
-    /// The vectors that came, of version 2.
+    /// The vectors that came.
     pub vectors: VectorRoom,
     /// What came of the line.
     pub part: Part,
@@ -54,8 +52,7 @@ impl Stage {
     {
         match self {
             Stage::First => false,
-            Stage::Plain(due) => due.is_over(),
-            Stage::Packed(due) => due.is_over(),
+            Stage::Later { due, .. } => due.is_over(),
         }
     }
 }
@@ -117,7 +114,7 @@ impl TextReading {
     {
         let dates = dates_of(&self.leaf);
         if self.part.is_empty() {
-            return take_line(
+            return take_step(
                 self.stage,
                 dates,
                 &mut self.vectors,
@@ -128,9 +125,9 @@ impl TextReading {
         }
         self.part.add(front);
         if self.part.is_long() {
-            return Err(long_fault(self.stage, dates, self.part.head(), self.part.spaces()));
+            return Err(long_step(self.stage, dates, self.part.head(), self.part.spaces()));
         }
-        take_line(
+        take_step(
             self.stage,
             dates,
             &mut self.vectors,

@@ -1,14 +1,18 @@
-//! The text of a certificate.
+//! The text of a packed certificate, line by line.
 ghost use Rattle.std.specs.Prelude.{◌≡◌, [], ◌∷◌, ◌++◌, map, IfOk, OnOk, option_map};
 ghost use Rattle.std.specs.Fmt.{decimal};
 ghost use Rattle.std.specs.List.{flat_map};
-ghost use Rattle.bound_certificate.specs.Certificate.{IsWritable};
-ghost use Rattle.bound_certificate.specs.Text.{Node as node_line, Purchase as buy_line, line_text, numbered, portfolio_lines, spaced_numbers, text_of};
+ghost use Rattle.bound_certificate.specs.Grammar.{title_word};
+ghost use Rattle.bound_certificate.specs.Packed.{IsPackedWritable};
+ghost use Rattle.bound_certificate.specs.Text.{change_numbers, line_text, numbered, packed_text_of, portfolio_lines, spaced_numbers};
+ghost use Rattle.bound_certificate.specs.declared.line.Line.TheVariants as line;
 
-use crate::certificate::{Buy, Buys, Certificate};
+use crate::certificate::{Buy, Buys};
+use crate::packed::{Change, Packed, PackedNode};
+use crate::version::Version;
 use escrow_desk::NoMemory;
 use itoa::Buffer;
-use proof_tree::{Leaf, TreeNode};
+use proof_tree::Prices;
 use std::alloc::Global;
 
 /// Adds a space and a number.
@@ -43,7 +47,7 @@ pub(crate) fn push_line(text: &mut Vec<u8>, word: &[u8], numbers: &[u64]) -> Res
 
 // Adds the lines of purchases.
 fn push_buys(text: &mut Vec<u8>, buys: &[Buy]) -> Result<(), NoMemory>
-    ensures { OnOk result (text.new.items ≡ text.old.items ++ flat_map line_text (map buy_line buys.now)) }
+    ensures { OnOk result (text.new.items ≡ text.old.items ++ flat_map line_text (map line.Purchase buys.now)) }
 {
     for buy in buys {
         push_line(text, b"buy", &[buy.line as u64, buy.units])?;
@@ -64,53 +68,91 @@ pub(crate) fn push_portfolio(text: &mut Vec<u8>, buys: Option<&Buys>) -> Result<
     push_buys(text, buys)
 }
 
-// Adds the line of a leaf.
-fn push_leaf(text: &mut Vec<u8>, leaf: &Leaf) -> Result<(), NoMemory>
-    ensures { OnOk result (text.new.items ≡ text.old.items ++ line_text (node_line (TreeNode.Closed leaf.now))) }
+/// Adds the first lines of a certificate: the version, the portfolio and the gap.
+pub(crate) fn push_begin(
+    text: &mut Vec<u8>,
+    version: Version,
+    buys: Option<&Buys>,
+    gap: u64,
+) -> Result<(), NoMemory>
+    ensures { OnOk result (text.new.items ≡ text.old.items ++ flat_map line_text (line.Title version ∷ (portfolio_lines (option_map (λ b. b.now) buys.entry) ++ line.Gap gap ∷ []))) }
 {
-    text.push(b'l')?;
-    push_number(text, u64::from(leaf.whole))?;
-    push_number(text, leaf.mu)?;
-    push_numbers(text, leaf.prices.as_slice())?;
-    text.push(b'\n')?;
+    push_line(text, version.title(), &[])?;
+    push_portfolio(text, buys)?;
+    push_line(text, b"gap", &[gap])
+}
+
+// Adds the place and the price of each change.
+fn push_changes(text: &mut Vec<u8>, changes: &[Change]) -> Result<(), NoMemory>
+    ensures { OnOk result (text.new.items ≡ text.old.items ++ spaced_numbers (change_numbers changes.now)) }
+{
+    for change in changes {
+        push_numbers(text, &[u64::from(change.place), change.price])?;
+    }
     Ok(())
 }
 
 // Adds the line of a node.
-fn push_node(text: &mut Vec<u8>, node: &TreeNode) -> Result<(), NoMemory>
-    ensures { OnOk result (text.new.items ≡ text.old.items ++ line_text (node_line node.now)) }
+fn push_packed_node(text: &mut Vec<u8>, node: &PackedNode) -> Result<(), NoMemory>
+    ensures { OnOk result (text.new.items ≡ text.old.items ++ line_text (line.Node node.now)) }
 {
     match node {
-        TreeNode::Split { line, at } => push_line(text, b"s", &[*line as u64, *at]),
-        TreeNode::Point => push_line(text, b"p", &[]),
-        TreeNode::Closed(leaf) => push_leaf(text, leaf),
+        PackedNode::Split { line, at } => push_line(text, b"s", &[*line as u64, *at]),
+        PackedNode::Point => push_line(text, b"p", &[]),
+        PackedNode::Closed {
+            whole,
+            mu,
+            vector,
+            changes,
+        } => {
+            text.push(b'l')?;
+            push_numbers(text, &[u64::from(*whole), *mu, u64::from(*vector)])?;
+            push_changes(text, changes.as_slice())?;
+            text.push(b'\n')?;
+            Ok(())
+        }
     }
 }
 
 // Adds the lines of nodes.
-fn push_nodes(text: &mut Vec<u8>, nodes: &[TreeNode]) -> Result<(), NoMemory>
-    ensures { OnOk result (text.new.items ≡ text.old.items ++ flat_map line_text (map node_line nodes.now)) }
+fn push_packed_nodes(text: &mut Vec<u8>, nodes: &[PackedNode]) -> Result<(), NoMemory>
+    ensures { OnOk result (text.new.items ≡ text.old.items ++ flat_map line_text (map line.Node nodes.now)) }
 {
     for node in nodes {
-        push_node(text, node)?;
+        push_packed_node(text, node)?;
     }
     Ok(())
 }
 
-/// The one text of a certificate.
+// Adds the lines of vectors.
+fn push_vectors(text: &mut Vec<u8>, vectors: &[Prices]) -> Result<(), NoMemory>
+    ensures { OnOk result (text.new.items ≡ text.old.items ++ flat_map line_text (map line.Vector vectors.now)) }
+{
+    for vector in vectors {
+        push_line(text, b"v", vector.as_slice())?;
+    }
+    Ok(())
+}
+
+/// The one text of a packed certificate.
 ///
 /// # Errors
 ///
 /// Where memory ran out.
-pub fn write_cert(alloc: Global, cert: &Certificate) -> Result<Vec<u8>, NoMemory>
-    requires { IsWritable cert.now }
-    ensures { IfOk result (λ text. text.items ≡ text_of cert.now) }
+pub fn write_packed(alloc: Global, packed: &Packed) -> Result<Vec<u8>, NoMemory>
+    requires { IsPackedWritable packed.now }
+    ensures { IfOk result (λ text. text.items ≡ packed_text_of packed.now) }
 {
-    let mut text = Vec::from_slice(alloc, b"escrow-certificate 1\n")?;
-    push_portfolio(&mut text, cert.buys.as_ref())?;
-    push_line(&mut text, b"gap", &[cert.gap])?;
-    push_line(&mut text, b"nodes", &[cert.nodes.as_slice().len() as u64])?;
-    push_nodes(&mut text, cert.nodes.as_slice())?;
-    text.extend_from_slice(b"end\n")?;
+    let mut text = Vec::new(alloc);
+    push_begin(&mut text, Version::Two, packed.buys.as_ref(), packed.gap)?;
+    push_line(
+        &mut text,
+        b"vectors",
+        &[packed.vectors.as_slice().len() as u64],
+    )?;
+    push_vectors(&mut text, packed.vectors.as_slice())?;
+    push_line(&mut text, b"nodes", &[packed.nodes.as_slice().len() as u64])?;
+    push_packed_nodes(&mut text, packed.nodes.as_slice())?;
+    push_line(&mut text, b"end", &[])?;
     Ok(text)
 }

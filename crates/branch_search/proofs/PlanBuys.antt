@@ -11,8 +11,8 @@ use Rattle.cash_table.proofs.PermitFacts.{passes_from_permitted, permitted_from_
 use Rattle.offer_book.specs.Book.{BookContents, IsBook, IsLine}
 use Rattle.offer_book.specs.CaseBook.{cash_line}
 use Rattle.offer_book.specs.Portfolio.{IsPermitted, IsPermittedUnits}
-use Rattle.bound_certificate.specs.Certificate.{IsBuy}
-use Rattle.bound_certificate.specs.Packed.{ArePackedBuys}
+use Rattle.bound_certificate.specs.Certificate.{AreBuys, IsBuy}
+use Rattle.bound_certificate.specs.declared.limits.TheConstants.{MOST_PACKED_BUYS}
 use Rattle.cash_table.proofs.CostFacts.{permitted_few}
 use Rattle.cash_table.proofs.PaymentFacts.{count_lines}
 use Rattle.dual_bound.proofs.Soundness.{all-lines}
@@ -161,7 +161,7 @@ plan-again book plan permitted =
 
 -- ---- their sizes
 -- purchases of a permitted plan of a book are those of a certificate
-pub plan-buys_well : (book : BookContents) (plan : List ℕ) → IsBook book → IsPermitted book plan → ArePackedBuys (purchases_of plan)
+pub plan-buys_well : (book : BookContents) (plan : List ℕ) → IsBook book → IsPermitted book plan → AreBuys MOST_PACKED_BUYS (purchases_of plan)
 plan-buys_well book plan limits permitted =
     let few = count_lines book.days book.lines limits.lines in
     record {

@@ -1,19 +1,7 @@
-//! Tests of a case: the issue file, the book of its lines, and cash.
+//! A test of issue files that no sheet of worked figures says: its rows are too many.
 //!
-//! They stand in a crate of their own, since a crate with tests is proved twice, with them and without.
+//! It stands in a crate of its own, since a crate with tests is proved twice, with them and without.
 #![tactic(auto)]
 
 #[cfg(test)]
-mod book_tests;
-#[cfg(test)]
-mod case_file_tests;
-#[cfg(test)]
-mod cash_table_tests;
-#[cfg(test)]
-mod files_tests;
-#[cfg(test)]
-mod issue_schedule_tests;
-#[cfg(test)]
-mod offer_tests;
-#[cfg(test)]
-mod test_books;
+mod closed_day_tests;

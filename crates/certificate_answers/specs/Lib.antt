@@ -8,7 +8,6 @@ pub use Rattle.held_escrow.specs.HeldForm
 pub use Rattle.issue_schedule.specs.IssueForm
 pub use Rattle.issue_schedule.specs.IssueTerms
 pub use Rattle.escrow_units.specs.NumberText
-pub use Rattle.bound_certificate.specs.Packed
 pub use Rattle.offer_book.specs.Portfolio
 pub use Rattle.rate_table.specs.RateForm
 pub use Rattle.roll_plan.specs.Rolls
@@ -17,7 +16,6 @@ pub use Rattle.row_fields.specs.RowForm
 pub use Rattle.escrow_desk.specs.Rows
 pub use Rattle.roll_plan.specs.Steps
 pub use Rattle.verification_report.specs.Summary
-pub use Rattle.rate_table.specs.Table
 pub use Rattle.bound_certificate.specs.Versions
 pub mod Accepted
 pub mod Answer

@@ -27,15 +27,27 @@ impl DateDays {
     }
 }
 
-// No days, for each of so many need dates.
-fn no_days(alloc: Global, dates: u16) -> Result<Vec<DateDays>, NoMemory>
+// How many days each of so many need dates prices. It shows how much room to take, and nothing rests on it.
+fn counts_by_date(alloc: Global, dates: u16, days: &[PricedDay]) -> Result<Vec<usize>, NoMemory> {
+    let mut counts = vec![in alloc; 0usize; usize::from(dates)]?;
+    for day in days {
+        if day.need < counts.len() {
+            counts[day.need] = counts[day.need].saturating_add(1);
+        }
+    }
+    Ok(counts)
+}
+
+// No days, for each of so many need dates, in room for as many as are counted.
+fn no_days(alloc: Global, dates: u16, counts: &[usize]) -> Result<Vec<DateDays>, NoMemory>
     ensures count { IfOk result (λ lists. length lists.items ≡ dates) }
     ensures empty { IfOk result (λ lists. All (λ (list : DateDays). list.places.items ≡ []) lists.items) }
 {
     let mut lists = Vec::new(alloc);
-    for _ in 0..dates {
+    for date in 0..dates {
+        let count = counts.get(usize::from(date)).copied().unwrap_or(0);
         lists.push(DateDays {
-            places: Vec::new(alloc),
+            places: Vec::with_capacity(alloc, count)?,
         })?;
     }
     Ok(lists)
@@ -64,7 +76,8 @@ pub(crate) fn days_by_date(
 ) -> Result<Vec<DateDays>, NoMemory>
     ensures { IfOk result (λ lists. AreDateDays dates days.now lists.items) }
 {
-    let mut lists = no_days(alloc, dates)?;
+    let counts = counts_by_date(alloc, dates, days)?;
+    let mut lists = no_days(alloc, dates, counts.as_slice())?;
     for place in 0..days.len() {
         list_day(lists.as_mut_slice(), days[place].need, place)?;
     }

@@ -5,7 +5,7 @@ use Rattle.std.specs.List.{fold, position}
 use Rattle.std.specs.Option.{option_or}
 use Rattle.std.proofs.lemmas.List.{length-take, take-append-drop, take_all}
 use Rattle.bound_certificate.specs.Draft.{no_lines, with_item}
-use Rattle.bound_certificate.specs.Due.{is_over, nodes_due}
+use Rattle.bound_certificate.specs.Due.{is_over, nodes_due, vectors_due}
 use Rattle.bound_certificate.specs.Step.{IsSuited, due_after}
 use Rattle.bound_certificate.specs.TextReading.{EndsText, HasRead, Reads, ReadsFault, stage_due}
 use Rattle.bound_certificate.specs.Told.{Tells, Told, certificate_told, told_in}
@@ -222,6 +222,10 @@ not_both : (b : Bool) → b ≡ false → b ≡ true → ⊥
 not_both b e h = absurd (cc)
 
 -- once it ended, no line before it is due again
+vectors_behind : (left : ℕ) (b : Bool) → is_before_gap (if b then due.Count else due.Vector left) ≡ false
+vectors_behind left true = refl
+vectors_behind left false = refl
+
 before_back : (d : Due) (told : Item) → is_before_gap (due_after d told) ≡ true → is_before_gap d ≡ true
 before_back d item.Nothing e = e
 before_back d (item.Vectors count) e = e
@@ -230,6 +234,8 @@ before_back due.Title told e = refl
 before_back due.Portfolio told e = refl
 before_back (due.Buy left least) told e = refl
 before_back (due.Gap most) told e = refl
+before_back due.VectorCount told e = absurd (cc)
+before_back (due.Vector left) told e = absurd (not_both (is_before_gap (vectors_due (left - 1))) (vectors_behind (left - 1) (left - 1 == 0)) e)
 before_back due.Count (item.Nodes count) e = absurd (not_both (is_before_gap (nodes_due count 1)) (nodes_behind count 1 (count == 0)) e)
 before_back due.Count told e = absurd (cc)
 before_back (due.Node left trees) (item.Split line at) e = absurd (not_both (is_before_gap (nodes_due (left - 1) (trees + 1))) (nodes_behind (left - 1) (trees + 1) (left - 1 == 0)) e)

@@ -17,7 +17,8 @@ use Rattle.node_ranges.specs.Claims.{is_bad_split, placed_nodes}
 use Rattle.yield_enclosure.specs.YieldAnswers.{answer_of_covered, is_within, is_worth, lower_end, upper_end, yield_answer_of}
 use Rattle.yield_enclosure.specs.declared.answer.YieldAnswer.TheVariants.{Empty, Negative, Between, Above}
 use Rattle.yield_enclosure.proofs.EndFacts.{ends_are, last_index-le, lower_end-is, upper_end-is}
-use Rattle.bound_certificate.specs.Packed.{ArePackedBuys, IsPackedPortfolio}
+use Rattle.bound_certificate.specs.Certificate.{AreBuys, IsPortfolio}
+use Rattle.bound_certificate.specs.declared.limits.TheConstants.{MOST_PACKED_BUYS}
 use Rattle.bound_certificate.specs.declared.certificate.Buy.{Buy}
 use Rattle.bound_certificate.specs.declared.certificate.Certificate.{Certificate}
 use Rattle.case_file.specs.Case.{CaseContents}
@@ -167,8 +168,8 @@ unopposed case cert buys named none =
 within-gap : (whole gap other : ℕ) → (pos whole -ℤ pos gap) ≤ℤ pos other → whole ≤ other + gap
 within-gap whole gap other borne = omega (arith, ints)
 
-pub well_bought : (case : CaseContents) (cert : Certificate) (buys : List Buy) → IsHeard case cert → cert.buys ≡ Some buys → ArePackedBuys buys
-well_bought case cert buys heard named = (subst (λ found. IsPackedPortfolio found cert.gap) named heard.written.portfolio).0
+pub well_bought : (case : CaseContents) (cert : Certificate) (buys : List Buy) → IsHeard case cert → cert.buys ≡ Some buys → AreBuys MOST_PACKED_BUYS buys
+well_bought case cert buys heard named = (subst (λ found. IsPortfolio MOST_PACKED_BUYS found cert.gap) named heard.written.portfolio).0
 
 -- the right portfolio, by its purchases
 right : (case : CaseContents) (cert : Certificate) (buys : List Buy) → IsHeard case cert → cert.buys ≡ Some buys → IsUnopposed case cert buys → IsRightPortfolio case cert (portfolio_of case buys cert.gap)

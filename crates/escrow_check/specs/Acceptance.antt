@@ -1,5 +1,5 @@
 -- When a certificate is accepted for a case. The form of the proof that a tree gives is this project's own.
-use Rattle.std.specs.Prelude.{◌≡◌, ℕ, ◌+◌, Bool, not, ◌&&◌, nat_lt, if◌then◌else◌, List, length, replicate, slice_index_or, slice_set, Option, Some, None, option_map, pos, ◌-ℤ◌, ◌-◌}
+use Rattle.std.specs.Prelude.{◌≡◌, ℕ, ◌+◌, Bool, not, ◌&&◌, nat_lt, List, length, replicate, slice_index_or, slice_set, Option, Some, None, option_map, pos, ◌-ℤ◌}
 use Rattle.std.specs.Bool.{then_some}
 use Rattle.std.specs.List.{find, fold, position}
 use Rattle.std.specs.Option.{option_or}

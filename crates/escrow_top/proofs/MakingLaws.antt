@@ -2,7 +2,7 @@
 use Rattle.std.proofs.Common.{◌≡◌, ◌∙◌, ℕ, List, length, Ok, Err, Result, subst, sym, ap, inl, inr}
 use Rattle.std.specs.Prelude.{IfOk}
 use Rattle.escrow_desk.specs.declared.refusal.Refusal.{Refusal}
-use Rattle.bound_certificate.proofs.FormFacts.{HasPackedForm, packed-form}
+use Rattle.certificate_packing.proofs.FormFacts.{HasPackedForm, packed-form}
 use Rattle.branch_search.proofs.FoundFacts.{found_are_accepted, none_found_are_accepted}
 use Rattle.branch_search.specs.Purchases.{certificate_of, certificate_of_none}
 use Rattle.branch_search.specs.Search.{IsFound, IsFoundBy, IsNoneFound}

@@ -33,7 +33,7 @@ use Rattle.certificate_answers.proofs.AcceptedLaws.{searched_text}
 use Rattle.certificate_answers.proofs.InputFacts.{read-all}
 use Rattle.certificate_answers.specs.CaseOf.{AreWithin}
 use Rattle.certificate_answers.specs.Reading.{AreRead}
-use Rattle.bound_certificate.proofs.PackedSize.{certificate_fits}
+use Rattle.bound_certificate.proofs.SizeFacts.{certificate_fits}
 use Rattle.escrow_top.specs.declared.draft.Draft.{Draft}
 use Rattle.escrow_top.specs.declared.draft.Draft.TheVariants as draft
 use Rattle.escrow_top.specs.declared.draft.Telling.{Telling}

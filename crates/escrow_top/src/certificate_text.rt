@@ -4,7 +4,8 @@ ghost use Rattle.std.specs.Prelude.{ℕ, IfOk};
 ghost use Rattle.bound_certificate.specs.Packed.{IsPackable, IsPackableCert};
 ghost use Rattle.bound_certificate.specs.Versions.{IsPackedFormOf};
 
-use bound_certificate::{Certificate, pack, write_packed};
+use bound_certificate::{Certificate, write_packed};
+use certificate_packing::pack;
 use escrow_desk::NoMemory;
 use std::alloc::Global;
 

@@ -53,16 +53,3 @@ pub fn face_price(face: Cents, price: Price8) -> Cents
 {
     Cents(near(face.0 as u128 * price.0 as u128, 10_000_000_000) as u64)
 }
-
-#[cfg(test)]
-mod tests {
-    use super::*;
-
-    #[test]
-    fn interest_is_rounded_to_the_cent(rt: HostRuntime) {
-        let face = Cents(10_000_000);
-        assert_eq!(rt; half_coupon(face, Rate(4000)), Cents(200_000));
-        assert_eq!(rt; earned(face, Rate(4000), 90, 365), Cents(98_630));
-        assert_eq!(rt; face_price(face, Price8(9_951_562_500)), Cents(9_951_563));
-    }
-}

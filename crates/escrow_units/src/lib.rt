@@ -13,8 +13,6 @@ mod digits;
 mod fault;
 mod interest;
 mod limits;
-#[cfg(test)]
-mod number_tests;
 mod number_text;
 mod price_text;
 mod printed;

@@ -50,16 +50,3 @@ pub fn series_around(maturity: Day, rule: StepRule, day: Day) -> SeriesDates
         after,
     }
 }
-
-#[cfg(test)]
-mod tests {
-    use super::*;
-
-    #[test]
-    fn dates_lie_around_a_day(rt: HostRuntime) {
-        let dates = series_around(Day::new(20877), StepRule::SameDay, Day::new(20468));
-        assert_eq!(rt; dates.previous, Day::new(20328));
-        assert_eq!(rt; dates.next, Day::new(20512));
-        assert_eq!(rt; dates.after.len(), 3);
-    }
-}

@@ -17,20 +17,3 @@ pub fn is_settlement(day: Day) -> bool
 {
     Day::new(FIRST_SETTLEMENT) <= day && day <= Day::new(LAST_SETTLEMENT)
 }
-
-#[cfg(test)]
-mod tests {
-    use super::*;
-
-    #[test]
-    fn settlement_has_bounds(rt: HostRuntime) {
-        for (day, yes) in [
-            (10_956, false),
-            (10_957, true),
-            (65_744, true),
-            (65_745, false),
-        ] {
-            assert_eq!(rt; is_settlement(Day::new(day)), yes);
-        }
-    }
-}

@@ -16,6 +16,3 @@ pub use present_values::{
 };
 pub use root::{root_high, root_low};
 pub use side::Side;
-
-#[cfg(test)]
-mod tests;

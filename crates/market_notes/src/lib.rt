@@ -6,8 +6,6 @@ mod flows;
 mod note;
 mod read;
 mod row;
-#[cfg(test)]
-mod tests;
 
 pub use flows::{accrual, note_cost, note_payments, note_schedule};
 pub use note::{Note, NoteFile, Notes};

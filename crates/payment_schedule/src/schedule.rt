@@ -97,27 +97,3 @@ pub fn scheduled_flows(
     }
     flows
 }
-
-#[cfg(test)]
-mod tests {
-    use super::*;
-    use std::test::Fail;
-
-    // 2025-07-18 is a Friday. A day that moves leaves the amounts as they are.
-    #[test]
-    fn schedules_pay_interest_and_principal(rt: HostRuntime) -> Result<(), Fail> {
-        let mut days = Vec::new(rt.alloc());
-        days.push(Day::new(20_287))?;
-        let closed = ClosedDays::new(rt.alloc(), true, days)?;
-        let interest = ScheduledPayment::due(&closed, Day::new(20_287), HALF_YEAR, false);
-        let last = ScheduledPayment::due(&closed, Day::new(20_469), HALF_YEAR, true);
-        let flows = scheduled_flows(&[interest, last], Rate(4_000), Cents(10_000_000));
-        assert_eq!(rt; flows.len(), 2);
-        let expected = [(20_290, 200_000), (20_469, 10_200_000)];
-        for (flow, (day, cents)) in flows.as_slice().iter().zip(&expected) {
-            assert_eq!(rt; flow.day.number(), *day);
-            assert_eq!(rt; flow.cents.0, *cents);
-        }
-        Ok(())
-    }
-}

@@ -2,7 +2,5 @@
 #![tactic(auto)]
 
 mod laws;
-#[cfg(test)]
-mod tests;
 
 pub use laws::{least_laws, plain_laws, plan_laws, purchase_laws};

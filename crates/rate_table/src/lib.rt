@@ -13,6 +13,3 @@ pub use index::RateIndex;
 pub use lookup::maximum;
 pub use read::read_rates;
 pub use table::{Offer, Offers, RateFile, RateRange, RateRanges};
-
-#[cfg(test)]
-mod tests;

@@ -5,8 +5,6 @@ mod flows;
 mod interest;
 mod laws;
 mod leap_day;
-#[cfg(test)]
-mod tests;
 
 pub use flows::{payments, schedule};
 pub use laws::interest_laws;

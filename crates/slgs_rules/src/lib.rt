@@ -4,8 +4,6 @@
 mod fault;
 mod laws;
 mod rules;
-#[cfg(test)]
-mod tests;
 
 pub use fault::RuleFault;
 pub use laws::rule_laws;

@@ -9,6 +9,3 @@ mod timeline;
 pub use answer::YieldAnswer;
 pub use enclosure::{interval, within};
 pub use laws::{limit_laws, zero_yield_law};
-
-#[cfg(test)]
-mod tests;

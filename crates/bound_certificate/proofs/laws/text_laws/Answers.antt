@@ -1,5 +1,5 @@
-use Rattle.bound_certificate.proofs.SayFacts.{texts_say}
-use Rattle.bound_certificate.proofs.TextFacts.{text-found, text-good, text-one}
+use Rattle.bound_certificate.proofs.ToldFacts.{texts-say}
+use Rattle.bound_certificate.proofs.WrittenFacts.{text-found, text-good, text-one}
 use Rattle.bound_certificate.proofs.laws.text_laws.Goals as goal
 
 pub returns-clause-exact : goal.returns-clause-exact
@@ -9,4 +9,4 @@ pub returns-clause-one : goal.returns-clause-one
 returns-clause-one c = text-one
 
 pub returns-clause-said : goal.returns-clause-said
-returns-clause-said c = texts_say
+returns-clause-said c = texts-say

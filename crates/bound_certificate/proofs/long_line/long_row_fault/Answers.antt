@@ -1,5 +1,5 @@
 use Rattle.std.proofs.Common.{◌≡◌, ◌∙◌, ap, sym, true, ℕ, List}
-use Rattle.bound_certificate.specs.PackedGrammar.{begins_with}
+use Rattle.bound_certificate.specs.Grammar.{begins_with}
 use Rattle.bound_certificate.specs.Row.{row_word}
 use Rattle.bound_certificate.proofs.LongFacts.{long-row-closed, long-row-header, long-row-number, long-row-unfit}
 use Rattle.bound_certificate.proofs.long_line.long_row_fault.Goals as goal

@@ -1,5 +1,5 @@
 use Rattle.std.proofs.Common.{◌≡◌, ◌≤◌, count_by, take}
-use Rattle.bound_certificate.specs.Grammar.{is_space}
+use Rattle.line_words.specs.Words.{is_space}
 use Rattle.bound_certificate.proofs.row.count_spaces.Given as goal
 
 abbrev pub invariant-loop-byte : goal.invariant-loop-byte

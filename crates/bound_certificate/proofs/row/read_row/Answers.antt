@@ -1,40 +1,34 @@
-use Rattle.std.proofs.Common.{◌≡◌, ◌∙◌, arith, List, ℕ, ap, sym, true, count_by}
-use Rattle.bound_certificate.specs.Grammar.{is_space}
-use Rattle.bound_certificate.specs.Row.{numbers_by, parts_behind, row_fits, row_range}
-use Rattle.bound_certificate.proofs.ReadRowFacts.{Begins, begun-row, closed-row, few-numbers, fit-row, numbers-answer, spaces, unfit-row}
+use Rattle.std.proofs.Common.{◌∙◌, ℕ, ap, sym, Err}
+use Rattle.bound_certificate.specs.declared.fault.FaultKind.{FaultKind}
+use Rattle.bound_certificate.specs.Row.{row_fits}
+use Rattle.bound_certificate.proofs.ReadRowFacts.{Begins, begun-row, row-number, row-ok, row-unfit, unfit-row}
 use Rattle.bound_certificate.proofs.row.read_row.Goals as goal
-use Rattle.bound_certificate.proofs.row.read_row.Goals.{then-not-may-via-then-not-may, then-not-may-via-else-not-may+then-not-fits}
 
-pub returns-then-not-may : goal.returns-then-not-may
-returns-then-not-may c =
-    let line : List ℕ = c.args.line.now in
-    let first : List ℕ = c.cut_at-first.result.front.now in
-    let begins : Begins c.args.row line first c.cut_at-first.result.rest =
-    begun-row c.args.row line first c.word.result.now c.cut_at-first.result.rest c.ne.result c.cut_at-first.ensures c.word.ensures c.ne.ensures c.if-ne.false in
-    elim c.then-not-may.branch [
-      | then-not-may-via-then-not-may w ↦ closed-row c.args.dates c.args.vectors c.args.row c.args.may line first c.cut_at-first.result.rest begins w.if-not-may.true
-      | then-not-may-via-else-not-may+then-not-fits w ↦
-          unfit-row c.args.dates c.args.vectors c.args.row c.args.may line first c.cut_at-first.result.rest begins
-          (ap (λ (k : ℕ). row_fits c.args.dates c.args.row k) (sym w.count_spaces.ensures) ∙ sym w.fits.ensures ∙ w.if-not-fits.true)
-    ]
+pub returns-in-Ok : goal.returns-in-Ok
+returns-in-Ok c =
+    let begins : Begins c.args.row c.args.line.now c.cut_at-first.result.front.now c.cut_at-first.result.rest =
+    begun-row c.args.row c.args.line.now c.cut_at-first.result.front.now c.word.result.now c.cut_at-first.result.rest c.ne.result c.cut_at-first.ensures c.word.ensures c.ne.ensures c.if-ne.false in
+    row-ok c.args.dates c.args.vectors c.args.row c.args.may c.args.line.now c.cut_at-first.result.front.now c.cut_at-first.result.rest c.read_numbers.new.numbers.items begins
+    c.if-not-may.false c.in-Ok.ensures (ap (λ (k : ℕ). row_fits c.args.dates c.args.row k) (sym c.len.ensures.value) ∙ sym c.if-fits.ensures)
 
-pub read_numbers-requires-clause-room : goal.read_numbers-requires-clause-room
-read_numbers-requires-clause-room c =
-    let line : List ℕ = c.args.line.now in
-    let first : List ℕ = c.cut_at-first.result.front.now in
-    let begins : Begins c.args.row line first c.cut_at-first.result.rest =
-    begun-row c.args.row line first c.word.result.now c.cut_at-first.result.rest c.ne.result c.cut_at-first.ensures c.word.ensures c.ne.ensures c.if-ne.false in
-    let fits : row_fits c.args.dates c.args.row (count_by is_space line) ≡ true =
-    ap (λ (k : ℕ). row_fits c.args.dates c.args.row k) (sym c.count_spaces.ensures) ∙ sym c.fits.ensures ∙ c.if-not-fits.false in
-    omega (arith, spaces c.args.row line first c.cut_at-first.result.rest begins, few-numbers c.args.dates (count_by is_space line) c.args.row c.requires fits)
+pub returns-in-Err : goal.returns-in-Err
+returns-in-Err c =
+    let begins : Begins c.args.row c.args.line.now c.cut_at-first.result.front.now c.cut_at-first.result.rest =
+    begun-row c.args.row c.args.line.now c.cut_at-first.result.front.now c.word.result.now c.cut_at-first.result.rest c.ne.result c.cut_at-first.ensures c.word.ensures c.ne.ensures c.if-ne.false in
+    row-number c.args.dates c.args.vectors c.args.row c.args.may c.args.line.now c.cut_at-first.result.front.now c.cut_at-first.result.rest begins c.requires
+    c.if-not-may.false (ap (λ (k : ℕ). row_fits c.args.dates c.args.row k) (sym c.count_spaces.ensures) ∙ sym c.if-fits-2.ensures) c.in-Err.ensures.1
+    ∙ ap (λ (found : FaultKind). Err found) (sym c.in-Err.ensures.0)
 
-pub returns : goal.returns
-returns c =
-    let line : List ℕ = c.args.line.now in
-    let first : List ℕ = c.cut_at-first.result.front.now in
-    let begins : Begins c.args.row line first c.cut_at-first.result.rest =
-    begun-row c.args.row line first c.word.result.now c.cut_at-first.result.rest c.ne.result c.cut_at-first.ensures c.word.ensures c.ne.ensures c.if-ne.false in
-    let fits : row_fits c.args.dates c.args.row (count_by is_space line) ≡ true =
-    ap (λ (k : ℕ). row_fits c.args.dates c.args.row k) (sym c.count_spaces.ensures) ∙ sym c.fits.ensures ∙ c.if-not-fits.false in
-    numbers-answer _ (numbers_by (row_range c.args.dates c.args.vectors c.args.row) 1 (parts_behind 32 c.cut_at-first.result.rest)) c.read_numbers.new.numbers.items c.read_numbers.result
-    (fit-row c.args.dates c.args.vectors c.args.row c.args.may line first c.cut_at-first.result.rest begins c.if-not-may.false fits) c.read_numbers.ensures
+pub returns-in_default : goal.returns-in_default
+returns-in_default c =
+    let begins : Begins c.args.row c.args.line.now c.cut_at-first.result.front.now c.cut_at-first.result.rest =
+    begun-row c.args.row c.args.line.now c.cut_at-first.result.front.now c.word.result.now c.cut_at-first.result.rest c.ne.result c.cut_at-first.ensures c.word.ensures c.ne.ensures c.if-ne.false in
+    row-unfit c.args.dates c.args.vectors c.args.row c.args.may c.args.line.now c.cut_at-first.result.front.now c.cut_at-first.result.rest c.read_numbers.new.numbers.items begins
+    c.in-Ok.ensures (ap (λ (k : ℕ). row_fits c.args.dates c.args.row k) (sym c.len.ensures.value) ∙ sym c.if-fits.ensures)
+
+pub returns-in_default-2 : goal.returns-in_default-2
+returns-in_default-2 c =
+    let begins : Begins c.args.row c.args.line.now c.cut_at-first.result.front.now c.cut_at-first.result.rest =
+    begun-row c.args.row c.args.line.now c.cut_at-first.result.front.now c.word.result.now c.cut_at-first.result.rest c.ne.result c.cut_at-first.ensures c.word.ensures c.ne.ensures c.if-ne.false in
+    unfit-row c.args.dates c.args.vectors c.args.row c.args.may c.args.line.now c.cut_at-first.result.front.now c.cut_at-first.result.rest begins
+    (ap (λ (k : ℕ). row_fits c.args.dates c.args.row k) (sym c.count_spaces.ensures) ∙ sym c.if-fits-2.ensures)

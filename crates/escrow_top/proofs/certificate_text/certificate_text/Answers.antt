@@ -1,7 +1,7 @@
 use Rattle.std.proofs.Common.{◌≡◌, ℕ}
 use Rattle.std.proofs.lemmas.Result.{IfOk-weaker}
 use Rattle.bound_certificate.specs.Packed.{IsPackable}
-use Rattle.bound_certificate.specs.PackedText.{packed_text_of}
+use Rattle.bound_certificate.specs.Text.{packed_text_of}
 use Rattle.bound_certificate.specs.Versions.{IsPackedFormOf}
 use Rattle.escrow_top.proofs.certificate_text.certificate_text.Goals as goal
 

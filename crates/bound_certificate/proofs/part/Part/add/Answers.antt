@@ -1,8 +1,8 @@
 use Rattle.std.proofs.Common.{◌≡◌, ◌∙◌, ◌+◌, ◌++◌, ◌||◌, ◌-◌, nat_lt, Bool, List, ℕ, length, take, count_by, refl, sym, subst, ap, arith}
 use Rattle.std.proofs.lemmas.List.{length-take-le}
-use Rattle.bound_certificate.specs.Grammar.{is_space}
 use Rattle.bound_certificate.specs.Kept.{Kept}
 use Rattle.bound_certificate.specs.LongLine.{IsCounted}
+use Rattle.line_words.specs.Words.{is_space}
 use Rattle.bound_certificate.specs.declared.limits.TheConstants.{LINE_ROOM}
 use Rattle.bound_certificate.proofs.PartFacts.{kept-more}
 use Rattle.bound_certificate.proofs.part.Part.add.Goals as goal

@@ -1,0 +1,285 @@
+-- How long the text of a certificate can be: it is within the limit of its file.
+use Rattle.std.proofs.Common.{◌≡◌, ℕ, zero, suc, ◌+◌, ◌*◌, ◌^◌, ◌<◌, ◌≤◌, if◌then◌else◌, true, false, Bool, List, [], ◌∷◌, ◌++◌, length, map, Option, Some, None, ap, ◌∙◌, inl, inr, arith, decimal}
+use Rattle.std.specs.List.{All, flat_map}
+use Rattle.std.specs.Prelude.{codes}
+use Rattle.std.proofs.lemmas.Fmt.{length-decimal-le}
+use Rattle.std.proofs.lemmas.List.{length-append}
+use Rattle.std.proofs.lemmas.List.Concat.{flat_map-append}
+use Rattle.std.proofs.lemmas.List.Elements.{All-cons, All-head, All-tail, All-weaker}
+use Rattle.escrow_desk.specs.declared.limits.TheConstants.{CERTIFICATE_LIMIT}
+use Rattle.proof_tree.specs.declared.prices.TheConstants.{PRICE_SCALE}
+use Rattle.proof_tree.specs.Tree.{AreTrees, IsLeaf}
+use Rattle.proof_tree.specs.declared.tree.Leaf.{Leaf}
+use Rattle.bound_certificate.specs.declared.certificate.Buy.{Buy}
+use Rattle.bound_certificate.specs.declared.certificate.Certificate.{Certificate}
+use Rattle.bound_certificate.specs.declared.limits.TheConstants.{MOST_VECTORS}
+use Rattle.bound_certificate.specs.declared.line.Line.{Line}
+use Rattle.bound_certificate.specs.declared.line.Line.TheVariants as line
+use Rattle.bound_certificate.specs.declared.packed.Change.{Change}
+use Rattle.bound_certificate.specs.declared.packed.PackedNode.TheVariants as node
+use Rattle.bound_certificate.specs.declared.version.Version.{Version}
+use Rattle.bound_certificate.specs.declared.version.Version.TheVariants as version
+use Rattle.bound_certificate.specs.Certificate.{IsBuy}
+use Rattle.bound_certificate.specs.Grammar.{most_buys}
+use Rattle.bound_certificate.specs.Packed.{AreChanges, IsChange, IsPackedLeaf, IsVector, vector_of}
+use Rattle.bound_certificate.specs.Text.{change_numbers, line_text, numbered, portfolio_lines, spaced_numbers, vector_lines}
+use Rattle.bound_certificate.specs.Versions.{IsCertificateText}
+use Rattle.bound_certificate.proofs.ChangeFacts.{InChange, few-changes}
+use Rattle.bound_certificate.proofs.DueFacts.{IsNodeLine}
+use Rattle.bound_certificate.proofs.FollowFacts.{ArePortfolio, AreVectorsOf, IsPortfolioOf, IsWritten, Written, are-portfolio, no-portfolio, tree_lines, tree_of, written_lines}
+use Rattle.bound_certificate.proofs.WrittenFacts.{is-packed, is-written, packed_written, whole_written}
+
+-- numbers of at most 13 digits, with a space before each
+numbers_size : (numbers : List ℕ) → All (λ n. n < 10 ^ 13) numbers → length (spaced_numbers numbers) ≤ 14 * length numbers
+numbers_size [] all = omega arith
+numbers_size (number ∷ numbers) all =
+    let here = All-head (λ n. n < 10 ^ 13) number numbers all in
+    omega (
+      arith,
+      length-decimal-le 13 number (omega arith) here (omega (arith, here)),
+      numbers_size numbers (All-tail (λ n. n < 10 ^ 13) number numbers all),
+      length-append (decimal number) (spaced_numbers numbers),
+    )
+
+line_size : (word numbers : List ℕ) → length (numbered word numbers) ≡ length word + length (spaced_numbers numbers) + 1
+line_size word numbers =
+    length-append (word ++ spaced_numbers numbers) (10 ∷ []) ∙ ap (λ n. n + 1) (length-append word (spaced_numbers numbers))
+
+one_size : (word : List ℕ) (number : ℕ) → number < 10 ^ 19 → length (numbered word (number ∷ [])) ≤ length word + 21
+one_size word number small =
+    omega (
+      arith,
+      line_size word (number ∷ []),
+      length-decimal-le 19 number (omega arith) small (omega (arith, small)),
+      length-append (decimal number) (spaced_numbers []),
+    )
+
+two_size : (word : List ℕ) (first second : ℕ) → first < 10 ^ 19 → second < 10 ^ 19 → length (numbered word (first ∷ second ∷ [])) ≤ length word + 41
+two_size word first second small other =
+    omega (
+      arith,
+      line_size word (first ∷ second ∷ []),
+      length-decimal-le 19 first (omega arith) small (omega (arith, small)),
+      length-decimal-le 19 second (omega arith) other (omega (arith, other)),
+      length-append (decimal first) (spaced_numbers (second ∷ [])),
+      length-append (decimal second) (spaced_numbers []),
+    )
+
+-- the line of a leaf: two numbers, and one price for each of at most 480 need dates
+whole_small : (whole : Bool) → (if whole then 1 else 0) < 10 ^ 13
+whole_small true = omega arith
+whole_small false = omega arith
+
+priced_size : (dates : ℕ) (leaf : Leaf) → dates ≤ 480 → IsLeaf dates leaf → length (line_text (line.Leaf leaf)) ≤ 6_750
+priced_size dates leaf few is_leaf =
+    let prices = All-weaker (λ price. price ≤ 2 * PRICE_SCALE) (λ n. n < 10 ^ 13) (λ price most. omega (arith, most)) leaf.prices is_leaf.range in
+    let all = All-cons (λ n. n < 10 ^ 13) (if leaf.whole then 1 else 0) (leaf.mu ∷ leaf.prices) (whole_small leaf.whole)
+    (All-cons (λ n. n < 10 ^ 13) leaf.mu leaf.prices (omega (arith, is_leaf.limit)) prices) in
+    omega (
+      arith,
+      line_size (codes "l") ((if leaf.whole then 1 else 0) ∷ leaf.mu ∷ leaf.prices),
+      numbers_size ((if leaf.whole then 1 else 0) ∷ leaf.mu ∷ leaf.prices) all,
+      is_leaf.every_date,
+      few,
+    )
+
+-- the numbers of changes: a place of at most 3 digits, and a price of at most 13
+changes_size : (dates : ℕ) (vector : List ℕ) (changes : List Change) → dates ≤ 480 → All (IsChange dates vector) changes
+    → length (spaced_numbers (change_numbers changes)) ≤ 18 * length changes
+changes_size dates vector [] few all = omega arith
+changes_size dates vector (change ∷ changes) few all =
+    let here : IsChange dates vector change = All-head (IsChange dates vector) change changes all in
+    let place : change.place < 10 ^ 3 = omega (arith, here.last, few) in
+    let price : change.price < 10 ^ 13 = omega (arith, here.range) in
+    omega (
+      arith,
+      length-decimal-le 3 change.place (omega arith) place (omega (arith, place)),
+      length-decimal-le 13 change.price (omega arith) price (omega (arith, price)),
+      changes_size dates vector changes few (All-tail (IsChange dates vector) change changes all),
+      length-append (decimal change.place) (spaced_numbers (change.price ∷ change_numbers changes)),
+      length-append (decimal change.price) (spaced_numbers (change_numbers changes)),
+    )
+
+in_change : (dates : ℕ) (vector : List ℕ) (change : Change) → IsChange dates vector change → InChange dates change
+in_change dates vector change is = record { first = is.first; last = is.last; range = is.range }
+
+few_of : (dates : ℕ) (vector : List ℕ) (changes : List Change) → AreChanges dates vector changes → length changes ≤ dates
+few_of dates vector changes are = few-changes dates changes (All-weaker (IsChange dates vector) (InChange dates) (in_change dates vector) changes are.all) are.rising
+
+-- the line of a leaf: three numbers, and at most 480 changes
+three_size : (first second third : ℕ) (numbers : List ℕ) → first < 10 ^ 13 → second < 10 ^ 13 → third < 10 ^ 13
+    → length (spaced_numbers (first ∷ second ∷ third ∷ numbers)) ≤ 42 + length (spaced_numbers numbers)
+three_size first second third numbers one two three =
+    omega (
+      arith,
+      length-decimal-le 13 first (omega arith) one (omega (arith, one)),
+      length-decimal-le 13 second (omega arith) two (omega (arith, two)),
+      length-decimal-le 13 third (omega arith) three (omega (arith, three)),
+      length-append (decimal first) (spaced_numbers (second ∷ third ∷ numbers)),
+      length-append (decimal second) (spaced_numbers (third ∷ numbers)),
+      length-append (decimal third) (spaced_numbers numbers),
+    )
+
+leaf_size : (dates : ℕ) (vectors : List (List ℕ)) (whole : Bool) (mu vector : ℕ) (changes : List Change) → dates ≤ 480 → length vectors ≤ MOST_VECTORS
+    → IsPackedLeaf dates vectors whole mu vector changes → length (line_text (line.Node (node.Closed whole mu vector changes))) ≤ 8_700
+leaf_size dates vectors whole mu vector changes few count leaf =
+    let weight : ℕ = if whole then 1 else 0 in
+    omega (
+      arith,
+      line_size (codes "l") (weight ∷ mu ∷ vector ∷ change_numbers changes),
+      three_size weight mu vector (change_numbers changes) (whole_small whole) (omega (arith, leaf.leaf.limit)) (omega (arith, leaf.last, count)),
+      changes_size dates (vector_of vectors vector) changes few leaf.changes_are.all,
+      few_of dates (vector_of vectors vector) changes leaf.changes_are,
+      few,
+    )
+
+-- the lines of the nodes of so many trees: each tree ends in one leaf or point more than it has splits
+nodes_size : (v : Version) (dates count : ℕ) (vectors : List (List ℕ)) (nodes : List Line) → dates ≤ 480 → length vectors ≤ MOST_VECTORS
+    → All (IsNodeLine v dates vectors) nodes → AreTrees count (map (tree_of vectors) nodes)
+    → length (flat_map line_text nodes) ≤ 44 * length nodes + 4_340 * (length nodes + count)
+nodes_size v dates count vectors [] few many all trees = omega arith
+nodes_size v dates zero vectors (next ∷ nodes) few many all trees = absurd (cc)
+nodes_size v dates (suc count) vectors (line.Node (node.Split number at) ∷ nodes) few many all trees =
+    let own : Line = line.Node (node.Split number at) in
+    let here : IsNodeLine v dates vectors own = All-head (IsNodeLine v dates vectors) own nodes all in
+    omega (
+      arith,
+      length-append (line_text own) (flat_map line_text nodes),
+      two_size (codes "s") number at (omega (arith, here.0)) (omega (arith, here.1)),
+      nodes_size v dates (suc (suc count)) vectors nodes few many (All-tail (IsNodeLine v dates vectors) own nodes all) trees,
+    )
+nodes_size v dates (suc count) vectors (line.Node node.Point ∷ nodes) few many all trees =
+    let own : Line = line.Node node.Point in
+    omega (
+      arith,
+      length-append (line_text own) (flat_map line_text nodes),
+      nodes_size v dates count vectors nodes few many (All-tail (IsNodeLine v dates vectors) own nodes all) trees,
+    )
+nodes_size version.Two dates (suc count) vectors (line.Node (node.Closed whole mu vector changes) ∷ nodes) few many all trees =
+    let own : Line = line.Node (node.Closed whole mu vector changes) in
+    omega (
+      arith,
+      length-append (line_text own) (flat_map line_text nodes),
+      leaf_size dates vectors whole mu vector changes few many (All-head (IsNodeLine version.Two dates vectors) own nodes all),
+      nodes_size version.Two dates count vectors nodes few many (All-tail (IsNodeLine version.Two dates vectors) own nodes all) trees,
+    )
+nodes_size version.One dates (suc count) vectors (line.Leaf leaf ∷ nodes) few many all trees =
+    let own : Line = line.Leaf leaf in
+    omega (
+      arith,
+      length-append (line_text own) (flat_map line_text nodes),
+      priced_size dates leaf few (All-head (IsNodeLine version.One dates vectors) own nodes all),
+      nodes_size version.One dates count vectors nodes few many (All-tail (IsNodeLine version.One dates vectors) own nodes all) trees,
+    )
+nodes_size version.One dates (suc count) vectors (own ∷ nodes) few many all trees = absurd (All-head (IsNodeLine version.One dates vectors) own nodes all)
+nodes_size version.Two dates (suc count) vectors (own ∷ nodes) few many all trees = absurd (All-head (IsNodeLine version.Two dates vectors) own nodes all)
+
+-- the lines of vectors, each with one price for each of at most 480 need dates
+vectors_size : (dates : ℕ) (vectors : List (List ℕ)) → dates ≤ 480 → All (IsVector dates) vectors → length (flat_map line_text (map line.Vector vectors)) ≤ 6_750 * length vectors
+vectors_size dates [] few all = omega arith
+vectors_size dates (prices ∷ vectors) few all =
+    let here : IsVector dates prices = All-head (IsVector dates) prices vectors all in
+    let small = All-weaker (λ price. price ≤ 2 * PRICE_SCALE) (λ n. n < 10 ^ 13) (λ price most. omega (arith, most)) prices here.range in
+    omega (
+      arith,
+      length-append (line_text (line.Vector prices)) (flat_map line_text (map line.Vector vectors)),
+      line_size (codes "v") prices,
+      numbers_size prices small,
+      here.every_date,
+      few,
+      vectors_size dates vectors few (All-tail (IsVector dates) prices vectors all),
+    )
+
+-- the lines of purchases
+buys_size : (buys : List Buy) → All IsBuy buys → length (flat_map line_text (map line.Purchase buys)) ≤ 44 * length buys
+buys_size [] all = omega arith
+buys_size (buy ∷ buys) all =
+    let here = All-head IsBuy buy buys all in
+    omega (
+      arith,
+      length-append (line_text (line.Purchase buy)) (flat_map line_text (map line.Purchase buys)),
+      two_size (codes "buy") buy.line buy.units (omega (arith, here.0)) (omega (arith, here.2)),
+      buys_size buys (All-tail IsBuy buy buys all),
+    )
+
+few_bought : (v : Version) (count : ℕ) → count ≤ most_buys v → count ≤ 513
+few_bought version.One count few = omega (arith, few)
+few_bought version.Two count few = few
+
+portfolio_size : (v : Version) (buys : Option (List Buy)) (gap : ℕ) → IsPortfolioOf v buys gap → length (flat_map line_text (portfolio_lines buys)) ≤ 23_000
+portfolio_size v None gap none = omega arith
+portfolio_size v (Some buys) gap some =
+    let are : ArePortfolio v buys gap = are-portfolio v buys gap some in
+    let few : length buys ≤ 513 = few_bought v (length buys) are.few in
+    omega (
+      arith,
+      length-append (line_text (line.Portfolio (Some (length buys)))) (flat_map line_text (map line.Purchase buys)),
+      one_size (codes "portfolio") (length buys) (omega (arith, few)),
+      buys_size buys are.range,
+      few,
+    )
+
+gap_small : (v : Version) (buys : Option (List Buy)) (gap : ℕ) → IsPortfolioOf v buys gap → gap < 10 ^ 19
+gap_small v None gap is = omega (arith, no-portfolio v gap is)
+gap_small v (Some buys) gap is = let are : ArePortfolio v buys gap = are-portfolio v buys gap is in omega (arith, are.small)
+
+-- lines, one after another
+lines_size : (first second : List Line)
+    → length (flat_map line_text (first ++ second)) ≡ length (flat_map line_text first) + length (flat_map line_text second)
+lines_size first second = ap length (flat_map-append line_text first second) ∙ length-append (flat_map line_text first) (flat_map line_text second)
+
+next_size : (own : Line) (lines : List Line) → length (flat_map line_text (own ∷ lines)) ≡ length (line_text own) + length (flat_map line_text lines)
+next_size own lines = length-append (line_text own) (flat_map line_text lines)
+
+vector_lines_size : (v : Version) (dates : ℕ) (vectors : List (List ℕ)) → dates ≤ 480 → AreVectorsOf v dates vectors → length (flat_map line_text (vector_lines v vectors)) ≤ 440_000
+vector_lines_size version.One dates vectors few are = omega arith
+vector_lines_size version.Two dates vectors few are =
+    omega (
+      arith,
+      next_size (line.Vectors (length vectors)) (map line.Vector vectors),
+      one_size (codes "vectors") (length vectors) (omega (arith, are.0)),
+      vectors_size dates vectors few are.1,
+      are.0,
+    )
+
+few_vectors : (v : Version) (dates : ℕ) (vectors : List (List ℕ)) → AreVectorsOf v dates vectors → length vectors ≤ MOST_VECTORS
+few_vectors version.One dates vectors none = omega (arith, ap length none)
+few_vectors version.Two dates vectors are = are.0
+
+-- the lines from the nodes on
+tree_size : (v : Version) (dates : ℕ) (w : Written) → dates ≤ 480 → IsWritten v dates w → length (flat_map line_text (tree_lines w.nodes)) ≤ 44_000_000
+tree_size v dates w few well =
+    omega (
+      arith,
+      next_size (line.Nodes (length w.nodes)) (w.nodes ++ line.End ∷ []),
+      one_size (codes "nodes") (length w.nodes) (omega (arith, well.few)),
+      lines_size w.nodes (line.End ∷ []),
+      nodes_size v dates 1 w.vectors w.nodes few (few_vectors v dates w.vectors well.vectors_are) well.nodes_are well.tree,
+      well.few,
+    )
+
+title_size : (v : Version) → length (line_text (line.Title v)) ≤ 21
+title_size version.One = omega arith
+title_size version.Two = omega arith
+
+written_fits : (v : Version) (dates : ℕ) (w : Written) → dates ≤ 480 → IsWritten v dates w → length (flat_map line_text (written_lines v w)) ≤ CERTIFICATE_LIMIT
+written_fits v dates w few well =
+    let rest : List Line = line.Gap w.gap ∷ (vector_lines v w.vectors ++ tree_lines w.nodes) in
+    omega (
+      arith,
+      next_size (line.Title v) (portfolio_lines w.buys ++ rest),
+      title_size v,
+      lines_size (portfolio_lines w.buys) rest,
+      portfolio_size v w.buys w.gap well.portfolio,
+      next_size (line.Gap w.gap) (vector_lines v w.vectors ++ tree_lines w.nodes),
+      one_size (codes "gap") w.gap (gap_small v w.buys w.gap well.portfolio),
+      lines_size (vector_lines v w.vectors) (tree_lines w.nodes),
+      vector_lines_size v dates w.vectors few well.vectors_are,
+      tree_size v dates w few well,
+    )
+
+-- a text of a certificate, of either version
+pub certificate_fits : (dates : ℕ) (cert : Certificate) (bytes : List ℕ) → dates ≤ 480 → IsCertificateText dates cert bytes → length bytes ≤ CERTIFICATE_LIMIT
+certificate_fits dates cert bytes few (inl own) = omega (arith, ap length own.text, written_fits version.One dates (whole_written cert) few (is-written dates cert own.well_formed))
+certificate_fits dates cert bytes few (inr own) =
+    omega (arith, ap length own.text.text, written_fits version.Two dates (packed_written own.packed) few (is-packed dates own.packed own.text.well_formed))

@@ -1,0 +1,7 @@
+use Rattle.std.proofs.Common.{◌≡◌, ◌++◌, map, drop}
+use Rattle.std.specs.List.{flat_map}
+use Rattle.bound_certificate.specs.Text.{line_text, tree_line}
+use Rattle.bound_certificate.proofs.face_write.push_nodes.Given as goal
+
+abbrev pub invariant-loop-node : goal.invariant-loop-node
+invariant-loop-node l = l.text.items ++ flat_map line_text (map tree_line (drop l.node-index l.nodes)) ≡ l.fn.text.items ++ flat_map line_text (map tree_line l.nodes)

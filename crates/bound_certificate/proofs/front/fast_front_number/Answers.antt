@@ -1,5 +1,0 @@
-use Rattle.bound_certificate.proofs.FrontFacts.{front-all}
-use Rattle.bound_certificate.proofs.front.fast_front_number.Goals as goal
-
-pub returns-then-digits-bytes : goal.returns-then-digits-bytes
-returns-then-digits-bytes c = front-all c.args.bytes.now c.in_ok-digits.digits c.in_ok-digits.ensures c.if-digits-bytes.true

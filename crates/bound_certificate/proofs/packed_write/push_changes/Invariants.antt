@@ -1,7 +1,0 @@
-use Rattle.std.proofs.Common.{◌≡◌, ◌++◌, drop}
-use Rattle.bound_certificate.specs.PackedText.{change_numbers}
-use Rattle.bound_certificate.specs.Text.{spaced_numbers}
-use Rattle.bound_certificate.proofs.packed_write.push_changes.Given as goal
-
-abbrev pub invariant-loop-change : goal.invariant-loop-change
-invariant-loop-change l = l.text.items ++ spaced_numbers (change_numbers (drop l.change-index l.changes)) ≡ l.fn.text.items ++ spaced_numbers (change_numbers l.changes)

@@ -1,5 +1,0 @@
-use Rattle.bound_certificate.proofs.PackFacts.{IsSoFar}
-use Rattle.bound_certificate.proofs.packing.difference.Given as goal
-
-abbrev pub invariant-loop-place : goal.invariant-loop-place
-invariant-loop-place l = IsSoFar l.vector l.prices l.place l.changes.items

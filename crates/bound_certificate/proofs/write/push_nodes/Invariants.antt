@@ -1,7 +1,0 @@
-use Rattle.std.proofs.Common.{◌≡◌, ◌++◌, map, drop}
-use Rattle.std.specs.List.{flat_map}
-use Rattle.bound_certificate.specs.Text.{Node, line_text}
-use Rattle.bound_certificate.proofs.write.push_nodes.Given as goal
-
-abbrev pub invariant-loop-node : goal.invariant-loop-node
-invariant-loop-node l = l.text.items ++ flat_map line_text (map Node (drop l.node-index l.nodes)) ≡ l.fn.text.items ++ flat_map line_text (map Node l.nodes)

@@ -1,0 +1,126 @@
+//! The library's face: texts of version 1, and certificates that are unpacked. The program itself writes version 2 alone.
+ghost use Rattle.std.specs.Prelude.{◌≡◌, ◌++◌, map, ℕ, IfOk, OnOk, length, option_map};
+ghost use Rattle.std.specs.List.{flat_map};
+ghost use Rattle.bound_certificate.specs.Certificate.{IsWritable};
+ghost use Rattle.bound_certificate.specs.Grammar.{ArePlaces};
+ghost use Rattle.bound_certificate.specs.Packed.{IsPackable, IsPackedWellFormed, IsPackedWritable, IsUnpackable, changed, unpacked, unpacked_node as unpacked_node_of};
+ghost use Rattle.bound_certificate.specs.Text.{line_text, text_of, tree_line};
+ghost use Rattle.bound_certificate.specs.declared.line.Line.TheVariants as line;
+
+use crate::certificate::{Certificate, copied_buys};
+use crate::packed::{Change, Packed, PackedNode};
+use crate::taken::put_changes;
+use crate::version::Version;
+use crate::write::{push_begin, push_line, push_number, push_numbers};
+use escrow_desk::NoMemory;
+use proof_tree::{Leaf, Nodes, Prices, TreeNode};
+use std::alloc::Global;
+
+// Adds the line of a leaf.
+fn push_leaf(text: &mut Vec<u8>, leaf: &Leaf) -> Result<(), NoMemory>
+    ensures { OnOk result (text.new.items ≡ text.old.items ++ line_text (line.Leaf leaf.now)) }
+{
+    text.push(b'l')?;
+    push_number(text, u64::from(leaf.whole))?;
+    push_number(text, leaf.mu)?;
+    push_numbers(text, leaf.prices.as_slice())?;
+    text.push(b'\n')?;
+    Ok(())
+}
+
+// Adds the line of a node.
+fn push_node(text: &mut Vec<u8>, node: &TreeNode) -> Result<(), NoMemory>
+    ensures { OnOk result (text.new.items ≡ text.old.items ++ line_text (tree_line node.now)) }
+{
+    match node {
+        TreeNode::Split { line, at } => push_line(text, b"s", &[*line as u64, *at]),
+        TreeNode::Point => push_line(text, b"p", &[]),
+        TreeNode::Closed(leaf) => push_leaf(text, leaf),
+    }
+}
+
+// Adds the lines of nodes.
+fn push_nodes(text: &mut Vec<u8>, nodes: &[TreeNode]) -> Result<(), NoMemory>
+    ensures { OnOk result (text.new.items ≡ text.old.items ++ flat_map line_text (map tree_line nodes.now)) }
+{
+    for node in nodes {
+        push_node(text, node)?;
+    }
+    Ok(())
+}
+
+/// The one text of a certificate.
+///
+/// # Errors
+///
+/// Where memory ran out.
+pub fn write_cert(alloc: Global, cert: &Certificate) -> Result<Vec<u8>, NoMemory>
+    requires { IsWritable cert.now }
+    ensures { IfOk result (λ text. text.items ≡ text_of cert.now) }
+{
+    let mut text = Vec::new(alloc);
+    push_begin(&mut text, Version::One, cert.buys.as_ref(), cert.gap)?;
+    push_line(&mut text, b"nodes", &[cert.nodes.as_slice().len() as u64])?;
+    push_nodes(&mut text, cert.nodes.as_slice())?;
+    push_line(&mut text, b"end", &[])?;
+    Ok(text)
+}
+
+// The prices of a vector after changes.
+fn changed_prices(alloc: Global, vector: &[u64], changes: &[Change]) -> Result<Prices, NoMemory>
+    requires { ArePlaces (length vector.now) changes.now }
+    ensures { IfOk result (λ prices. prices ≡ changed vector.now changes.now) }
+{
+    let mut prices = Prices::new(vector.to_vec(alloc)?);
+    put_changes(&mut prices, changes);
+    Ok(prices)
+}
+
+// A node with the prices of its leaf written out.
+fn unpacked_node(alloc: Global, vectors: &[Prices], node: &PackedNode) -> Result<TreeNode, NoMemory>
+    requires { IsUnpackable vectors.now node.now }
+    ensures { IfOk result (λ tree. tree ≡ unpacked_node_of vectors.now node.now) }
+{
+    match node {
+        PackedNode::Split { line, at } => Ok(TreeNode::Split {
+            line: *line,
+            at: *at,
+        }),
+        PackedNode::Point => Ok(TreeNode::Point),
+        PackedNode::Closed {
+            whole,
+            mu,
+            vector,
+            changes,
+        } => Ok(TreeNode::Closed(Leaf {
+            whole: *whole,
+            mu: *mu,
+            prices: changed_prices(
+                alloc,
+                vectors[usize::from(*vector) - 1].as_slice(),
+                changes.as_slice(),
+            )?,
+        })),
+    }
+}
+
+/// The certificate of a packed one: the prices of each leaf are those of its vector, with another price at each place of a change.
+///
+/// # Errors
+///
+/// Where memory ran out.
+pub fn unpack(alloc: Global, packed: &Packed) -> Result<Certificate, NoMemory>
+    requires { IsPackedWritable packed.now }
+    ensures same { IfOk result (λ cert. cert ≡ unpacked packed.now) }
+    ensures packable { IfOk result (λ cert. (dates : ℕ) → IsPackedWellFormed dates packed.now → IsPackable dates cert) }
+{
+    let mut nodes = Vec::with_capacity(alloc, packed.nodes.as_slice().len())?;
+    for node in packed.nodes.as_slice() {
+        nodes.push(unpacked_node(alloc, packed.vectors.as_slice(), node)?)?;
+    }
+    Ok(Certificate {
+        buys: copied_buys(alloc, packed.buys.as_ref())?,
+        gap: packed.gap,
+        nodes: Nodes::new(nodes),
+    })
+}

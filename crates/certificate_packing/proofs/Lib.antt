@@ -1,0 +1,3 @@
+pub mod PackFacts
+pub mod PackedOfFacts
+pub mod FormFacts

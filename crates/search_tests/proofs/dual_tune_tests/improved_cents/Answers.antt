@@ -1,8 +1,0 @@
-use Rattle.node_ranges.proofs.RangeFacts.{root-room}
-use Rattle.search_tests.proofs.dual_tune_tests.improved_cents.Goals as goal
-
-pub improve-requires-clause-ranges : goal.improve-requires-clause-ranges
-improve-requires-clause-ranges c = rw c.in_ok-ranges.ensures (root-room c.args.book.now.lines)
-
-pub bound-requires-clause-ranges : goal.bound-requires-clause-ranges
-bound-requires-clause-ranges c = rw c.in_ok-ranges.ensures (root-room c.args.book.now.lines)

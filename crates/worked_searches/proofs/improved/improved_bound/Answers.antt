@@ -1,0 +1,8 @@
+use Rattle.node_ranges.proofs.RangeFacts.{root-room}
+use Rattle.worked_searches.proofs.improved.improved_bound.Goals as goal
+
+pub improve-requires-clause-ranges : goal.improve-requires-clause-ranges
+improve-requires-clause-ranges c = rw c.in_ok-ranges.ensures (root-room c.args.book.now.lines)
+
+pub bound-requires-clause-ranges : goal.bound-requires-clause-ranges
+bound-requires-clause-ranges c = rw c.in_ok-ranges.ensures (root-room c.args.book.now.lines)
