@@ -52,10 +52,17 @@ class Crates:
     def is_library(self, crate: str) -> bool:
         return not (self.root / "crates" / crate / "src" / "main.rt").is_file()
 
+    @cached_property
+    def sizes(self) -> dict:
+        """How many bytes of code, with its contracts, each crate has, as far as that was asked."""
+        return {}
+
     def size(self, crate: str) -> int:
-        """How many bytes of code, with its contracts, a crate has."""
-        paths = [path for path in crate_files(self.root, crate) if path.endswith(".rt")]
-        return sum(os.path.getsize(self.root / path) for path in paths)
+        """How many bytes of code, with its contracts, a crate has: looked up once."""
+        if crate not in self.sizes:
+            paths = [path for path in crate_files(self.root, crate) if path.endswith(".rt")]
+            self.sizes[crate] = sum(os.path.getsize(self.root / path) for path in paths)
+        return self.sizes[crate]
 
 
 def read_crates(root: Path) -> Crates:

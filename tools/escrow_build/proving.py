@@ -61,6 +61,11 @@ class Run:
         """The crates that aren't proved, those that are being proved among them."""
         return [crate for crate in self.order if crate not in self.done]
 
+    @property
+    def idle(self) -> int:
+        """How many processors no proof uses."""
+        return self.jobs - sum(proof.jobs for proof in self.running.values())
+
     def seconds_left(self) -> float:
         seconds = expected(self.proofs.crates, self.order, self.took)
         for crate, proof in self.running.items():
@@ -82,7 +87,7 @@ class Run:
         waiting = [crate for crate in self.left if crate not in self.running]
         behind = chains(crates, expected(crates, self.order, self.took))
         free = ready(crates, waiting, self.done, behind)
-        return shared_out(free, self.jobs - sum(proof.jobs for proof in self.running.values()))
+        return shared_out(free, self.idle)
 
     def begin(self, crate: str, jobs: int) -> None:
         proofs = self.proofs
@@ -135,15 +140,19 @@ def stop_where_crate_touched(root: Path, crate: str, before: Sources) -> None:
 
 
 def _prove_all(run: Run) -> None:
+    shown = -1.0
     try:
         while run.left:
-            for crate, jobs in run.next_ones():
+            for crate, jobs in run.next_ones() if run.idle else []:
                 run.begin(crate, jobs)
             time.sleep(0.1)
             for crate in [crate for crate, proof in run.running.items() if proof.process.poll() is not None]:
                 run.finish(crate)
                 tell("%s is proved; %s" % (crate, run.how_far()))
-            LINE.show("%s; at %s" % (run.how_far(), ", ".join(run.running)))
+            # Working out what is left takes a processor's time from the proofs.
+            if LINE.shows and shown + 1.0 < time.monotonic():
+                shown = time.monotonic()
+                LINE.show("%s; at %s" % (run.how_far(), ", ".join(run.running)))
     finally:
         run.end_all()
 
