@@ -10,6 +10,9 @@ use arrayvec::ArrayVec;
 use line_words::{Range, Taken, cut_at, digit_count, front_number_in, quick_front_number};
 use proof_tree::{GREATEST_UNITS, PRICE_SCALE};
 
+// So many bytes at most are gone through before spaces are summed up: a byte counts them.
+const FEW_BYTES: usize = 128;
+
 /// The numbers of a line.
 pub(crate) type Numbers = ArrayVec<u64, MOST_NUMBERS>;
 
@@ -215,17 +218,32 @@ fn read_numbers(
     Ok(())
 }
 
-/// How many spaces a line has.
-pub(crate) fn count_spaces(line: &[u8]) -> usize
-    ensures { result ≡ count_by (λ byte. byte == 32) line.now }
+// How many spaces a few bytes have. They are counted by a byte, so that many bytes are looked at together.
+fn few_spaces(bytes: &[u8]) -> u8
+    requires { length bytes.now ≤ FEW_BYTES }
+    ensures { result ≡ count_by (λ byte. byte == 32) bytes.now }
 {
-    let mut spaces = 0;
-    for byte in line {
+    let mut spaces = 0u8;
+    for byte in bytes {
         if *byte == b' ' {
             spaces += 1;
         }
     }
     spaces
+}
+
+/// How many spaces a line has.
+pub(crate) fn count_spaces(line: &[u8]) -> usize
+    ensures { result ≡ count_by (λ byte. byte == 32) line.now }
+{
+    let mut spaces = 0;
+    let mut rest = line;
+    while rest.len() > FEW_BYTES {
+        let (front, behind) = rest.split_at(FEW_BYTES);
+        spaces += usize::from(few_spaces(front));
+        rest = behind;
+    }
+    spaces + usize::from(few_spaces(rest))
 }
 
 /// Reads the numbers of a line that begins with a row's word, where such a line may stand: in place of those that were there.

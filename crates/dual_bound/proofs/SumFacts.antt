@@ -1,12 +1,12 @@
 -- Sums of worths along series.
-use Rattle.std.proofs.Common.{◌≡◌, ◌∙◌, ◌⊎◌, ℕ, zero, suc, ◌+◌, ◌*◌, ◌<◌, ◌≤◌, List, [], ◌∷◌, ◌++◌, All, add-one, get_or, length, length-append, map, set, take, refl, sym, ap, subst, arith, inl, inr}
+use Rattle.std.proofs.Common.{◌≡◌, ◌∙◌, ◌⊎◌, ℕ, Option, zero, suc, ◌+◌, ◌*◌, ◌<◌, ◌≤◌, List, [], ◌∷◌, ◌++◌, All, add-one, get_or, length, length-append, map, set, take, refl, sym, ap, subst, arith, inl, inr}
 use Rattle.std.proofs.lemmas.Bool.{cases_eq, cases_lt}
 use Rattle.std.proofs.lemmas.List.{get_or-append-add, get_or-map, get_or-set_other, get_or-set_same, get_or_default, length-map, length-set, take_all, take_more}
 use Rattle.std.specs.List.{AllZip, Contains, sum_by}
 use Rattle.std.proofs.lemmas.List.Sums.{sum_by-cons, sum_by_more}
 use Rattle.std.proofs.Math.Seq.{take-append_seam}
 use Rattle.std.proofs.lemmas.List.Elements.{All-append, All-cons, All-map}
-use Rattle.dual_bound.specs.Columns.{AreDateDays, AreSmallSums, AreSums, Extends, IsLightWorth, IsRun, IsRunOf, IsStopWithin, IsSummed, stop_day, sum_after, sum_before, worth_at, worth_on, worth_together}
+use Rattle.dual_bound.specs.Columns.{AreDateDays, AreSmallSums, AreSums, IsLightWorth, IsRun, IsRunOf, IsStopWithin, IsSummed, stop_day, sum_after, sum_before, worth_at, worth_on, worth_together}
 use Rattle.dual_bound.specs.declared.column.Column.{Column}
 use Rattle.dual_bound.specs.declared.date_days.DateDays.{DateDays}
 use Rattle.proof_tree.specs.declared.prices.TheConstants.{PRICE_SCALE}
@@ -16,7 +16,7 @@ use Rattle.dual_bound.specs.declared.series.Stop.TheVariants.{Day, Start}
 use Rattle.proof_tree.specs.declared.tree.Leaf.{Leaf}
 use Rattle.dual_bound.specs.declared.worth.PricedDay.{PricedDay}
 use Rattle.dual_bound.specs.declared.worth.Worth.{Worth}
-use Rattle.dual_bound.proofs.ColumnMade.{zip-push, zip-weaker}
+use Rattle.dual_bound.proofs.ColumnMade.{zip-push}
 use Rattle.dual_bound.proofs.DateFacts.{change-at, IsListedChange, listed-change, worth-stays}
 
 -- two worths together
@@ -106,14 +106,6 @@ added-run old places = record {
       ap (λ j. get_or (old ++ Start ∷ map Day places) j s) at ∙ get_or-append-add old (Start ∷ map Day places) (suc k) s ∙ get_or-map Day places k d s lt;
 }
 
--- a run stays where it is
-pub run-stays : (old new : List Stop) → Extends old new → (column : Column) (run : Run) → IsRunOf old column run → IsRunOf new column run
-run-stays old new e column run h = record {
-  long = h.long;
-  there = omega (arith, h.there, e.0);
-  days = λ k d s lt. e.1 (run.from + 1 + k) s (omega (arith, lt, h.long, h.there)) ∙ h.days k d s lt;
-}
-
 -- stops of days that are there
 pub within-more : (days : ℕ) (old : List Stop) (places : List ℕ) → All (λ place. place < days) places → All (IsStopWithin days) old → All (IsStopWithin days) (old ++ Start ∷ map Day places)
 within-more days old places h was =
@@ -156,12 +148,20 @@ together-light worths (place ∷ places) light there =
     let rest = together-light worths places light (λ k d lt. there (suc k) d (omega arith)) in
     omega (arith, first, rest, sum_by-cons (λ (place : ℕ). (worth_at worths place).above) place places, sum_by-cons (λ (place : ℕ). (worth_at worths place).below) place places)
 
+-- what days are worth together, one more
+pub together-more : (worths : List Worth) (places : List ℕ) (i place : ℕ) → i < length places → place ≡ get_or places i place
+    → joined (worth_together worths (take i places)) (worth_at worths place) ≡ worth_together worths (take (i + 1) places)
+together-more worths places i place few is =
+    same-worth (joined (worth_together worths (take i places)) (worth_at worths place)) (worth_together worths (take (i + 1) places))
+    (omega (arith, sum_by_more (λ (place : ℕ). (worth_at worths place).above) places i place few, ap (λ k. (worth_at worths k).above) is))
+    (omega (arith, sum_by_more (λ (place : ℕ). (worth_at worths place).below) places i place few, ap (λ k. (worth_at worths k).below) is))
+
 -- runs, one more
-pub runs-more : (old new : List Stop) (columns : List Column) (i : ℕ) (column : Column) (runs : List Run) (run : Run) → i < length columns → column ≡ get_or columns i column → Extends old new
-    → AllZip (IsRunOf old) (take i columns) runs → IsRun new column.places.items run → AllZip (IsRunOf new) (take (i + 1) columns) (runs ++ run ∷ [])
-runs-more old new columns i column runs run few is e h own =
-    subst (λ cs. AllZip (IsRunOf new) cs (runs ++ run ∷ [])) (sym (take_more columns i column few ∙ ap (λ x. take i columns ++ x ∷ []) (sym is)))
-    (zip-push (IsRunOf new) (take i columns) runs column run (zip-weaker (IsRunOf old) (IsRunOf new) (take i columns) runs (run-stays old new e) h) own)
+pub runs-more : (stops : List Stop) (columns : List Column) (i : ℕ) (column : Column) (runs : List (Option Run)) (run : Option Run) → i < length columns → column ≡ get_or columns i column
+    → AllZip (IsRunOf stops) (take i columns) runs → IsRunOf stops column run → AllZip (IsRunOf stops) (take (i + 1) columns) (runs ++ run ∷ [])
+runs-more stops columns i column runs run few is h own =
+    subst (λ cs. AllZip (IsRunOf stops) cs (runs ++ run ∷ [])) (sym (take_more columns i column few ∙ ap (λ x. take i columns ++ x ∷ []) (sym is)))
+    (zip-push (IsRunOf stops) (take i columns) runs column run h own)
 
 -- sums have room
 pub sums-small : (worths : List Worth) (stops : List Stop) (sums : List Worth) → AreSums worths stops sums → All IsLightWorth worths → All (IsStopWithin (length worths)) stops → AreSmallSums sums

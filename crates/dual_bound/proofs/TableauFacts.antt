@@ -1,5 +1,5 @@
 -- A tableau, a line at a time.
-use Rattle.std.proofs.Common.{◌≡◌, ◌∙◌, ℕ, zero, suc, ◌+◌, ◌*◌, ◌/◌, ◌<◌, ◌≤◌, List, [], ◌∷◌, ◌++◌, All, get_or, length, map, take, sym, ap, subst, arith, inl, inr, ◌⊎◌, ℤ, ◌+ℤ◌, ◌-ℤ◌, pos, set}
+use Rattle.std.proofs.Common.{◌≡◌, ◌∙◌, ℕ, None, Some, zero, suc, ◌+◌, ◌*◌, ◌/◌, ◌<◌, ◌≤◌, List, [], ◌∷◌, ◌++◌, All, get_or, length, map, take, sym, ap, subst, arith, inl, inr, ◌⊎◌, ℤ, ◌+ℤ◌, ◌-ℤ◌, pos, set}
 use Rattle.std.specs.List.{AllZip, filter, zip}
 use Rattle.std.proofs.lemmas.Int.{ints}
 use Rattle.std.proofs.Math.Nat.{mul-le-mul_left}
@@ -113,7 +113,7 @@ runs-long book t h =
     AllZip-long (IsRunOf t.series.stops.items) t.columns.items t.series.runs.items h.series.runs
     ∙ AllZip-long (IsColumn t.yield_units.0 book t.days.items) book.lines t.columns.items h.columns
 
-pub run-of : (book : BookContents) (t : Tableau) (place : ℕ) (d : Column) (run : Run) → IsTableau book t → place < length book.lines → run ≡ get_or t.series.runs.items place run
+pub run-of : (book : BookContents) (t : Tableau) (place : ℕ) (d : Column) (run : Run) → IsTableau book t → place < length book.lines → get_or t.series.runs.items place None ≡ Some run
     → IsRunWorth t (get_or t.columns.items place d) run
 run-of book t place d run h few is = record {
   to = omega (arith, own.there, h.sums.every);
@@ -135,11 +135,32 @@ run-of book t place d run h few is = record {
 
     own : IsRun t.series.stops.items column.places.items run
     own =
-        subst (IsRun t.series.stops.items column.places.items) (sym is)
-        (zip-get (IsRunOf t.series.stops.items) t.columns.items t.series.runs.items place d run h.series.runs there)
+        subst (IsRunOf t.series.stops.items column) is
+        (zip-get (IsRunOf t.series.stops.items) t.columns.items t.series.runs.items place d None h.series.runs there)
 
 pub columns-long : (book : BookContents) (t : Tableau) → IsTableau book t → length t.columns.items ≡ length book.lines
 columns-long book t h = AllZip-long (IsColumn t.yield_units.0 book t.days.items) book.lines t.columns.items h.columns
+
+-- what is known of the regular days of a line
+pub record AreReadyDays (t : Tableau) (column : Column) : Type 0 where
+  pub there : All (λ place. place < length t.priced.worths.items) column.places.items
+  pub light : All IsLightWorth t.priced.worths.items
+  pub few : length column.places.items ≤ 84
+
+pub ready-days : (book : BookContents) (t : Tableau) (place : ℕ) (column : Column) → IsTableau book t → place < length book.lines → column ≡ get_or t.columns.items place column → AreReadyDays t column
+ready-days book t place column h few is = record {
+  there = λ k d lt. omega (arith, days k d lt, ap length h.worths, length-map t.days.items (worth_on t.priced.leaf));
+  light = worths-light (length book.needs) t.priced.leaf t.days.items t.priced.worths.items h.leaf h.powers h.worths;
+  few = (subst IsSmallColumn (sym is) (h.small place column there)).few;
+}
+  where
+    there : place < length t.columns.items
+    there = omega (arith, few, columns-long book t h)
+
+    days : All (λ place. place < length t.days.items) column.places.items
+    days =
+        subst (λ (own : Column). All (λ place. place < length t.days.items) own.places.items) (sym is)
+        (columns-there t.yield_units.0 book t.days.items book.lines t.columns.items h.columns place column there)
 
 -- a line, where none is named
 pub some-line : Line

@@ -1,6 +1,6 @@
 -- Columns: what each line is in the linear program whose dual the bound is. Made once for a book and the powers of a yield,
 -- they hold each line's coefficients and what each payment day is priced by, so that a leaf is priced without a calendar.
-use Rattle.std.specs.Prelude.{◌≡◌, ℕ, zero, suc, ◌+◌, ◌-◌, ◌*◌, ◌/◌, ◌^◌, ◌<◌, ◌≤◌, ◌==◌, Bool, false, ◌&&◌, ◌||◌, not, List, All, length, map, filter, slice_index, slice_index_or, sum_by, ℤ, pos, ◌+ℤ◌, ◌-ℤ◌, ◌*ℤ◌, neg_ℤ, unsigned_abs, Some, None}
+use Rattle.std.specs.Prelude.{◌≡◌, ℕ, zero, suc, ◌+◌, ◌-◌, ◌*◌, ◌/◌, ◌^◌, ◌<◌, ◌≤◌, ◌==◌, Bool, false, ◌&&◌, ◌||◌, not, List, All, length, map, filter, slice_index, slice_index_or, sum_by, ℤ, pos, ◌+ℤ◌, ◌-ℤ◌, ◌*ℤ◌, neg_ℤ, unsigned_abs, Option, IfSome, Some, None}
 use Rattle.std.specs.List.{AllZip, Contains}
 use Rattle.escrow_units.specs.Flows.{index360_of}
 use Rattle.escrow_units.specs.Interest.{earned_of}
@@ -230,9 +230,9 @@ pub record IsRun (stops : List Stop) (places : List ℕ) (run : Run) : Type 0 wh
   pub there : run.to < length stops
   pub days : (k d : ℕ) (s : Stop) → k < length places → slice_index_or stops (run.from + 1 + k) s ≡ Day (slice_index_or places k d)
 
--- the run of a line has its regular days
-abbrev pub IsRunOf : List Stop → Column → Run → Type 0
-IsRunOf stops column run = IsRun stops column.places.items run
+-- the run of a line has its regular days, where it is known
+abbrev pub IsRunOf : List Stop → Column → Option Run → Type 0
+IsRunOf stops column run = IfSome run (IsRun stops column.places.items)
 
 -- what prices a stop: its day; and nothing, the start of a series
 abbrev pub stop_day : ℕ → List PricedDay → Stop → PricedDay
@@ -261,7 +261,7 @@ pub record AreSums (worths : List Worth) (stops : List Stop) (sums : List Worth)
 abbrev pub AreSmallSums : List Worth → Type 0
 AreSmallSums sums = (stop : ℕ) → stop < length sums → (worth_at sums stop).above + (worth_at sums stop).below ≤ (stop + 1) * (2 * PRICE_SCALE)
 
--- series are laid out for columns: each line's regular days are a run, and each need date knows the stops that it prices
+-- series are laid out for columns: a run of a line has its regular days, and each need date knows the stops that it prices
 pub record IsLaid (dates : ℕ) (days : List PricedDay) (columns : List Column) (series : Series) : Type 0 where
   pub few : length series.stops.items ≤ 100_000
   pub there : All (IsStopWithin (length days)) series.stops.items

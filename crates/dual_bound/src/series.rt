@@ -1,4 +1,5 @@
-//! The regular days of lines as runs of series, so that what a run is worth is a difference of two sums.
+//! The regular days of lines as runs of series, so that what a run is worth is a difference of two sums. A line that shares no day
+//! with another has no run.
 ghost use Rattle.std.specs.Prelude.{All, ◌≡◌, ◌+◌, ◌*◌, ◌<◌, ◌≤◌, ℕ, true, [], ◌∷◌, ◌++◌, IfOk, IfSome, OnOk, length, map};
 ghost use Rattle.std.specs.List.{AllZip};
 ghost use Rattle.dual_bound.specs.Columns.{Extends, IsLaid, IsRun, IsRunOf, IsSmallColumn, IsStopWithin, stop_day as stop_day_of};
@@ -39,13 +40,13 @@ pub(crate) struct Stops {
     pub latest: Vec<usize>,
 }
 
-/// The series of a book's lines: each line's regular days are a run of one.
+/// The series of a book's lines: the regular days of each line that shares days with another are a run of one.
 #[derive(Drop)]
 pub(crate) struct Series {
     /// The series, one behind another.
     pub stops: Vec<Stop>,
-    /// The run of each line.
-    pub runs: Vec<Run>,
+    /// The run of each line, where it is found.
+    pub runs: Vec<Option<Run>>,
     /// The stops whose days each need date prices.
     pub date_stops: Vec<DateDays>,
 }
@@ -181,24 +182,46 @@ impl Stops {
         Ok(())
     }
 
-    // The runs of all lines.
-    fn runs(&mut self, alloc: Global, columns: &[Column], days: usize) -> Result<Vec<Run>, NoMemory>
-        requires lines { length columns.now ≤ 513 }
+    // The runs of all lines, as far as they are found.
+    fn runs(&self, alloc: Global, columns: &[Column]) -> Result<Vec<Option<Run>>, NoMemory>
         requires small { All IsSmallColumn columns.now }
-        requires there { All (λ (column : ColumnOf). All (λ place. place < days) column.places.items) columns.now }
-        requires within { All (IsStopWithin days) self.old.stops.items }
-        requires few { length self.old.stops.items ≤ 513 * 85 }
-        ensures within { OnOk result (All (IsStopWithin days) self.new.stops.items) }
-        ensures few { OnOk result (length self.new.stops.items ≤ 90_000) }
-        ensures runs { IfOk result (λ runs. AllZip (IsRunOf self.new.stops.items) columns.now runs.items) }
+        ensures { IfOk result (λ runs. AllZip (IsRunOf self.now.stops.items) columns.now runs.items) }
     {
-        let mut runs = Vec::new(alloc);
+        let mut runs = Vec::with_capacity(alloc, columns.len())?;
         for column in columns {
-            let run = self.run(column.places.as_slice())?;
-            runs.push(run)?;
+            runs.push(self.find(column.places.as_slice()))?;
         }
         Ok(runs)
     }
+}
+
+// Counts one line more on the day at each of some places.
+fn count_line(counts: &mut [usize], places: &[u16]) {
+    for place in places {
+        let at = usize::from(*place);
+        if at < counts.len() {
+            counts[at] = counts[at].saturating_add(1);
+        }
+    }
+}
+
+// How many lines pay regularly on the day at each place. It shows which lines to lay out, and nothing rests on it.
+fn lines_by_day(alloc: Global, columns: &[Column], days: usize) -> Result<Vec<usize>, NoMemory> {
+    let mut counts = vec![in alloc; 0usize; days]?;
+    for column in columns {
+        count_line(counts.as_mut_slice(), column.places.as_slice());
+    }
+    Ok(counts)
+}
+
+// Whether more than one line pays regularly on one of some days.
+fn are_shared(counts: &[usize], places: &[u16]) -> bool {
+    for place in places {
+        if counts.get(usize::from(*place)).copied().unwrap_or(0) > 1 {
+            return true;
+        }
+    }
+    false
 }
 
 // How many regular days a line has.
@@ -209,13 +232,17 @@ fn regular_days(columns: &[Column], line: usize) -> usize {
     }
 }
 
-// The lines, those with the most regular days first.
-fn longest_first(alloc: Global, columns: &[Column]) -> Result<Vec<usize>, NoMemory>
-    ensures { IfOk result (λ order. length order.items ≡ length columns.now) }
+// The lines that share a regular day with another, those with the most regular days first. What no other line shares is summed up
+// for its line alone.
+fn longest_first(alloc: Global, columns: &[Column], days: usize) -> Result<Vec<usize>, NoMemory>
+    ensures { IfOk result (λ order. length order.items ≤ length columns.now) }
 {
+    let counts = lines_by_day(alloc, columns, days)?;
     let mut order = Vec::new(alloc);
     for line in 0..columns.len() {
-        order.push(line)?;
+        if are_shared(counts.as_slice(), columns[line].places.as_slice()) {
+            order.push(line)?;
+        }
     }
     order.sort_by_key(|line| Reverse(regular_days(columns, *line)))?;
     Ok(order)
@@ -270,9 +297,9 @@ impl Series {
         ensures laid { IfOk result (IsLaid dates days.now columns.now) }
     {
         let mut stops = Stops::new(alloc, days.len())?;
-        let order = longest_first(alloc, columns)?;
+        let order = longest_first(alloc, columns, days.len())?;
         stops.lay_out(columns, order.as_slice(), days.len())?;
-        let runs = stops.runs(alloc, columns, days.len())?;
+        let runs = stops.runs(alloc, columns)?;
         let list = stop_days(alloc, dates, days, stops.stops.as_slice())?;
         let date_stops = days_by_date(alloc, dates, list.as_slice())?;
         Ok(Series {

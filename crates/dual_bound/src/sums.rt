@@ -1,8 +1,8 @@
-//! Sums of what the days of a series are worth, up to each stop.
+//! Sums of what days are worth: of a series up to each stop, and of one line.
 ghost use Rattle.std.specs.Prelude.{All, ◌≡◌, ◌⊎◌, ◌+◌, ◌*◌, ◌<◌, ◌≤◌, ℕ, length};
 ghost use Rattle.std.specs.List.{Contains};
 ghost use Rattle.dual_bound.specs.Changes.{IsListedAt};
-ghost use Rattle.dual_bound.specs.Columns.{AreSmallSums, AreSums, IsLightWorth, IsStopWithin, IsSummed, sum_after as sum_after_of, sum_before as sum_before_of};
+ghost use Rattle.dual_bound.specs.Columns.{AreSmallSums, AreSums, IsLightWorth, IsStopWithin, IsSummed, sum_after as sum_after_of, sum_before as sum_before_of, worth_together};
 ghost use Rattle.dual_bound.specs.declared.date_days.DateDays.{DateDays as DateDaysOf};
 
 use crate::date_days::DateDays;
@@ -111,4 +111,19 @@ pub(crate) fn mend_dates(
     for date in dates {
         mend_at(stops, worths, sums, lists[*date].places.as_slice());
     }
+}
+
+/// What a cent on each of some days is worth, together.
+pub(crate) fn sum_of(worths: &[Worth], places: &[u16]) -> Worth
+    requires there { All (λ place. place < length worths.now) places.now }
+    requires light { All IsLightWorth worths.now }
+    requires few { length places.now ≤ 84 }
+    ensures value { result ≡ worth_together worths.now places.now }
+    ensures light { result.above + result.below ≤ 84 * (2 * PRICE_SCALE) }
+{
+    let mut together = Worth { above: 0, below: 0 };
+    for place in places {
+        together = together.plus(worths[usize::from(*place)]);
+    }
+    together
 }

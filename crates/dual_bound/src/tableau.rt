@@ -1,5 +1,5 @@
 //! The columns of all lines of a book, with their days priced at a leaf.
-ghost use Rattle.std.specs.Prelude.{All, ◌≡◌, ◌≢◌, ◌+◌, ◌*◌, ◌^◌, ◌<◌, ◌≤◌, ◌+ℤ◌, ◌-ℤ◌, ℕ, IfOk, OnOk, length, map, slice_index_or, slice_set, unsigned_abs};
+ghost use Rattle.std.specs.Prelude.{All, ◌≡◌, ◌≢◌, ◌+◌, ◌*◌, ◌^◌, ◌<◌, ◌≤◌, ◌+ℤ◌, ◌-ℤ◌, ℕ, IfOk, None, OnOk, Some, length, map, slice_index_or, slice_set, unsigned_abs};
 ghost use Rattle.std.specs.List.{AllZip};
 ghost use Rattle.fixed_powers.specs.DiscountPowers.{IsLowTable, PowerTable, one};
 ghost use Rattle.offer_book.specs.Book.{IsBook};
@@ -17,8 +17,8 @@ use crate::date_days::{DateDays, days_by_date, price_dates};
 use crate::day_table::DayTable;
 use crate::form::Form;
 use crate::leaf_bound::{cost_worth, priced_needs};
-use crate::series::{Series, Stop};
-use crate::sums::{mend_at, mend_dates, sum_up};
+use crate::series::{Run, Series, Stop};
+use crate::sums::{mend_at, mend_dates, sum_of, sum_up};
 use crate::worth::{PricedDay, Worth, price_day, price_days, price_days_at};
 use escrow_desk::NoMemory;
 use escrow_units::{AMOUNT_LIMIT, Cents, Flow, YieldUnits};
@@ -321,7 +321,32 @@ impl Tableau {
         self.priced.needs
     }
 
-    // What a cent on each regular day of a line is worth, together: a difference of two sums.
+    // What a cent on each regular day of a line that has a run is worth, together: a difference of two sums.
+    #[inline(always)]
+    fn run_worth(&self, book: &Book, line: u16, run: Run) -> Worth
+        requires tableau { IsTableau book.now self.now }
+        requires line { line < length book.now.lines }
+        requires run { slice_index_or self.now.series.runs.items line None ≡ Some run }
+        ensures value { (d : ColumnOf) → result ≡ worth_together self.now.priced.worths.items (slice_index_or self.now.columns.items line d).places.items }
+        ensures light { result.above + result.below ≤ 84 * (2 * PRICE_SCALE) }
+    {
+        self.priced.sums[run.to].minus(self.priced.sums[run.from])
+    }
+
+    // What a cent on each regular day of a line is worth, together: day by day. It isn't inlined, so that lines with runs have the
+    // registers.
+    #[inline(never)]
+    fn days_worth(&self, book: &Book, line: u16) -> Worth
+        requires tableau { IsTableau book.now self.now }
+        requires line { line < length book.now.lines }
+        ensures value { (d : ColumnOf) → result ≡ worth_together self.now.priced.worths.items (slice_index_or self.now.columns.items line d).places.items }
+        ensures light { result.above + result.below ≤ 84 * (2 * PRICE_SCALE) }
+    {
+        let column = &self.columns[usize::from(line)];
+        sum_of(self.priced.worths.as_slice(), column.places.as_slice())
+    }
+
+    // What a cent on each regular day of a line is worth, together.
     #[inline(always)]
     fn regular_worth(&self, book: &Book, line: u16) -> Worth
         requires tableau { IsTableau book.now self.now }
@@ -329,8 +354,10 @@ impl Tableau {
         ensures value { (d : ColumnOf) → result ≡ worth_together self.now.priced.worths.items (slice_index_or self.now.columns.items line d).places.items }
         ensures light { result.above + result.below ≤ 84 * (2 * PRICE_SCALE) }
     {
-        let run = self.series.runs[usize::from(line)];
-        self.priced.sums[run.to].minus(self.priced.sums[run.from])
+        match self.series.runs[usize::from(line)] {
+            Some(run) => self.run_worth(book, line, run),
+            None => self.days_worth(book, line),
+        }
     }
 
     /// The form of a line, counted from 0.
