@@ -18,6 +18,9 @@ use std::alloc::Global;
 // 30 percent: a yield that reaches it is above the interval's bounds.
 const MOST: YieldUnits = YieldUnits(GREATEST_YIELD);
 
+// 4 percent: a yield such as many are, from which others are looked for.
+const USUAL: u64 = 400_000_000;
+
 // The sum of the flows, in cents.
 fn sum_of(flows: &[Flow]) -> u64
     requires { total flows.now < 2 ^ 64 }
@@ -122,12 +125,12 @@ fn next_by_guess(
 // The greatest yield at which the flows are worth what is wanted, roughly. It shows where to try first, and nothing rests on it.
 fn about_yield(flows: &Timeline, wanted: u128) -> u64 {
     let mut previous = Tried {
-        n: MOST.0,
-        value: 0,
-    };
-    let mut last = Tried {
         n: 0,
         value: flows.about_total(),
+    };
+    let mut last = Tried {
+        n: USUAL,
+        value: flows.about_value(USUAL),
     };
     let mut worth = 0u64;
     let mut most = MOST.0 - 1;
