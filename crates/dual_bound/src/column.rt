@@ -26,6 +26,9 @@ use payment_schedule::{HALF_YEAR, ScheduledPayment};
 use proof_tree::PRICE_SCALE;
 use std::alloc::Global;
 
+// The most payments that a line has.
+const MOST_PAYMENTS: usize = 84;
+
 /// A payment of a line that isn't regular: its first interest, or with the principal.
 #[derive(Clone, Copy)]
 pub(crate) struct OtherPayment {
@@ -216,24 +219,25 @@ fn paid_in_all(regular: i128, others: i128) -> i128
 }
 
 impl Column {
-    // The column of a line before its payments.
-    fn without_payments(alloc: Global, days: &Days, line: &Line) -> Column
+    // The column of a line before its payments, with room for as many regular ones as there may be.
+    fn without_payments(alloc: Global, days: &Days, line: &Line) -> Result<Column, NoMemory>
         requires settlement { IsSettlement days.now.settle }
         requires line { IsLine days.now line.now }
-        ensures head { HasHead days.now.settle line.now result }
-        ensures places { result.places.items ≡ [] }
-        ensures others { result.others.items ≡ [] }
+        ensures head { IfOk result (HasHead days.now.settle line.now) }
+        ensures places { IfOk result (λ column. column.places.items ≡ []) }
+        ensures others { IfOk result (λ column. column.others.items ≡ []) }
     {
         let cost = line.scaled_cost();
-        Column {
+        let places = Vec::with_capacity(alloc, MOST_PAYMENTS)?;
+        Ok(Column {
             cost_low: cost.low,
             cost_high: cost.high,
             cost_slack: cost.slack,
             accrued: line.accrued(),
             regular: coefficients_of(line, &regular_payment(days.settle)),
-            places: Vec::new(alloc),
+            places,
             others: Vec::new(alloc),
-        }
+        })
     }
 
     // Puts a payment at the place of its day.
@@ -277,7 +281,7 @@ impl Column {
         ensures column { IfOk result (IsColumn powers.now.yield_units book.now table.new.days.items line.now) }
         ensures small { IfOk result IsSmallColumn }
     {
-        let mut column = Column::without_payments(alloc, book.payment_days(), line);
+        let mut column = Column::without_payments(alloc, book.payment_days(), line)?;
         let payments = paying(line, book.payment_days());
         for payment in payments.as_slice() {
             let place = table.place(book, powers, line.kind, payment)?;

@@ -18,6 +18,9 @@ use offer_book::{Book, LineKind};
 use payment_schedule::ScheduledPayment;
 use std::alloc::Global;
 
+// The days of 40 years and their first. It shows how much room to take, and nothing rests on it.
+const LONGEST: usize = 14_611;
+
 /// The days on which lines pay, each once, and where each stands by its number of days after settlement.
 #[derive(Drop)]
 pub(crate) struct DayTable {
@@ -79,7 +82,7 @@ impl DayTable {
     {
         Ok(DayTable {
             days: Vec::with_capacity(alloc, days)?,
-            places: Vec::new(alloc),
+            places: Vec::with_capacity(alloc, LONGEST)?,
         })
     }
 

@@ -8,12 +8,13 @@ use crate::desk::{Desk, DeskError, Failed};
 use crate::refusal::ReadRefusal;
 use std::alloc::{AllocError, Global};
 
-// The most bytes that one read takes. They stand on the heap, so that a small stack is enough.
-const PIECE: usize = 65_536;
+// The most bytes that one read takes. They stand on the heap, so that a small stack is enough, and are few, since each is cleared
+// for each file.
+const PIECE: usize = 8_192;
 
 // Room for a piece.
 fn new_piece(alloc: Global) -> Result<Vec<u8>, AllocError>
-    ensures { IfOk result (λ piece. length piece.items ≡ 65_536) }
+    ensures { IfOk result (λ piece. length piece.items ≡ 8_192) }
 {
     Ok(vec![in alloc; 0u8; PIECE]?)
 }

@@ -1,5 +1,5 @@
 -- The dates of a series around a day.
-use Rattle.std.proofs.Common.{◌≡◌, ◌∙◌, ℕ, ◌+◌, ◌-◌, ◌<◌, ◌≤◌, zero, suc, refl, sym, ap, arith, ℤ, pos, ◌+ℤ◌, ◌≤ℤ◌, ◌<ℤ◌, int_lt, inl, inr, Bool, true, false, List, [], ◌∷◌, ◌++◌, length, get_or, reverse, filter, subst}
+use Rattle.std.proofs.Common.{◌≡◌, ◌∙◌, ℕ, ◌+◌, ◌-◌, ◌*◌, ◌<◌, ◌≤◌, zero, suc, refl, sym, ap, arith, ℤ, pos, ◌+ℤ◌, ◌≤ℤ◌, ◌<ℤ◌, int_lt, inl, inr, Bool, true, false, List, [], ◌∷◌, ◌++◌, length, get_or, reverse, filter, subst}
 use Rattle.std.specs.Prelude.{Contains}
 use Rattle.std.proofs.lemmas.Bool.{cases_lt}
 use Rattle.std.proofs.lemmas.List.{reverse-append, length-append}
@@ -150,6 +150,58 @@ walk-end maturity r day date next dates near walk early =
       last = last-along maturity r day date _ walk.at (last-by maturity r day (length dates) near some (omega (arith, walk.few)) late by);
       first = first-along maturity r day next _ walk.before (first-after maturity r day (length dates) near some (omega (arith, walk.few)) late by);
       half_year = half_year-along date next _ _ walk.at walk.before (half_year-before maturity r (length dates) near.base some (omega (arith, walk.few)));
+    }
+
+-- two dates of the series that are next to each other; the later one comes after the day
+pub record IsBeside (maturity : ℤ) (r : StepRule) (day : ℤ) (steps : ℕ) (previous next : ℤ) : Type 0 where
+  pub few : steps ≤ 80
+  pub before : previous ≡ half_back_of maturity (steps + 1) r
+  pub at : next ≡ half_back_of maturity steps r
+  pub late : day <ℤ next
+
+-- k half-years have at most 184 days each
+half_back_of-span : (maturity : ℤ) (r : StepRule) (k : ℕ) → IsBaseDay maturity → k ≤ 84 → maturity ≤ℤ (half_back_of maturity k r +ℤ pos (184 * k))
+half_back_of-span maturity r zero h few = omega (arith, signed_arith, half_back_of-zero maturity r h)
+half_back_of-span maturity r (suc k) h few =
+    let more : k + 1 ≡ suc k = omega arith in
+    let step = rw more at (half_back_of-steps maturity r k h (omega arith)) in
+    omega (arith, signed_arith, step.most, half_back_of-span maturity r k h (omega arith))
+
+-- so that so many surely lead to a date after the day
+pub beside-start : (maturity : ℤ) (r : StepRule) (day previous next : ℤ) (days steps : ℕ) → IsNear maturity day → day +ℤ pos days ≡ maturity → 184 * steps < days
+    → previous ≡ half_back_of maturity (steps + 1) r → next ≡ half_back_of maturity steps r → IsBeside maturity r day steps previous next
+beside-start maturity r day previous next days steps near same short before at =
+    let few : steps ≤ 79 = omega (arith, signed_arith, near.most) in
+    let late : day <ℤ next = omega (arith, signed_arith, at, half_back_of-span maturity r steps near.base (omega arith)) in
+    record { few = omega arith; before = before; at = at; late = late }
+
+pub beside-more : (maturity : ℤ) (r : StepRule) (day previous next : ℤ) (steps : ℕ) → IsNear maturity day → IsBeside maturity r day steps previous next
+    → day <ℤ previous → steps + 1 ≤ 80
+beside-more maturity r day previous next steps near beside late =
+    few_steps maturity r day (steps + 1) near (omega (arith, beside.few)) (omega (arith, signed_arith, late, beside.before))
+
+-- where the earlier one doesn't, they are the dates next to the day
+pub record AreBeside (maturity : ℤ) (r : StepRule) (day previous next : ℤ) : Type 0 where
+  pub earlier : previous ≡ previous_date_of maturity r day
+  pub following : next ≡ next_date_of maturity r day
+  pub last : IsLastBy maturity r day previous
+  pub first : IsFirstAfter maturity r day next
+  pub half_year : IsHalfYear previous next
+
+pub beside-end : (maturity : ℤ) (r : StepRule) (day : ℤ) (steps : ℕ) (previous next : ℤ) → IsNear maturity day → IsBeside maturity r day steps previous next
+    → previous ≤ℤ day → AreBeside maturity r day previous next
+beside-end maturity r day steps previous next near beside early =
+    let less : steps + 1 - 1 ≡ steps = omega arith in
+    let at : next ≡ half_back_of maturity (steps + 1 - 1) r = rw less beside.at in
+    let late : day <ℤ half_back_of maturity (steps + 1 - 1) r = omega (arith, signed_arith, beside.late, at) in
+    let by : half_back_of maturity (steps + 1) r ≤ℤ day = omega (arith, signed_arith, early, beside.before) in
+    let p = has_dates maturity r day (steps + 1) near (omega arith) (omega (arith, beside.few)) late by in
+    record {
+      earlier = beside.before ∙ sym p.previous;
+      following = at ∙ sym p.next;
+      last = last-along maturity r day previous _ beside.before (last-by maturity r day (steps + 1) near (omega arith) (omega (arith, beside.few)) late by);
+      first = first-along maturity r day next _ at (first-after maturity r day (steps + 1) near (omega arith) (omega (arith, beside.few)) late by);
+      half_year = half_year-along previous next _ _ beside.before at (half_year-before maturity r (steps + 1) near.base (omega arith) (omega (arith, beside.few)));
     }
 
 -- how many dates come after a day

@@ -42,5 +42,5 @@ pub use price_text::{price_spelling, read_price};
 pub use printed::{print_cents, print_rate, print_yield};
 pub use rounding::near;
 pub use security::{AskedRate, Flow, Slgs, SlgsKind, StepRule, Terms};
-pub use series::{SeriesDates, series_around};
+pub use series::{DatesBeside, SeriesDates, dates_beside, series_around};
 pub use settlement::is_settlement;

@@ -14,7 +14,8 @@ pub fn step_down(power: u64, factor: u64) -> u64
     ensures value { result ≡ power * factor / one }
     ensures within { result ≤ one }
 {
-    (power as u128 * factor as u128 / ONE as u128) as u64
+    // Of numbers that are twice as great, the upper half of the product is the quotient.
+    (((2 * power) as u128 * (2 * factor) as u128) >> 64) as u64
 }
 
 // One multiplication, rounded up.

@@ -14,5 +14,5 @@ pub use powers::Powers;
 pub use present_values::{
     present_values_are_ordered, present_values_are_sharp, present_values_enclose,
 };
-pub use root::{root_high, root_low};
+pub use root::{about_product, about_root, root_high, root_low};
 pub use side::Side;

@@ -33,8 +33,8 @@ fn is_high_enough(factor: u64, units: u64) -> bool
         >= ONE as u128 * TWO_HUNDRED_PERCENT as u128
 }
 
-// The product of two numbers of 62 fraction bits, roughly, and at most one.
-fn about_product(first: u64, second: u64) -> u64 {
+/// The product of two numbers of 62 fraction bits, roughly, and at most one. Nothing rests on it.
+pub fn about_product(first: u64, second: u64) -> u64 {
     ((first as u128 * second as u128) >> 62).min(ONE as u128) as u64
 }
 
@@ -50,9 +50,9 @@ fn about_half_year(factor: u64) -> u64 {
     about_product(most_days, about_product(sixteenth, fourth))
 }
 
-// About the factor of one index day, by a few steps of Newton's method down from one. It shows where to try first, and nothing
-// rests on it.
-fn about_root(units: u64) -> u64
+/// About the factor of one index day at a yield of at most 3,000,000,001 units, as a number of 62 fraction bits: by a few steps of
+/// Newton's method down from one. It shows where to try first, and nothing rests on it.
+pub fn about_root(units: u64) -> u64
     requires { units ≤ GREATEST_YIELD + 1 }
 {
     let half_year = ONE as u128 * TWO_HUNDRED_PERCENT as u128

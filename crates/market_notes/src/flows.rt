@@ -11,22 +11,29 @@ ghost use Rattle.payment_schedule.specs.Schedule.{IsShort, flow_by};
 use crate::note::Note;
 use arrayvec::ArrayVec;
 use escrow_units::{
-    Accrual, Cents, ClosedDays, Day, Flow, SeriesDates, StepRule, days_between, earned, face_price,
-    series_around,
+    Accrual, Cents, ClosedDays, DatesBeside, Day, Flow, SeriesDates, StepRule, dates_beside,
+    days_between, earned, face_price, series_around,
 };
 use payment_schedule::{HALF_YEAR, ScheduledPayment, scheduled_flows};
 
 // The dates of a note's series around settlement: it pays on those after.
 fn dates_of(note: &Note) -> SeriesDates
     requires { IsNote note.now }
-    ensures previous { result.previous ≡ previous_date note.now }
-    ensures next { result.next ≡ next_date note.now }
     ensures after { result.after.items ≡ payment_dates note.now }
     ensures by { All IsBy2190 result.after.items }
+{
+    series_around(note.maturity, StepRule::MonthEnd, note.settle)
+}
+
+// The dates of a note's series next to settlement.
+fn dates_at(note: &Note) -> DatesBeside
+    requires { IsNote note.now }
+    ensures previous { result.previous ≡ previous_date note.now }
+    ensures next { result.next ≡ next_date note.now }
     ensures around { SettlesIn note.now result.previous result.next }
     ensures half_year { IsHalfYear result.previous result.next }
 {
-    series_around(note.maturity, StepRule::MonthEnd, note.settle)
+    dates_beside(note.maturity, StepRule::MonthEnd, note.settle)
 }
 
 /// For which part of a year a note has earned interest by settlement: the days from the last date of its series up to
@@ -39,7 +46,7 @@ pub fn accrual(note: &Note) -> Accrual
     ensures days { result.parts ≤ 184 }
     ensures half_year { SettlesIn note.now (previous_date note.now) (next_date note.now) }
 {
-    let dates = dates_of(note);
+    let dates = dates_at(note);
     let half_year = days_between(dates.previous, dates.next);
     Accrual {
         parts: days_between(dates.previous, note.settle),

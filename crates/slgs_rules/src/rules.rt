@@ -7,7 +7,7 @@ ghost use Rattle.slgs_rules.specs.TermRules.{HasRate, IsAnswer, IsEarliestFrom, 
 
 use crate::fault::RuleFault;
 use escrow_units::{
-    AskedRate, Day, FIRST_WAIT, Rate, Slgs, SlgsKind, StepRule, series_around, years_after,
+    AskedRate, Day, FIRST_WAIT, Rate, Slgs, SlgsKind, StepRule, dates_beside, years_after,
 };
 
 // The rate that the security would bear.
@@ -60,7 +60,7 @@ fn earliest_date(maturity: Day, from: Day) -> Day
     ensures { IsEarliestFrom maturity from result }
 {
     let day_before = Day::new(from.number() - 1);
-    series_around(maturity, StepRule::SameDay, day_before).next
+    dates_beside(maturity, StepRule::SameDay, day_before).next
 }
 
 // The first day on which a note or bond may pay interest.

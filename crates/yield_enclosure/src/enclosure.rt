@@ -18,6 +18,9 @@ use std::alloc::Global;
 // 30 percent: a yield that reaches it is above the interval's bounds.
 const MOST: YieldUnits = YieldUnits(GREATEST_YIELD);
 
+// 4 percent: a yield such as many are, from which others are looked for.
+const USUAL: u64 = 400_000_000;
+
 // The sum of the flows, in cents.
 fn sum_of(flows: &[Flow]) -> u64
     requires { total flows.now < 2 ^ 64 }
@@ -98,6 +101,56 @@ fn next_try(tries: u32, previous: Tried, last: Tried, wanted: u128, worth: u64, 
     }
 }
 
+// The same, where the first tries are as near a guess as may be.
+fn next_by_guess(
+    tries: u32,
+    guess: u64,
+    previous: Tried,
+    last: Tried,
+    wanted: u128,
+    worth: u64,
+    most: u64,
+) -> u64
+    requires { worth < most }
+    ensures above { worth < result }
+    ensures within { result ≤ most }
+{
+    if tries < 3 {
+        guess.max(worth + 1).min(most)
+    } else {
+        next_try(tries, previous, last, wanted, worth, most)
+    }
+}
+
+// The greatest yield at which the flows are worth what is wanted, roughly. It shows where to try first, and nothing rests on it.
+fn about_yield(flows: &Timeline, wanted: u128) -> u64 {
+    let mut previous = Tried {
+        n: 0,
+        value: flows.about_total(),
+    };
+    let mut last = Tried {
+        n: USUAL,
+        value: flows.about_value(USUAL),
+    };
+    let mut worth = 0u64;
+    let mut most = MOST.0 - 1;
+    for tries in 0..40 {
+        if most <= worth {
+            break;
+        }
+        let middle = next_try(tries, previous, last, wanted, worth, most);
+        let value = flows.about_value(middle);
+        previous = last;
+        last = Tried { n: middle, value };
+        if wanted <= value {
+            worth = middle;
+        } else {
+            most = middle - 1;
+        }
+    }
+    worth
+}
+
 // The greatest yield at which the flows are worth the cost: from 0 to just below 30 percent.
 fn lower_end(alloc: Global, flows: &Timeline, cost: Cents) -> Result<YieldUnits, NoMemory>
     requires cents { total_cents flows.now + cost.0 ≤ FLOWS_LIMIT }
@@ -107,6 +160,7 @@ fn lower_end(alloc: Global, flows: &Timeline, cost: Cents) -> Result<YieldUnits,
 {
     // Present values fall with the yield, so the flows are worth the cost at each yield up to the greatest.
     let wanted = ONE as u128 * cost.0 as u128;
+    let guess = about_yield(flows, wanted);
     let mut previous = Tried {
         n: MOST.0,
         value: 0,
@@ -119,7 +173,7 @@ fn lower_end(alloc: Global, flows: &Timeline, cost: Cents) -> Result<YieldUnits,
     let mut worth = 0;
     let mut most = MOST.0 - 1;
     while worth < most {
-        let middle = next_try(tries, previous, last, wanted, worth, most);
+        let middle = next_by_guess(tries, guess, previous, last, wanted, worth, most);
         let value = flows.present_value(alloc, YieldUnits(middle), Side::Low)?;
         previous = last;
         last = Tried { n: middle, value };
@@ -178,8 +232,8 @@ fn answer_of_covered(alloc: Global, flows: &Timeline, cost: Cents) -> Result<Yie
 /// The yield of flows for a cost, as an interval of at most two units.
 ///
 /// The flows fall from settlement to 40 years after it, in any order and with as many on a day as there are. They and
-/// the cost come to at most 10^15 cents together. A yield is tried by one table of powers, up to the last flow: about ten
-/// yields for the lower end, 50 at most, and two for the upper. It takes memory for the flows and one table.
+/// the cost come to at most 10^15 cents together. A yield is tried by one table of powers, up to the last flow: two or three
+/// yields near a guess for the lower end, 50 at most, and two for the upper. It takes memory for the flows and one table.
 ///
 /// # Errors
 ///

@@ -10,7 +10,7 @@ use escrow_desk::NoMemory;
 use escrow_units::{
     Cents, Day, FLOWS_LIMIT, Flow, GREATEST_INDEX, GREATEST_YIELD, YieldUnits, index360,
 };
-use fixed_powers::{Powers, Side};
+use fixed_powers::{ONE, Powers, Side, about_product, about_root};
 use std::alloc::{AllocError, Global};
 use std::marker::Model;
 
@@ -65,6 +65,15 @@ fn worth(amounts: &[IndexedAmount], powers: &Powers) -> u128
     total
 }
 
+// The powers of a factor from 0 to 127, roughly.
+fn about_powers(factor: u64) -> [u64; 128] {
+    let mut powers = [ONE; 128];
+    for place in 1..128usize {
+        powers[place] = about_product(powers[place - 1], factor);
+    }
+    powers
+}
+
 impl Timeline {
     // Flows by their index: it takes memory for one amount a flow.
     pub(crate) fn make(alloc: Global, settle: Day, flows: &[Flow]) -> Result<Timeline, NoMemory>
@@ -90,6 +99,23 @@ impl Timeline {
         let mut total = 0u128;
         for amount in &self.amounts {
             total = total.saturating_add(u128::from(amount.cents.0) << 62);
+        }
+        total
+    }
+
+    // The present value at a yield, roughly, in units of 2^-62 of a cent: each power is the product of two of 128. Nothing rests
+    // on it.
+    pub(crate) fn about_value(&self, n: u64) -> u128 {
+        let factor = about_root(n.min(GREATEST_YIELD));
+        let near = about_powers(factor);
+        let far = about_powers(about_product(near[127], factor));
+        let mut total = 0u128;
+        for amount in &self.amounts {
+            let place = amount.index as usize;
+            let power = about_product(near[place % 128], far[place / 128 % 128]);
+            total = total.saturating_add(u128::from(amount.cents.0).wrapping_mul(u128::from(
+                power,
+            )));
         }
         total
     }

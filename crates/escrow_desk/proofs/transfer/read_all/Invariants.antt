@@ -6,7 +6,7 @@ abbrev pub invariant-pieces : goal.invariant-pieces
 invariant-pieces g l = record {
   front : IsFront (g.D.Desk.told l.fn.desk) l.name l.bytes.items;
   told : g.D.Desk.told l.desk ≡ g.D.Desk.told l.fn.desk;
-  room : length l.piece ≡ 65536;
+  room : length l.piece ≡ 8192;
   counts : g.D.Desk.counts l.desk ≡ g.D.Desk.counts l.fn.desk;
 }
 

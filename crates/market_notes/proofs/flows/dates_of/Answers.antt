@@ -5,16 +5,13 @@ use Rattle.jiff_core.proofs.SignedLemmas.{signed_arith}
 use Rattle.escrow_units.specs.OpenDays.{IsBy2190}
 use Rattle.market_notes.specs.NoteFlows.{payment_dates}
 use Rattle.market_notes.proofs.FlowFacts.{dates-by}
-use Rattle.market_notes.proofs.SeriesFacts.{term, settles_in}
+use Rattle.market_notes.proofs.SeriesFacts.{term}
 use Rattle.market_notes.proofs.flows.dates_of.Goals as goal
 
 pub series_around-requires : goal.series_around-requires
 series_around-requires c =
     let t = term c.args.note.now c.requires in
     record { base = t.base; before = c.requires.after; near = t.most }
-
-pub returns-clause-around : goal.returns-clause-around
-returns-clause-around c = settles_in c.args.note.now c.series_around.result.previous c.series_around.result.next c.series_around.ensures.last c.series_around.ensures.first
 
 pub returns-clause-by : goal.returns-clause-by
 returns-clause-by c =

@@ -4,7 +4,7 @@ use Rattle.slgs_rules.proofs.rules.earliest_date.Goals as goal
 
 pub returns : goal.returns
 returns c =
-    let first = c.series_around.ensures.first in
+    let first = c.dates_beside.ensures.first in
     record {
       series = first.series;
       late = omega (arith, ints, first.after, c.number.ensures.value, c.number.ensures.bound, c.requires.from.0);

@@ -16,7 +16,7 @@ loop-worth-init c = record {
 
 pub loop-worth-preserved : goal.loop-worth-preserved
 loop-worth-preserved c =
-    let middle : ℕ = c.next_try-middle.result in
+    let middle : ℕ = c.next_by_guess-middle.result in
     let fails : present_value Low middle c.args.flows.now < one * c.args.cost.0 = search rules in
     record {
       order = omega arith;

@@ -30,7 +30,7 @@ loop-payment-preserved c = record {
   table = c.in_ok-place.ensures.table;
   extends = extends-on c.args.table.now.days.items c.loop-payment.table.days.items c.place.new.self.days.items c.loop-payment.invariant.extends c.in_ok-place.ensures.extends;
   more = omega (arith, c.loop-payment.invariant.more, c.in_ok-place.ensures.more);
-  head = keeps-on c.without_payments-column.result c.loop-payment.column c.put.new.self c.loop-payment.invariant.head c.in_ok-put.ensures.head;
+  head = keeps-on c.in_ok-column.column c.loop-payment.column c.put.new.self c.loop-payment.invariant.head c.in_ok-put.ensures.head;
   so_far = one-more c.args.powers.now.yield_units c.args.book.now c.loop-payment.table.days.items c.place.new.self.days.items c.args.line.now c.as_slice-payment-items.result.now
       c.loop-payment.payment-index c.payment-item.result c.in_ok-place.place c.loop-payment.column c.put.new.self c.loop-payment-test.true c.payment-item.is c.in_ok-place.ensures.extends
       c.loop-payment.invariant.so_far c.in_ok-place.ensures.place c.in_ok-put.ensures.places c.in_ok-put.ensures.others c.in_ok-put.ensures.small;
@@ -40,13 +40,13 @@ pub returns : goal.returns
 returns c =
     let sliced : c.as_slice-payment-items.result.now ≡ paying c.args.book.now.days c.args.line.now =
     c.as_slice-payment-items.ensures.value ∙ c.paying-payments.ensures.value ∙ ap (λ days. paying days c.args.line.now) c.payment_days-2.ensures in
-    let head = subst (λ z. HasHead z.settle c.args.line.now c.without_payments-column.result) c.payment_days.ensures c.without_payments-column.ensures.head in
+    let head = subst (λ z. HasHead z.settle c.args.line.now c.in_ok-column.column) c.payment_days.ensures c.in_ok-column.ensures.head in
     record {
       table = c.loop-payment.invariant.table;
       extends = c.loop-payment.invariant.extends;
       more = omega (arith, c.loop-payment.invariant.more, c.as_slice-payment-items.ensures.fits, c.loop-payment.auto.payment-index-end);
       column = made c.args.powers.now.yield_units c.args.book.now c.loop-payment.table.days.items c.args.line.now c.as_slice-payment-items.result.now c.loop-payment.payment-index
-          c.without_payments-column.result c.loop-payment.column sliced c.loop-payment-test.false head c.loop-payment.invariant.head c.loop-payment.invariant.so_far;
+          c.in_ok-column.column c.loop-payment.column sliced c.loop-payment-test.false head c.loop-payment.invariant.head c.loop-payment.invariant.so_far;
       small = made-small c.args.powers.now.yield_units c.args.book.now c.loop-payment.table.days.items c.args.line.now c.as_slice-payment-items.result.now c.loop-payment.payment-index
-          c.without_payments-column.result c.loop-payment.column (omega (arith, c.as_slice-payment-items.ensures.fits, c.loop-payment.auto.payment-index-end)) head c.loop-payment.invariant.head c.loop-payment.invariant.so_far;
+          c.in_ok-column.column c.loop-payment.column (omega (arith, c.as_slice-payment-items.ensures.fits, c.loop-payment.auto.payment-index-end)) head c.loop-payment.invariant.head c.loop-payment.invariant.so_far;
     }
