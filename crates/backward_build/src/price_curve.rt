@@ -121,7 +121,7 @@ pub fn bootstrap(alloc: Global, book: &Book) -> Result<Option<Leaf>, NoMemory>
         prices.push(price)?;
     }
     Ok(Some(Leaf {
-        whole: true,
+        rho: PRICE_SCALE,
         mu: 0,
         prices: Prices::new(prices),
     }))

@@ -33,7 +33,7 @@ abbrev pub IsNodeLine : Version → ℕ → List (List ℕ) → Line → Type 0
 IsNodeLine v dates vectors (line.Node (node.Split number at)) = (number ≤ 65_535) × (at ≤ GREATEST_UNITS)
 IsNodeLine v dates vectors (line.Node node.Point) = Unit {0}
 IsNodeLine version.One dates vectors (line.Leaf leaf) = IsLeaf dates leaf
-IsNodeLine version.Two dates vectors (line.Node (node.Closed whole mu vector changes)) = IsPackedLeaf dates vectors whole mu vector changes
+IsNodeLine version.Two dates vectors (line.Node (node.Closed rho mu vector changes)) = IsPackedLeaf dates vectors rho mu vector changes
 IsNodeLine v dates vectors said = ⊥
 
 -- a line that may stand where it is due
@@ -123,7 +123,7 @@ node_says : (v : Version) (dates : ℕ) (vectors : List (List ℕ)) (r : Row) (s
 node_says v dates vectors row.Split (line.Node (node.Split number at)) is says = says
 node_says v dates vectors row.Point (line.Node node.Point) is says = tt
 node_says version.One dates vectors row.Priced (line.Leaf leaf) is says = says
-node_says version.Two dates vectors row.Leaf (line.Node (node.Closed whole mu vector changes)) is says = says.1
+node_says version.Two dates vectors row.Leaf (line.Node (node.Closed rho mu vector changes)) is says = says.1
 node_says version.One dates vectors row.Leaf said is says = absurd is
 node_says version.Two dates vectors row.Priced said is says = absurd is
 node_says v dates vectors row.Split said is says = absurd says
@@ -201,14 +201,14 @@ row_says : (v : Version) (dates : ℕ) (vectors : List (List ℕ)) (said : Line)
 row_says v dates vectors (line.Node (node.Split number at)) few is = is
 row_says v dates vectors (line.Node node.Point) few is = tt
 row_says version.One dates vectors (line.Leaf leaf) few is = is
-row_says version.Two dates vectors (line.Node (node.Closed whole mu vector changes)) few is = (few, is)
+row_says version.Two dates vectors (line.Node (node.Closed rho mu vector changes)) few is = (few, is)
 row_says version.One dates vectors said few is = absurd is
 row_says version.Two dates vectors said few is = absurd is
 
 node_short : (v : Version) (dates : ℕ) (said : Line) → IsFew v dates → IsShort dates (row_of_node v said)
 node_short v dates (line.Node (node.Split number at)) few = tt
 node_short v dates (line.Node node.Point) few = tt
-node_short v dates (line.Node (node.Closed whole mu vector changes)) few = few_row v dates few
+node_short v dates (line.Node (node.Closed rho mu vector changes)) few = few_row v dates few
 node_short v dates (line.Leaf leaf) few = few_row v dates few
 node_short v dates (line.Title w) few = few_row v dates few
 node_short v dates (line.Portfolio count) few = few_row v dates few
@@ -233,7 +233,7 @@ node_named : (v : Version) (dates : ℕ) (vectors : List (List ℕ)) (said : Lin
 node_named v dates vectors (line.Node (node.Split number at)) is = refl
 node_named v dates vectors (line.Node node.Point) is = refl
 node_named version.One dates vectors (line.Leaf leaf) is = refl
-node_named version.Two dates vectors (line.Node (node.Closed whole mu vector changes)) is = refl
+node_named version.Two dates vectors (line.Node (node.Closed rho mu vector changes)) is = refl
 node_named version.One dates vectors said is = absurd is
 node_named version.Two dates vectors said is = absurd is
 

@@ -171,8 +171,8 @@ nodes-follow v dates vectors (line.Node node.Point ∷ nodes) (suc others) rest 
     let said : Line = line.Node node.Point in
     node-first v dates vectors said nodes (suc others) others rest few (All-head (IsNodeLine v dates vectors) said nodes all) (omega arith)
     (less_due (suc (length nodes) - 1) others) refl (nodes-follow v dates vectors nodes others rest few (All-tail (IsNodeLine v dates vectors) said nodes all) are follows)
-nodes-follow v dates vectors (line.Node (node.Closed whole mu vector changes) ∷ nodes) (suc others) rest few all are follows =
-    let said : Line = line.Node (node.Closed whole mu vector changes) in
+nodes-follow v dates vectors (line.Node (node.Closed rho mu vector changes) ∷ nodes) (suc others) rest few all are follows =
+    let said : Line = line.Node (node.Closed rho mu vector changes) in
     node-first v dates vectors said nodes (suc others) others rest few (All-head (IsNodeLine v dates vectors) said nodes all) (omega arith)
     (less_due (suc (length nodes) - 1) others) refl (nodes-follow v dates vectors nodes others rest few (All-tail (IsNodeLine v dates vectors) said nodes all) are follows)
 nodes-follow v dates vectors (line.Leaf leaf ∷ nodes) (suc others) rest few all are follows =
@@ -373,10 +373,10 @@ nodes-split v dates (suc left) trees vectors (line.Node node.Point ∷ lines) fo
     let here : Follows v dates (due.Node (suc left) trees) vectors (said ∷ lines) = node-here v dates left trees vectors said lines follows in
     node_before v dates left trees (trees - 1) vectors said lines here.0.2 (λ more are. point_closes trees more here.0.0 are)
     (nodes-split v dates left (trees - 1) vectors lines (node-behind v dates left trees (trees - 1) vectors said lines here refl refl))
-nodes-split v dates (suc left) trees vectors (line.Node (node.Closed whole mu vector changes) ∷ lines) follows =
-    let said : Line = line.Node (node.Closed whole mu vector changes) in
+nodes-split v dates (suc left) trees vectors (line.Node (node.Closed rho mu vector changes) ∷ lines) follows =
+    let said : Line = line.Node (node.Closed rho mu vector changes) in
     let here : Follows v dates (due.Node (suc left) trees) vectors (said ∷ lines) = node-here v dates left trees vectors said lines follows in
-    node_before v dates left trees (trees - 1) vectors said lines here.0.2 (λ more are. leaf_closes trees (leaf_with vectors whole mu vector changes) more here.0.0 are)
+    node_before v dates left trees (trees - 1) vectors said lines here.0.2 (λ more are. leaf_closes trees (leaf_with vectors rho mu vector changes) more here.0.0 are)
     (nodes-split v dates left (trees - 1) vectors lines (node-behind v dates left trees (trees - 1) vectors said lines here refl refl))
 nodes-split v dates (suc left) trees vectors (line.Leaf leaf ∷ lines) follows =
     let said : Line = line.Leaf leaf in

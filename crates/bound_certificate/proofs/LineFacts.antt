@@ -3,7 +3,7 @@ use Rattle.std.proofs.Common.{◌≡◌, ◌∙◌, ℕ, ◌+◌, ◌-◌, ◌*�
 use Rattle.std.proofs.lemmas.List.{take_all}
 use Rattle.std.proofs.lemmas.List.Elements.{All-cons, All-head, All-tail}
 use Rattle.proof_tree.specs.declared.prices.TheConstants.{PRICE_SCALE}
-use Rattle.proof_tree.specs.Tree.{IsLeaf}
+use Rattle.proof_tree.specs.Tree.{IsLeaf, IsWholeOrNone}
 use Rattle.proof_tree.specs.declared.tree.Leaf.{Leaf}
 use Rattle.line_words.specs.declared.range.Range.{Range}
 use Rattle.bound_certificate.specs.declared.certificate.Buy.{Buy}
@@ -18,13 +18,13 @@ use Rattle.bound_certificate.specs.declared.row.Row.TheVariants as row
 use Rattle.bound_certificate.specs.declared.limits.TheConstants.{GREATEST_GAP, MOST_DATES, MOST_NODES, MOST_VECTORS}
 use Rattle.proof_tree.specs.declared.tree.TheConstants.{GREATEST_UNITS}
 use Rattle.bound_certificate.specs.Certificate.{IsBuy}
-use Rattle.bound_certificate.specs.Grammar.{are_rising, changes_of, leaf_said, places_of, restates, rises, row_line, said_by, said_or, title_word}
+use Rattle.bound_certificate.specs.Grammar.{are_rising, changes_of, leaf_said, places_of, restates, rho_said, rises, row_line, said_by, said_or, title_word}
 use Rattle.bound_certificate.specs.Packed.{IsPackedLeaf, IsVector, changed, leaf_with, vector_of}
 use Rattle.bound_certificate.specs.Row.{AreRowNumbers, InRanges, price_range, row_fits, row_range, row_said, row_word, weight_range}
-use Rattle.bound_certificate.specs.Text.{IsOneLine, change_numbers, line_text, spaced_numbers}
+use Rattle.bound_certificate.specs.Text.{IsOneLine, change_numbers, line_text, rho_number, spaced_numbers}
 use Rattle.line_words.specs.Words.{from_to, is_in}
 use Rattle.bound_certificate.proofs.ChangeFacts.{InChange, are-changes, change-count, changed-length, changed-range, changes-back, changes-in, changes-ranges, changes-written, few-changes, in-changes, numbers-back, other-changes, others-found, others-read, places-rising, rising-places}
-use Rattle.bound_certificate.proofs.PriceFacts.{IsPrice, equal_by, falling-order, in_range, order-falling, prices-written, weight-found, weight_read, weight_within, weight_written, within}
+use Rattle.bound_certificate.proofs.PriceFacts.{IsPrice, equal_by, falling-order, in_range, order-falling, prices-written, rho-counts, rho-small, weight-found, weight_read, weight_within, weight_written, within}
 use Rattle.bound_certificate.proofs.RowFacts.{AreWritten}
 use Rattle.bound_certificate.proofs.TableFacts.{IsRowOf, row-found, row-one, row-shows}
 
@@ -37,8 +37,8 @@ numbers_of_line (line.Vectors count) = count ∷ []
 numbers_of_line (line.Vector prices) = prices
 numbers_of_line (line.Nodes count) = count ∷ []
 numbers_of_line (line.Node (node.Split number at)) = number ∷ at ∷ []
-numbers_of_line (line.Node (node.Closed whole mu vector changes)) = (if whole then 1 else 0) ∷ mu ∷ vector ∷ change_numbers changes
-numbers_of_line (line.Leaf leaf) = (if leaf.whole then 1 else 0) ∷ leaf.mu ∷ leaf.prices
+numbers_of_line (line.Node (node.Closed rho mu vector changes)) = rho_number rho ∷ mu ∷ vector ∷ change_numbers changes
+numbers_of_line (line.Leaf leaf) = rho_number leaf.rho ∷ leaf.mu ∷ leaf.prices
 numbers_of_line other = []
 
 -- its bytes before the line feed
@@ -53,8 +53,8 @@ body (line.Vector prices) = codes "v" ++ spaced_numbers prices
 body (line.Nodes count) = codes "nodes" ++ spaced_numbers (count ∷ [])
 body (line.Node (node.Split number at)) = codes "s" ++ spaced_numbers (number ∷ at ∷ [])
 body (line.Node node.Point) = codes "p" ++ spaced_numbers []
-body (line.Node (node.Closed whole mu vector changes)) = codes "l" ++ spaced_numbers ((if whole then 1 else 0) ∷ mu ∷ vector ∷ change_numbers changes)
-body (line.Leaf leaf) = codes "l" ++ spaced_numbers ((if leaf.whole then 1 else 0) ∷ leaf.mu ∷ leaf.prices)
+body (line.Node (node.Closed rho mu vector changes)) = codes "l" ++ spaced_numbers (rho_number rho ∷ mu ∷ vector ∷ change_numbers changes)
+body (line.Leaf leaf) = codes "l" ++ spaced_numbers (rho_number leaf.rho ∷ leaf.mu ∷ leaf.prices)
 body line.End = codes "end" ++ spaced_numbers []
 
 pub body-text : (said : Line) → line_text said ≡ body said ++ 10 ∷ []
@@ -68,7 +68,7 @@ body-text (line.Vector prices) = refl
 body-text (line.Nodes count) = refl
 body-text (line.Node (node.Split number at)) = refl
 body-text (line.Node node.Point) = refl
-body-text (line.Node (node.Closed whole mu vector changes)) = refl
+body-text (line.Node (node.Closed rho mu vector changes)) = refl
 body-text (line.Leaf leaf) = refl
 body-text line.End = refl
 
@@ -82,7 +82,7 @@ RowSays dates vectors row.Vector (line.Vector prices) = IsVector dates prices
 RowSays dates vectors row.Nodes (line.Nodes count) = (1 ≤ count) × (count ≤ MOST_NODES)
 RowSays dates vectors row.Split (line.Node (node.Split number at)) = (number ≤ 65_535) × (at ≤ GREATEST_UNITS)
 RowSays dates vectors row.Point (line.Node node.Point) = Unit {0}
-RowSays dates vectors row.Leaf (line.Node (node.Closed whole mu vector changes)) = (length vectors ≤ MOST_VECTORS) × IsPackedLeaf dates vectors whole mu vector changes
+RowSays dates vectors row.Leaf (line.Node (node.Closed rho mu vector changes)) = (length vectors ≤ MOST_VECTORS) × IsPackedLeaf dates vectors rho mu vector changes
 RowSays dates vectors row.Priced (line.Leaf leaf) = IsLeaf dates leaf
 RowSays dates vectors row.End line.End = Unit {0}
 RowSays dates vectors r said = ⊥
@@ -195,9 +195,11 @@ end_says dates vectors (more ∷ numbers) said wide h = absurd (omega arith)
 vector_there : (dates number : ℕ) (vectors : List (List ℕ)) → All (IsVector dates) vectors → 1 ≤ number → number ≤ length vectors → IsVector dates (vector_of vectors number)
 vector_there dates number vectors all some inside = all (number - 1) [] (omega arith)
 
-is_leaf_with : (dates mu number : ℕ) (vectors : List (List ℕ)) (whole : Bool) (changes : List Change) → IsVector dates (vector_of vectors number) → mu ≤ PRICE_SCALE →
-    All (InChange dates) changes → rises (changed (vector_of vectors number) changes) ≡ false → IsLeaf dates (leaf_with vectors whole mu number changes)
-is_leaf_with dates mu number vectors whole changes vector limit all order = record {
+is_leaf_with : (dates rho mu number : ℕ) (vectors : List (List ℕ)) (changes : List Change) → IsVector dates (vector_of vectors number) → IsWholeOrNone rho → mu ≤ PRICE_SCALE →
+    All (InChange dates) changes → rises (changed (vector_of vectors number) changes) ≡ false → IsLeaf dates (leaf_with vectors rho mu number changes)
+is_leaf_with dates rho mu number vectors changes vector counts limit all order = record {
+  cost = rho-small rho counts;
+  counts = counts;
   limit = limit;
   every_date = changed-length changes (vector_of vectors number) ∙ vector.every_date;
   range = changed-range dates changes (vector_of vectors number) all vector.range;
@@ -213,7 +215,7 @@ leaf_says dates vectors (rho ∷ mu ∷ []) said all few wide inside h = absurd 
 leaf_says dates vectors (rho ∷ mu ∷ number ∷ numbers) said all few wide inside h =
     let changes : List Change = changes_of numbers in
     let vector : List ℕ = vector_of vectors number in
-    let leaf : Line = line.Node (node.Closed (rho == 1) mu number changes) in
+    let leaf : Line = line.Node (node.Closed (rho_said rho) mu number changes) in
     let first : (restates vector changes ≡ false)
     × ((if not (are_rising (places_of changes)) || rises (changed vector changes) then Err kind.Order else Ok leaf) ≡ Ok said) = rest_if _ kind.Number _ said h in
     let second : ((not (are_rising (places_of changes)) || rises (changed vector changes)) ≡ false) × (leaf ≡ said) = order_if _ kind.Order leaf said first.1 in
@@ -231,12 +233,12 @@ leaf_says dates vectors (rho ∷ mu ∷ number ∷ numbers) said all few wide in
           first = three.0;
           last = three.1;
           changes_are = record { all = are-changes dates vector changes all_changes (others-found vector changes first.0); rising = rising-places changes order.0 };
-          leaf = is_leaf_with dates mu number vectors (rho == 1) changes there two.1 all_changes order.1;
+          leaf = is_leaf_with dates (rho_said rho) mu number vectors changes there (rho-counts rho) two.1 all_changes order.1;
         },
       );
       bytes =
           ap (λ (k : ℕ). codes "l" ++ spaced_numbers (k ∷ mu ∷ number ∷ numbers)) (sym (weight-found rho one.1))
-          ∙ ap (λ (ns : List ℕ). codes "l" ++ spaced_numbers ((if rho == 1 then 1 else 0) ∷ mu ∷ number ∷ ns)) (sym (numbers-back numbers even));
+          ∙ ap (λ (ns : List ℕ). codes "l" ++ spaced_numbers (rho_number (rho_said rho) ∷ mu ∷ number ∷ ns)) (sym (numbers-back numbers even));
     })
 
 weights_found : (place : ℕ) (prices : List ℕ) → 3 ≤ place → InRanges weight_range place prices → All IsPrice prices
@@ -250,11 +252,13 @@ priced_says : (dates : ℕ) (vectors : List (List ℕ)) (numbers : List ℕ) (sa
 priced_says dates vectors [] said wide inside h = absurd (omega (arith, wide))
 priced_says dates vectors (rho ∷ []) said wide inside h = absurd (omega (arith, wide))
 priced_says dates vectors (rho ∷ mu ∷ prices) said wide inside h =
-    let leaf : Leaf = record { whole = rho == 1; mu = mu; prices = prices } in
+    let leaf : Leaf = record { rho = rho_said rho; mu = mu; prices = prices } in
     let both : (rises prices ≡ false) × (line.Leaf leaf ≡ said) = order_if (rises prices) kind.Order (line.Leaf leaf) said h in
     let one : (0 ≤ rho) × (rho ≤ 1) = in_range 0 1 rho inside.0 in
     same_line dates vectors row.Priced (rho ∷ mu ∷ prices) (line.Leaf leaf) said both.1 (record {
       says = record {
+        cost = rho-small (rho_said rho) (rho-counts rho);
+        counts = rho-counts rho;
         limit = (in_range 0 PRICE_SCALE mu inside.1.0).1;
         every_date = omega (arith, wide);
         range = weights_found 3 prices (omega arith) inside.1.1;
@@ -338,18 +342,18 @@ order_read : (a b : Bool) → a ≡ true → b ≡ false → (not a || b) ≡ fa
 order_read true b h k = k
 order_read false b h k = absurd (cc)
 
-leaf_shows : (dates : ℕ) (vectors : List (List ℕ)) (whole : Bool) (mu number : ℕ) (changes : List Change) → dates ≤ MOST_DATES → length vectors ≤ MOST_VECTORS →
-    IsPackedLeaf dates vectors whole mu number changes → ShowsLine dates vectors row.Leaf (line.Node (node.Closed whole mu number changes))
-leaf_shows dates vectors whole mu number changes short few is =
+leaf_shows : (dates : ℕ) (vectors : List (List ℕ)) (rho mu number : ℕ) (changes : List Change) → dates ≤ MOST_DATES → length vectors ≤ MOST_VECTORS →
+    IsPackedLeaf dates vectors rho mu number changes → ShowsLine dates vectors row.Leaf (line.Node (node.Closed rho mu number changes))
+leaf_shows dates vectors rho mu number changes short few is =
     let vector : List ℕ = vector_of vectors number in
-    let said : Line = line.Node (node.Closed whole mu number changes) in
+    let said : Line = line.Node (node.Closed rho mu number changes) in
     let all : All (InChange dates) changes = in-changes dates vector changes is.changes_are.all in
     let count : length (numbers_of_line said) ≡ 3 + 2 * length changes = omega (arith, change-count changes) in
-    let rho : ℕ = if whole then 1 else 0 in
+    let weight : ℕ = rho_number rho in
     record {
-      small = (weight_written whole, (omega (arith, is.leaf.limit), (omega (arith, is.last, few), changes-written dates changes short all)));
+      small = (weight_written rho, (omega (arith, is.leaf.limit), (omega (arith, is.last, few), changes-written dates changes short all)));
       ranges = (
-        weight_within whole,
+        weight_within rho,
         (
           within 0 PRICE_SCALE mu (omega arith) is.leaf.limit,
           (within 1 (length vectors) number is.first is.last, changes-ranges dates (length vectors) changes 4 (omega arith) refl all),
@@ -357,12 +361,12 @@ leaf_shows dates vectors whole mu number changes short few is =
       );
       fits = ap (λ (k : ℕ). row_fits dates row.Leaf k) count ∙ leaf_fits dates (length changes) (few-changes dates changes all is.changes_are.rising);
       said_is =
-          ap (λ (cs : List Change). leaf_said vector rho mu number cs) (changes-back changes)
+          ap (λ (cs : List Change). leaf_said vector weight mu number cs) (changes-back changes)
           ∙ ap (λ (b : Bool). if b then Err kind.Number else if not (are_rising (places_of changes)) || rises (changed vector changes) then Err kind.Order
-          else Ok (line.Node (node.Closed (rho == 1) mu number changes))) (others-read vector changes (other-changes dates vector changes is.changes_are.all))
-          ∙ ap (λ (b : Bool). if b then Err kind.Order else Ok (line.Node (node.Closed (rho == 1) mu number changes)))
+          else Ok (line.Node (node.Closed (rho_said weight) mu number changes))) (others-read vector changes (other-changes dates vector changes is.changes_are.all))
+          ∙ ap (λ (b : Bool). if b then Err kind.Order else Ok (line.Node (node.Closed (rho_said weight) mu number changes)))
           (order_read _ _ (places-rising changes is.changes_are.rising) (falling-order (changed vector changes) is.leaf.falling))
-          ∙ ap (λ (b : Bool). Ok (line.Node (node.Closed b mu number changes))) (weight_read whole);
+          ∙ ap (λ (w : ℕ). Ok (line.Node (node.Closed w mu number changes))) (weight_read rho is.leaf.counts);
       bytes = refl;
     }
 
@@ -380,12 +384,12 @@ weights_read place (price ∷ prices) h all = (
 
 priced_shows : (dates : ℕ) (vectors : List (List ℕ)) (leaf : Leaf) → IsLeaf dates leaf → ShowsLine dates vectors row.Priced (line.Leaf leaf)
 priced_shows dates vectors leaf is = record {
-  small = (weight_written leaf.whole, (omega (arith, is.limit), prices-written leaf.prices is.range));
-  ranges = (weight_within leaf.whole, (within 0 PRICE_SCALE leaf.mu (omega arith) is.limit, weights_read 3 leaf.prices (omega arith) is.range));
+  small = (weight_written leaf.rho, (omega (arith, is.limit), prices-written leaf.prices is.range));
+  ranges = (weight_within leaf.rho, (within 0 PRICE_SCALE leaf.mu (omega arith) is.limit, weights_read 3 leaf.prices (omega arith) is.range));
   fits = same_count (length (numbers_of_line (line.Leaf leaf))) (2 + dates) (omega (arith, is.every_date));
   said_is =
-      ap (λ (b : Bool). if b then Err kind.Order else Ok (line.Leaf (record { whole = (if leaf.whole then 1 else 0) == 1; mu = leaf.mu; prices = leaf.prices }))) (falling-order leaf.prices is.falling)
-      ∙ ap (λ (b : Bool). Ok (line.Leaf (record { whole = b; mu = leaf.mu; prices = leaf.prices }))) (weight_read leaf.whole);
+      ap (λ (b : Bool). if b then Err kind.Order else Ok (line.Leaf (record { rho = rho_said (rho_number leaf.rho); mu = leaf.mu; prices = leaf.prices }))) (falling-order leaf.prices is.falling)
+      ∙ ap (λ (w : ℕ). Ok (line.Leaf (record { rho = w; mu = leaf.mu; prices = leaf.prices }))) (weight_read leaf.rho is.counts);
   bytes = refl;
 }
 
@@ -445,7 +449,7 @@ row-shows-line dates vectors row.Split (line.Node (node.Split number at)) short 
   bytes = refl;
 }
 row-shows-line dates vectors row.Point (line.Node node.Point) short says = record { small = tt; ranges = tt; fits = refl; said_is = refl; bytes = refl }
-row-shows-line dates vectors row.Leaf (line.Node (node.Closed whole mu vector changes)) short says = leaf_shows dates vectors whole mu vector changes short says.0 says.1
+row-shows-line dates vectors row.Leaf (line.Node (node.Closed rho mu vector changes)) short says = leaf_shows dates vectors rho mu vector changes short says.0 says.1
 row-shows-line dates vectors row.Priced (line.Leaf leaf) short says = priced_shows dates vectors leaf says
 row-shows-line dates vectors row.End line.End short says = record { small = tt; ranges = tt; fits = refl; said_is = refl; bytes = refl }
 row-shows-line dates vectors r said short says = absurd says

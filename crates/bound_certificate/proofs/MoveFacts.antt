@@ -45,7 +45,7 @@ line_ended (line.Vector prices) h = absurd (cc)
 line_ended (line.Nodes count) h = absurd (cc)
 line_ended (line.Node (node.Split number at)) h = absurd (cc)
 line_ended (line.Node node.Point) h = absurd (cc)
-line_ended (line.Node (node.Closed whole mu vector changes)) h = absurd (cc)
+line_ended (line.Node (node.Closed rho mu vector changes)) h = absurd (cc)
 line_ended (line.Leaf leaf) h = absurd (cc)
 line_ended line.End h = absurd (cc)
 
@@ -53,7 +53,7 @@ node_suits : (v : Version) (dates left trees : ℕ) (vectors : List (List ℕ)) 
     (line_item said ≡ item.Leaf → leaf ≡ line_leaf vectors said) → IsSuited dates (due.Node left trees) (line_item said) leaf
 node_suits v dates left trees vectors (line.Node (node.Split number at)) leaf is given = tt
 node_suits v dates left trees vectors (line.Node node.Point) leaf is given = tt
-node_suits version.Two dates left trees vectors (line.Node (node.Closed whole mu vector changes)) leaf is given = subst (IsLeaf dates) (sym (given refl)) is.leaf
+node_suits version.Two dates left trees vectors (line.Node (node.Closed rho mu vector changes)) leaf is given = subst (IsLeaf dates) (sym (given refl)) is.leaf
 node_suits version.One dates left trees vectors (line.Leaf mine) leaf is given = subst (IsLeaf dates) (sym (given refl)) is
 node_suits version.One dates left trees vectors said leaf is given = absurd is
 node_suits version.Two dates left trees vectors said leaf is given = absurd is
@@ -118,7 +118,7 @@ few-step dates d told leaf mine cert suited said few = absurd suited
 node_few : (v : Version) (dates : ℕ) (vectors : List (List ℕ)) (said : Line) → IsNodeLine v dates vectors said → IsFewSaid (line_item said)
 node_few v dates vectors (line.Node (node.Split number at)) is = tt
 node_few v dates vectors (line.Node node.Point) is = tt
-node_few v dates vectors (line.Node (node.Closed whole mu vector changes)) is = tt
+node_few v dates vectors (line.Node (node.Closed rho mu vector changes)) is = tt
 node_few v dates vectors (line.Leaf leaf) is = tt
 node_few v dates vectors said is = absurd is
 
@@ -156,7 +156,7 @@ node_after : (v : Version) (dates left trees : ℕ) (vectors : List (List ℕ)) 
     seen_due (next_due v (due.Node left trees) (line_item said)) ≡ due_after (due.Node left trees) (line_item said)
 node_after v dates left trees vectors (line.Node (node.Split number at)) is = seen_nodes (left - 1) (trees + 1) (left - 1 == 0)
 node_after v dates left trees vectors (line.Node node.Point) is = seen_nodes (left - 1) (trees - 1) (left - 1 == 0)
-node_after v dates left trees vectors (line.Node (node.Closed whole mu vector changes)) is = seen_nodes (left - 1) (trees - 1) (left - 1 == 0)
+node_after v dates left trees vectors (line.Node (node.Closed rho mu vector changes)) is = seen_nodes (left - 1) (trees - 1) (left - 1 == 0)
 node_after v dates left trees vectors (line.Leaf leaf) is = seen_nodes (left - 1) (trees - 1) (left - 1 == 0)
 node_after v dates left trees vectors said is = absurd is
 

@@ -17,7 +17,7 @@ use Rattle.bound_certificate.specs.Versions.{IsCertificateText}
 unpacked-is-node : (dates : ℕ) (vectors : List (List ℕ)) (said : PackedNode) → IsPackedNode dates vectors said → IsNode dates (unpacked_node vectors said)
 unpacked-is-node dates vectors (node.Split number at) is = is
 unpacked-is-node dates vectors node.Point is = tt
-unpacked-is-node dates vectors (node.Closed whole mu vector changes) is = is.leaf
+unpacked-is-node dates vectors (node.Closed rho mu vector changes) is = is.leaf
 
 unpacked-are-nodes : (dates : ℕ) (vectors : List (List ℕ)) (nodes : List PackedNode) → All (IsPackedNode dates vectors) nodes → All (IsNode dates) (map (unpacked_node vectors) nodes)
 unpacked-are-nodes dates vectors [] all = All-nil (IsNode dates)

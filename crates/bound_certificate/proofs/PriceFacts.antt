@@ -1,13 +1,14 @@
 -- Numbers in their ranges, prices that never rise, and bytes without a line feed.
-use Rattle.std.proofs.Common.{◌≡◌, ◌≢◌, ◌∙◌, ℕ, ◌*◌, ◌≤◌, Bool, true, false, ◌==◌, ◌||◌, not, nat_lt, if◌then◌else◌, List, [], ◌∷◌, ◌++◌, All, AllPairs, suc, refl, ap, arith, decimal}
+use Rattle.std.proofs.Common.{◌≡◌, ◌∙◌, ◌⊎◌, inl, inr, ℕ, ◌*◌, ◌≤◌, Bool, true, false, ◌==◌, ◌||◌, not, nat_lt, if◌then◌else◌, List, [], ◌∷◌, ◌++◌, All, AllPairs, zero, suc, refl, sym, ap, arith, decimal}
 use Rattle.std.specs.List.{list_all}
 use Rattle.std.proofs.lemmas.Bool.{and_parts}
 use Rattle.std.proofs.lemmas.List.Elements.{All-append, All-cons, All-head, All-nil, All-tail}
 use Rattle.std.proofs.lemmas.List.Kept.{AllPairs-cons}
 use Rattle.proof_tree.specs.declared.prices.TheConstants.{PRICE_SCALE}
+use Rattle.proof_tree.specs.Tree.{IsWholeOrNone}
 use Rattle.bound_certificate.specs.declared.limits.TheConstants.{GREATEST_GAP}
-use Rattle.bound_certificate.specs.Grammar.{rises}
-use Rattle.bound_certificate.specs.Text.{IsOneLine, NotFeed, spaced_numbers}
+use Rattle.bound_certificate.specs.Grammar.{rho_said, rises}
+use Rattle.bound_certificate.specs.Text.{IsOneLine, NotFeed, rho_number, spaced_numbers}
 use Rattle.line_words.specs.Words.{is_in, is_space}
 use Rattle.bound_certificate.proofs.RowFacts.{AreWritten, IsDigit, IsWord, decimal-digits}
 
@@ -88,22 +89,40 @@ order-falling (x ∷ y ∷ prices) h =
     let first : y ≤ x = grind (arith, both.0) in
     AllPairs-cons NotAbove x (y ∷ prices) (All-cons (NotAbove x) y prices first (below x y prices first (pairs_head y prices rest))) rest
 
--- a weight of 0 or 1, and whether it counts
-pub weight_within : (whole : Bool) → is_in (record { least = 0; most = 1 }) (if whole then 1 else 0) ≡ true
-weight_within true = refl
-weight_within false = refl
+-- the weight of the cost, and the number that says it
+number_within : (none : Bool) → is_in (record { least = 0; most = 1 }) (if none then 0 else 1) ≡ true
+number_within true = refl
+number_within false = refl
 
-pub weight_written : (whole : Bool) → (if whole then 1 else 0) ≤ GREATEST_GAP
-weight_written true = omega arith
-weight_written false = omega arith
+pub weight_within : (rho : ℕ) → is_in (record { least = 0; most = 1 }) (rho_number rho) ≡ true
+weight_within rho = number_within (rho == 0)
 
-pub weight_read : (whole : Bool) → ((if whole then 1 else 0) == 1) ≡ whole
-weight_read true = refl
-weight_read false = refl
+number_small : (none : Bool) → (if none then 0 else 1) ≤ 1
+number_small true = omega arith
+number_small false = omega arith
 
-weight_by : (rho : ℕ) (b : Bool) → (rho == 1) ≡ b → rho ≤ 1 → (if b then 1 else 0) ≡ rho
-weight_by rho true e h = grind (arith, e)
-weight_by rho false e h = let other : rho ≢ 1 = (λ same. absurd (grind (arith, e, same))) in omega (arith, h, other)
+pub weight-one : (rho : ℕ) → rho_number rho ≤ 1
+weight-one rho = number_small (rho == 0)
 
-pub weight-found : (rho : ℕ) → rho ≤ 1 → (if rho == 1 then 1 else 0) ≡ rho
-weight-found rho h = weight_by rho (rho == 1) refl h
+pub weight_written : (rho : ℕ) → rho_number rho ≤ GREATEST_GAP
+weight_written rho = omega (arith, weight-one rho)
+
+pub weight_read : (rho : ℕ) → IsWholeOrNone rho → rho_said (rho_number rho) ≡ rho
+weight_read rho (inl none) = ap (λ w. rho_said (rho_number w)) none ∙ sym none
+weight_read rho (inr all) = ap (λ w. rho_said (rho_number w)) all ∙ sym all
+
+said_counts : (one : Bool) → IsWholeOrNone (if one then PRICE_SCALE else 0)
+said_counts true = inr refl
+said_counts false = inl refl
+
+pub rho-counts : (number : ℕ) → IsWholeOrNone (rho_said number)
+rho-counts number = said_counts (number == 1)
+
+pub rho-small : (rho : ℕ) → IsWholeOrNone rho → rho ≤ PRICE_SCALE
+rho-small rho (inl none) = omega (arith, none)
+rho-small rho (inr all) = omega (arith, all)
+
+pub weight-found : (number : ℕ) → number ≤ 1 → rho_number (rho_said number) ≡ number
+weight-found zero h = refl
+weight-found (suc zero) h = refl
+weight-found (suc (suc more)) h = absurd (omega (arith, h))

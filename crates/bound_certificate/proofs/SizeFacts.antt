@@ -22,7 +22,8 @@ use Rattle.bound_certificate.specs.declared.version.Version.TheVariants as versi
 use Rattle.bound_certificate.specs.Certificate.{IsBuy}
 use Rattle.bound_certificate.specs.Grammar.{most_buys}
 use Rattle.bound_certificate.specs.Packed.{AreChanges, IsChange, IsPackedLeaf, IsVector, vector_of}
-use Rattle.bound_certificate.specs.Text.{change_numbers, line_text, numbered, portfolio_lines, spaced_numbers, vector_lines}
+use Rattle.bound_certificate.proofs.PriceFacts.{weight-one}
+use Rattle.bound_certificate.specs.Text.{change_numbers, line_text, numbered, portfolio_lines, rho_number, spaced_numbers, vector_lines}
 use Rattle.bound_certificate.specs.Versions.{IsCertificateText}
 use Rattle.bound_certificate.proofs.ChangeFacts.{InChange, few-changes}
 use Rattle.bound_certificate.proofs.DueFacts.{IsNodeLine}
@@ -66,19 +67,18 @@ two_size word first second small other =
     )
 
 -- the line of a leaf: two numbers, and one price for each of at most 480 need dates
-whole_small : (whole : Bool) → (if whole then 1 else 0) < 10 ^ 13
-whole_small true = omega arith
-whole_small false = omega arith
+rho_small : (rho : ℕ) → rho_number rho < 10 ^ 13
+rho_small rho = omega (arith, weight-one rho)
 
 priced_size : (dates : ℕ) (leaf : Leaf) → dates ≤ 480 → IsLeaf dates leaf → length (line_text (line.Leaf leaf)) ≤ 6_750
 priced_size dates leaf few is_leaf =
     let prices = All-weaker (λ price. price ≤ 2 * PRICE_SCALE) (λ n. n < 10 ^ 13) (λ price most. omega (arith, most)) leaf.prices is_leaf.range in
-    let all = All-cons (λ n. n < 10 ^ 13) (if leaf.whole then 1 else 0) (leaf.mu ∷ leaf.prices) (whole_small leaf.whole)
+    let all = All-cons (λ n. n < 10 ^ 13) (rho_number leaf.rho) (leaf.mu ∷ leaf.prices) (rho_small leaf.rho)
     (All-cons (λ n. n < 10 ^ 13) leaf.mu leaf.prices (omega (arith, is_leaf.limit)) prices) in
     omega (
       arith,
-      line_size (codes "l") ((if leaf.whole then 1 else 0) ∷ leaf.mu ∷ leaf.prices),
-      numbers_size ((if leaf.whole then 1 else 0) ∷ leaf.mu ∷ leaf.prices) all,
+      line_size (codes "l") (rho_number leaf.rho ∷ leaf.mu ∷ leaf.prices),
+      numbers_size (rho_number leaf.rho ∷ leaf.mu ∷ leaf.prices) all,
       is_leaf.every_date,
       few,
     )
@@ -120,14 +120,14 @@ three_size first second third numbers one two three =
       length-append (decimal third) (spaced_numbers numbers),
     )
 
-leaf_size : (dates : ℕ) (vectors : List (List ℕ)) (whole : Bool) (mu vector : ℕ) (changes : List Change) → dates ≤ 480 → length vectors ≤ MOST_VECTORS
-    → IsPackedLeaf dates vectors whole mu vector changes → length (line_text (line.Node (node.Closed whole mu vector changes))) ≤ 8_700
-leaf_size dates vectors whole mu vector changes few count leaf =
-    let weight : ℕ = if whole then 1 else 0 in
+leaf_size : (dates : ℕ) (vectors : List (List ℕ)) (rho mu vector : ℕ) (changes : List Change) → dates ≤ 480 → length vectors ≤ MOST_VECTORS
+    → IsPackedLeaf dates vectors rho mu vector changes → length (line_text (line.Node (node.Closed rho mu vector changes))) ≤ 8_700
+leaf_size dates vectors rho mu vector changes few count leaf =
+    let weight : ℕ = rho_number rho in
     omega (
       arith,
       line_size (codes "l") (weight ∷ mu ∷ vector ∷ change_numbers changes),
-      three_size weight mu vector (change_numbers changes) (whole_small whole) (omega (arith, leaf.leaf.limit)) (omega (arith, leaf.last, count)),
+      three_size weight mu vector (change_numbers changes) (rho_small rho) (omega (arith, leaf.leaf.limit)) (omega (arith, leaf.last, count)),
       changes_size dates (vector_of vectors vector) changes few leaf.changes_are.all,
       few_of dates (vector_of vectors vector) changes leaf.changes_are,
       few,
@@ -155,12 +155,12 @@ nodes_size v dates (suc count) vectors (line.Node node.Point ∷ nodes) few many
       length-append (line_text own) (flat_map line_text nodes),
       nodes_size v dates count vectors nodes few many (All-tail (IsNodeLine v dates vectors) own nodes all) trees,
     )
-nodes_size version.Two dates (suc count) vectors (line.Node (node.Closed whole mu vector changes) ∷ nodes) few many all trees =
-    let own : Line = line.Node (node.Closed whole mu vector changes) in
+nodes_size version.Two dates (suc count) vectors (line.Node (node.Closed rho mu vector changes) ∷ nodes) few many all trees =
+    let own : Line = line.Node (node.Closed rho mu vector changes) in
     omega (
       arith,
       length-append (line_text own) (flat_map line_text nodes),
-      leaf_size dates vectors whole mu vector changes few many (All-head (IsNodeLine version.Two dates vectors) own nodes all),
+      leaf_size dates vectors rho mu vector changes few many (All-head (IsNodeLine version.Two dates vectors) own nodes all),
       nodes_size version.Two dates count vectors nodes few many (All-tail (IsNodeLine version.Two dates vectors) own nodes all) trees,
     )
 nodes_size version.One dates (suc count) vectors (line.Leaf leaf ∷ nodes) few many all trees =

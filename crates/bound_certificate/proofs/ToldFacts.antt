@@ -58,7 +58,7 @@ node_may : (v : Version) (dates left trees : ℕ) (vectors : List (List ℕ)) (w
     NoNodes (next_due v (due.Node left trees) (line_item said)) w
 node_may v dates left trees vectors w (line.Node (node.Split number at)) is = nodes_may w (left - 1) (trees + 1) (left - 1 == 0)
 node_may v dates left trees vectors w (line.Node node.Point) is = nodes_may w (left - 1) (trees - 1) (left - 1 == 0)
-node_may v dates left trees vectors w (line.Node (node.Closed whole mu vector changes)) is = nodes_may w (left - 1) (trees - 1) (left - 1 == 0)
+node_may v dates left trees vectors w (line.Node (node.Closed rho mu vector changes)) is = nodes_may w (left - 1) (trees - 1) (left - 1 == 0)
 node_may v dates left trees vectors w (line.Leaf leaf) is = nodes_may w (left - 1) (trees - 1) (left - 1 == 0)
 node_may v dates left trees vectors w said is = absurd is
 
@@ -87,7 +87,7 @@ one_node w said = ap (λ (ns : List TreeNode). record { buys = w.buys; gap = w.g
 node_tells : (v : Version) (dates : ℕ) (w : Written) (said : Line) → IsNodeLine v dates w.vectors said → with_told (cert_of w) (line_told w.vectors said) ≡ cert_of (and_line w said)
 node_tells v dates w (line.Node (node.Split number at)) is = one_node w (line.Node (node.Split number at))
 node_tells v dates w (line.Node node.Point) is = one_node w (line.Node node.Point)
-node_tells v dates w (line.Node (node.Closed whole mu vector changes)) is = one_node w (line.Node (node.Closed whole mu vector changes))
+node_tells v dates w (line.Node (node.Closed rho mu vector changes)) is = one_node w (line.Node (node.Closed rho mu vector changes))
 node_tells v dates w (line.Leaf leaf) is = one_node w (line.Leaf leaf)
 node_tells v dates w said is = absurd is
 

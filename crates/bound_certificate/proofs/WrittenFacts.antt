@@ -131,7 +131,7 @@ cert-packed packed = ap (λ (ns : List TreeNode). record { buys = packed.buys; g
 node_line_is : (dates : ℕ) (vectors : List (List ℕ)) (said : PackedNode) → IsPackedNode dates vectors said → IsNodeLine version.Two dates vectors (line.Node said)
 node_line_is dates vectors (node.Split number at) is = is
 node_line_is dates vectors node.Point is = tt
-node_line_is dates vectors (node.Closed whole mu vector changes) is = is
+node_line_is dates vectors (node.Closed rho mu vector changes) is = is
 
 node_lines_are : (dates : ℕ) (vectors : List (List ℕ)) (nodes : List PackedNode) → All (IsPackedNode dates vectors) nodes → All (IsNodeLine version.Two dates vectors) (map line.Node nodes)
 node_lines_are dates vectors [] all = All-nil (IsNodeLine version.Two dates vectors)
@@ -158,7 +158,7 @@ record IsPackedLine (dates : ℕ) (vectors : List (List ℕ)) (said : Line) : Ty
 packed_is : (dates : ℕ) (vectors : List (List ℕ)) (said : Line) → IsNodeLine version.Two dates vectors said → IsPackedLine dates vectors said
 packed_is dates vectors (line.Node (node.Split number at)) is = record { same = refl; is = is }
 packed_is dates vectors (line.Node node.Point) is = record { same = refl; is = tt }
-packed_is dates vectors (line.Node (node.Closed whole mu vector changes)) is = record { same = refl; is = is }
+packed_is dates vectors (line.Node (node.Closed rho mu vector changes)) is = record { same = refl; is = is }
 packed_is dates vectors said is = absurd is
 
 record ArePackedLines (dates : ℕ) (vectors : List (List ℕ)) (nodes : List Line) : Type 0 where

@@ -2,6 +2,7 @@
 use Rattle.std.specs.Prelude.{ℕ, ◌-◌, ◌≤◌, All, Bool, true, false, ◌==◌, ◌&&◌, ◌||◌, not, nat_eq, nat_lt, if◌then◌else◌, List, [], ◌∷◌, ◌++◌, length, map, slice_index, Some, None, Result, Ok, Err, codes}
 use Rattle.std.specs.List.{list_any}
 use lib.Pointwise.{pointwise}
+use Rattle.proof_tree.specs.declared.prices.TheConstants.{PRICE_SCALE}
 use Rattle.bound_certificate.specs.declared.due.Due.{Due}
 use Rattle.bound_certificate.specs.declared.due.Due.TheVariants as due
 use Rattle.bound_certificate.specs.declared.fault.FaultKind.{FaultKind}
@@ -69,16 +70,20 @@ abbrev pub rises : List ℕ → Bool
 rises (x ∷ y ∷ ys) = nat_lt x y || rises (y ∷ ys)
 rises prices = false
 
+-- how much a leaf weighs the cost, by the number that says it
+abbrev pub rho_said : ℕ → ℕ
+rho_said number = if number == 1 then PRICE_SCALE else 0
+
 -- a leaf with all its prices: none rises
 abbrev pub priced_said : ℕ → ℕ → List ℕ → Result Line FaultKind
-priced_said rho mu prices = if rises prices then Err kind.Order else Ok (line.Leaf (record { whole = rho == 1; mu = mu; prices = prices }))
+priced_said rho mu prices = if rises prices then Err kind.Order else Ok (line.Leaf (record { rho = rho_said rho; mu = mu; prices = prices }))
 
 -- the leaf of a vector and changes: no change is to the vector's own price, places rise, and after the changes no price rises
 abbrev pub leaf_said : List ℕ → ℕ → ℕ → ℕ → List Change → Result Line FaultKind
 leaf_said prices rho mu vector changes =
     if restates prices changes then Err kind.Number
     else if not (are_rising (places_of changes)) || rises (changed prices changes) then Err kind.Order
-    else Ok (line.Node (node.Closed (rho == 1) mu vector changes))
+    else Ok (line.Node (node.Closed (rho_said rho) mu vector changes))
 
 -- what the numbers of a line say
 abbrev pub said_by : List (List ℕ) → Row → List ℕ → Result Line FaultKind
@@ -140,7 +145,7 @@ line_item (line.Vector prices) = item.Vector
 line_item (line.Nodes count) = item.Nodes count
 line_item (line.Node (node.Split number at)) = item.Split number at
 line_item (line.Node node.Point) = item.Point
-line_item (line.Node (node.Closed whole mu vector changes)) = item.Leaf
+line_item (line.Node (node.Closed rho mu vector changes)) = item.Leaf
 line_item (line.Leaf leaf) = item.Leaf
 line_item line.End = item.End
 

@@ -1,5 +1,5 @@
 -- Certificates whose leaves share their prices. The form and the limits are this project's own.
-use Rattle.std.specs.Prelude.{◌≡◌, ◌≢◌, ℕ, ◌-◌, ◌*◌, ◌<◌, ◌≤◌, Bool, List, [], length, map, All, AllPairs, slice_index, slice_index_or, slice_set}
+use Rattle.std.specs.Prelude.{◌≡◌, ◌≢◌, ℕ, ◌-◌, ◌*◌, ◌<◌, ◌≤◌, List, [], length, map, All, AllPairs, slice_index, slice_index_or, slice_set}
 use Rattle.std.specs.List.{fold}
 use Rattle.proof_tree.specs.Tree.{AreTrees, IsLeaf, IsNode}
 use Rattle.proof_tree.specs.declared.prices.TheConstants.{PRICE_SCALE}
@@ -24,14 +24,14 @@ abbrev pub vector_of : List (List ℕ) → ℕ → List ℕ
 vector_of vectors number = slice_index_or vectors (number - 1) []
 
 -- the leaf that a vector and changes are
-abbrev pub leaf_with : List (List ℕ) → Bool → ℕ → ℕ → List Change → Leaf
-leaf_with vectors whole mu vector changes = record { whole = whole; mu = mu; prices = changed (vector_of vectors vector) changes }
+abbrev pub leaf_with : List (List ℕ) → ℕ → ℕ → ℕ → List Change → Leaf
+leaf_with vectors rho mu vector changes = record { rho = rho; mu = mu; prices = changed (vector_of vectors vector) changes }
 
 -- a node with the prices of its leaf written out
 abbrev pub unpacked_node : List (List ℕ) → PackedNode → TreeNode
 unpacked_node vectors (node.Split line at) = tree.Split line at
 unpacked_node vectors node.Point = tree.Point
-unpacked_node vectors (node.Closed whole mu vector changes) = tree.Closed (leaf_with vectors whole mu vector changes)
+unpacked_node vectors (node.Closed rho mu vector changes) = tree.Closed (leaf_with vectors rho mu vector changes)
 
 -- the certificate with the prices of each leaf written out
 abbrev pub unpacked : Packed → Certificate
@@ -56,17 +56,17 @@ pub record AreChanges (dates : ℕ) (vector : List ℕ) (changes : List Change) 
   pub rising : AllPairs (λ earlier later. earlier.place < later.place) changes
 
 -- a leaf of a vector that is there
-pub record IsPackedLeaf (dates : ℕ) (vectors : List (List ℕ)) (whole : Bool) (mu vector : ℕ) (changes : List Change) : Type 0 where
+pub record IsPackedLeaf (dates : ℕ) (vectors : List (List ℕ)) (rho mu vector : ℕ) (changes : List Change) : Type 0 where
   pub first : 1 ≤ vector
   pub last : vector ≤ length vectors
   pub changes_are : AreChanges dates (vector_of vectors vector) changes
-  pub leaf : IsLeaf dates (leaf_with vectors whole mu vector changes)
+  pub leaf : IsLeaf dates (leaf_with vectors rho mu vector changes)
 
 -- a node as it may stand: a split or a point, or a leaf of a vector that is there
 abbrev pub IsPackedNode : ℕ → List (List ℕ) → PackedNode → Type 0
 IsPackedNode dates vectors (node.Split line at) = (line ≤ 65_535) × (at ≤ GREATEST_UNITS)
 IsPackedNode dates vectors node.Point = Unit {0}
-IsPackedNode dates vectors (node.Closed whole mu vector changes) = IsPackedLeaf dates vectors whole mu vector changes
+IsPackedNode dates vectors (node.Closed rho mu vector changes) = IsPackedLeaf dates vectors rho mu vector changes
 
 -- a packed certificate for so many need dates: its portfolio, of at most 513 purchases, at most 64 vectors, and the nodes of one tree, from 1 to 10,000
 pub record IsPackedWellFormed (dates : ℕ) (packed : Packed) : Type 0 where
@@ -94,6 +94,6 @@ IsPackableCert cert = (dates : ℕ) × (dates ≤ MOST_DATES) × IsPackable date
 
 -- the vector of a leaf is there, and the places of its changes are in it
 abbrev pub IsUnpackable : List (List ℕ) → PackedNode → Type 0
-IsUnpackable vectors (node.Closed whole mu vector changes) =
+IsUnpackable vectors (node.Closed rho mu vector changes) =
     (1 ≤ vector) × (vector ≤ length vectors) × All (λ change. (1 ≤ change.place) × (change.place ≤ length (vector_of vectors vector))) changes
 IsUnpackable vectors other = Unit {0}

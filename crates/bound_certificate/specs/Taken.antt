@@ -14,7 +14,7 @@ use Rattle.bound_certificate.specs.declared.packed.PackedNode.TheVariants as nod
 use Rattle.bound_certificate.specs.declared.row.Row.{Row}
 use Rattle.bound_certificate.specs.declared.row.Row.TheVariants as row
 use Rattle.bound_certificate.specs.declared.version.Version.TheVariants as version
-use Rattle.bound_certificate.specs.Grammar.{ArePlaces, changes_of, leaf_said, line_item, vectors_with}
+use Rattle.bound_certificate.specs.Grammar.{ArePlaces, changes_of, leaf_said, line_item, rho_said, vectors_with}
 use Rattle.bound_certificate.specs.Packed.{changed}
 use Rattle.bound_certificate.specs.Told.{line_leaf}
 
@@ -40,7 +40,7 @@ pub record IsGiven (told : Result Line FaultKind) (before after : List (List ℕ
 -- prices are a vector's after changes that a leaf may have
 pub record ArePricesAfter (vector : List ℕ) (changes : List Change) (prices : List ℕ) : Type 0 where
   pub are : prices ≡ changed vector changes
-  pub leaf : (rho mu number : ℕ) → leaf_said vector rho mu number changes ≡ Ok (line.Node (node.Closed (rho == 1) mu number changes))
+  pub leaf : (rho mu number : ℕ) → leaf_said vector rho mu number changes ≡ Ok (line.Node (node.Closed (rho_said rho) mu number changes))
 
 -- a leaf may not have these changes from a vector, and why
 abbrev pub AreFaulty : List ℕ → List Change → FaultKind → Type 0
@@ -57,7 +57,7 @@ line_with item.Vector numbers = line.Vector numbers
 line_with (item.Nodes count) numbers = line.Nodes count
 line_with (item.Split number at) numbers = line.Node (node.Split number at)
 line_with item.Point numbers = line.Node node.Point
-line_with item.Leaf (rho ∷ mu ∷ vector ∷ numbers) = line.Node (node.Closed (rho == 1) mu vector (changes_of numbers))
+line_with item.Leaf (rho ∷ mu ∷ vector ∷ numbers) = line.Node (node.Closed (rho_said rho) mu vector (changes_of numbers))
 line_with other numbers = line.End
 
 -- the numbers of a leaf with changes

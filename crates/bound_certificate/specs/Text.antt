@@ -1,5 +1,5 @@
 -- The text of a certificate, of each version. It is this project's own.
-use Rattle.std.specs.Prelude.{◌≡◌, ◌≢◌, ℕ, if◌then◌else◌, List, [], ◌∷◌, ◌++◌, All, length, map, Option, Some, None, codes}
+use Rattle.std.specs.Prelude.{◌≡◌, ◌≢◌, ℕ, ◌==◌, if◌then◌else◌, List, [], ◌∷◌, ◌++◌, All, length, map, Option, Some, None, codes}
 use Rattle.std.specs.Fmt.{decimal}
 use Rattle.std.specs.List.{flat_map}
 use Rattle.proof_tree.specs.declared.tree.TreeNode.{TreeNode}
@@ -29,6 +29,10 @@ numbered word numbers = word ++ spaced_numbers numbers ++ 10 ∷ []
 abbrev pub change_numbers : List Change → List ℕ
 change_numbers changes = flat_map (λ change. change.place ∷ change.price ∷ []) changes
 
+-- how much a leaf weighs the cost: 1 stands for wholly, 0 for not at all
+abbrev pub rho_number : ℕ → ℕ
+rho_number rho = if rho == 0 then 0 else 1
+
 -- the text of a line
 abbrev pub line_text : Line → List ℕ
 line_text (line.Title v) = title_word v ++ 10 ∷ []
@@ -41,9 +45,8 @@ line_text (line.Vector prices) = numbered (codes "v") prices
 line_text (line.Nodes count) = numbered (codes "nodes") (count ∷ [])
 line_text (line.Node (node.Split number at)) = numbered (codes "s") (number ∷ at ∷ [])
 line_text (line.Node node.Point) = numbered (codes "p") []
-line_text (line.Node (node.Closed whole mu vector changes)) =
-    numbered (codes "l") ((if whole then 1 else 0) ∷ mu ∷ vector ∷ change_numbers changes)
-line_text (line.Leaf leaf) = numbered (codes "l") ((if leaf.whole then 1 else 0) ∷ leaf.mu ∷ leaf.prices)
+line_text (line.Node (node.Closed rho mu vector changes)) = numbered (codes "l") (rho_number rho ∷ mu ∷ vector ∷ change_numbers changes)
+line_text (line.Leaf leaf) = numbered (codes "l") (rho_number leaf.rho ∷ leaf.mu ∷ leaf.prices)
 line_text line.End = numbered (codes "end") []
 
 -- the lines of a portfolio

@@ -26,11 +26,11 @@ pub record Told : Type 0 where
 
 -- the leaf that stands for none
 abbrev pub no_leaf : Leaf
-no_leaf = record { whole = false; mu = 0; prices = [] }
+no_leaf = record { rho = 0; mu = 0; prices = [] }
 
 -- the leaf that a line says, with its prices written out; of other lines the leaf that stands for none
 abbrev pub line_leaf : List (List ℕ) → Line → Leaf
-line_leaf vectors (line.Node (node.Closed whole mu vector changes)) = leaf_with vectors whole mu vector changes
+line_leaf vectors (line.Node (node.Closed rho mu vector changes)) = leaf_with vectors rho mu vector changes
 line_leaf vectors (line.Leaf leaf) = leaf
 line_leaf vectors said = no_leaf
 

@@ -87,7 +87,7 @@ pub(crate) fn empty_leaf(alloc: Global, dates: u16) -> Result<Leaf, NoMemory>
 {
     let prices = vec![in alloc; 0; usize::from(dates)]?;
     Ok(Leaf {
-        whole: false,
+        rho: 0,
         mu: 0,
         prices: Prices::new(prices),
     })

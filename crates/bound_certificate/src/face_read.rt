@@ -18,7 +18,7 @@ use crate::item::Item;
 use crate::limits::MOST_DATES;
 use crate::line::Line;
 use crate::packed::{Changes, Packed, PackedNode, PackedNodes, Vectors};
-use crate::taken::{list_changes, take_line};
+use crate::taken::{list_changes, rho_of_number, take_line};
 use crate::vector_room::VectorRoom;
 use crate::version::Version;
 use arrayvec::ArrayVec;
@@ -111,7 +111,7 @@ fn leaf_node(alloc: Global, numbers: &[u64]) -> Result<PackedNode, NoMemory>
 {
     let changes = list_changes::<MOST_DATES>(&numbers[3..]);
     Ok(PackedNode::Closed {
-        whole: numbers[0] == 1,
+        rho: rho_of_number(numbers[0]),
         mu: numbers[1],
         vector: numbers[2] as u16,
         changes: Changes::new(changes.as_slice().to_vec(alloc)?),

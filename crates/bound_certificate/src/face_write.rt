@@ -11,7 +11,7 @@ use crate::certificate::{Certificate, copied_buys};
 use crate::packed::{Change, Packed, PackedNode};
 use crate::taken::put_changes;
 use crate::version::Version;
-use crate::write::{push_begin, push_line, push_number, push_numbers};
+use crate::write::{push_begin, push_line, push_number, push_numbers, rho_number};
 use escrow_desk::NoMemory;
 use proof_tree::{Leaf, Nodes, Prices, TreeNode};
 use std::alloc::Global;
@@ -21,7 +21,7 @@ fn push_leaf(text: &mut Vec<u8>, leaf: &Leaf) -> Result<(), NoMemory>
     ensures { OnOk result (text.new.items ≡ text.old.items ++ line_text (line.Leaf leaf.now)) }
 {
     text.push(b'l')?;
-    push_number(text, u64::from(leaf.whole))?;
+    push_number(text, rho_number(leaf.rho))?;
     push_number(text, leaf.mu)?;
     push_numbers(text, leaf.prices.as_slice())?;
     text.push(b'\n')?;
@@ -88,12 +88,12 @@ fn unpacked_node(alloc: Global, vectors: &[Prices], node: &PackedNode) -> Result
         }),
         PackedNode::Point => Ok(TreeNode::Point),
         PackedNode::Closed {
-            whole,
+            rho,
             mu,
             vector,
             changes,
         } => Ok(TreeNode::Closed(Leaf {
-            whole: *whole,
+            rho: *rho,
             mu: *mu,
             prices: changed_prices(
                 alloc,

@@ -68,8 +68,8 @@ pub enum PackedNode {
     Point,
     /// A leaf, whose prices are those of a vector, with another one at some places.
     Closed {
-        /// Whether the cost counts.
-        whole: bool,
+        /// The weight of a cent of cost: 0, or `PRICE_SCALE`.
+        rho: u64,
         /// The multiplier of the yield limit, at most `PRICE_SCALE`.
         mu: u64,
         /// The vector, counted from 1.

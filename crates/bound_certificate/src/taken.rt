@@ -4,7 +4,7 @@ ghost use Rattle.proof_tree.specs.declared.tree.Leaf.{Leaf as LeafOf};
 ghost use Rattle.bound_certificate.specs.declared.item.Item.TheVariants as item_of;
 ghost use Rattle.bound_certificate.specs.declared.row.Row.TheVariants as row_of;
 ghost use Rattle.bound_certificate.specs.declared.version.Version.TheVariants as version_of;
-ghost use Rattle.bound_certificate.specs.Grammar.{ArePlaces, are_rising, changes_of, line_said, places_of, restates as restates_of, row_line, said_by};
+ghost use Rattle.bound_certificate.specs.Grammar.{ArePlaces, are_rising, changes_of, line_said, places_of, restates as restates_of, rho_said, row_line, said_by};
 ghost use Rattle.bound_certificate.specs.Packed.{IsVector, changed};
 ghost use Rattle.bound_certificate.specs.Row.{AreRowNumbers};
 ghost use Rattle.bound_certificate.specs.Taken.{AreFaulty, ArePricesAfter, HasRoom, HasRoomFor, IsGiven, IsOfNumbers, IsOfTwo};
@@ -138,6 +138,13 @@ fn take_changed(prices: &mut Prices, vector: &[u64], numbers: &[u64]) -> Result<
     }
 }
 
+/// How much a leaf weighs the cost, by the number that says it.
+pub(crate) fn rho_of_number(number: u64) -> u64
+    ensures { result ≡ rho_said number }
+{
+    if number == 1 { PRICE_SCALE } else { 0 }
+}
+
 // A leaf with all its prices, by its numbers.
 fn take_priced(numbers: &[u64], leaf: &mut Leaf) -> Result<Item, FaultKind>
     requires numbers { AreRowNumbers (length leaf.old.prices) 0 row_of.Priced numbers.now }
@@ -151,7 +158,7 @@ fn take_priced(numbers: &[u64], leaf: &mut Leaf) -> Result<Item, FaultKind>
         return Err(FaultKind::Order);
     }
     leaf.prices.copy(prices);
-    leaf.whole = numbers[0] == 1;
+    leaf.rho = rho_of_number(numbers[0]);
     leaf.mu = numbers[1];
     Ok(Item::Leaf)
 }
@@ -176,7 +183,7 @@ fn take_leaf(
 {
     let vector = vectors.at(numbers[2] as usize - 1);
     take_changed(&mut leaf.prices, vector, &numbers[3..])?;
-    leaf.whole = numbers[0] == 1;
+    leaf.rho = rho_of_number(numbers[0]);
     leaf.mu = numbers[1];
     Ok(Item::Leaf)
 }

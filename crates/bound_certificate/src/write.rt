@@ -4,7 +4,7 @@ ghost use Rattle.std.specs.Fmt.{decimal};
 ghost use Rattle.std.specs.List.{flat_map};
 ghost use Rattle.bound_certificate.specs.Grammar.{title_word};
 ghost use Rattle.bound_certificate.specs.Packed.{IsPackedWritable};
-ghost use Rattle.bound_certificate.specs.Text.{change_numbers, line_text, numbered, packed_text_of, portfolio_lines, spaced_numbers};
+ghost use Rattle.bound_certificate.specs.Text.{change_numbers, line_text, numbered, packed_text_of, portfolio_lines, rho_number as rho_number_of, spaced_numbers};
 ghost use Rattle.bound_certificate.specs.declared.line.Line.TheVariants as line;
 
 use crate::certificate::{Buy, Buys};
@@ -14,6 +14,13 @@ use escrow_desk::NoMemory;
 use itoa::Buffer;
 use proof_tree::Prices;
 use std::alloc::Global;
+
+/// The number by which a line says how much a leaf weighs the cost: 1 stands for wholly.
+pub(crate) fn rho_number(rho: u64) -> u64
+    ensures { result ≡ rho_number_of rho }
+{
+    u64::from(rho != 0)
+}
 
 /// Adds a space and a number.
 pub(crate) fn push_number(text: &mut Vec<u8>, number: u64) -> Result<(), NoMemory>
@@ -100,13 +107,13 @@ fn push_packed_node(text: &mut Vec<u8>, node: &PackedNode) -> Result<(), NoMemor
         PackedNode::Split { line, at } => push_line(text, b"s", &[*line as u64, *at]),
         PackedNode::Point => push_line(text, b"p", &[]),
         PackedNode::Closed {
-            whole,
+            rho,
             mu,
             vector,
             changes,
         } => {
             text.push(b'l')?;
-            push_numbers(text, &[u64::from(*whole), *mu, u64::from(*vector)])?;
+            push_numbers(text, &[rho_number(*rho), *mu, u64::from(*vector)])?;
             push_changes(text, changes.as_slice())?;
             text.push(b'\n')?;
             Ok(())

@@ -121,7 +121,7 @@ rule-obeyed case rules.Relaxation best ranges priced line at covers is open_node
 -- the bound of a side isn't below its parent's
 side-above : (case : CaseContents) (ranges : List Interval) (line at : ℕ) (right : Bool) (own side : Priced) → (bound_of (case.limit - 1) case.book ranges own.leaf ≤ℤ bound_of (case.limit - 1) case.book (narrowed case.book.lines ranges line at right) own.leaf)
     → IsPriced case ranges own → IsSide case ranges line at right own.leaf side → own.bound ≤ℤ side.bound
-side-above case ranges line at right own side rises priced is = omega (arith, ints, rises, priced.bound, is.no_less priced.improved.whole)
+side-above case ranges line at right own side rises priced is = omega (arith, ints, rises, priced.bound, is.no_less priced.improved.cost)
 
 pub split-next : (case : CaseContents) (Obeys : List Interval → ℕ → ℕ → Type 0) (best : Option ℕ) (tree : TreeContents) (number line at : ℕ) (ranges : List Interval) (left right : Priced) → IsBook case.book → AreTight case.book.lines ranges → IsOneTree tree.pool.states
     → SplitsAreWhole tree.pool.states → IsHeld case Obeys best tree.pool.states tree.nodes number ranges → is_proper ranges line at ≡ true → line < length case.book.lines → Obeys ranges line at

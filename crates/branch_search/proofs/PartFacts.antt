@@ -55,7 +55,7 @@ pub priced-is : (case : CaseContents) (tuner : TunerContents) (base leaf : Leaf)
 priced-is case tuner base leaf ranges bound tuned based limits tight improved zeros is = record {
   improved = own;
   bound = is ∙ tuned-bound case tuner leaf ranges tuned;
-  some = omega (arith, ints, zeros-some (case.limit - 1) case.book (length case.book.needs) ranges limits tight, tuned-zeros case tuner base leaf ranges tuned based zeros (sym own.whole), is, tuned-bound case tuner leaf ranges tuned);
+  some = omega (arith, ints, zeros-some (case.limit - 1) case.book (length case.book.needs) ranges limits tight, tuned-zeros case tuner base leaf ranges tuned based zeros (sym own.cost), is, tuned-bound case tuner leaf ranges tuned);
 }
   where
     own : IsImproved (case.limit - 1) case.book ranges (base_leaf case.book) leaf
@@ -63,7 +63,7 @@ priced-is case tuner base leaf ranges bound tuned based limits tight improved ze
 
 -- a leaf that doesn't weigh the cost, and whose bound is above 0, shows that there is no portfolio
 pub shows-none : (case : CaseContents) (tuner : TunerContents) (leaf : Leaf) (ranges : List Interval) (bound : ℤ) → tuner ≡ record { book = case.book; yield_units = case.limit - 1 }
-    → IsLeaf (length tuner.book.needs) leaf → leaf.whole ≡ false → bound ≡ bound_of tuner.yield_units tuner.book ranges leaf → pos 0 <ℤ bound → ShowsNone case ranges leaf
+    → IsLeaf (length tuner.book.needs) leaf → leaf.rho ≡ 0 → bound ≡ bound_of tuner.yield_units tuner.book ranges leaf → pos 0 <ℤ bound → ShowsNone case ranges leaf
 shows-none case tuner leaf ranges bound tuned well_formed without_cost is above = record {
   well_formed = subst (λ (t : TunerContents). IsLeaf (length t.book.needs) leaf) tuned well_formed;
   without_cost = without_cost;
@@ -73,9 +73,9 @@ shows-none case tuner leaf ranges bound tuned well_formed without_cost is above 
 -- the parent's leaf bounds no more
 pub parent-no_more : (case : CaseContents) (tuner : TunerContents) (base parent leaf : Leaf) (ranges : List Interval) (bound : ℤ) → tuner ≡ record { book = case.book; yield_units = case.limit - 1 } → base ≡ base_leaf case.book
     → IsImproved tuner.yield_units tuner.book ranges base leaf → HasNoGreater tuner.yield_units tuner.book ranges parent leaf → bound ≡ bound_of tuner.yield_units tuner.book ranges leaf
-    → parent.whole ≡ true → bound_of (case.limit - 1) case.book ranges parent ≤ℤ bound
+    → parent.rho ≡ PRICE_SCALE → bound_of (case.limit - 1) case.book ranges parent ≤ℤ bound
 parent-no_more case tuner base parent leaf ranges bound tuned based improved start is whole =
-    omega (arith, ints, start (whole ∙ sym (tuned-improved case tuner base leaf ranges tuned based improved).whole), is, tuned-bound case tuner parent ranges tuned)
+    omega (arith, ints, start (whole ∙ sym (tuned-improved case tuner base leaf ranges tuned based improved).cost), is, tuned-bound case tuner parent ranges tuned)
 
 -- ---- whether the needs are reached
 pub reached-is : (case : CaseContents) (ranges : List Interval) (plan : List ℕ) (day : ℤ) → plan ≡ high_ends ranges → Some day ≡ first_short_of case.book plan

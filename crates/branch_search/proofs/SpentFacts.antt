@@ -85,15 +85,24 @@ not-true : (b : Bool) → not b ≡ false → b ≡ true
 not-true true is = refl
 not-true false is = absurd (cc)
 
-less-borne : (bound own less : ℤ) → less ≤ℤ own → bears_out bound (Some own) ≡ true → bears_out bound (Some less) ≡ true
-less-borne bound own less le borne = grind (arith, ints)
+lt-of : (a b : ℤ) → int_lt a b ≡ true → a <ℤ b
+lt-of a b e = omega (arith, ints)
+
+lt-test : (a b : ℤ) → a <ℤ b → int_lt a b ≡ true
+lt-test a b less = grind (arith, ints, less)
+
+less-borne : (rho : ℕ) (bound own less : ℤ) → less ≤ℤ own → bears_out_by rho bound (Some own) ≡ true → bears_out_by rho bound (Some less) ≡ true
+less-borne rho bound own less le borne =
+    let scaled = scale-le (COEFFICIENT_SCALE * rho) (less -ℤ pos 1) (own -ℤ pos 1) (omega (arith, ints, le)) in
+    let above = lt-of _ _ borne in
+    lt-test _ _ (omega (arith, ints, scaled, above))
 
 less-enough : (case : CaseContents) (own less : ℤ) (plan : List ℕ) → less ≤ℤ own → costs_enough case.book (Some own) plan ≡ true → costs_enough case.book (Some less) plan ≡ true
 less-enough case own less plan le enough = grind (arith, ints)
 
-less-leaf : (whole own less reached : Bool) → (own ≡ true → less ≡ true) → not (if whole then own else reached) ≡ false → not (if whole then less else reached) ≡ false
-less-leaf true own less reached up is = ap not (up (not-true own is))
-less-leaf false own less reached up is = is
+less-leaf : (none own less reached : Bool) → (own ≡ true → less ≡ true) → not (if none then reached else own) ≡ false → not (if none then reached else less) ≡ false
+less-leaf false own less reached up is = ap not (up (not-true own is))
+less-leaf true own less reached up is = is
 
 less-point : (single excluded own less : Bool) → (own ≡ true → less ≡ true) → not (single && (excluded || own)) ≡ false → not (single && (excluded || less)) ≡ false
 less-point true true own less up is = is
@@ -104,8 +113,8 @@ less-point false excluded own less up is = is
 less-claimed : (case : CaseContents) (own less : ℤ) (p : TreeNode × List Interval) → less ≤ℤ own → is_weak case (Some own) p ≡ false → is_weak case (Some less) p ≡ false
 less-claimed case own less (node.Split line at, ranges) le closed = closed
 less-claimed case own less (node.Closed leaf, ranges) le closed =
-    less-leaf leaf.whole (bears_out (bound_of (case.limit - 1) case.book ranges leaf) (Some own)) (bears_out (bound_of (case.limit - 1) case.book ranges leaf) (Some less)) (int_lt (pos 0) (bound_of (case.limit - 1) case.book ranges leaf))
-    (less-borne (bound_of (case.limit - 1) case.book ranges leaf) own less le) closed
+    less-leaf (leaf.rho == 0) (bears_out_by leaf.rho (bound_of (case.limit - 1) case.book ranges leaf) (Some own)) (bears_out_by leaf.rho (bound_of (case.limit - 1) case.book ranges leaf) (Some less)) (int_lt (pos 0) (bound_of (case.limit - 1) case.book ranges leaf))
+    (less-borne leaf.rho (bound_of (case.limit - 1) case.book ranges leaf) own less le) closed
 less-claimed case own less (node.Point, ranges) le closed =
     less-point (is_single ranges) (is_excluded case.book (case.limit - 1) (low_ends ranges)) (costs_enough case.book (Some own) (low_ends ranges)) (costs_enough case.book (Some less) (low_ends ranges))
     (less-enough case own less (low_ends ranges) le) closed

@@ -17,7 +17,7 @@ use Rattle.search_tree.specs.declared.node.Priced.{Priced}
 -- a side of a split is priced: its leaf bounds no less than the parent's there
 pub record IsSide (case : CaseContents) (ranges : List Interval) (line at : ℕ) (right : Bool) (parent : Leaf) (priced : Priced) : Type 0 where
   pub own : IsPriced case (narrowed case.book.lines ranges line at right) priced
-  pub no_less : parent.whole ≡ true → bound_of (case.limit - 1) case.book (narrowed case.book.lines ranges line at right) parent ≤ℤ priced.bound
+  pub no_less : parent.rho ≡ PRICE_SCALE → bound_of (case.limit - 1) case.book (narrowed case.book.lines ranges line at right) parent ≤ℤ priced.bound
 
 -- a tree of a case begins: its root alone stands, with room for the budget
 pub record IsBegun (case : CaseContents) (tree : TreeContents) : Type 0 where

@@ -116,7 +116,7 @@ impl<'a> Search<'a> {
         requires parent { IfSome parent (λ leaf. IsLeaf (length self.old.case.book.needs) leaf.now) }
         ensures search { self.new ≡ self.old }
         ensures priced { IfOk result (IsPriced self.old.case self.old.ranges) }
-        ensures parent { IfOk result (λ priced. IfSome parent.entry (λ leaf. leaf.now.whole ≡ true → bound_of (self.old.case.limit - 1) self.old.case.book self.old.ranges leaf.now ≤ℤ priced.bound)) }
+        ensures parent { IfOk result (λ priced. IfSome parent.entry (λ leaf. leaf.now.rho ≡ PRICE_SCALE → bound_of (self.old.case.limit - 1) self.old.case.book self.old.ranges leaf.now ≤ℤ priced.bound)) }
     {
         let mut leaf = Leaf::of_zeros(alloc, true, self.book.need_count())?;
         let basis = basis_at(self.bases.as_slice(), node);

@@ -67,7 +67,7 @@ node-by dates vector (tree.Split number at) long is = record { said = node.Split
 node-by dates vector tree.Point long is = record { said = node.Point; is = refl }
 node-by dates vector (tree.Closed leaf) long is =
     let own = difference vector leaf.prices (long ∙ sym is.every_date) in
-    record { said = node.Closed leaf.whole leaf.mu 1 own.changes; is = (refl, refl, omega arith, omega arith, own.is) }
+    record { said = node.Closed leaf.rho leaf.mu 1 own.changes; is = (refl, refl, omega arith, omega arith, own.is) }
 
 nodes-by : (dates : ℕ) (vector : List ℕ) (nodes : List TreeNode) → length vector ≡ dates → All (IsNode dates) nodes → ArePackedBy dates (vector ∷ []) nodes
 nodes-by dates vector [] long all = record { said = []; same = refl; are = All-nil (IsPackedNode dates (vector ∷ [])) }

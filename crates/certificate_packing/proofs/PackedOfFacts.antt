@@ -19,17 +19,17 @@ use Rattle.bound_certificate.specs.Packed.{IsChange, IsPackable, IsPackedNode, I
 use Rattle.certificate_packing.specs.Packing.{AreLeafPrices, HaveLength, IsDifference, IsLeafNode, IsLeafPacked, IsNodePacked, IsPackedOf, IsPackingAt, IsSomeForLeaf, node_prices}
 
 -- ---- one node
-leaf-same : (vectors : List (List ℕ)) (leaf : Leaf) (whole : Bool) (mu vector : ℕ) (changes : List Change) → IsLeafPacked vectors leaf (node.Closed whole mu vector changes) →
-    leaf_with vectors whole mu vector changes ≡ leaf
-leaf-same vectors leaf whole mu vector changes is =
-    ap (λ (b : Bool). record { whole = b; mu = mu; prices = changed (vector_of vectors vector) changes }) is.0
-    ∙ ap (λ (m : ℕ). record { whole = leaf.whole; mu = m; prices = changed (vector_of vectors vector) changes }) is.1
-    ∙ ap (λ (ps : List ℕ). record { whole = leaf.whole; mu = leaf.mu; prices = ps }) is.4.same
+leaf-same : (vectors : List (List ℕ)) (leaf : Leaf) (rho mu vector : ℕ) (changes : List Change) → IsLeafPacked vectors leaf (node.Closed rho mu vector changes) →
+    leaf_with vectors rho mu vector changes ≡ leaf
+leaf-same vectors leaf rho mu vector changes is =
+    ap (λ (w : ℕ). record { rho = w; mu = mu; prices = changed (vector_of vectors vector) changes }) is.0
+    ∙ ap (λ (m : ℕ). record { rho = leaf.rho; mu = m; prices = changed (vector_of vectors vector) changes }) is.1
+    ∙ ap (λ (ps : List ℕ). record { rho = leaf.rho; mu = leaf.mu; prices = ps }) is.4.same
 
 pub said-same : (vectors : List (List ℕ)) (told : TreeNode) (said : PackedNode) → IsNodePacked vectors told said → unpacked_node vectors said ≡ told
 said-same vectors (tree.Split number at) said is = ap (λ (n : PackedNode). unpacked_node vectors n) is
 said-same vectors tree.Point said is = ap (λ (n : PackedNode). unpacked_node vectors n) is
-said-same vectors (tree.Closed leaf) (node.Closed whole mu vector changes) is = ap (λ (l : Leaf). tree.Closed l) (leaf-same vectors leaf whole mu vector changes is)
+said-same vectors (tree.Closed leaf) (node.Closed rho mu vector changes) is = ap (λ (l : Leaf). tree.Closed l) (leaf-same vectors leaf rho mu vector changes is)
 said-same vectors (tree.Closed leaf) (node.Split number at) is = absurd is
 said-same vectors (tree.Closed leaf) node.Point is = absurd is
 
@@ -44,13 +44,13 @@ changes-are dates vector prices changes long range is i d inside =
 pub said-packed : (dates : ℕ) (vectors : List (List ℕ)) (told : TreeNode) (said : PackedNode) → IsNode dates told → IsNodePacked vectors told said → IsPackedNode dates vectors said
 said-packed dates vectors (tree.Split number at) said good is = let P : PackedNode → Type 0 = λ n. IsPackedNode dates vectors n in subst P (sym is) good
 said-packed dates vectors tree.Point said good is = let P : PackedNode → Type 0 = λ n. IsPackedNode dates vectors n in subst P (sym is) tt
-said-packed dates vectors (tree.Closed leaf) (node.Closed whole mu vector changes) good is =
+said-packed dates vectors (tree.Closed leaf) (node.Closed rho mu vector changes) good is =
     let P : Leaf → Type 0 = λ l. IsLeaf dates l in
     record {
       first = is.2;
       last = is.3;
       changes_are = record { all = changes-are dates (vector_of vectors vector) leaf.prices changes good.every_date good.range is.4; rising = is.4.rising };
-      leaf = subst P (sym (leaf-same vectors leaf whole mu vector changes is)) good;
+      leaf = subst P (sym (leaf-same vectors leaf rho mu vector changes is)) good;
     }
 said-packed dates vectors (tree.Closed leaf) (node.Split number at) good is = absurd is
 said-packed dates vectors (tree.Closed leaf) node.Point good is = absurd is

@@ -31,8 +31,8 @@ HaveLength count vectors = All (λ vector. length vector ≡ count) vectors
 
 -- a node is a leaf, with its differences from a vector that is there
 abbrev pub IsLeafPacked : List (List ℕ) → Leaf → PackedNode → Type 0
-IsLeafPacked vectors leaf (node.Closed whole mu vector changes) =
-    (whole ≡ leaf.whole) × (mu ≡ leaf.mu) × (1 ≤ vector) × (vector ≤ length vectors) × IsDifference (vector_of vectors vector) leaf.prices changes
+IsLeafPacked vectors leaf (node.Closed rho mu vector changes) =
+    (rho ≡ leaf.rho) × (mu ≡ leaf.mu) × (1 ≤ vector) × (vector ≤ length vectors) × IsDifference (vector_of vectors vector) leaf.prices changes
 IsLeafPacked vectors leaf other = ⊥
 
 -- ---- packing, node by node

@@ -77,7 +77,7 @@ fn pack_leaf(alloc: Global, vectors: &[Prices], leaf: &Leaf) -> Result<PackedNod
     let number = nearest(vectors, prices);
     let changes = difference(alloc, vectors[number].as_slice(), prices)?;
     Ok(PackedNode::Closed {
-        whole: leaf.whole,
+        rho: leaf.rho,
         mu: leaf.mu,
         vector: number as u16 + 1,
         changes: Changes::new(changes),

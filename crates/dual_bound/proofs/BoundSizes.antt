@@ -40,7 +40,7 @@ form-slope n book leaf line h well is =
     let weight = paid_worth n book leaf line.kind in
     let own = cost_worth leaf line.kind in
     let costs = cost-sized book.days line is in
-    let first = side-small own (cost_coefficients line).low (cost_coefficients line).high PRICE_SCALE (4_000_000_000 * line.step) (cost_worth-light leaf line.kind well.limit) costs.low costs.high in
+    let first = side-small own (cost_coefficients line).low (cost_coefficients line).high PRICE_SCALE (4_000_000_000 * line.step) (cost_worth-light leaf line.kind well.cost well.limit) costs.low costs.high in
     let rest = pays_slope-small weight line.step (pay_coefficients book.days line) (paid_worth-light n book leaf line.kind well) (pays-sized book.days line h is) in
     omega (
       arith,
@@ -54,7 +54,7 @@ pub form-slack : (n : ℕ) (book : BookContents) (leaf : Leaf) (line : Line) →
     → (form_of n book leaf line).slack ≤ 10 ^ 23
 form-slack n book leaf line h well is =
     let weight = paid_worth n book leaf line.kind in
-    let first = mul-le-mul (cost_worth-light leaf line.kind well.limit) (cost-sized book.days line is).slack in
+    let first = mul-le-mul (cost_worth-light leaf line.kind well.cost well.limit) (cost-sized book.days line is).slack in
     let rest = pays_slack-small weight line.step (pay_coefficients book.days line) (paid_worth-light n book leaf line.kind well) (pays-sized book.days line h is) in
     omega (arith, first, rest, ap (λ (f : Form). f.slack) (form_of-is n book leaf line), few is)
   where
@@ -69,7 +69,7 @@ form-units n book leaf line units h well security most =
     let weight = paid_worth n book leaf line.kind in
     let own = cost_worth leaf line.kind in
     let costs = cost-sized book.days line (inr security) in
-    let first = side-small own (cost_coefficients line).low (cost_coefficients line).high PRICE_SCALE (4_000_000_000 * line.step) (cost_worth-light leaf line.kind well.limit) costs.low costs.high in
+    let first = side-small own (cost_coefficients line).low (cost_coefficients line).high PRICE_SCALE (4_000_000_000 * line.step) (cost_worth-light leaf line.kind well.cost well.limit) costs.low costs.high in
     let rest = pays_slope-units weight units (pay_coefficients book.days line) (paid_worth-light n book leaf line.kind well) (pays-close book.days line) in
     let sum : unsigned_abs (form_of n book leaf line).slope
     ≤ unsigned_abs (least_side own (cost_coefficients line).low (cost_coefficients line).high) + unsigned_abs (pays_slope weight (pay_coefficients book.days line)) =
@@ -128,7 +128,7 @@ reduced-within n book leaf line units cost paid well few little =
     let own = cost_worth leaf line.kind in
     let sum = signed_sum (λ (flow : Flow). weight flow.day *ℤ pos flow.cents.0) (line_payments book.days line units) in
     let worth = worth-small weight (line_payments book.days line units) (paid_worth-light n book leaf line.kind well) in
-    let first = mul-le-mul (cost_worth-light leaf line.kind well.limit) few in
+    let first = mul-le-mul (cost_worth-light leaf line.kind well.cost well.limit) few in
     let product = unsigned_abs-mul own (pos (line_cost line units)) in
     let whole = unsigned_abs-mul (pos COEFFICIENT_SCALE) (own *ℤ pos (line_cost line units) -ℤ sum) in
     let apart = abs-apart (own *ℤ pos (line_cost line units)) sum in

@@ -92,10 +92,10 @@ same-reduced own rate cost amount worths others column h =
     λ i. pos COEFFICIENT_SCALE *ℤ (own *ℤ pos cost -ℤ (signed_worth (together i) *ℤ pos (earned_of amount rate 1 2) +ℤ paid i))
 
 -- ---- lines at leaves that agree within a span
-same-cost : (old new : Leaf) → old.whole ≡ new.whole → old.mu ≡ new.mu → (kind : LineKind) → cost_worth old kind ≡ cost_worth new kind
-same-cost old new whole limit Cash = λ i. pos (if whole i then PRICE_SCALE else 0) -ℤ pos 0
-same-cost old new whole limit (Security slgs) = λ i. pos (if whole i then PRICE_SCALE else 0) -ℤ pos (limit i)
-same-cost old new whole limit (Market note) = λ i. pos (if whole i then PRICE_SCALE else 0) -ℤ pos (limit i)
+same-cost : (old new : Leaf) → old.rho ≡ new.rho → old.mu ≡ new.mu → (kind : LineKind) → cost_worth old kind ≡ cost_worth new kind
+same-cost old new cost limit Cash = λ i. pos (cost i) -ℤ pos 0
+same-cost old new cost limit (Security slgs) = λ i. pos (cost i) -ℤ pos (limit i)
+same-cost old new cost limit (Market note) = λ i. pos (cost i) -ℤ pos (limit i)
 
 same-at : (days : List PricedDay) (span : Span) (old new : Leaf) (place : ℕ) → AgreeInside span old new → IsPricedInside days span place → place < length days
     → worth_at (map (worth_on old) days) place ≡ worth_at (map (worth_on new) days) place
@@ -142,7 +142,7 @@ priced-by n book line days column span own inside =
     λ old new old_long new_long agree interval.
     let worths = map (worth_on old) days in
     let others = map (worth_on new) days in
-    let cost = same-cost old new agree.whole agree.limit line.kind in
+    let cost = same-cost old new agree.cost agree.limit line.kind in
     let same = same-worths n book line days column span old new own inside agree in
     same-least n book old new line interval
     (sym (column-form n book old line days worths column old_long refl own) ∙ same-form (cost_worth old line.kind) worths others column same
@@ -197,7 +197,7 @@ inside-more {X} place days span wider xs i x there is first last own before k d 
 -- leaves of which one has another price agree within a span without its date
 pub agree-without : (span wider : Span) (leaf : Leaf) (place price : ℕ) → wider.first ≤ place → place ≤ wider.last → AreApart span wider → AgreeInside span leaf (with_price leaf place price)
 agree-without span wider leaf place price first last apart = record {
-  whole = refl;
+  cost = refl;
   limit = refl;
   prices = λ date inside. sym (get_or-set_other leaf.prices place date price 0 (other date inside apart));
 }
@@ -207,10 +207,10 @@ agree-without span wider leaf place price first last apart = record {
     other date inside (inr behind) at = omega (arith, inside.0, behind, last, at)
 
 -- leaves agree within a span that lies apart from all need dates whose prices differ
-pub agree-apart : (span wider : Span) (old new : Leaf) (dates : List ℕ) → old.whole ≡ new.whole → old.mu ≡ new.mu → length old.prices ≡ length new.prices → AreChangedDates old.prices new.prices dates
+pub agree-apart : (span wider : Span) (old new : Leaf) (dates : List ℕ) → old.rho ≡ new.rho → old.mu ≡ new.mu → length old.prices ≡ length new.prices → AreChangedDates old.prices new.prices dates
     → All (IsInside wider) dates → AreApart span wider → AgreeInside span old new
-agree-apart span wider old new dates whole limit long changes inside apart = record {
-  whole = whole;
+agree-apart span wider old new dates cost limit long changes inside apart = record {
+  cost = cost;
   limit = limit;
   prices = λ date within. same date within (cases_lt date (length old.prices)) (cases_eq (get_or old.prices date 0) (get_or new.prices date 0));
 }

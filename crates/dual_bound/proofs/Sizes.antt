@@ -32,7 +32,7 @@ use Rattle.offer_book.specs.Schedule.{kind_rate, kind_schedule, schedule_of}
 use Rattle.offer_book.proofs.CoefficientBounds.{IsClose}
 use Rattle.offer_book.proofs.LineFacts.{cash-at_most, rate-low, schedule-few, security-at_most}
 use Rattle.offer_book.proofs.ScheduleFacts.{schedule-short}
-use Rattle.dual_bound.specs.LeafBound.{cost_weight, cost_worth, least_side, limit_price, limit_multiplier, paid_worth, price_on, signed_sum}
+use Rattle.dual_bound.specs.LeafBound.{cost_worth, least_side, limit_price, limit_multiplier, paid_worth, price_on, signed_sum}
 use Rattle.proof_tree.specs.Tree.{IsLeaf}
 use Rattle.proof_tree.specs.declared.prices.TheConstants.{PRICE_SCALE}
 use Rattle.proof_tree.specs.declared.tree.Leaf.{Leaf}
@@ -55,13 +55,6 @@ limit_multiplier-small leaf Cash small = omega arith
 limit_multiplier-small leaf (Security slgs) small = small
 limit_multiplier-small leaf (Market note) small = small
 
-pub cost_weight-small : (leaf : Leaf) → cost_weight leaf ≤ PRICE_SCALE
-cost_weight-small leaf = at leaf.whole
-  where
-    at : (t : Bool) → (if t then PRICE_SCALE else 0) ≤ PRICE_SCALE
-    at true = omega arith
-    at false = omega arith
-
 -- the limit takes no more than its weight
 pub limit_price-small : (n : ℕ) (settle : ℤ) (weight : ℕ) (day : ℤ) → weight ≤ PRICE_SCALE → limit_price n settle weight day ≤ PRICE_SCALE
 limit_price-small n settle weight day small =
@@ -80,9 +73,9 @@ paid_worth-light n book leaf kind well day =
     (price_on-small book.needs leaf.prices day well.range)
     (omega (arith, limit_price-small n book.days.settle (limit_multiplier leaf kind) day (limit_multiplier-small leaf kind well.limit)))
 
-pub cost_worth-light : (leaf : Leaf) (kind : LineKind) → leaf.mu ≤ PRICE_SCALE → unsigned_abs (cost_worth leaf kind) ≤ PRICE_SCALE
-cost_worth-light leaf kind small =
-    abs-difference (cost_weight leaf) (limit_multiplier leaf kind) PRICE_SCALE (cost_weight-small leaf) (limit_multiplier-small leaf kind small)
+pub cost_worth-light : (leaf : Leaf) (kind : LineKind) → leaf.rho ≤ PRICE_SCALE → leaf.mu ≤ PRICE_SCALE → unsigned_abs (cost_worth leaf kind) ≤ PRICE_SCALE
+cost_worth-light leaf kind weight small =
+    abs-difference leaf.rho (limit_multiplier leaf kind) PRICE_SCALE weight (limit_multiplier-small leaf kind small)
 
 pub abs-sum : (a b : ℤ) → unsigned_abs (a +ℤ b) ≤ unsigned_abs a + unsigned_abs b
 abs-sum a b = omega (arith, ints)

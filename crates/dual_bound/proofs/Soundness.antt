@@ -25,7 +25,7 @@ use Rattle.offer_book.specs.declared.line.Line.{Line}
 use Rattle.offer_book.specs.declared.line.LineKind.{LineKind}
 use Rattle.offer_book.specs.declared.line.LineKind.TheVariants.{Cash, Market, Security}
 use Rattle.dual_bound.specs.Duality.{BoundsAll, BoundsRivals, CostsAtLeast}
-use Rattle.dual_bound.specs.LeafBound.{bound_of, cost_weight, least_within, limit_price, limit_multiplier, price_on, priced_needs, reduced_cost, signed_sum}
+use Rattle.dual_bound.specs.LeafBound.{bound_of, least_within, limit_price, limit_multiplier, price_on, priced_needs, reduced_cost, signed_sum}
 use Rattle.node_ranges.specs.Ranges.{IsWithin}
 use Rattle.proof_tree.specs.Tree.{IsLeaf}
 use Rattle.proof_tree.specs.declared.interval.Interval.{Interval}
@@ -54,7 +54,7 @@ abbrev pair_cost : Line × ℕ → ℕ
 pair_cost p = line_cost p.0 p.1
 
 abbrev charged : ℕ → BookContents → Leaf → Line × ℕ → ℕ
-charged n book leaf p = cost_weight leaf * pair_cost p + limited n book leaf p
+charged n book leaf p = leaf.rho * pair_cost p + limited n book leaf p
 
 abbrev credited : BookContents → Leaf → Line × ℕ → ℕ
 credited book leaf p = limit_multiplier leaf p.0.kind * pair_cost p + priced book leaf p
@@ -80,10 +80,10 @@ reduced-parts : (n : ℕ) (book : BookContents) (leaf : Leaf) (p : Line × ℕ)
     → reduced_cost n book leaf p.0 p.1 ≡ pos COEFFICIENT_SCALE *ℤ (pos (charged n book leaf p) -ℤ pos (credited book leaf p))
 unfolding reduced_cost
 reduced-parts n book leaf p =
-    let own = difference-mul (cost_weight leaf) (limit_multiplier leaf p.0.kind) (pair_cost p) in
+    let own = difference-mul (leaf.rho) (limit_multiplier leaf p.0.kind) (pair_cost p) in
     let paid = worth-parts (price_on book.needs leaf.prices) (limit_price n book.days.settle (limit_multiplier leaf p.0.kind)) (line_payments book.days p.0 p.1) in
     ap (λ z. pos COEFFICIENT_SCALE *ℤ z)
-    (joined (cost_weight leaf * pair_cost p) (limit_multiplier leaf p.0.kind * pair_cost p) (priced book leaf p) (limited n book leaf p) _ _ own paid)
+    (joined (leaf.rho * pair_cost p) (limit_multiplier leaf p.0.kind * pair_cost p) (priced book leaf p) (limited n book leaf p) _ _ own paid)
   where
     joined : (a b c d : ℕ) (x y : ℤ) → x ≡ pos a -ℤ pos b → y ≡ pos c -ℤ pos d → x -ℤ y ≡ pos (a + d) -ℤ pos (b + c)
     joined a b c d x y own paid = omega (arith, ints)
@@ -122,13 +122,13 @@ least-sum n book leaf (line ∷ lines) (interval ∷ ranges) (units ∷ plan) en
 -- ---- the inequality of duality, in whole numbers
 -- the charges of all lines
 charged-sum : (n : ℕ) (book : BookContents) (leaf : Leaf) (pairs : List (Line × ℕ))
-    → sum_by (charged n book leaf) pairs ≡ cost_weight leaf * sum_by pair_cost pairs + sum_by (limited n book leaf) pairs
+    → sum_by (charged n book leaf) pairs ≡ leaf.rho * sum_by pair_cost pairs + sum_by (limited n book leaf) pairs
 charged-sum n book leaf [] = omega arith
 charged-sum n book leaf (p ∷ pairs) =
     omega (
       arith,
       sum_by-cons (charged n book leaf) p pairs,
-      ap (λ m. cost_weight leaf * m) (sum_by-cons pair_cost p pairs),
+      ap (λ m. leaf.rho * m) (sum_by-cons pair_cost p pairs),
       sum_by-cons (limited n book leaf) p pairs,
       charged-sum n book leaf pairs,
     )
@@ -166,10 +166,10 @@ bound-le n book ranges leaf plan limits well permitted covered inside granted =
     let least = least-sum n book leaf book.lines ranges plan (λ line units is. coefficients-enclose book.days line limits.settlement is units) (all-lines book.days book.lines limits.lines)
     permitted.units permitted.same_length inside in
     let exact = reduced-sum n book leaf pairs in
-    let whole : priced_needs book.needs leaf.prices + sum_by (charged n book leaf) pairs ≤ cost_weight leaf * cost book plan + sum_by (credited book leaf) pairs = omega arith in
+    let whole : priced_needs book.needs leaf.prices + sum_by (charged n book leaf) pairs ≤ leaf.rho * cost book plan + sum_by (credited book leaf) pairs = omega arith in
     let scaled = mul-le-mul_left COEFFICIENT_SCALE whole in
     let split = mul-sub (pos COEFFICIENT_SCALE) (pos (sum_by (charged n book leaf) pairs)) (pos (sum_by (credited book leaf) pairs)) in
-    joined _ _ _ _ (COEFFICIENT_SCALE * priced_needs book.needs leaf.prices) (COEFFICIENT_SCALE * (cost_weight leaf * cost book plan)) _ _
+    joined _ _ _ _ (COEFFICIENT_SCALE * priced_needs book.needs leaf.prices) (COEFFICIENT_SCALE * (leaf.rho * cost book plan)) _ _
     least (exact ∙ split) (pos-mul COEFFICIENT_SCALE (sum_by (charged n book leaf) pairs)) (pos-mul COEFFICIENT_SCALE (sum_by (credited book leaf) pairs)) (omega arith)
   where
     joined : (least exact above below : ℤ) (needs weighed more less : ℕ) → least ≤ℤ exact → exact ≡ above -ℤ below → above ≡ pos more → below ≡ pos less

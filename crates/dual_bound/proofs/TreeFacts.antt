@@ -1,7 +1,8 @@
 -- A tree whose splits are proper and whose leaves and points are closed bears out its claim.
-use Rattle.std.proofs.Common.{◌≡◌, ◌∙◌, ◌⊎◌, inl, inr, ℕ, ◌-◌, ◌*◌, refl, sym, ap, subst, arith, List, [], ◌∷◌, length, Some, None, Bool, true, false, not, ◌&&◌, ◌||◌, ℤ, pos, ◌-ℤ◌, ◌*ℤ◌, ◌≤ℤ◌, ◌<ℤ◌, int_lt, if◌then◌else◌, All}
+use Rattle.std.proofs.Common.{◌≡◌, ◌∙◌, ◌⊎◌, inl, inr, ℕ, ◌==◌, ◌-◌, ◌*◌, refl, sym, ap, subst, arith, List, [], ◌∷◌, length, Some, None, Bool, true, false, not, ◌&&◌, ◌||◌, ℤ, pos, ◌-ℤ◌, ◌*ℤ◌, ◌≤ℤ◌, ◌<ℤ◌, int_lt, if◌then◌else◌, All}
 use Rattle.std.specs.Prelude.{IsTrue}
 use Rattle.std.specs.List.{position}
+use Rattle.std.proofs.Math.Nat.{mul_assoc}
 use Rattle.std.proofs.lemmas.Int.{by_lt_z, ints}
 use Rattle.std.proofs.lemmas.List.Elements.{All-cons, All-head, All-nil, All-tail, All-weaker}
 use Rattle.case_file.specs.Case.{CaseContents}
@@ -16,7 +17,7 @@ use Rattle.dual_bound.proofs.Soundness.{bounds-all, bounds-rivals}
 use Rattle.dual_bound.specs.Duality.{CostsAtLeast}
 use Rattle.dual_bound.specs.LeafBound.{bound_of}
 use Rattle.node_ranges.specs.Ranges.{AreTight, Hold, is_proper, is_single, narrowed, root_of}
-use Rattle.node_ranges.specs.Claims.{Claim, bears_out, costs_enough, is_bad_split, low_ends, placed, placed_nodes}
+use Rattle.node_ranges.specs.Claims.{Claim, bears_out_by, costs_enough, is_bad_split, low_ends, placed, placed_nodes}
 use Rattle.proof_tree.specs.Tree.{AreTrees, IsLeaf, IsNode, IsPriced}
 use Rattle.proof_tree.specs.declared.prices.TheConstants.{PRICE_SCALE}
 use Rattle.proof_tree.specs.declared.interval.Interval.{Interval}
@@ -117,27 +118,35 @@ tree-bears_out case claim plan (node.Closed leaf ∷ nodes) (ranges ∷ waiting)
 -- ---- a closed leaf, by what its bound bounds
 leaf-tells : (case : CaseContents) (claim : Claim) (plan : List ℕ) (ranges : List Interval) (leaf : Leaf)
     → CostsAtLeast (bound_of (case.limit - 1) case.book ranges leaf) case.book leaf plan → is_closed_leaf case claim ranges leaf ≡ true → BearsOut case.book claim plan
-leaf-tells case claim plan ranges leaf costs closed = by leaf.whole costs claim closed
+leaf-tells case claim plan ranges leaf costs closed = by leaf.rho (leaf.rho == 0) refl costs claim closed
   where
     bound : ℤ
     bound = bound_of (case.limit - 1) case.book ranges leaf
 
-    by : (whole : Bool) → bound ≤ℤ pos (COEFFICIENT_SCALE * ((if whole then PRICE_SCALE else 0) * cost case.book plan))
-        → (asked : Claim) → (if whole then bears_out bound asked else int_lt (pos 0) bound) ≡ true → BearsOut case.book asked plan
-    by true costs None closed = absurd (not-true closed)
-    by true costs (Some least) closed = by_lt_z (pos (cost case.book plan)) least
+    lt-of : (a b : ℤ) → int_lt a b ≡ true → a <ℤ b
+    lt-of a b closed = omega (arith, ints)
+
+    by : (rho : ℕ) (none : Bool) → (rho == 0) ≡ none → bound ≤ℤ pos (COEFFICIENT_SCALE * (rho * cost case.book plan))
+        → (asked : Claim) → (if none then int_lt (pos 0) bound else bears_out_by rho bound asked) ≡ true → BearsOut case.book asked plan
+    by rho false counts costs None closed = absurd (not-true closed)
+    by rho false counts costs (Some least) closed = by_lt_z (pos (cost case.book plan)) least
         (λ less. absurd (
-        let scaled = scale-le (COEFFICIENT_SCALE * PRICE_SCALE) (pos (cost case.book plan)) (least -ℤ pos 1) (omega (arith, ints, less)) in
-        let same = pos-mul (COEFFICIENT_SCALE * PRICE_SCALE) (cost case.book plan) in
-        let above : (pos (COEFFICIENT_SCALE * PRICE_SCALE) *ℤ (least -ℤ pos 1)) <ℤ bound = omega (arith, ints) in
-        apart _ _ _ (COEFFICIENT_SCALE * (PRICE_SCALE * cost case.book plan)) (COEFFICIENT_SCALE * PRICE_SCALE * cost case.book plan) scaled same above costs (omega arith)))
+        let scaled = scale-le (COEFFICIENT_SCALE * rho) (pos (cost case.book plan)) (least -ℤ pos 1) (omega (arith, ints, less)) in
+        let same = pos-mul (COEFFICIENT_SCALE * rho) (cost case.book plan) in
+        let above : (pos (COEFFICIENT_SCALE * rho) *ℤ (least -ℤ pos 1)) <ℤ bound = lt-of _ _ closed in
+        apart _ _ _ (COEFFICIENT_SCALE * (rho * cost case.book plan)) (COEFFICIENT_SCALE * rho * cost case.book plan) scaled same above costs (sym (mul_assoc COEFFICIENT_SCALE rho (cost case.book plan)))))
         (λ enough. enough)
       where
         apart : (weighed above_it product : ℤ) (most same_most : ℕ) → product ≤ℤ weighed → product ≡ pos same_most → weighed <ℤ above_it → above_it ≤ℤ pos most → most ≡ same_most → ⊥
         apart weighed above_it product most same_most a b e d same = omega (arith, ints)
-    by false costs asked closed = absurd (
-        let above : pos 0 <ℤ bound = omega (arith, ints) in
-        omega (arith, ints, above, costs))
+    by rho true none costs asked closed = absurd (
+        let above : pos 0 <ℤ bound = lt-of _ _ closed in
+        let zero : rho ≡ 0 = equal_none rho none in
+        let nothing : rho * cost case.book plan ≡ 0 * cost case.book plan = ap (λ r. r * cost case.book plan) zero in
+        omega (arith, ints, above, costs, nothing))
+      where
+        equal_none : (n : ℕ) → (n == 0) ≡ true → n ≡ 0
+        equal_none n e = grind (arith, e)
 
 -- ---- a closed point: its ranges hold one portfolio
 point-tells : (case : CaseContents) (claim : Claim) (plan : List ℕ) (ranges : List Interval) → IsBook case.book → AreTight case.book.lines ranges → Hold case.book.lines ranges plan

@@ -1,8 +1,8 @@
 -- When a leaf or a point of a tree is closed. This is this project's own.
-use Rattle.std.specs.Prelude.{◌-◌, Bool, false, not, ◌&&◌, ◌||◌, if◌then◌else◌, List, pos, int_lt}
+use Rattle.std.specs.Prelude.{◌-◌, ◌==◌, Bool, false, not, ◌&&◌, ◌||◌, if◌then◌else◌, List, pos, int_lt}
 use Rattle.case_file.specs.Case.{CaseContents}
 use Rattle.cash_table.specs.Points.{is_excluded}
-use Rattle.node_ranges.specs.Claims.{Claim, bears_out, costs_enough, low_ends}
+use Rattle.node_ranges.specs.Claims.{Claim, bears_out_by, costs_enough, low_ends}
 use Rattle.node_ranges.specs.Ranges.{is_single}
 use Rattle.proof_tree.specs.declared.interval.Interval.{Interval}
 use Rattle.proof_tree.specs.declared.tree.Leaf.{Leaf}
@@ -13,8 +13,8 @@ use Rattle.dual_bound.specs.LeafBound.{bound_of}
 -- a leaf is closed: it bears out the claim; or it doesn't weigh the cost, and its bound above 0 shows that there is no rival
 abbrev pub is_closed_leaf : CaseContents → Claim → List Interval → Leaf → Bool
 is_closed_leaf case claim ranges leaf =
-    if leaf.whole then bears_out (bound_of (case.limit - 1) case.book ranges leaf) claim
-    else int_lt (pos 0) (bound_of (case.limit - 1) case.book ranges leaf)
+    if leaf.rho == 0 then int_lt (pos 0) (bound_of (case.limit - 1) case.book ranges leaf)
+    else bears_out_by leaf.rho (bound_of (case.limit - 1) case.book ranges leaf) claim
 
 -- a point is closed: its ranges hold one portfolio, which is no rival, or costs no less than is claimed
 abbrev pub is_closed_point : CaseContents → Claim → List Interval → Bool

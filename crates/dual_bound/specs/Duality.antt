@@ -5,7 +5,7 @@ use Rattle.offer_book.specs.Book.{BookContents, IsBook}
 use Rattle.offer_book.specs.Portfolio.{IsPermitted, Meets, cost}
 use Rattle.offer_book.specs.Rival.{IsRival}
 use Rattle.offer_book.specs.declared.coefficients.TheConstants.{COEFFICIENT_SCALE}
-use Rattle.dual_bound.specs.LeafBound.{bound_of, cost_weight}
+use Rattle.dual_bound.specs.LeafBound.{bound_of}
 use Rattle.node_ranges.specs.Ranges.{IsWithin}
 use Rattle.proof_tree.specs.Tree.{IsLeaf}
 use Rattle.proof_tree.specs.declared.interval.Interval.{Interval}
@@ -13,7 +13,7 @@ use Rattle.proof_tree.specs.declared.tree.Leaf.{Leaf}
 
 -- the cost of a portfolio, weighted and scaled, is at least a bound
 abbrev pub CostsAtLeast : ℤ → BookContents → Leaf → List ℕ → Type 0
-CostsAtLeast bound book leaf plan = bound ≤ℤ pos (COEFFICIENT_SCALE * (cost_weight leaf * cost book plan))
+CostsAtLeast bound book leaf plan = bound ≤ℤ pos (COEFFICIENT_SCALE * (leaf.rho * cost book plan))
 
 -- no rival within the ranges costs less than the bound of a leaf at one unit below the limit
 abbrev pub BoundsRivals : Type 0

@@ -35,10 +35,6 @@ price_on (need ∷ needs) (price ∷ prices) day = if int_le day need.day then p
 unfoldable pub priced_needs : List Flow → List ℕ → ℕ
 priced_needs needs prices = sum_by (λ p. p.0.cents.0 * p.1) (zip needs prices)
 
--- the weight of a cent of cost: 1 where the cost counts, in units of 1 / PRICE_SCALE
-abbrev pub cost_weight : Leaf → ℕ
-cost_weight leaf = if leaf.whole then PRICE_SCALE else 0
-
 -- the multiplier of the yield limit, which binds securities alone
 abbrev pub limit_multiplier : Leaf → LineKind → ℕ
 limit_multiplier leaf Cash = 0
@@ -51,7 +47,7 @@ limit_price n settle multiplier day = multiplier * low n (index360_of settle day
 
 -- what a cent that a line costs counts: the limit credits it
 abbrev pub cost_worth : Leaf → LineKind → ℤ
-cost_worth leaf kind = pos (cost_weight leaf) -ℤ pos (limit_multiplier leaf kind)
+cost_worth leaf kind = pos leaf.rho -ℤ pos (limit_multiplier leaf kind)
 
 -- what a cent that a line pays on a day is worth: its price, less what the limit takes
 abbrev pub paid_worth : ℕ → BookContents → Leaf → LineKind → ℤ → ℤ

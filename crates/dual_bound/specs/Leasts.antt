@@ -32,7 +32,7 @@ pub record IsSpanOf (days : List PricedDay) (column : Column) (span : Span) : Ty
 
 -- leaves price alike what is paid within a span
 pub record AgreeInside (span : Span) (old new : Leaf) : Type 0 where
-  pub whole : old.whole ≡ new.whole
+  pub cost : old.rho ≡ new.rho
   pub limit : old.mu ≡ new.mu
   pub prices : (date : ℕ) → IsInside span date → slice_index old.prices date ≡ slice_index new.prices date
 

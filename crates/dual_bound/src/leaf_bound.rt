@@ -6,7 +6,7 @@ ghost use Rattle.escrow_units.specs.Flows.{Rise, total};
 ghost use Rattle.escrow_units.specs.SlgsTerms.{IsSettlement};
 ghost use Rattle.fixed_powers.specs.DiscountPowers.{IsLowTable, PowerTable};
 ghost use Rattle.offer_book.specs.Book.{BookContents, IsBook, IsLine};
-ghost use Rattle.dual_bound.specs.LeafBound.{bound_of, cost_weight as cost_weight_of, cost_worth as cost_worth_of, form_of, least_within, limit_price as limit_price_of, limit_multiplier as limit_multiplier_of, paid_worth as paid_worth_of, priced_needs as priced_needs_of, price_on as price_on_date, reduced_cost as reduced_cost_of};
+ghost use Rattle.dual_bound.specs.LeafBound.{bound_of, cost_worth as cost_worth_of, form_of, least_within, limit_price as limit_price_of, limit_multiplier as limit_multiplier_of, paid_worth as paid_worth_of, priced_needs as priced_needs_of, price_on as price_on_date, reduced_cost as reduced_cost_of};
 ghost use Rattle.node_ranges.specs.Ranges.{HasRoomFor};
 ghost use Rattle.proof_tree.specs.Tree.{IsLeaf};
 
@@ -30,13 +30,6 @@ pub fn price_on(needs: &[Flow], prices: &[u64], day: Day) -> u64
     price_at(prices, place_of(needs, day))
 }
 
-/// The weight of a cent of cost.
-pub(crate) fn cost_weight(leaf: &Leaf) -> u64
-    ensures { result ≡ cost_weight_of leaf.now }
-{
-    if leaf.whole { PRICE_SCALE } else { 0 }
-}
-
 /// The multiplier of the limit on a line of some kind.
 pub(crate) fn limit_multiplier(leaf: &Leaf, kind: LineKind) -> u64
     ensures { result ≡ limit_multiplier_of leaf.now kind }
@@ -49,11 +42,12 @@ pub(crate) fn limit_multiplier(leaf: &Leaf, kind: LineKind) -> u64
 
 /// What a cent that a line of some kind costs counts, in units of 1 / [`PRICE_SCALE`].
 pub(crate) fn cost_worth(leaf: &Leaf, kind: LineKind) -> i128
-    requires { leaf.now.mu ≤ PRICE_SCALE }
+    requires cost { leaf.now.rho ≤ PRICE_SCALE }
+    requires limit { leaf.now.mu ≤ PRICE_SCALE }
     ensures value { result ≡ cost_worth_of leaf.now kind }
     ensures light { unsigned_abs result ≤ PRICE_SCALE }
 {
-    i128::from(cost_weight(leaf)) - i128::from(limit_multiplier(leaf, kind))
+    i128::from(leaf.rho) - i128::from(limit_multiplier(leaf, kind))
 }
 
 // What the limit takes from a cent that is paid on a day, by the powers of a yield.

@@ -103,7 +103,7 @@ fn changes(old: &Leaf, new: &Leaf, dates: &[usize]) -> Span
     requires dates { AreChangedDates old.now.prices new.now.prices dates.now }
     ensures { (span : SpanOf) → span.first ≤ PAST_DATES → AreApart span result → AgreeInside span old.now new.now }
 {
-    if old.whole != new.whole || old.mu != new.mu {
+    if old.rho != new.rho || old.mu != new.mu {
         return Span::all();
     }
     span_together(dates)

@@ -225,7 +225,7 @@ impl Tableau {
             self.priced.worths.as_slice(),
             self.priced.sums.as_mut_slice(),
         );
-        self.priced.leaf.whole = leaf.whole;
+        self.priced.leaf.rho = leaf.rho;
         self.priced.needs = priced_needs(book.needs(), leaf.prices.as_slice());
         self.priced.leaf.mu = leaf.mu;
         self.priced.leaf.prices.copy(leaf.prices.as_slice());
@@ -262,7 +262,7 @@ impl Tableau {
             leaf.prices.as_slice(),
             dates,
         );
-        self.priced.leaf.whole = leaf.whole;
+        self.priced.leaf.rho = leaf.rho;
     }
 
     /// Prices the days at a leaf, where only these need dates' prices differ from those of the leaf before: where the multiplier of

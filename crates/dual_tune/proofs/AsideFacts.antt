@@ -15,7 +15,7 @@ use Rattle.offer_book.specs.declared.line.Line.{Line}
 use Rattle.offer_book.specs.declared.line.LineKind.{LineKind}
 use Rattle.payment_schedule.specs.Schedule.{flow_by}
 use Rattle.offer_book.specs.declared.line.LineKind.TheVariants.{Cash, Market, Security}
-use Rattle.dual_bound.specs.LeafBound.{cost_weight, cost_worth, form_at, form_of, least_side, least_within, limit_price, limit_multiplier, paid_worth, price_on, reduced_cost, signed_sum}
+use Rattle.dual_bound.specs.LeafBound.{cost_worth, form_at, form_of, least_side, least_within, limit_price, limit_multiplier, paid_worth, price_on, reduced_cost, signed_sum}
 use Rattle.proof_tree.specs.declared.interval.Interval.{Interval}
 use Rattle.proof_tree.specs.declared.tree.Leaf.{Leaf}
 use Rattle.proof_tree.specs.Tree.{with_price}
@@ -51,7 +51,7 @@ worth-elsewhere n book leaf place price kind day same e =
     λ i. pos (price-elsewhere book.needs leaf.prices place price day same e i) -ℤ pos (limit_price n book.days.settle (weight-same leaf place price kind i) day)
 
 cost-same : (leaf : Leaf) (place price : ℕ) (kind : LineKind) → cost_worth (with_price leaf place price) kind ≡ cost_worth leaf kind
-cost-same leaf place price kind = λ i. pos (cost_weight leaf) -ℤ pos (weight-same leaf place price kind i)
+cost-same leaf place price kind = λ i. pos leaf.rho -ℤ pos (weight-same leaf place price kind i)
 
 -- sums of the same terms
 signed-same : {X : Type 0} (P : X → Type 0) (f g : X → ℤ) (xs : List X) → ((x : X) → P x → f x ≡ g x) → All P xs → signed_sum f xs ≡ signed_sum g xs

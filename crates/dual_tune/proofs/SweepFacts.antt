@@ -174,7 +174,7 @@ set-back (x ∷ xs) (suc place) v d = ap (λ ys. x ∷ ys) (set-back xs place v 
 -- a leaf's own price is put back
 pub put-back : (leaf : Leaf) (place price own : ℕ) → own ≡ get_or leaf.prices place 0 → with_price (with_price leaf place price) place own ≡ leaf
 put-back leaf place price own is =
-    ap (λ (q : ℕ). with_price (with_price leaf place price) place q) is ∙ (λ i. record { whole = leaf.whole; mu = leaf.mu; prices = set-back leaf.prices place price 0 i })
+    ap (λ (q : ℕ). with_price (with_price leaf place price) place q) is ∙ (λ i. record { rho = leaf.rho; mu = leaf.mu; prices = set-back leaf.prices place price 0 i })
 
 pub set-at : (xs : List ℕ) (place v : ℕ) → place < length xs → get_or (set xs place v) place 0 ≡ v
 set-at [] place v few = absurd (omega arith)
@@ -222,6 +222,8 @@ set-range xs place v most range small = set-all (λ price. price ≤ most) xs pl
 step-leaf : (dates : ℕ) (leaf : Leaf) (place v : ℕ) → IsLeaf dates leaf → place < dates → v ≤ 2 * PRICE_SCALE → ((k d : ℕ) → k < place → v ≤ get_or leaf.prices k d)
     → ((k d : ℕ) → place < k → k < length leaf.prices → get_or leaf.prices k d ≤ v) → IsLeaf dates (with_price leaf place v)
 step-leaf dates leaf place v well few small above below = record {
+  cost = well.cost;
+  counts = well.counts;
   limit = well.limit;
   every_date = set-length leaf.prices place v ∙ well.every_date;
   range = set-range leaf.prices place v (2 * PRICE_SCALE) well.range small;
@@ -263,7 +265,7 @@ leaf-beside dates leaf place side.After well few = leaf-after dates leaf place w
 
 -- a leaf with a multiplier of the limit that is tried keeps its limits
 pub leaf-weighed : (dates : ℕ) (leaf : Leaf) (mu : ℕ) → IsLeaf dates leaf → mu ≤ PRICE_SCALE → IsLeaf dates (with_multiplier leaf mu)
-leaf-weighed dates leaf mu well small = record { limit = small; every_date = well.every_date; range = well.range; falling = well.falling }
+leaf-weighed dates leaf mu well small = record { cost = well.cost; counts = well.counts; limit = small; every_date = well.every_date; range = well.range; falling = well.falling }
 
 -- what is reached stays reached by more
 pub reached-more : (given : Given) (least most : ℤ) (place : ℕ) → least ≤ℤ most → AreReached given least place → AreReached given most place
@@ -277,7 +279,7 @@ pub improved-more : (given : Given) {other improved better : Leaf} → IsImprove
     → IsBetter given.yield_units.0 given.book.now given.ranges.now other improved better → IsImproved given.yield_units.0 given.book.now given.ranges.now given.leaf.now better
 improved-more given improved better = record {
   well_formed = better.well_formed;
-  whole = better.whole ∙ improved.whole;
+  cost = better.cost ∙ improved.cost;
   given = omega (arith, ints, improved.given, better.no_less);
   steps = λ step is. omega (arith, ints, improved.steps step is, better.no_less);
 }
@@ -289,7 +291,7 @@ same-items (x ∷ xs) [] same h = absurd (omega arith)
 same-items (x ∷ xs) (y ∷ ys) same h = λ i. h 0 (omega arith) i ∷ same-items xs ys (omega arith) (λ k lt. h (suc k) (omega arith)) i
 
 -- a step leaves it whether the cost counts
-pub step-whole : (leaf : Leaf) (step : Step) → (stepped leaf step).whole ≡ leaf.whole
+pub step-whole : (leaf : Leaf) (step : Step) → (stepped leaf step).rho ≡ leaf.rho
 step-whole leaf step.Nothing = refl
 step-whole leaf (step.Price place price) = refl
 step-whole leaf (step.Multiplier mu) = refl

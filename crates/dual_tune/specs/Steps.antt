@@ -27,7 +27,7 @@ price_beside prices place side.After = price_after prices place
 
 -- a leaf with another multiplier of the limit
 abbrev pub with_multiplier : Leaf → ℕ → Leaf
-with_multiplier leaf mu = record { whole = leaf.whole; mu = mu; prices = leaf.prices }
+with_multiplier leaf mu = record { rho = leaf.rho; mu = mu; prices = leaf.prices }
 
 -- a multiplier that is tried, in units of 1 / PRICE_SCALE
 abbrev pub mu_of_multiplier : Multiplier → ℕ
@@ -53,25 +53,25 @@ IsMultiplierStep leaf step = (mu : ℕ) × IsTriedMultiplier mu × (step ≡ wit
 abbrev pub IsStep : Leaf → Leaf → Type 0
 IsStep leaf step = IsPriceStep leaf step ⊎ IsMultiplierStep leaf step
 
--- a leaf is improved over ranges, at the yield n: it keeps its limits and whether its cost counts, and its bound is below that of
+-- a leaf is improved over ranges, at the yield n: it keeps its limits and the weight of the cost, and its bound is below that of
 -- neither the leaf nor any of its steps
 pub record IsImproved (n : ℕ) (book : BookContents) (ranges : List Interval) (leaf improved : Leaf) : Type 0 where
   pub well_formed : IsLeaf (length book.needs) improved
-  pub whole : improved.whole ≡ leaf.whole
+  pub cost : improved.rho ≡ leaf.rho
   pub given : bound_of n book ranges leaf ≤ℤ bound_of n book ranges improved
   pub steps : (step : Leaf) → IsStep leaf step → bound_of n book ranges step ≤ℤ bound_of n book ranges improved
 
 -- a leaf whose prices are 0, without a multiplier of the limit, that weighs the cost as another does
 abbrev pub zeros_like : BookContents → Leaf → Leaf
-zeros_like book leaf = record { whole = leaf.whole; mu = 0; prices = replicate (length book.needs) 0 }
+zeros_like book leaf = record { rho = leaf.rho; mu = 0; prices = replicate (length book.needs) 0 }
 
 -- a leaf that weighs the cost alike has no greater bound
 abbrev pub HasNoGreater : ℕ → BookContents → List Interval → Leaf → Leaf → Type 0
-HasNoGreater n book ranges other leaf = other.whole ≡ leaf.whole → bound_of n book ranges other ≤ℤ bound_of n book ranges leaf
+HasNoGreater n book ranges other leaf = other.rho ≡ leaf.rho → bound_of n book ranges other ≤ℤ bound_of n book ranges leaf
 
--- a leaf is better than a given one and another: it keeps its limits and whether its cost counts, and neither has a greater bound
+-- a leaf is better than a given one and another: it keeps its limits and the weight of the cost, and neither has a greater bound
 pub record IsBetter (n : ℕ) (book : BookContents) (ranges : List Interval) (other given better : Leaf) : Type 0 where
   pub well_formed : IsLeaf (length book.needs) better
-  pub whole : better.whole ≡ given.whole
+  pub cost : better.rho ≡ given.rho
   pub no_less : bound_of n book ranges given ≤ℤ bound_of n book ranges better
   pub no_greater : HasNoGreater n book ranges other better

@@ -112,7 +112,7 @@ fn better_of(
     ensures better { IsBetter given.now.yield_units.0 given.now.book.now given.now.ranges.now other.now into.old into.new }
     ensures bound { result ≡ bound_at given.now into.new }
 {
-    if other.whole != into.whole {
+    if other.rho != into.rho {
         return bound;
     }
     let reached = columns.bound(given.ranges, other);
@@ -145,13 +145,13 @@ impl<'a> Parts<'a> {
     fn propose(&mut self, given: &Given, basis: Option<&Basis>) -> i128
         requires { ArePartsFor given.now self.old }
         ensures parts { ArePartsFor given.now self.new }
-        ensures whole { self.new.proposal.whole ≡ given.now.leaf.now.whole }
+        ensures cost { self.new.proposal.rho ≡ given.now.leaf.now.rho }
         ensures bound { result ≡ bound_at given.now self.new.proposal }
     {
-        let whole = given.leaf.whole;
+        let rho = given.leaf.rho;
         let lines = given.book.line_count();
-        solve(&mut self.simplex, lines, given.ranges, whole, basis);
-        self.proposal.whole = whole;
+        solve(&mut self.simplex, lines, given.ranges, rho != 0, basis);
+        self.proposal.rho = rho;
         self.simplex.propose(&mut self.proposal);
         self.sweep.columns.bound(given.ranges, &self.proposal)
     }
@@ -185,7 +185,7 @@ impl<'a> Parts<'a> {
         ensures better { IsBetter given.now.yield_units.0 given.now.book.now given.now.ranges.now (zeros_like given.now.book.now into.old) into.old into.new }
         ensures bound { result ≡ bound_at given.now into.new }
     {
-        self.zeros.whole = into.whole;
+        self.zeros.rho = into.rho;
         better_of(&mut self.sweep.columns, given, bound, &self.zeros, into)
     }
 

@@ -249,7 +249,7 @@ pub(crate) fn copy_leaf(dates: u16, from: &Leaf, into: &mut Leaf)
     ensures { into.new ≡ from.now }
 {
     let prices = from.prices.as_slice();
-    into.whole = from.whole;
+    into.rho = from.rho;
     into.mu = from.mu;
     for place in 0..dates {
         into.prices.put(place, prices[usize::from(place)]);

@@ -261,7 +261,7 @@ impl<'a> Table<'a> {
     pub(crate) fn is_of(&self, leaf: &Leaf) -> bool
         ensures { result ≡ true → self.now.leaf ≡ leaf.now }
     {
-        self.leaf.whole == leaf.whole
+        self.leaf.rho == leaf.rho
             && self.leaf.mu == leaf.mu
             && self.leaf.prices.as_slice() == leaf.prices.as_slice()
     }

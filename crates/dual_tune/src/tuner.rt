@@ -103,12 +103,12 @@ impl<'a> Tuner<'a> {
         requires into { length into.old.prices ≡ length self.old.book.needs }
         ensures tuner { self.new ≡ self.old }
         ensures leaf { IsLeaf (length self.old.book.needs) into.new }
-        ensures without_cost { into.new.whole ≡ false }
+        ensures without_cost { into.new.rho ≡ 0 }
         ensures bound { result ≡ bound_of self.old.yield_units self.old.book ranges.now into.new }
     {
         let lines = self.book.line_count();
         solve(&mut self.parts.simplex, lines, ranges, false, basis);
-        into.whole = false;
+        into.rho = 0;
         self.parts.simplex.propose(into);
         self.parts.sweep.columns.bound(ranges, into)
     }

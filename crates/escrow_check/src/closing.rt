@@ -3,7 +3,7 @@ ghost use Rattle.std.specs.Prelude.{◌≡◌, ◌*◌, ◌^◌, ◌-◌, ◌≤
 ghost use Rattle.case_file.specs.Case.{case_view};
 ghost use Rattle.dual_bound.specs.Closing.{is_closed_leaf as is_closed_leaf_of, is_closed_point as is_closed_point_of};
 ghost use Rattle.node_ranges.specs.Ranges.{AreTight};
-ghost use Rattle.node_ranges.specs.Claims.{bears_out as bears_out_of, costs_enough as costs_enough_of, low_ends};
+ghost use Rattle.node_ranges.specs.Claims.{bears_out_by as bears_out_of, costs_enough as costs_enough_of, low_ends};
 ghost use Rattle.offer_book.specs.Portfolio.{IsPermitted};
 ghost use Rattle.proof_tree.specs.Tree.{IsLeaf};
 ghost use Rattle.fixed_powers.specs.declared.side.Side.TheVariants as side;
@@ -17,15 +17,16 @@ use node_ranges::Ranges;
 use offer_book::{Book, COEFFICIENT_SCALE};
 use proof_tree::{Leaf, PRICE_SCALE};
 
-// A leaf that weighs the cost bears out a claim where its bound is more than that of a cent less.
-fn bears_out(bound: i128, claim: Option<i128>) -> bool
-    requires { IsClaim claim }
-    ensures { result ≡ bears_out_of bound claim }
+// A leaf bears out a claim, by how much it weighs a cent of cost, where its bound is more than that of a cent less.
+fn bears_out(rho: u64, bound: i128, claim: Option<i128>) -> bool
+    requires weight { rho ≤ PRICE_SCALE }
+    requires claim { IsClaim claim }
+    ensures { result ≡ bears_out_of rho bound claim }
 {
     let Some(least) = claim else {
         return false;
     };
-    COEFFICIENT_SCALE as i128 * PRICE_SCALE as i128 * (least - 1) < bound
+    COEFFICIENT_SCALE as i128 * i128::from(rho) * (least - 1) < bound
 }
 
 /// Whether a leaf is closed over ranges. The columns are priced at it, in a room where leaves near to it were.
@@ -45,10 +46,10 @@ pub(crate) fn is_closed_leaf(
     ensures columns { columns.new ≡ record columns.old { leaf = leaf.now } }
 {
     let bound = columns.bound_near(room, ranges, leaf);
-    if leaf.whole {
-        bears_out(bound, claim)
-    } else {
+    if leaf.rho == 0 {
         0 < bound
+    } else {
+        bears_out(leaf.rho, bound, claim)
     }
 }
 

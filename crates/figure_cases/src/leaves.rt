@@ -76,7 +76,7 @@ pub fn own_leaf(alloc: Global, book: &Book, words: &[&str]) -> Result<Leaf, Unre
 ///
 /// Where memory ran out.
 pub fn leaf_text(alloc: Global, leaf: &Leaf) -> Result<String, AllocError> {
-    let mut text = format!(in alloc; "{} {}", u8::from(leaf.whole), leaf.mu)?;
+    let mut text = format!(in alloc; "{} {}", u8::from(leaf.rho != 0), leaf.mu)?;
     for price in leaf.prices.as_slice() {
         let price = format!(in alloc; " {price}")?;
         text.push_str(price.as_str())?;

@@ -12,4 +12,4 @@ base_leaf book = leaf_of_prices (unwrap_or (bootstrapped_prices book) (replicate
 
 -- a leaf that weighs the needs alone, and not the cost: a price of 1 for each need date up to a day, and 0 after it
 abbrev pub reach_leaf : List Flow → ℤ → Leaf
-reach_leaf needs day = record { whole = false; mu = 0; prices = map (λ need. if int_le need.day day then PRICE_SCALE else 0) needs }
+reach_leaf needs day = record { rho = 0; mu = 0; prices = map (λ need. if int_le need.day day then PRICE_SCALE else 0) needs }

@@ -40,7 +40,7 @@ pub fn put_reach(book: &Book, day: Day, leaf: &mut Leaf)
     ensures value { leaf.new ≡ reach_leaf_of book.now.needs day }
     ensures leaf { IsLeaf (length book.now.needs) leaf.new }
 {
-    leaf.whole = false;
+    leaf.rho = 0;
     leaf.mu = 0;
     for place in 0..book.need_count() {
         let need = book.need(place);

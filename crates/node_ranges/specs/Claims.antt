@@ -38,10 +38,14 @@ is_bad_split (node.Closed leaf, ranges) = false
 abbrev pub IsProper : TreeNode × List Interval → Type 0
 IsProper p = is_bad_split p ≡ false
 
--- a leaf that weighs the cost bears out a claim where its bound is more than that of a cent less
+-- a leaf bears out a claim, by how much it weighs a cent of cost, where its bound is more than that of a cent less
+abbrev pub bears_out_by : ℕ → ℤ → Claim → Bool
+bears_out_by rho bound None = false
+bears_out_by rho bound (Some least) = int_lt (pos (COEFFICIENT_SCALE * rho) *ℤ (least -ℤ pos 1)) bound
+
+-- a leaf that weighs the cost wholly bears out a claim
 abbrev pub bears_out : ℤ → Claim → Bool
-bears_out bound None = false
-bears_out bound (Some least) = int_lt (pos (COEFFICIENT_SCALE * PRICE_SCALE) *ℤ (least -ℤ pos 1)) bound
+bears_out bound claim = bears_out_by PRICE_SCALE bound claim
 
 -- the portfolio of the low ends, which is the one that single ranges hold
 abbrev pub low_ends : List Interval → List ℕ

@@ -330,7 +330,7 @@ impl<'a> Simplex<'a> {
     pub fn propose(&self, leaf: &mut Leaf)
         requires { length leaf.old.prices ≡ self.now.dates }
         ensures well_formed { IsLeaf self.now.dates leaf.new }
-        ensures whole { leaf.new.whole ≡ leaf.old.whole }
+        ensures cost { leaf.new.rho ≡ leaf.old.rho }
     {
         leaf.mu = proposed_multiplier(self.duals.multiplier());
         propose_prices(&self.duals, self.dates, &mut leaf.prices);

@@ -1,13 +1,20 @@
 -- Trees of lower bounds. The form is this project's own.
-use Rattle.std.specs.Prelude.{◌≡◌, ℕ, zero, suc, ◌*◌, ◌≤◌, List, [], ◌∷◌, length, All, AllPairs, slice_set}
+use Rattle.std.specs.Prelude.{◌≡◌, ◌⊎◌, ℕ, zero, suc, ◌*◌, ◌≤◌, List, [], ◌∷◌, length, All, AllPairs, slice_set}
 use Rattle.proof_tree.specs.declared.prices.TheConstants.{PRICE_SCALE}
 use Rattle.proof_tree.specs.declared.tree.Leaf.{Leaf}
 use Rattle.proof_tree.specs.declared.tree.TheConstants.{GREATEST_UNITS}
 use Rattle.proof_tree.specs.declared.tree.TreeNode.{TreeNode}
 use Rattle.proof_tree.specs.declared.tree.TreeNode.TheVariants as node
 
--- weights of a leaf: one price for each need date, from 0 to 2, that never rises with time, and a multiplier of the limit from 0 to 1
+-- the cost counts wholly, or not at all
+abbrev pub IsWholeOrNone : ℕ → Type 0
+IsWholeOrNone rho = (rho ≡ 0) ⊎ (rho ≡ PRICE_SCALE)
+
+-- weights of a leaf: that of the cost, which counts wholly or not at all, a multiplier of the limit from 0 to 1, and one price for each
+-- need date, from 0 to 2, that never rises with time
 pub record IsLeaf (dates : ℕ) (leaf : Leaf) : Type 0 where
+  pub cost : leaf.rho ≤ PRICE_SCALE
+  pub counts : IsWholeOrNone leaf.rho
   pub limit : leaf.mu ≤ PRICE_SCALE
   pub every_date : length leaf.prices ≡ dates
   pub range : All (λ price. price ≤ 2 * PRICE_SCALE) leaf.prices
@@ -15,7 +22,7 @@ pub record IsLeaf (dates : ℕ) (leaf : Leaf) : Type 0 where
 
 -- a leaf with another price at a place
 abbrev pub with_price : Leaf → ℕ → ℕ → Leaf
-with_price leaf place price = record { whole = leaf.whole; mu = leaf.mu; prices = slice_set leaf.prices place price }
+with_price leaf place price = record { rho = leaf.rho; mu = leaf.mu; prices = slice_set leaf.prices place price }
 
 -- nodes are so many trees in preorder, one after another
 abbrev pub AreTrees : ℕ → List TreeNode → Type 0

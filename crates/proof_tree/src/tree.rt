@@ -1,9 +1,9 @@
 //! The nodes of a tree, and the weights of its leaves.
-ghost use Rattle.std.specs.Prelude.{◌≡◌, ◌++◌, ◌∷◌, [], IfOk, OnOk, replicate};
+ghost use Rattle.std.specs.Prelude.{◌≡◌, ◌++◌, ◌∷◌, [], if◌then◌else◌, IfOk, OnOk, replicate};
 ghost use Rattle.proof_tree.specs.Tree.{IsLeaf};
 ghost use Rattle.proof_tree.specs.declared.tree.TreeNode.TheVariants as node;
 
-use crate::prices::Prices;
+use crate::prices::{PRICE_SCALE, Prices};
 use escrow_desk::NoMemory;
 use std::alloc::Global;
 use std::marker::Model;
@@ -14,8 +14,8 @@ pub const GREATEST_UNITS: u64 = 10_000_000_000_000;
 /// The weights by which the lower bound of a leaf is computed.
 #[derive(Debug, Drop)]
 pub struct Leaf {
-    /// Whether the cost counts, with the weight `PRICE_SCALE`. Where it doesn't, the bound is on needs that can't be met.
-    pub whole: bool,
+    /// The weight of a cent of cost: `PRICE_SCALE`, which stands for 1, or 0. Where it is 0, the bound is on needs that can't be met.
+    pub rho: u64,
     /// The multiplier of the yield limit, at most `PRICE_SCALE`.
     pub mu: u64,
     /// The price of a cent on each need date.
@@ -23,18 +23,19 @@ pub struct Leaf {
 }
 
 impl Leaf {
-    /// A leaf without multiplier of the limit, whose prices are 0: one for each of so many need dates.
+    /// A leaf whose cost counts wholly or not at all, without multiplier of the limit, whose prices are 0: one for each of so many
+    /// need dates.
     ///
     /// # Errors
     ///
     /// Where memory ran out.
     pub fn of_zeros(alloc: Global, whole: bool, count: u16) -> Result<Leaf, NoMemory>
-        ensures value { IfOk result (λ leaf. leaf ≡ record { whole = whole; mu = 0; prices = replicate count 0 }) }
+        ensures value { IfOk result (λ leaf. leaf ≡ record { rho = if whole then PRICE_SCALE else 0; mu = 0; prices = replicate count 0 }) }
         ensures leaf { IfOk result (IsLeaf count) }
     {
         let prices = vec![in alloc; 0u64; usize::from(count)]?;
         Ok(Leaf {
-            whole,
+            rho: if whole { PRICE_SCALE } else { 0 },
             mu: 0,
             prices: Prices::new(prices),
         })
@@ -49,7 +50,7 @@ impl Leaf {
         ensures { IfOk result (λ leaf. leaf ≡ self.now) }
     {
         Ok(Leaf {
-            whole: self.whole,
+            rho: self.rho,
             mu: self.mu,
             prices: Prices::new(self.prices.as_slice().to_vec(alloc)?),
         })

@@ -5,7 +5,7 @@ use Rattle.std.specs.List.{All}
 use Rattle.case_file.specs.Case.{CaseContents}
 use Rattle.dual_bound.specs.Closing.{is_closed_leaf, is_closed_point, is_weak}
 use Rattle.node_ranges.specs.Ranges.{root_of}
-use Rattle.node_ranges.specs.Claims.{Claim, bears_out, placed_nodes}
+use Rattle.node_ranges.specs.Claims.{Claim, bears_out, bears_out_by, placed_nodes}
 use Rattle.proof_tree.specs.declared.interval.Interval.{Interval}
 use Rattle.proof_tree.specs.declared.tree.TreeNode.{TreeNode}
 use Rattle.dual_bound.specs.LeafBound.{bound_of}
@@ -76,7 +76,7 @@ strong-leaf case claim ranges own priced borne strong =
     let at : not (is_closed_leaf case claim ranges own.priced.leaf) ≡ false = subst (λ (how : Closing). is_weak case claim (end_by case.book.needs own.priced.leaf how, ranges) ≡ false) borne strong in
     let closed : not (bears_out own.priced.bound claim) ≡ false =
     ap (λ (b : ℤ). not (bears_out b claim)) priced.bound
-    ∙ sym (ap (λ (w : Bool). not (if w then bears_out (bound_of (case.limit - 1) case.book ranges own.priced.leaf) claim else int_lt (pos 0) (bound_of (case.limit - 1) case.book ranges own.priced.leaf))) priced.improved.whole)
+    ∙ sym (ap (λ (w : Bool). not (if w then bears_out (bound_of (case.limit - 1) case.book ranges own.priced.leaf) claim else int_lt (pos 0) (bound_of (case.limit - 1) case.book ranges own.priced.leaf))) priced.improved.rho)
     ∙ at in
     from-not (bears_out own.priced.bound claim) closed
   where

@@ -151,7 +151,7 @@ weak-by case claim ranges own priced opened borne unreached infeasible point = b
   where
     at : bears_out own.priced.bound claim ≡ true → not (is_closed_leaf case claim ranges own.priced.leaf) ≡ false
     at is =
-        ap (λ (w : Bool). not (if w then bears_out (bound_of (case.limit - 1) case.book ranges own.priced.leaf) claim else int_lt (pos 0) (bound_of (case.limit - 1) case.book ranges own.priced.leaf))) priced.improved.whole
+        ap (λ (w : Bool). not (if w then bears_out (bound_of (case.limit - 1) case.book ranges own.priced.leaf) claim else int_lt (pos 0) (bound_of (case.limit - 1) case.book ranges own.priced.leaf))) priced.improved.rho
         ∙ ap (λ (b : ℤ). not (bears_out b claim)) (sym priced.bound) ∙ ap not is
 
     by : (how : Closing) → own.closing ≡ how → is_weak case claim (end_by case.book.needs own.priced.leaf how, ranges) ≡ false
@@ -163,7 +163,7 @@ weak-by case claim ranges own priced opened borne unreached infeasible point = b
     by (closing.Infeasible leaf) is = (
         let shown = infeasible leaf is in
         let bound : ℤ = bound_of (case.limit - 1) case.book ranges leaf in
-        ap (λ (w : Bool). not (if w then bears_out bound claim else int_lt (pos 0) bound)) shown.without_cost ∙ ap not (lt-test (pos 0) bound shown.above))
+        ap (λ (w : ℕ). not (if w == 0 then int_lt (pos 0) bound else bears_out_by w bound claim)) shown.without_cost ∙ ap not (lt-test (pos 0) bound shown.above))
     by closing.Point is = ap not (point is)
 
 -- leaves that weigh the cost are raised

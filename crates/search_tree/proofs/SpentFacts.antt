@@ -305,7 +305,7 @@ part-count stuck line at (Split own_line own_at left right) =
 -- a leaf that is there occurs
 abbrev mark_where : Bool → TreeNode
 mark_where true = node.Point
-mark_where false = node.Closed (record { whole = true; mu = 0; prices = [] })
+mark_where false = node.Closed (record { rho = PRICE_SCALE; mu = 0; prices = [] })
 
 abbrev mark : ℕ → ℕ → TreeNode
 mark stuck number = mark_where (number == stuck)

@@ -26,7 +26,7 @@ use Rattle.offer_book.specs.declared.line.LineKind.TheVariants.{Cash, Market, Se
 use Rattle.offer_book.specs.declared.payment_days.PaymentDays.{PaymentDays}
 
 abbrev pub zeros : ℕ → Leaf
-zeros count = record { whole = true; mu = 0; prices = replicate count 0 }
+zeros count = record { rho = PRICE_SCALE; mu = 0; prices = replicate count 0 }
 
 -- ---- nothing that is paid is worth anything
 price-zero : (needs : List Flow) (count : ℕ) (day : ℤ) → price_on needs (replicate count 0) day ≡ 0

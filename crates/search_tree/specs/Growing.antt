@@ -6,6 +6,7 @@ use Rattle.dual_bound.specs.LeafBound.{bound_of}
 use Rattle.dual_bound.specs.Closing.{is_closed_point}
 use Rattle.node_ranges.specs.Ranges.{is_proper, is_single}
 use Rattle.node_ranges.specs.Claims.{Claim, bears_out, low_ends}
+use Rattle.proof_tree.specs.declared.prices.TheConstants.{PRICE_SCALE}
 use Rattle.proof_tree.specs.Tree.{IsLeaf}
 use Rattle.proof_tree.specs.declared.interval.Interval.{Interval}
 use Rattle.proof_tree.specs.declared.tree.Leaf.{Leaf}
@@ -51,7 +52,7 @@ pub record IsLostPoint (case : CaseContents) (best : Option ℕ) (ranges : List 
 -- a leaf that doesn't weigh the cost shows that no permitted portfolio of ranges meets the needs within the limit
 pub record ShowsNone (case : CaseContents) (ranges : List Interval) (leaf : Leaf) : Type 0 where
   pub well_formed : IsLeaf (length case.book.needs) leaf
-  pub without_cost : leaf.whole ≡ false
+  pub without_cost : leaf.rho ≡ 0
   pub above : pos 0 <ℤ bound_of (case.limit - 1) case.book ranges leaf
 
 -- how a node is closed
@@ -102,7 +103,7 @@ IsAt case Obeys best popped number ranges node (state.Closed leaf) = (leaf ≡ n
 
 -- a node that stands for a number that isn't there
 abbrev pub no_node : SearchNode
-no_node = record { priced = record { leaf = record { whole = true; mu = 0; prices = [] }; bound = pos 0 }; closing = closing.Open }
+no_node = record { priced = record { leaf = record { rho = PRICE_SCALE; mu = 0; prices = [] }; bound = pos 0 }; closing = closing.Open }
 
 abbrev pub node_of : List SearchNode → ℕ → SearchNode
 node_of nodes number = slice_index_or nodes number no_node

@@ -7,6 +7,7 @@ use Rattle.node_ranges.specs.Ranges.{AreTight, is_proper, narrowed, root_of}
 use Rattle.node_ranges.specs.Claims.{Claim, bears_out, placed_nodes}
 use Rattle.proof_tree.specs.declared.interval.Interval.{Interval}
 use Rattle.proof_tree.specs.declared.tree.Leaf.{Leaf}
+use Rattle.proof_tree.specs.declared.prices.TheConstants.{PRICE_SCALE}
 use Rattle.proof_tree.specs.declared.tree.TreeNode.{TreeNode}
 use Rattle.halving_tree.specs.Halving.{HasMoreNodes, is_end}
 use Rattle.halving_tree.specs.Base.{base_leaf}
@@ -39,7 +40,7 @@ BoundsRise =
 abbrev pub ZerosAreSome : Type 0
 ZerosAreSome =
     (n : ℕ) (book : BookContents) (count : ℕ) (ranges : List Interval) → IsBook book → AreTight book.lines ranges
-    → pos 0 ≤ℤ bound_of n book ranges (record { whole = true; mu = 0; prices = replicate count 0 })
+    → pos 0 ≤ℤ bound_of n book ranges (record { rho = PRICE_SCALE; mu = 0; prices = replicate count 0 })
 
 -- ---- growing
 -- a cheaper best plan leaves each closed node closed

@@ -19,7 +19,7 @@ use Rattle.offer_book.specs.declared.coefficients.TheConstants.{COEFFICIENT_SCAL
 -- ---- what leaves and splits show
 -- a leaf that weighs the cost: over the ranges of its node its bound is below that of neither the base leaf nor any of its steps
 abbrev pub IsRaised : CaseContents → TreeNode × List Interval → Type 0
-IsRaised case (node.Closed leaf, ranges) = leaf.whole ≡ true → IsImproved (case.limit - 1) case.book ranges (base_leaf case.book) leaf
+IsRaised case (node.Closed leaf, ranges) = 1 ≤ leaf.rho → IsImproved (case.limit - 1) case.book ranges (base_leaf case.book) leaf
 IsRaised case (node.Split line at, ranges) = Unit {0}
 IsRaised case (node.Point, ranges) = Unit {0}
 

@@ -3,7 +3,7 @@
 use crate::arguments::numbers_of;
 use figure_cases::leaf_text;
 use figure_sheets::{Unread, number_of};
-use proof_tree::{Leaf, Prices};
+use proof_tree::{Leaf, PRICE_SCALE, Prices};
 use std::alloc::Global;
 
 /// A leaf of zeros for so many need dates.
@@ -27,7 +27,7 @@ pub(crate) fn put(
     }
     prices.put(place, number_of(price)?);
     let leaf = Leaf {
-        whole: true,
+        rho: PRICE_SCALE,
         mu: 0,
         prices,
     };

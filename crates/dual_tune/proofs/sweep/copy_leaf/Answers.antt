@@ -29,4 +29,4 @@ pub returns : goal.returns
 returns c =
     let all = same-items c.loop-place.into.prices c.args.from.now.prices c.loop-place.invariant.2
     (λ k lt. c.loop-place.invariant.3 k (omega (arith, lt, c.loop-place-test.false, c.loop-place.invariant.2, c.requires.from))) in
-    λ i. record { whole = c.loop-place.invariant.0 i; mu = c.loop-place.invariant.1 i; prices = all i }
+    λ i. record { rho = c.loop-place.invariant.0 i; mu = c.loop-place.invariant.1 i; prices = all i }

@@ -3,5 +3,5 @@ use Rattle.dual_tune.proofs.sweep.copy_leaf.Given as goal
 
 abbrev pub invariant-loop-place : goal.invariant-loop-place
 invariant-loop-place l =
-    (l.into.whole ≡ l.from.whole) × (l.into.mu ≡ l.from.mu) × (length l.into.prices ≡ length l.from.prices)
+    (l.into.rho ≡ l.from.rho) × (l.into.mu ≡ l.from.mu) × (length l.into.prices ≡ length l.from.prices)
     × ((k : ℕ) → k < l.place → get_or l.into.prices k 0 ≡ get_or l.from.prices k 0)

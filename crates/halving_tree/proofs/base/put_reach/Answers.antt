@@ -25,5 +25,5 @@ returns c =
     let needs = c.args.book.now.needs in
     let «end» : length needs ≡ c.loop-place.place = omega (arith, c.loop-place-test.false, c.loop-place.auto.place-end, c.need_count-place-end.ensures.value) in
     let prices = filled-all (reach_price c.args.day) c.loop-place.leaf.prices needs c.loop-place.place (omega (arith, c.loop-place.invariant.2, «end»)) «end» c.loop-place.invariant.3 in
-    let value : c.loop-place.leaf ≡ reach_leaf needs c.args.day = (λ i. record { whole = c.loop-place.invariant.0 i; mu = c.loop-place.invariant.1 i; prices = prices i }) in
+    let value : c.loop-place.leaf ≡ reach_leaf needs c.args.day = (λ i. record { rho = c.loop-place.invariant.0 i; mu = c.loop-place.invariant.1 i; prices = prices i }) in
     record { value = value; leaf = subst (IsLeaf (length needs)) (sym value) (reach_is_leaf needs c.args.day c.need_count-place-end.ensures.limits.needs.rising) }

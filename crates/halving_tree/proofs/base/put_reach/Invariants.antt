@@ -4,4 +4,4 @@ use Rattle.halving_tree.proofs.base.put_reach.Given as goal
 
 abbrev pub invariant-loop-place : goal.invariant-loop-place
 invariant-loop-place l =
-    (l.leaf.whole ≡ false) × (l.leaf.mu ≡ 0) × (length l.leaf.prices ≡ length l.book.needs) × (take l.place l.leaf.prices ≡ take l.place (map (reach_price l.day) l.book.needs))
+    (l.leaf.rho ≡ 0) × (l.leaf.mu ≡ 0) × (length l.leaf.prices ≡ length l.book.needs) × (take l.place l.leaf.prices ≡ take l.place (map (reach_price l.day) l.book.needs))

@@ -13,7 +13,7 @@ returns-then-proposed-best-clause-improved c =
     let reached : c.propose-proposed.result ≡ bound_at given c.copy_leaf.new.into = c.propose-proposed.ensures.bound ∙ ap (bound_at given) (sym same) in
     record {
       well_formed = subst (IsLeaf (length given.book.now.needs)) (sym same) c.propose-proposed.ensures.parts.proposed;
-      whole = ap (λ (l : Leaf). l.whole) same ∙ c.propose-proposed.ensures.whole;
+      cost = ap (λ (l : Leaf). l.rho) same ∙ c.propose-proposed.ensures.cost;
       given = omega (arith, ints, reached, c.best_step-best.ensures.best.no_less, c.if-proposed-best.true);
       steps = λ step is. omega (arith, ints, reached, c.best_step-best.ensures.steps step is, c.if-proposed-best.true);
     }
@@ -26,7 +26,7 @@ returns-clause-improved c =
     let reached : c.best_step-best.result.bound ≡ bound_at given c.take_step.new.leaf = best.bound ∙ ap (bound_at given) (sym same) in
     record {
       well_formed = subst (IsLeaf (length given.book.now.needs)) (sym same) best.well_formed;
-      whole = ap (λ (l : Leaf). l.whole) same ∙ step-whole given.leaf.now c.best_step-best.result.step;
+      cost = ap (λ (l : Leaf). l.rho) same ∙ step-whole given.leaf.now c.best_step-best.result.step;
       given = omega (arith, ints, reached, best.no_less);
       steps = λ step is. omega (arith, ints, reached, c.best_step-best.ensures.steps step is);
     }
