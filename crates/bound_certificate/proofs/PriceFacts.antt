@@ -1,5 +1,5 @@
 -- Numbers in their ranges, prices that never rise, and bytes without a line feed.
-use Rattle.std.proofs.Common.{◌≡◌, ◌∙◌, ◌⊎◌, inl, inr, ℕ, ◌*◌, ◌≤◌, Bool, true, false, ◌==◌, ◌||◌, not, nat_lt, if◌then◌else◌, List, [], ◌∷◌, ◌++◌, All, AllPairs, zero, suc, refl, sym, ap, arith, decimal}
+use Rattle.std.proofs.Common.{◌≡◌, ◌∙◌, ℕ, ◌*◌, ◌≤◌, Bool, true, false, ◌==◌, ◌||◌, not, nat_lt, if◌then◌else◌, List, [], ◌∷◌, ◌++◌, All, AllPairs, zero, suc, refl, sym, ap, arith, decimal}
 use Rattle.std.specs.List.{list_all}
 use Rattle.std.proofs.lemmas.Bool.{and_parts}
 use Rattle.std.proofs.lemmas.List.Elements.{All-append, All-cons, All-head, All-nil, All-tail}
@@ -108,19 +108,21 @@ pub weight_written : (rho : ℕ) → rho_number rho ≤ GREATEST_GAP
 weight_written rho = omega (arith, weight-one rho)
 
 pub weight_read : (rho : ℕ) → IsWholeOrNone rho → rho_said (rho_number rho) ≡ rho
-weight_read rho (inl none) = ap (λ w. rho_said (rho_number w)) none ∙ sym none
-weight_read rho (inr all) = ap (λ w. rho_said (rho_number w)) all ∙ sym all
+weight_read zero counts = refl
+weight_read (suc rho) counts =
+    let all : suc rho ≡ PRICE_SCALE = counts (omega arith) in
+    ap (λ w. rho_said (rho_number w)) all ∙ sym all
 
 said_counts : (one : Bool) → IsWholeOrNone (if one then PRICE_SCALE else 0)
-said_counts true = inr refl
-said_counts false = inl refl
+said_counts true = λ some. refl
+said_counts false = λ some. absurd (omega (arith, some))
 
 pub rho-counts : (number : ℕ) → IsWholeOrNone (rho_said number)
 rho-counts number = said_counts (number == 1)
 
 pub rho-small : (rho : ℕ) → IsWholeOrNone rho → rho ≤ PRICE_SCALE
-rho-small rho (inl none) = omega (arith, none)
-rho-small rho (inr all) = omega (arith, all)
+rho-small zero counts = omega arith
+rho-small (suc rho) counts = let all : suc rho ≡ PRICE_SCALE = counts (omega arith) in omega (arith, all)
 
 pub weight-found : (number : ℕ) → number ≤ 1 → rho_number (rho_said number) ≡ number
 weight-found zero h = refl

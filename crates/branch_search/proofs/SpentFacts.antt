@@ -1,5 +1,5 @@
 -- What trees come to whose budgets are spent.
-use Rattle.std.proofs.Common.{◌≡◌, ◌∙◌, ◌⊎◌, inl, inr, ℕ, ◌+◌, ◌-◌, ◌<◌, ◌≤◌, ℤ, pos, ◌-ℤ◌, ◌≤ℤ◌, Bool, true, false, not, ◌&&◌, ◌||◌, if◌then◌else◌, List, length, refl, sym, ap, subst, arith, Option, Some, None}
+use Rattle.std.proofs.Common.{◌≡◌, ◌∙◌, ◌⊎◌, inl, inr, ℕ, ◌+◌, ◌-◌, ◌*◌, ◌<◌, ◌≤◌, ◌==◌, ℤ, pos, ◌-ℤ◌, ◌*ℤ◌, ◌≤ℤ◌, ◌<ℤ◌, Bool, true, false, not, ◌&&◌, ◌||◌, if◌then◌else◌, List, length, refl, sym, ap, subst, arith, Option, Some, None}
 use Rattle.std.specs.Prelude.{IfSome, MatchOption, int_lt, option_map}
 use Rattle.std.specs.List.{All}
 use Rattle.std.proofs.lemmas.Int.{ints}
@@ -10,7 +10,9 @@ use Rattle.cash_table.specs.Reach.{IsInReach}
 use Rattle.dual_bound.specs.LeafBound.{bound_of}
 use Rattle.dual_bound.specs.Closing.{is_weak}
 use Rattle.node_ranges.specs.Ranges.{is_single}
-use Rattle.node_ranges.specs.Claims.{Claim, bears_out, costs_enough, low_ends, placed_nodes}
+use Rattle.dual_bound.proofs.Signed.{scale-le}
+use Rattle.offer_book.specs.declared.coefficients.TheConstants.{COEFFICIENT_SCALE}
+use Rattle.node_ranges.specs.Claims.{Claim, bears_out_by, costs_enough, low_ends, placed_nodes}
 use Rattle.proof_tree.specs.declared.interval.Interval.{Interval}
 use Rattle.proof_tree.specs.declared.tree.TreeNode.{TreeNode}
 use Rattle.proof_tree.specs.declared.tree.TreeNode.TheVariants as node
@@ -95,7 +97,10 @@ less-borne : (rho : ℕ) (bound own less : ℤ) → less ≤ℤ own → bears_ou
 less-borne rho bound own less le borne =
     let scaled = scale-le (COEFFICIENT_SCALE * rho) (less -ℤ pos 1) (own -ℤ pos 1) (omega (arith, ints, le)) in
     let above = lt-of _ _ borne in
-    lt-test _ _ (omega (arith, ints, scaled, above))
+    lt-test _ _ (between _ _ _ scaled above)
+  where
+    between : (a b c : ℤ) → a ≤ℤ b → b <ℤ c → a <ℤ c
+    between a b c le lt = omega (arith, ints)
 
 less-enough : (case : CaseContents) (own less : ℤ) (plan : List ℕ) → less ≤ℤ own → costs_enough case.book (Some own) plan ≡ true → costs_enough case.book (Some less) plan ≡ true
 less-enough case own less plan le enough = grind (arith, ints)

@@ -26,7 +26,8 @@ fn bears_out(rho: u64, bound: i128, claim: Option<i128>) -> bool
     let Some(least) = claim else {
         return false;
     };
-    COEFFICIENT_SCALE as i128 * i128::from(rho) * (least - 1) < bound
+    let weight = u128::from(COEFFICIENT_SCALE) * u128::from(rho);
+    weight as i128 * (least - 1) < bound
 }
 
 /// Whether a leaf is closed over ranges. The columns are priced at it, in a room where leaves near to it were.

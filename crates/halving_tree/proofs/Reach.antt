@@ -1,5 +1,5 @@
 -- The leaf that weighs needs alone keeps the limits of a leaf.
-use Rattle.std.proofs.Common.{◌≡◌, ◌∙◌, inl, ℕ, ◌+◌, ◌*◌, ◌<◌, ◌≤◌, List, [], ◌∷◌, length, map, get_or, refl, sym, ap, arith, Bool, true, false, if◌then◌else◌, ℤ, ◌<ℤ◌}
+use Rattle.std.proofs.Common.{◌≡◌, ◌∙◌, ℕ, ◌+◌, ◌*◌, ◌<◌, ◌≤◌, List, [], ◌∷◌, length, map, get_or, refl, sym, ap, arith, Bool, true, false, if◌then◌else◌, ℤ, ◌<ℤ◌}
 use Rattle.std.specs.Prelude.{int_le}
 use Rattle.std.proofs.lemmas.Int.{ints}
 use Rattle.std.proofs.lemmas.List.{get_or-map, length-map}
@@ -33,7 +33,7 @@ price-falls day earlier later lt = by (int_le earlier.day day) refl (int_le late
 pub reach_is_leaf : (needs : List Flow) (day : ℤ) → Rise needs → IsLeaf (length needs) (reach_leaf needs day)
 reach_is_leaf needs day rising = record {
   cost = omega arith;
-  counts = inl refl;
+  counts = λ some. absurd (omega (arith, some));
   limit = omega arith;
   every_date = length-map needs (reach_price day);
   range = All-map (λ (price : ℕ). price ≤ 2 * PRICE_SCALE) (reach_price day) needs (λ k d lt. price-small day (get_or needs k d));

@@ -1,5 +1,5 @@
 -- Plain cases close at the root.
-use Rattle.std.proofs.Common.{◌≡◌, ◌∙◌, inr, ℕ, ◌+◌, ◌-◌, ◌*◌, ◌≤◌, List, [], ◌∷◌, length, refl, ap, arith, ℤ, pos, ◌+ℤ◌, ◌-ℤ◌, ◌*ℤ◌, neg_ℤ, ◌≤ℤ◌, ◌<ℤ◌, All}
+use Rattle.std.proofs.Common.{◌≡◌, ◌∙◌, ℕ, ◌+◌, ◌-◌, ◌*◌, ◌≤◌, List, [], ◌∷◌, length, refl, ap, arith, ℤ, pos, ◌+ℤ◌, ◌-ℤ◌, ◌*ℤ◌, neg_ℤ, ◌≤ℤ◌, ◌<ℤ◌, All}
 use Rattle.std.proofs.lemmas.Int.{ints}
 use Rattle.std.proofs.lemmas.List.Elements.{All-head, All-tail, All-weaker}
 use Rattle.std.proofs.lemmas.List.Sums.{sum_by-cons}
@@ -85,7 +85,7 @@ curve-leaf limit book limits plain =
     let fall = first_falling book (length book.needs) plain.prices plain.curve in
     record {
       cost = omega arith;
-      counts = inr refl;
+      counts = λ some. refl;
       limit = omega arith;
       every_date = (bootstrapped_fair book plain.prices limits plain.curve).dates;
       range = All-weaker (λ price. price ≤ PRICE_SCALE) (λ price. price ≤ 2 * PRICE_SCALE) (λ price small. omega (arith, small)) plain.prices fall.small;

@@ -1,7 +1,7 @@
 //! The linear program of a book, and its solution: the bounded dual simplex.
-ghost use Rattle.std.specs.Prelude.{◌≡◌, length, IfOk};
+ghost use Rattle.std.specs.Prelude.{◌≡◌, ◌≤◌, length, IfOk};
 ghost use Rattle.fixed_powers.specs.DiscountPowers.{IsLowTable, PowerTable};
-ghost use Rattle.proof_tree.specs.Tree.{IsLeaf};
+ghost use Rattle.proof_tree.specs.Tree.{IsLeaf, IsWholeOrNone};
 
 use crate::aim::{Aim, Purpose};
 use crate::base::Base;
@@ -16,7 +16,7 @@ use crate::ratio::Breakpoints;
 use escrow_desk::NoMemory;
 use fixed_powers::Powers;
 use offer_book::Book;
-use proof_tree::{Interval, Leaf};
+use proof_tree::{Interval, Leaf, PRICE_SCALE};
 use sparse_basis::{AMOUNT_PLACES, Basis, Stop, TOTAL_PLACES};
 use std::alloc::Global;
 use std::marker::Model;
@@ -325,11 +325,11 @@ impl<'a> Simplex<'a> {
             .saturating_add(u64::from(self.dates))
     }
 
-    /// Puts the prices and the multiplier into a leaf that has a price for each need date, so that it keeps its limits. Whether
-    /// its cost counts stays as it is. It takes no memory.
+    /// Puts the prices and the multiplier into a leaf that has a price for each need date, so that it keeps its limits. How
+    /// much it weighs the cost stays as it is. It takes no memory.
     pub fn propose(&self, leaf: &mut Leaf)
         requires { length leaf.old.prices ≡ self.now.dates }
-        ensures well_formed { IsLeaf self.now.dates leaf.new }
+        ensures well_formed { leaf.old.rho ≤ PRICE_SCALE → IsWholeOrNone leaf.old.rho → IsLeaf self.now.dates leaf.new }
         ensures cost { leaf.new.rho ≡ leaf.old.rho }
     {
         leaf.mu = proposed_multiplier(self.duals.multiplier());

@@ -1,14 +1,14 @@
 -- Trees of lower bounds. The form is this project's own.
-use Rattle.std.specs.Prelude.{◌≡◌, ◌⊎◌, ℕ, zero, suc, ◌*◌, ◌≤◌, List, [], ◌∷◌, length, All, AllPairs, slice_set}
+use Rattle.std.specs.Prelude.{◌≡◌, ℕ, zero, suc, ◌*◌, ◌≤◌, List, [], ◌∷◌, length, All, AllPairs, slice_set}
 use Rattle.proof_tree.specs.declared.prices.TheConstants.{PRICE_SCALE}
 use Rattle.proof_tree.specs.declared.tree.Leaf.{Leaf}
 use Rattle.proof_tree.specs.declared.tree.TheConstants.{GREATEST_UNITS}
 use Rattle.proof_tree.specs.declared.tree.TreeNode.{TreeNode}
 use Rattle.proof_tree.specs.declared.tree.TreeNode.TheVariants as node
 
--- the cost counts wholly, or not at all
+-- the cost counts wholly, or not at all: with a weight of 1, or of 0
 abbrev pub IsWholeOrNone : ℕ → Type 0
-IsWholeOrNone rho = (rho ≡ 0) ⊎ (rho ≡ PRICE_SCALE)
+IsWholeOrNone rho = 1 ≤ rho → rho ≡ PRICE_SCALE
 
 -- weights of a leaf: that of the cost, which counts wholly or not at all, a multiplier of the limit from 0 to 1, and one price for each
 -- need date, from 0 to 2, that never rises with time

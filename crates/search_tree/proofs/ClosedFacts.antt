@@ -1,5 +1,5 @@
 -- What a tree without a waiting node shows.
-use Rattle.std.proofs.Common.{◌≡◌, ◌∙◌, ◌⊎◌, inl, inr, ℕ, ◌-◌, ◌<◌, ◌≤◌, ℤ, pos, Bool, true, false, not, if◌then◌else◌, List, length, refl, sym, ap, subst, arith, Option, Some}
+use Rattle.std.proofs.Common.{◌≡◌, ◌∙◌, ◌⊎◌, inl, inr, ℕ, ◌-◌, ◌<◌, ◌≤◌, ℤ, pos, Bool, true, false, not, if◌then◌else◌, List, length, refl, sym, ap, subst, arith, Option, Some, ◌==◌}
 use Rattle.std.specs.Prelude.{int_lt, option_map}
 use Rattle.std.specs.List.{All}
 use Rattle.case_file.specs.Case.{CaseContents}

@@ -1,5 +1,5 @@
 -- What a grown tree comes to, as the nodes of a certificate.
-use Rattle.std.proofs.Common.{◌≡◌, ◌∙◌, inl, inr, ℕ, ◌-◌, ◌^◌, ◌<◌, ◌≤◌, ℤ, pos, ◌<ℤ◌, Bool, true, false, not, if◌then◌else◌, List, [], ◌∷◌, length, map, get_or, refl, sym, ap, subst, arith}
+use Rattle.std.proofs.Common.{◌≡◌, ◌∙◌, inl, inr, ℕ, ◌-◌, ◌^◌, ◌<◌, ◌≤◌, ℤ, pos, ◌<ℤ◌, Bool, true, false, not, if◌then◌else◌, List, [], ◌∷◌, length, map, get_or, refl, sym, ap, subst, arith, ◌==◌}
 use Rattle.std.specs.Prelude.{int_lt}
 use Rattle.std.specs.List.{All}
 use Rattle.std.proofs.lemmas.Bool.{cases_lt}
@@ -171,10 +171,10 @@ raised-by : (case : CaseContents) (ranges : List Interval) (own : SearchNode) �
 raised-by case ranges own priced infeasible = by own.closing refl
   where
     by : (how : Closing) → own.closing ≡ how → IsRaised case (end_by case.book.needs own.priced.leaf how, ranges)
-    by closing.Open is = λ whole. priced.improved
-    by closing.Borne is = λ whole. priced.improved
-    by (closing.Unreached day) is = λ whole. absurd (cc)
-    by (closing.Infeasible leaf) is = λ whole. absurd (let clash : true ≡ false = sym whole ∙ (infeasible leaf is).without_cost in cc)
+    by closing.Open is = λ some. priced.improved
+    by closing.Borne is = λ some. priced.improved
+    by (closing.Unreached day) is = λ some. absurd (omega (arith, some))
+    by (closing.Infeasible leaf) is = λ some. absurd (omega (arith, some, (infeasible leaf is).without_cost))
     by closing.Point is = tt
 
 -- nodes are within the limits of a certificate

@@ -16,6 +16,7 @@ use Rattle.dual_bound.proofs.TreeFacts.{rival-bears_out}
 use Rattle.dual_bound.specs.Closing.{is_closed_point, is_weak}
 use Rattle.node_ranges.specs.Ranges.{is_single, narrowed, root_of}
 use Rattle.node_ranges.specs.Claims.{bears_out, costs_enough, is_bad_split, low_ends, placed_nodes}
+use Rattle.proof_tree.specs.declared.prices.TheConstants.{PRICE_SCALE}
 use Rattle.proof_tree.specs.declared.interval.Interval.{Interval}
 use Rattle.proof_tree.specs.declared.tree.TreeNode.{TreeNode}
 use Rattle.proof_tree.specs.declared.tree.TreeNode.TheVariants as node
