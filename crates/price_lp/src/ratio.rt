@@ -86,10 +86,10 @@ struct Move<'m, 'b> {
 }
 
 impl<'m, 'b> Move<'m, 'b> {
-    // The breakpoint of a line.
-    fn line_breakpoint(self, line: u16) -> Result<Option<Breakpoint>, Stop> {
+    // Adds the breakpoint of a line, if there is one.
+    fn add_line(self, line: u16, breakpoints: &mut Breakpoints) -> Result<(), Stop> {
         if !self.base.may_enter(line)? {
-            return Ok(None);
+            return Ok(());
         }
         let range = self.base.ranges.range(line)?;
         let width = Some(range.high.minus(range.low));
@@ -101,19 +101,19 @@ impl<'m, 'b> Move<'m, 'b> {
         } else {
             (reduced_cost, rise.negated())
         };
-        Ok(breakpoint_at(distance, rate, Entering::Line(line), width))
+        breakpoints.push(breakpoint_at(distance, rate, Entering::Line(line), width))
     }
 
-    // The breakpoint of an open link.
-    fn link_breakpoint(self, link: u16) -> Result<Option<Breakpoint>, Stop> {
+    // Adds the breakpoint of a link that is open, if there is one.
+    fn add_link(self, link: u16, breakpoints: &mut Breakpoints) -> Result<(), Stop> {
         let place = usize::from(link);
         if self.base.is_joined(place)? {
-            return Ok(None);
+            return Ok(());
         }
         let step = self.duals.price(place)?.minus(self.duals.price(place + 1)?);
         let after = self.direction.price(place + 1)?;
         let rate = after.minus(self.direction.price(place)?);
-        Ok(breakpoint_at(step, rate, Entering::Link(link), None))
+        breakpoints.push(breakpoint_at(step, rate, Entering::Link(link), None))
     }
 
     // Whether the multiplier moves.
@@ -177,7 +177,7 @@ impl Breakpoints {
         };
         self.list.clear();
         for line in 0..base.lines() {
-            self.push(along.line_breakpoint(line)?)?;
+            along.add_line(line, self)?;
         }
         self.gather_links(along)?;
         self.push(along.multiplier_breakpoint())
@@ -186,7 +186,7 @@ impl Breakpoints {
     // Those of the links.
     fn gather_links(&mut self, along: Move) -> Result<(), Stop> {
         for link in 0..=along.base.dates() {
-            self.push(along.link_breakpoint(link)?)?;
+            along.add_link(link, self)?;
         }
         Ok(())
     }
