@@ -60,7 +60,7 @@ fn solve_from(simplex: &mut Simplex, basis: &Basis)
     ensures { simplex.new ≡ simplex.old }
 {
     simplex.start_from(basis);
-    if simplex.solve(NEAR_ITERATIONS, None) == SolveEnd::Stopped {
+    if let SolveEnd::Stopped(_) = simplex.solve(NEAR_ITERATIONS, None) {
         solve_anew(simplex);
     }
 }

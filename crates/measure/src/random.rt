@@ -51,7 +51,7 @@ impl Tally {
                 tally.optimal = tally.optimal.saturating_add(1);
             }
             SolveEnd::Capped => tally.capped = tally.capped.saturating_add(1),
-            SolveEnd::Stopped => tally.stopped = tally.stopped.saturating_add(1),
+            SolveEnd::Stopped(_) => tally.stopped = tally.stopped.saturating_add(1),
         }
         tally
     }
@@ -187,7 +187,8 @@ fn solve_all(book: &Book, simplex: &mut Simplex, leaf: &mut Leaf, programs: u32)
     tally
 }
 
-/// Solves so many programs of a book, with ranges that are drawn, and prints how they ended.
+/// Solves so many programs of a book, with ranges that are drawn, and prints how they ended, and how many solves of them all ended at
+/// a wrong place, those that began again among them.
 pub(crate) fn try_random(
     rt: &HostRuntime,
     book: &Book,
@@ -206,7 +207,11 @@ pub(crate) fn try_random(
     };
     let tally = solve_all(book, &mut simplex, &mut leaf, programs);
     println!(rt;
-        ", {programs} programs: {} optimal, {} capped, {} stopped, {} again",
-        tally.optimal, tally.capped, tally.stopped, tally.again
+        ", {programs} programs: {} optimal, {} capped, {} stopped, {} again, {} at a wrong place",
+        tally.optimal,
+        tally.capped,
+        tally.stopped,
+        tally.again,
+        simplex.wrong_places()
     )
 }

@@ -141,7 +141,8 @@ fn basis_of(rt: &HostRuntime, simplex: &Simplex) -> io::Result<Basis> {
     Ok(basis)
 }
 
-// What changed ranges take on average, of each line in the basis: up to its amount, and from one unit more.
+// What changed ranges take on average, of each line in the basis: up to its amount, and from one unit more. It says too how many
+// solves of the program ended at a wrong place.
 fn measure_changes(rt: &HostRuntime, book: &Book, simplex: &mut Simplex) -> io::Result<()> {
     let root = basis_of(rt, simplex)?;
     let mut tries = 0u64;
@@ -155,7 +156,10 @@ fn measure_changes(rt: &HostRuntime, book: &Book, simplex: &mut Simplex) -> io::
         }
     }
     let mean = nanos.checked_div(tries).unwrap_or(0);
-    println!(rt; "  changed ranges: {tries}, {mean} ns each")
+    println!(rt;
+        "  changed ranges: {tries}, {mean} ns each, {} solves at a wrong place",
+        simplex.wrong_places()
+    )
 }
 
 /// Measures what the linear program takes at the root, and after a changed range.

@@ -224,7 +224,7 @@ impl<'a> Diver<'a> {
         ensures { self.new ≡ self.old }
     {
         match self.simplex.solve(iterations, None) {
-            SolveEnd::Stopped => i128::MAX,
+            SolveEnd::Stopped(_) => i128::MAX,
             SolveEnd::Optimal | SolveEnd::AtLimit | SolveEnd::Capped => self.simplex.objective(),
         }
     }
@@ -325,7 +325,7 @@ impl<'a> Diver<'a> {
         ensures { self.new ≡ self.old }
     {
         self.simplex.start_from(basis);
-        if self.simplex.solve(COLD_ITERATIONS, None) == SolveEnd::Stopped {
+        if let SolveEnd::Stopped(_) = self.simplex.solve(COLD_ITERATIONS, None) {
             self.solve_anew();
         }
     }

@@ -1,5 +1,5 @@
 //! The linear program of a book, and where a solve of it stands.
-ghost use Rattle.std.specs.Prelude.{◌≤◌, length};
+ghost use Rattle.std.specs.Prelude.{◌≤◌, IfOk, length};
 ghost use Rattle.fixed_powers.specs.DiscountPowers.{IsLowTable, PowerTable};
 
 use crate::aim::Aim;
@@ -12,7 +12,7 @@ use offer_book::Book;
 use proof_tree::Interval;
 use sparse_basis::{
     Amount, Entry, FactoredBasis, LineState, MOST_ENTRIES, Multiplier, PRICE_PLACES, Price,
-    Segment, price_at,
+    Segment, Stop, read,
 };
 use std::alloc::Global;
 
@@ -85,40 +85,40 @@ impl<'a> Base<'a> {
         self.factored.matrix.lines()
     }
 
-    /// What is needed on a date, counted from 1, in cents; nothing on other dates.
-    pub(crate) fn need(&self, date: usize) -> u64 {
+    /// What is needed on a date, counted from 1, in cents; nothing on the day of settlement. It stops where there is no such date.
+    pub(crate) fn need(&self, date: usize) -> Result<u64, Stop> {
         if date == 0 {
-            return 0;
+            return Ok(0);
         }
         match self.book.needs().get(date - 1) {
-            Some(need) => need.cents.0,
-            None => 0,
+            Some(need) => Ok(need.cents.0),
+            None => Err(Stop::WrongPlace),
         }
     }
 
-    /// What a cent of a line pays on each date, counted from 1: an entry a date, in order.
-    pub(crate) fn pays(&self, line: u16) -> &[Entry]
-        ensures few { length result.now ≤ MOST_ENTRIES }
+    /// What a cent of a line pays on each date, counted from 1: an entry a date, in order. It stops where there is no such line.
+    pub(crate) fn pays(&self, line: u16) -> Result<&[Entry], Stop>
+        ensures few { IfOk result (λ entries. length entries.now ≤ MOST_ENTRIES) }
     {
         self.factored.matrix.pays(line)
     }
 
     /// What a cent of a line is worth at the yield of the limit, less what it costs; 0 for opening cash.
-    pub(crate) fn value(&self, line: u16) -> Price {
+    pub(crate) fn value(&self, line: u16) -> Result<Price, Stop> {
         self.factored.matrix.value(line)
     }
 
     /// What a cent of a line costs, perturbed, where the cost counts.
-    pub(crate) fn cost(&self, line: u16) -> Price {
+    pub(crate) fn cost(&self, line: u16) -> Result<Price, Stop> {
         if self.aim.whole {
-            price_at(self.costs.as_slice(), usize::from(line))
+            read(self.costs.as_slice(), usize::from(line))
         } else {
-            Price::zero()
+            Ok(Price::zero())
         }
     }
 
     /// The run of a date, from the day of settlement, 0, to the date after the last.
-    pub(crate) fn run_of(&self, date: usize) -> Segment {
+    pub(crate) fn run_of(&self, date: usize) -> Result<Segment, Stop> {
         self.factored.segments.of(date)
     }
 
@@ -128,50 +128,51 @@ impl<'a> Base<'a> {
     }
 
     /// Whether a link is joined.
-    pub(crate) fn is_joined(&self, link: usize) -> bool {
+    pub(crate) fn is_joined(&self, link: usize) -> Result<bool, Stop> {
         self.factored.basis.is_joined(link)
     }
 
     /// Whether a line isn't basic, and can be bought in more than one amount.
-    pub(crate) fn may_enter(&self, line: u16) -> bool {
-        !self.factored.is_basic(line) && !self.ranges.is_single(line)
+    pub(crate) fn may_enter(&self, line: u16) -> Result<bool, Stop> {
+        Ok(!self.factored.is_basic(line)? && !self.ranges.is_single(line)?)
     }
 
     /// The amount at the end where a line stands that isn't in the basis.
-    pub(crate) fn end_amount(&self, line: u16) -> Amount {
-        let range = self.ranges.range(line);
-        if self.factored.basis.line(line) == LineState::High {
-            range.high
+    pub(crate) fn end_amount(&self, line: u16) -> Result<Amount, Stop> {
+        let range = self.ranges.range(line)?;
+        if self.factored.basis.line(line)? == LineState::High {
+            Ok(range.high)
         } else {
-            range.low
+            Ok(range.low)
         }
     }
 
     /// The range of a line, in units. It isn't fixed any longer.
-    pub(crate) fn set_range(&mut self, line: u16, interval: Interval) {
-        let pays = self.factored.matrix.pays(line);
-        self.ranges.set(line, interval, pays);
+    pub(crate) fn set_range(&mut self, line: u16, interval: Interval) -> Result<(), Stop> {
+        let pays = self.factored.matrix.pays(line)?;
+        self.ranges.set(line, interval, pays)
     }
 
     /// Fixes a line at a number of units.
-    pub(crate) fn fix(&mut self, line: u16, holding: &Holding) {
-        let pays = self.factored.matrix.pays(line);
-        self.ranges.fix(line, holding, pays);
+    pub(crate) fn fix(&mut self, line: u16, holding: &Holding) -> Result<(), Stop> {
+        let pays = self.factored.matrix.pays(line)?;
+        self.ranges.fix(line, holding, pays)
     }
 
     // Puts a line that isn't in the basis at the end that its reduced cost asks for; where that is within the tolerance, it stays.
-    fn stand(&mut self, line: u16, reduced_cost: Price, tolerance: Price) {
-        let range = self.ranges.range(line);
+    fn stand(&mut self, line: u16, reduced_cost: Price, tolerance: Price) -> Result<(), Stop> {
+        let range = self.ranges.range(line)?;
         let basis = &mut self.factored.basis;
-        let state = standing(basis.line(line), reduced_cost, tolerance, range);
-        basis.put_line(line, state);
+        let state = standing(basis.line(line)?, reduced_cost, tolerance, range);
+        basis.put_line(line, state)
     }
 
     /// Puts each line that isn't in the basis at the end that its reduced cost asks for.
-    pub(crate) fn put_lines(&mut self, duals: &Duals) {
+    pub(crate) fn put_lines(&mut self, duals: &Duals) -> Result<(), Stop> {
         let tolerance = dual_tolerance(duals.multiplier());
         for line in 0..self.lines() {
-            self.stand(line, duals.reduced_cost(line), tolerance);
+            self.stand(line, duals.reduced_cost(line)?, tolerance)?;
         }
+        Ok(())
     }
 }

@@ -1,11 +1,11 @@
 //! How prices move as something leaves the basis.
-ghost use Rattle.std.specs.Prelude.{◌≤◌, ◌^◌, length, unsigned_abs};
+ghost use Rattle.std.specs.Prelude.{◌≤◌, ◌^◌, IfOk, length, unsigned_abs};
 
 use crate::base::Base;
 use crate::leaving::Leaving;
 use escrow_desk::NoMemory;
 use sparse_basis::{
-    Entry, LineState, MOST_ENTRIES, Multiplier, Price, Segment, Stop, price_at, product, put,
+    Entry, LineState, MOST_ENTRIES, Multiplier, Price, Segment, Stop, product, put, read,
 };
 use std::alloc::Global;
 
@@ -63,47 +63,48 @@ fn multiplier_move(leaving: Leaving) -> Price {
 
 impl<'a> Base<'a> {
     // What the shift of the dates of a link's run is worth to a line, with the sign turned.
-    fn shifted(&self, line: u16, link: usize) -> Price {
-        let run = self.run_of(link);
+    fn shifted(&self, line: u16, link: usize) -> Result<Price, Stop> {
+        let run = self.run_of(link)?;
         let mut worth = Price::zero();
-        for entry in self.pays(line) {
+        for entry in self.pays(line)? {
             let date = usize::from(entry.place);
-            if self.run_of(date) == run {
+            if self.run_of(date)? == run {
                 worth = worth.plus(shift_worth(run, link, date, entry.value));
             }
         }
-        worth
+        Ok(worth)
     }
 
     // The right-hand side of the column of a line, as the multiplier leaves.
-    fn by_multiplier(&self, line: u16, from: Multiplier) -> Price {
+    fn by_multiplier(&self, line: u16, from: Multiplier) -> Result<Price, Stop> {
+        let value = self.value(line)?;
         if from == Multiplier::Top {
-            self.value(line).negated()
+            Ok(value.negated())
         } else {
-            self.value(line)
+            Ok(value)
         }
     }
 
     // The right-hand side of the column of a line.
-    fn moved(&self, leaving: Leaving, line: u16) -> Price {
+    fn moved(&self, leaving: Leaving, line: u16) -> Result<Price, Stop> {
         match leaving {
-            Leaving::Line(other, end) => by_line(line, other, end),
+            Leaving::Line(other, end) => Ok(by_line(line, other, end)),
             Leaving::Link(link) => self.shifted(line, usize::from(link)),
             Leaving::Multiplier(from) => self.by_multiplier(line, from),
         }
     }
 
     // By how much a date moves against the others of its run.
-    fn shift_of(&self, leaving: Leaving, date: usize) -> Price {
+    fn shift_of(&self, leaving: Leaving, date: usize) -> Result<Price, Stop> {
         let Leaving::Link(link) = leaving else {
-            return Price::zero();
+            return Ok(Price::zero());
         };
         let link = usize::from(link);
-        let run = self.run_of(link);
-        if self.run_of(date) == run {
-            shift(run, link, date)
+        let run = self.run_of(link)?;
+        if self.run_of(date)? == run {
+            Ok(shift(run, link, date))
         } else {
-            Price::zero()
+            Ok(Price::zero())
         }
     }
 }
@@ -126,27 +127,28 @@ impl Direction {
     }
 
     // What payments are worth at the moves of their dates: nothing where the last of them is before the first that moves.
-    fn worth(&self, pays: &[Entry]) -> i128
+    fn worth(&self, pays: &[Entry]) -> Result<i128, Stop>
         requires { length pays.now ≤ MOST_ENTRIES }
-        ensures { unsigned_abs result ≤ 2 ^ 125 }
+        ensures { IfOk result (λ sum. unsigned_abs sum ≤ 2 ^ 125) }
     {
         match pays.last() {
             Some(last) if self.first <= usize::from(last.place) => {
                 product(pays, self.prices.as_slice())
             }
-            _ => 0,
+            _ => Ok(0),
         }
     }
 
     /// How the reduced cost of a line moves.
-    pub(crate) fn rise(&self, base: &Base, line: u16) -> Price {
-        let own = self.multiplier.times(base.value(line));
-        Price::narrowed(own - self.worth(base.pays(line)))
+    pub(crate) fn rise(&self, base: &Base, line: u16) -> Result<Price, Stop> {
+        let own = self.multiplier.times(base.value(line)?);
+        let worth = self.worth(base.pays(line)?)?;
+        Ok(Price::narrowed(own - worth))
     }
 
     /// How the price of a date moves.
-    pub(crate) fn price(&self, date: usize) -> Price {
-        price_at(self.prices.as_slice(), date)
+    pub(crate) fn price(&self, date: usize) -> Result<Price, Stop> {
+        read(self.prices.as_slice(), date)
     }
 
     /// How the multiplier moves.
@@ -156,47 +158,46 @@ impl Direction {
 
     /// The direction in which something leaves the basis.
     pub(crate) fn refresh(&mut self, base: &Base, leaving: Leaving) -> Result<(), Stop> {
-        self.set_right(base, leaving);
+        self.set_right(base, leaving)?;
         base.factored
             .solve_prices(self.right.as_slice(), self.rows.as_mut_slice())?;
         self.multiplier = if base.factored.is_free() {
-            price_at(self.rows.as_slice(), base.factored.multiplier_row())
+            read(self.rows.as_slice(), base.factored.multiplier_row())?
         } else {
             multiplier_move(leaving)
         };
-        self.spread(base, leaving);
-        Ok(())
+        self.spread(base, leaving)
     }
 
     // Sets the right-hand side of each column.
-    fn set_right(&mut self, base: &Base, leaving: Leaving) {
+    fn set_right(&mut self, base: &Base, leaving: Leaving) -> Result<(), Stop> {
         for column in 0..base.factored.count() {
-            let right = match base.factored.line_of(column) {
-                Some(line) => base.moved(leaving, line),
-                None => Price::zero(),
-            };
-            put(self.right.as_mut_slice(), column, right);
+            let line = base.factored.line_of(column)?;
+            let right = base.moved(leaving, line)?;
+            put(self.right.as_mut_slice(), column, right)?;
         }
+        Ok(())
     }
 
     // How the run of a date moves, by the rows.
-    fn run_move(&self, run: Segment) -> Price {
+    fn run_move(&self, run: Segment) -> Result<Price, Stop> {
         match run {
-            Segment::Free(run) => price_at(self.rows.as_slice(), usize::from(run)),
-            Segment::Head | Segment::Tail => Price::zero(),
+            Segment::Free(run) => read(self.rows.as_slice(), usize::from(run)),
+            Segment::Head | Segment::Tail => Ok(Price::zero()),
         }
     }
 
     // Sets how the price of each date moves.
-    fn spread(&mut self, base: &Base, leaving: Leaving) {
+    fn spread(&mut self, base: &Base, leaving: Leaving) -> Result<(), Stop> {
         self.first = self.prices.len();
         for date in (0..usize::from(base.dates()) + 2).rev() {
-            let run = self.run_move(base.run_of(date));
-            let price = run.plus(base.shift_of(leaving, date));
-            put(self.prices.as_mut_slice(), date, price);
+            let run = self.run_move(base.run_of(date)?)?;
+            let price = run.plus(base.shift_of(leaving, date)?);
+            put(self.prices.as_mut_slice(), date, price)?;
             if !price.is_zero() {
                 self.first = date;
             }
         }
+        Ok(())
     }
 }

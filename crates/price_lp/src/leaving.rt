@@ -2,7 +2,7 @@
 
 use crate::base::Base;
 use crate::primal::Primal;
-use sparse_basis::{Amount, LineState, Multiplier};
+use sparse_basis::{Amount, LineState, Multiplier, Stop};
 
 /// What leaves the basis, since it is beyond an end.
 #[derive(Clone, Copy)]
@@ -51,36 +51,39 @@ impl<'a> Base<'a> {
         worst: Option<Violation>,
         line: u16,
         amount: Amount,
-    ) -> Option<Violation> {
-        let range = self.ranges.range(line);
+    ) -> Result<Option<Violation>, Stop> {
+        let range = self.ranges.range(line)?;
         let lacking = range.low.minus(amount);
         let beyond = amount.minus(range.high);
         let worst = worse(worst, Leaving::Line(line, LineState::Low), lacking);
-        worse(worst, Leaving::Line(line, LineState::High), beyond)
+        Ok(worse(worst, Leaving::Line(line, LineState::High), beyond))
     }
 
     // Among the basic lines.
-    fn worst_line(&self, primal: &Primal) -> Option<Violation> {
+    fn worst_line(&self, primal: &Primal) -> Result<Option<Violation>, Stop> {
         let mut worst = None;
         for column in 0..self.factored.count() {
-            if let Some(line) = self.factored.line_of(column) {
-                worst = self.worse_of_line(worst, line, primal.amount(line));
-            }
+            let line = self.factored.line_of(column)?;
+            worst = self.worse_of_line(worst, line, primal.amount(line)?)?;
         }
-        worst
+        Ok(worst)
     }
 
     // With the joined links.
-    fn worse_of_links(&self, primal: &Primal, before: Option<Violation>) -> Option<Violation> {
+    fn worse_of_links(
+        &self,
+        primal: &Primal,
+        before: Option<Violation>,
+    ) -> Result<Option<Violation>, Stop> {
         let mut worst = before;
         for link in 0..=self.dates() {
             let place = usize::from(link);
-            if self.is_joined(place) {
-                let lacking = primal.carried(place).negated();
+            if self.is_joined(place)? {
+                let lacking = primal.carried(place)?.negated();
                 worst = worse(worst, Leaving::Link(link), lacking);
             }
         }
-        worst
+        Ok(worst)
     }
 
     // With the multiplier.
@@ -95,9 +98,9 @@ impl<'a> Base<'a> {
     }
 
     /// The greatest violation of more than the primal tolerance; None where the basis is optimal.
-    pub(crate) fn greatest_violation(&self, primal: &Primal) -> Option<Violation> {
-        let worst = self.worst_line(primal);
-        let worst = self.worse_of_links(primal, worst);
-        self.worse_of_multiplier(primal.excess(), worst)
+    pub(crate) fn greatest_violation(&self, primal: &Primal) -> Result<Option<Violation>, Stop> {
+        let worst = self.worst_line(primal)?;
+        let worst = self.worse_of_links(primal, worst)?;
+        Ok(self.worse_of_multiplier(primal.excess(), worst))
     }
 }

@@ -23,4 +23,4 @@ mod sums;
 pub use aim::Purpose;
 pub use line_ranges::Holding;
 pub use simplex::{COLD_ITERATIONS, Simplex, SolveEnd, WARM_ITERATIONS};
-pub use sparse_basis::Basis;
+pub use sparse_basis::{Basis, Stop};

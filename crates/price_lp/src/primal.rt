@@ -3,7 +3,7 @@
 use crate::base::Base;
 use crate::sums::Sums;
 use escrow_desk::NoMemory;
-use sparse_basis::{Amount, Multiplier, Segment, Stop, Total, amount_at, put};
+use sparse_basis::{Amount, Multiplier, Segment, Stop, Total, put, read};
 use std::alloc::Global;
 
 /// The amounts of the lines, the cash carried over each link, what the amounts are worth at the yield of the limit beyond their
@@ -40,14 +40,14 @@ impl Primal {
         })
     }
 
-    /// How much of a line is bought, at par.
-    pub(crate) fn amount(&self, line: u16) -> Amount {
-        amount_at(self.amounts.as_slice(), usize::from(line))
+    /// How much of a line is bought, at par. It stops where there is no such line.
+    pub(crate) fn amount(&self, line: u16) -> Result<Amount, Stop> {
+        read(self.amounts.as_slice(), usize::from(line))
     }
 
-    /// The cash carried over a link: from a date to the next.
-    pub(crate) fn carried(&self, link: usize) -> Amount {
-        amount_at(self.carried.as_slice(), link)
+    /// The cash carried over a link: from a date to the next. It stops where there is no such link.
+    pub(crate) fn carried(&self, link: usize) -> Result<Amount, Stop> {
+        read(self.carried.as_slice(), link)
     }
 
     /// What the amounts are worth at the yield of the limit, less their cost: more than 0 where the limit is broken.
@@ -62,74 +62,76 @@ impl Primal {
 
     /// The amounts of a basis, by its factor.
     pub(crate) fn refresh(&mut self, base: &Base) -> Result<(), Stop> {
-        self.sums.start(base);
-        self.buy_at_ends(base);
-        self.set_right(base);
+        self.sums.start(base)?;
+        self.buy_at_ends(base)?;
+        self.set_right(base)?;
         base.factored
             .solve_amounts(self.right.as_mut_slice(), self.columns.as_mut_slice())?;
-        self.buy_basic(base);
+        self.buy_basic(base)?;
         self.excess = self.sums.excess.rounded();
-        let head = self.sums.head_rest(base);
+        let head = self.sums.head_rest(base)?;
         self.set_objective(base, head);
-        self.carry(base, head);
-        Ok(())
+        self.carry(base, head)
     }
 
     // Buys a line that isn't basic, at its end.
-    fn buy_at_end(&mut self, base: &Base, line: u16) {
-        let amount = base.end_amount(line);
-        put(self.amounts.as_mut_slice(), usize::from(line), amount);
-        self.sums.buy_at_end(base, line, amount);
+    fn buy_at_end(&mut self, base: &Base, line: u16) -> Result<(), Stop> {
+        let amount = base.end_amount(line)?;
+        put(self.amounts.as_mut_slice(), usize::from(line), amount)?;
+        self.sums.buy_at_end(base, line, amount)
     }
 
     // Buys the lines that aren't basic.
-    fn buy_at_ends(&mut self, base: &Base) {
+    fn buy_at_ends(&mut self, base: &Base) -> Result<(), Stop> {
         for line in 0..base.lines() {
-            if base.factored.is_basic(line) {
-                self.sums.give_back(base, line);
+            if base.factored.is_basic(line)? {
+                self.sums.give_back(base, line)?;
             } else {
-                self.buy_at_end(base, line);
+                self.buy_at_end(base, line)?;
             }
         }
+        Ok(())
     }
 
     // Buys the line of a column.
-    fn buy_column(&mut self, base: &Base, line: u16, column: usize) {
-        let amount = amount_at(self.columns.as_slice(), column);
-        put(self.amounts.as_mut_slice(), usize::from(line), amount);
-        self.sums.buy_basic(base, line, amount);
+    fn buy_column(&mut self, base: &Base, line: u16, column: usize) -> Result<(), Stop> {
+        let amount = read(self.columns.as_slice(), column)?;
+        put(self.amounts.as_mut_slice(), usize::from(line), amount)?;
+        self.sums.buy_basic(base, line, amount)
     }
 
     // Buys the basic lines.
-    fn buy_basic(&mut self, base: &Base) {
+    fn buy_basic(&mut self, base: &Base) -> Result<(), Stop> {
         for column in 0..base.factored.count() {
-            if let Some(line) = base.factored.line_of(column) {
-                self.buy_column(base, line, column);
-            }
+            let line = base.factored.line_of(column)?;
+            self.buy_column(base, line, column)?;
         }
+        Ok(())
     }
 
     // Puts what a run needs together, if it has a row.
-    fn put_need(&mut self, base: &Base, date: usize, need: Total) {
-        if let Segment::Free(run) = base.run_of(date) {
-            put(self.right.as_mut_slice(), usize::from(run), need.rounded());
+    fn put_need(&mut self, base: &Base, date: usize, need: Total) -> Result<(), Stop> {
+        if let Segment::Free(run) = base.run_of(date)? {
+            put(self.right.as_mut_slice(), usize::from(run), need.rounded())?;
         }
+        Ok(())
     }
 
     // What the basic lines have to pay in each run, and be worth where the multiplier is free.
-    fn set_right(&mut self, base: &Base) {
+    fn set_right(&mut self, base: &Base) -> Result<(), Stop> {
         let mut need = Total::zero();
         for date in 1..usize::from(base.dates()) + 1 {
-            need = need.plus(self.sums.rest(date));
-            if base.run_of(date) != base.run_of(date + 1) {
-                self.put_need(base, date, need);
+            need = need.plus(self.sums.rest(date)?);
+            if base.run_of(date)? != base.run_of(date + 1)? {
+                self.put_need(base, date, need)?;
                 need = Total::zero();
             }
         }
         if base.factored.is_free() {
             let row = base.factored.multiplier_row();
-            put(self.right.as_mut_slice(), row, self.sums.excess.rounded());
+            put(self.right.as_mut_slice(), row, self.sums.excess.rounded())?;
         }
+        Ok(())
     }
 
     // Sets the objective; the run with the day of settlement lacks so much.
@@ -146,16 +148,17 @@ impl Primal {
     }
 
     // Sets the cash that is carried: along each run from nothing, but from what is bought in the first.
-    fn carry(&mut self, base: &Base, head: Total) {
+    fn carry(&mut self, base: &Base, head: Total) -> Result<(), Stop> {
         let mut cash = head;
         for link in 0..self.carried.len() {
-            cash = cash.minus(self.sums.rest(link));
-            if base.is_joined(link) {
-                put(self.carried.as_mut_slice(), link, cash.rounded());
+            cash = cash.minus(self.sums.rest(link)?);
+            if base.is_joined(link)? {
+                self.carried[link] = cash.rounded();
             } else {
-                put(self.carried.as_mut_slice(), link, Amount::zero());
+                self.carried[link] = Amount::zero();
                 cash = Total::zero();
             }
         }
+        Ok(())
     }
 }

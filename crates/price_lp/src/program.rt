@@ -149,7 +149,7 @@ impl Program {
             .push(Price::clamp(cost - perturbation(line)))
             .is_err()
         {
-            return Err(Stop);
+            return Err(Stop::NoRoom);
         }
         self.matrix.end_line(Price::clamp(value))
     }

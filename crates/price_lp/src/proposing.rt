@@ -27,7 +27,8 @@ pub(crate) fn proposed_multiplier(multiplier: Price) -> u64
     proposed(multiplier, PRICE_SCALE)
 }
 
-/// Puts the prices of the need dates into those of a leaf: each at most 2, and at most the one before it.
+/// Puts the prices of the need dates into those of a leaf: each at most 2, and at most the one before it. A date that has none gets
+/// 0; a solve stops there.
 pub(crate) fn propose_prices(duals: &Duals, dates: u16, prices: &mut Prices)
     requires { length prices.old ≡ dates }
     ensures every_date { length prices.new ≡ dates }
@@ -36,7 +37,8 @@ pub(crate) fn propose_prices(duals: &Duals, dates: u16, prices: &mut Prices)
 {
     let mut price = 2 * PRICE_SCALE;
     for place in 0..dates {
-        price = proposed(duals.price(usize::from(place) + 1), price);
+        let number = duals.price(usize::from(place) + 1).unwrap_or(Price::zero());
+        price = proposed(number, price);
         prices.put(place, price);
     }
 }

@@ -5,7 +5,7 @@ use crate::direction::Direction;
 use crate::duals::Duals;
 use crate::leaving::{Leaving, Violation};
 use escrow_desk::NoMemory;
-use sparse_basis::{Amount, LineState, PRICE_PLACES, Price, Total};
+use sparse_basis::{Amount, LineState, PRICE_PLACES, Price, Stop, Total, push_within, put, read};
 use std::alloc::Global;
 
 /// What can enter the basis. In the order in which one of equal breakpoints is taken.
@@ -37,7 +37,6 @@ struct Breakpoint {
 #[derive(Drop)]
 pub(crate) struct Breakpoints {
     list: Vec<Breakpoint>,
-    used: usize,
 }
 
 // The pivot tolerance of the ratio test: the greatest rate that passes for none, in units of 2^-40.
@@ -87,34 +86,34 @@ struct Move<'m, 'b> {
 }
 
 impl<'m, 'b> Move<'m, 'b> {
-    // The breakpoint of a line.
-    fn line_breakpoint(self, line: u16) -> Option<Breakpoint> {
-        if !self.base.may_enter(line) {
-            return None;
+    // Adds the breakpoint of a line, if there is one.
+    fn add_line(self, line: u16, breakpoints: &mut Breakpoints) -> Result<(), Stop> {
+        if !self.base.may_enter(line)? {
+            return Ok(());
         }
-        let range = self.base.ranges.range(line);
+        let range = self.base.ranges.range(line)?;
         let width = Some(range.high.minus(range.low));
-        let rise = self.direction.rise(self.base, line);
-        let reduced_cost = self.duals.reduced_cost(line);
-        if self.base.factored.basis.line(line) == LineState::High {
-            breakpoint_at(reduced_cost.negated(), rise, Entering::Line(line), width)
+        let rise = self.direction.rise(self.base, line)?;
+        let reduced_cost = self.duals.reduced_cost(line)?;
+        let is_high = self.base.factored.basis.line(line)? == LineState::High;
+        let (distance, rate) = if is_high {
+            (reduced_cost.negated(), rise)
         } else {
-            breakpoint_at(reduced_cost, rise.negated(), Entering::Line(line), width)
-        }
+            (reduced_cost, rise.negated())
+        };
+        breakpoints.push(breakpoint_at(distance, rate, Entering::Line(line), width))
     }
 
-    // The breakpoint of an open link.
-    fn link_breakpoint(self, link: u16) -> Option<Breakpoint> {
+    // Adds the breakpoint of a link that is open, if there is one.
+    fn add_link(self, link: u16, breakpoints: &mut Breakpoints) -> Result<(), Stop> {
         let place = usize::from(link);
-        if self.base.is_joined(place) {
-            return None;
+        if self.base.is_joined(place)? {
+            return Ok(());
         }
-        let step = self.duals.price(place).minus(self.duals.price(place + 1));
-        let rate = self
-            .direction
-            .price(place + 1)
-            .minus(self.direction.price(place));
-        breakpoint_at(step, rate, Entering::Link(link), None)
+        let step = self.duals.price(place)?.minus(self.duals.price(place + 1)?);
+        let after = self.direction.price(place + 1)?;
+        let rate = after.minus(self.direction.price(place)?);
+        breakpoints.push(breakpoint_at(step, rate, Entering::Link(link), None))
     }
 
     // Whether the multiplier moves.
@@ -149,26 +148,16 @@ impl Breakpoints {
     /// Where memory ran out.
     pub(crate) fn make(alloc: Global, base: &Base) -> Result<Breakpoints, NoMemory> {
         let room = usize::from(base.lines()) + usize::from(base.dates()) + 2;
-        let nothing = Breakpoint {
-            at: 0,
-            rate: Price::zero(),
-            entering: Entering::Zero,
-            width: None,
-        };
         Ok(Breakpoints {
-            list: vec![in alloc; nothing; room]?,
-            used: 0,
+            list: Vec::with_capacity(alloc, room)?,
         })
     }
 
     // Adds a breakpoint, if there is one.
-    fn push(&mut self, breakpoint: Option<Breakpoint>) {
-        let Some(breakpoint) = breakpoint else {
-            return;
-        };
-        if let Some(place) = self.list.get_mut(self.used) {
-            *place = breakpoint;
-            self.used = self.used.saturating_add(1);
+    fn push(&mut self, breakpoint: Option<Breakpoint>) -> Result<(), Stop> {
+        match breakpoint {
+            Some(breakpoint) => push_within(&mut self.list, breakpoint),
+            None => Ok(()),
         }
     }
 
@@ -179,82 +168,77 @@ impl Breakpoints {
         duals: &Duals,
         direction: &Direction,
         leaving: Leaving,
-    ) {
+    ) -> Result<(), Stop> {
         let along = Move {
             base,
             duals,
             direction,
             leaving,
         };
-        self.used = 0;
+        self.list.clear();
         for line in 0..base.lines() {
-            self.push(along.line_breakpoint(line));
+            along.add_line(line, self)?;
         }
-        self.gather_links(along);
-        self.push(along.multiplier_breakpoint());
+        self.gather_links(along)?;
+        self.push(along.multiplier_breakpoint())
     }
 
     // Those of the links.
-    fn gather_links(&mut self, along: Move) {
+    fn gather_links(&mut self, along: Move) -> Result<(), Stop> {
         for link in 0..=along.base.dates() {
-            self.push(along.link_breakpoint(link));
+            along.add_link(link, self)?;
         }
+        Ok(())
     }
 
     // The place of the first breakpoint from a place on.
-    fn first_from(&self, start: usize) -> usize {
+    fn first_from(&self, start: usize) -> Result<usize, Stop> {
+        let mut found = read(self.list.as_slice(), start)?;
         let mut first = start;
-        for place in start..self.used {
-            if let (Some(one), Some(other)) = (self.list.get(place), self.list.get(first)) {
-                if comes_before(one, other) {
-                    first = place;
-                }
+        for place in start..self.list.len() {
+            if comes_before(&self.list[place], &found) {
+                found = self.list[place];
+                first = place;
             }
         }
-        first
+        Ok(first)
     }
 
     // Brings the first breakpoint from a place on to that place.
-    fn bring(&mut self, start: usize) -> Option<Breakpoint> {
-        let first = self.first_from(start);
-        let found = *self.list.get(first)?;
-        let other = *self.list.get(start)?;
-        if let Some(place) = self.list.get_mut(first) {
-            *place = other;
-        }
-        if let Some(place) = self.list.get_mut(start) {
-            *place = found;
-        }
-        Some(found)
+    fn bring(&mut self, start: usize) -> Result<Breakpoint, Stop> {
+        let first = self.first_from(start)?;
+        let found = read(self.list.as_slice(), first)?;
+        let other = read(self.list.as_slice(), start)?;
+        put(self.list.as_mut_slice(), first, other)?;
+        put(self.list.as_mut_slice(), start, found)?;
+        read(self.list.as_slice(), start)
     }
 
     /// How many breakpoints are passed before one at which something enters: the objective rises as long as what the lines that
-    /// were passed change together is less than the violation. None where it would rise for ever.
-    pub(crate) fn pass(&mut self, violation: Violation) -> Option<usize> {
+    /// were passed change together is less than the violation. It stops where it would rise for ever.
+    pub(crate) fn pass(&mut self, violation: Violation) -> Result<usize, Stop> {
         let mut slope = Total::of(violation.amount);
-        for passed in 0..self.used {
+        for passed in 0..self.list.len() {
             let breakpoint = self.bring(passed)?;
             let Some(width) = breakpoint.width else {
-                return Some(passed);
+                return Ok(passed);
             };
             slope = slope.without(breakpoint.rate, width);
             if !slope.is_positive() {
-                return Some(passed);
+                return Ok(passed);
             }
         }
-        None
+        Err(Stop::Irregular)
     }
 
-    /// What enters at a breakpoint.
-    pub(crate) fn entering(&self, place: usize) -> Option<Entering> {
-        match self.list.get(place) {
-            Some(breakpoint) => Some(breakpoint.entering),
-            None => None,
-        }
+    /// What enters at a breakpoint. It stops where there is no such breakpoint.
+    pub(crate) fn entering(&self, place: usize) -> Result<Entering, Stop> {
+        let breakpoint = read(self.list.as_slice(), place)?;
+        Ok(breakpoint.entering)
     }
 
     /// How much work it was to pass so many breakpoints: a unit for each that was compared.
     pub(crate) fn passing_work(&self, passed: usize) -> usize {
-        passed.saturating_add(1).saturating_mul(self.used)
+        passed.saturating_add(1).saturating_mul(self.list.len())
     }
 }

@@ -36,8 +36,8 @@ pub enum SolveEnd {
     AtLimit,
     /// The given number of iterations was spent.
     Capped,
-    /// The basis isn't as it should be, as where a column depends on others. The prices are the last that there were.
-    Stopped,
+    /// It couldn't go on. Where the basis isn't regular, the prices are the last that there were.
+    Stopped(Stop),
 }
 
 // How much of what is kept is that of the basis as it stands. What is, isn't made again.
@@ -64,8 +64,11 @@ pub struct Simplex<'a> {
     direction: Direction,
     breakpoints: Breakpoints,
     current: Current,
+    // Why something that came before a solve couldn't be done: the solve ends by it.
+    fault: Option<Stop>,
     iterations: u64,
     work: u64,
+    wrong_places: u64,
 }
 
 impl<'a> Model for Simplex<'a> {
@@ -105,8 +108,10 @@ impl<'a> Simplex<'a> {
             breakpoints: Breakpoints::make(alloc, &base)?,
             base,
             current: Current::Nothing,
+            fault: None,
             iterations: 0,
             work: 0,
+            wrong_places: 0,
         })
     }
 
@@ -118,43 +123,71 @@ impl<'a> Simplex<'a> {
         self.current = Current::Nothing;
     }
 
-    // Another range of a line, after one with a single amount or not. A line with a single amount has no reduced cost.
-    fn note_range(&mut self, line: u16, was_single: bool)
+    // Notes what couldn't be done before a solve.
+    fn note(&mut self, done: Result<(), Stop>)
         ensures { self.new ≡ self.old }
     {
-        if self.base.factored.is_basic(line) {
-            return;
+        if let Err(stop) = done {
+            self.fault = Some(stop);
         }
-        if was_single && !self.base.ranges.is_single(line) {
+    }
+
+    // Another range of a line, after one with a single amount or not. A line with a single amount has no reduced cost.
+    fn note_range(&mut self, line: u16, was_single: bool) -> Result<(), Stop>
+        ensures { self.new ≡ self.old }
+    {
+        if self.base.factored.is_basic(line)? {
+            return Ok(());
+        }
+        if was_single && !self.base.ranges.is_single(line)? {
             self.current = Current::Nothing;
         } else if self.current == Current::Amounts {
             self.current = Current::Prices;
         }
+        Ok(())
     }
 
-    /// The range of a line, counted from 0, in units; it isn't fixed any longer. A line that isn't there is passed over.
+    // Sets the range of a line.
+    fn try_range(&mut self, line: u16, interval: Interval) -> Result<(), Stop>
+        ensures { self.new ≡ self.old }
+    {
+        let was_single = self.base.ranges.is_single(line)?;
+        self.base.set_range(line, interval)?;
+        self.note_range(line, was_single)
+    }
+
+    /// The range of a line, counted from 0, in units; it isn't fixed any longer. Where there is no such line, the next solve stops.
     pub fn set_range(&mut self, line: u16, interval: Interval)
         ensures { self.new ≡ self.old }
     {
-        let was_single = self.base.ranges.is_single(line);
-        self.base.set_range(line, interval);
-        self.note_range(line, was_single);
+        let set = self.try_range(line, interval);
+        self.note(set);
     }
 
-    /// Fixes a line, counted from 0, at a number of units, with what they come to exactly. A line that isn't there is passed over.
+    // Fixes a line.
+    fn try_fix(&mut self, line: u16, holding: &Holding) -> Result<(), Stop>
+        ensures { self.new ≡ self.old }
+    {
+        let was_single = self.base.ranges.is_single(line)?;
+        self.base.fix(line, holding)?;
+        self.note_range(line, was_single)
+    }
+
+    /// Fixes a line, counted from 0, at a number of units, with what they come to exactly. Where there is no such line, or it pays
+    /// nothing on the date of a payment, the next solve stops.
     pub fn fix(&mut self, line: u16, holding: &Holding)
         ensures { self.new ≡ self.old }
     {
-        let was_single = self.base.ranges.is_single(line);
-        self.base.fix(line, holding);
-        self.note_range(line, was_single);
+        let fixed = self.try_fix(line, holding);
+        self.note(fixed);
     }
 
     /// Starts from the highest prices that never rise under which no line that matures so far has a negative reduced cost.
     pub fn start_greedily(&mut self)
         ensures { self.new ≡ self.old }
     {
-        self.base.start_greedily(&mut self.duals);
+        let started = self.base.start_greedily(&mut self.duals);
+        self.note(started);
         self.current = Current::Nothing;
         self.count_sweep();
     }
@@ -167,22 +200,26 @@ impl<'a> Simplex<'a> {
         let started = self.base.start_at(&mut self.duals, leaf);
         self.current = Current::Nothing;
         self.count_sweep();
+        if started == Err(Stop::WrongPlace) {
+            self.note(started);
+        }
         if started.is_err() {
             self.start_greedily();
         }
     }
 
-    /// Starts from a basis that was saved.
+    /// Starts from a basis that was saved. Where that is of more or fewer lines or dates, the next solve stops.
     pub fn start_from(&mut self, basis: &Basis)
         ensures { self.new ≡ self.old }
     {
-        self.base.factored.basis.copy(basis);
+        let copied = self.base.factored.basis.copy(basis);
+        self.note(copied);
         self.current = Current::Nothing;
     }
 
-    /// Saves the basis.
+    /// Saves the basis. Nothing is saved in one of more or fewer lines or dates, from which no solve starts either.
     pub fn save(&self, basis: &mut Basis) {
-        basis.copy(&self.base.factored.basis);
+        let _saved = basis.copy(&self.base.factored.basis);
     }
 
     /// Room to save a basis in.
@@ -234,7 +271,7 @@ impl<'a> Simplex<'a> {
             self.count_sweep();
             let solving = self.base.factored.solving_work();
             self.count_work(solving);
-            self.base.put_lines(&self.duals);
+            self.base.put_lines(&self.duals)?;
             self.primal.refresh(&self.base)?;
             self.current = Current::Amounts;
         }
@@ -251,8 +288,8 @@ impl<'a> Simplex<'a> {
         self.count_work(solving);
         self.direction.refresh(&self.base, leaving)?;
         self.breakpoints
-            .gather(&self.base, &self.duals, &self.direction, leaving);
-        let passed = self.breakpoints.pass(violation).ok_or(Stop)?;
+            .gather(&self.base, &self.duals, &self.direction, leaving)?;
+        let passed = self.breakpoints.pass(violation)?;
         let passing = self.breakpoints.passing_work(passed);
         self.count_work(passing);
         self.current = Current::Nothing;
@@ -268,7 +305,7 @@ impl<'a> Simplex<'a> {
         if reaches(self.primal.objective().wide(), limit) {
             return Ok(Some(SolveEnd::AtLimit));
         }
-        let Some(violation) = self.base.greatest_violation(&self.primal) else {
+        let Some(violation) = self.base.greatest_violation(&self.primal)? else {
             return Ok(Some(SolveEnd::Optimal));
         };
         self.leave(violation)?;
@@ -276,15 +313,30 @@ impl<'a> Simplex<'a> {
         Ok(None)
     }
 
-    /// Improves the solution by at most so many iterations, or until the objective, in cents, is at least a limit.
+    // The end of a solve that can't go on.
+    fn stop(&mut self, stop: Stop) -> SolveEnd
+        ensures { self.new ≡ self.old }
+    {
+        if stop == Stop::WrongPlace {
+            self.wrong_places = self.wrong_places.saturating_add(1);
+        }
+        SolveEnd::Stopped(stop)
+    }
+
+    /// Improves the solution by at most so many iterations, or until the objective, in cents, is at least a limit. It stops at once
+    /// where something that came before it couldn't be done.
     pub fn solve(&mut self, iterations: u32, limit: Option<u64>) -> SolveEnd
         ensures { self.new ≡ self.old }
     {
+        if let Some(fault) = self.fault {
+            self.fault = None;
+            return self.stop(fault);
+        }
         for _ in 0..iterations {
             match self.iterate(limit) {
                 Ok(None) => {}
                 Ok(Some(end)) => return end,
-                Err(Stop) => return SolveEnd::Stopped,
+                Err(stop) => return self.stop(stop),
             }
         }
         SolveEnd::Capped
@@ -295,14 +347,22 @@ impl<'a> Simplex<'a> {
         self.primal.objective().wide() >> AMOUNT_PLACES
     }
 
-    /// Whether a line, counted from 0, is in the basis: its amount may be anything within its range.
+    /// Whether a line, counted from 0, is in the basis: its amount may be anything within its range. No line is that isn't there.
     pub fn is_basic(&self, line: u16) -> bool {
-        self.base.factored.is_basic(line)
+        self.base.factored.is_basic(line).unwrap_or(false)
     }
 
-    /// How much of a line, counted from 0, the solution buys at par, in units of 2^-10 of a cent.
+    /// How much of a line, counted from 0, the solution buys at par, in units of 2^-10 of a cent: nothing of one that isn't there.
     pub fn amount(&self, line: u16) -> i64 {
-        self.primal.amount(line).get()
+        match self.primal.amount(line) {
+            Ok(amount) => amount.get(),
+            Err(_) => 0,
+        }
+    }
+
+    /// How many solves ended since a place wasn't there, counted up to the type's end.
+    pub fn wrong_places(&self) -> u64 {
+        self.wrong_places
     }
 
     /// How many iterations all solves took together, counted up to the type's end.

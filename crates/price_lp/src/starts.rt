@@ -1,4 +1,5 @@
 //! Bases to start from.
+ghost use Rattle.std.specs.Prelude.{◌≤◌};
 
 use crate::base::Base;
 use crate::duals::Duals;
@@ -42,40 +43,39 @@ fn state_by(reduced_cost: Price, single: bool) -> LineState {
 impl<'a> Base<'a> {
     // The price of a line's last date at which it has a reduced cost of 0, from the prices of the dates before; None where it pays
     // too little on that date.
-    fn own_price(&self, duals: &Duals, line: u16) -> Option<Price> {
-        let [before @ .., last] = self.pays(line) else {
-            return None;
+    fn own_price(&self, duals: &Duals, line: u16) -> Result<Option<Price>, Stop> {
+        let [before @ .., last] = self.pays(line)? else {
+            return Ok(None);
         };
-        if self.ranges.is_single(line) || last.value.get() < LEAST_PAYMENT {
-            return None;
+        if self.ranges.is_single(line)? || last.value.get() < LEAST_PAYMENT {
+            return Ok(None);
         }
-        let left = self.cost(line).widened() - product(before, duals.prices());
-        let price = Price::quotient(left, last.value)?;
-        if price.get() < 0 {
-            return None;
+        let left = self.cost(line)?.widened() - product(before, duals.prices())?;
+        match Price::quotient(left, last.value) {
+            Some(price) if 0 <= price.get() => Ok(Some(price)),
+            _ => Ok(None),
         }
-        Some(price)
     }
 
     // With a line that matures on the date: it makes the price where its own is lower.
-    fn with_line(&self, duals: &Duals, line: u16, before: Progress) -> Progress {
+    fn with_line(&self, duals: &Duals, line: u16, before: Progress) -> Result<Progress, Stop> {
         let passed = before.passed.saturating_add(1);
-        match self.own_price(duals, line) {
-            Some(price) if price.get() < before.price.get() => Progress {
+        match self.own_price(duals, line)? {
+            Some(price) if price.get() < before.price.get() => Ok(Progress {
                 passed,
                 price,
                 line: Some(line),
-            },
-            _ => Progress {
+            }),
+            _ => Ok(Progress {
                 passed,
                 price: before.price,
                 line: before.line,
-            },
+            }),
         }
     }
 
     // The price of a date, from those before it.
-    fn next_price(&self, duals: &Duals, date: usize, before: Progress) -> Progress {
+    fn next_price(&self, duals: &Duals, date: usize, before: Progress) -> Result<Progress, Stop> {
         let mut progress = Progress {
             passed: before.passed,
             price: before.price,
@@ -83,30 +83,31 @@ impl<'a> Base<'a> {
         };
         let order = self.factored.matrix.order();
         for place in before.passed..order.len() {
-            let Some(line) = order.get(place) else {
-                return progress;
-            };
-            if date < last_date(self.pays(*line)) {
-                return progress;
+            let line = order[place];
+            if date < last_date(self.pays(line)?) {
+                return Ok(progress);
             }
-            progress = self.with_line(duals, *line, progress);
+            progress = self.with_line(duals, line, progress)?;
         }
-        progress
+        Ok(progress)
     }
 
     // Puts the line that makes the price of a date into the basis, and opens the link before the date.
-    fn take_in(&mut self, date: usize, line: Option<u16>) {
+    fn take_in(&mut self, date: usize, line: Option<u16>) -> Result<(), Stop>
+        requires { 1 ≤ date }
+    {
         if let Some(line) = line {
-            self.factored.basis.put_line(line, LineState::Basic);
-            self.factored.basis.put_link(date.saturating_sub(1), false);
+            self.factored.basis.put_line(line, LineState::Basic)?;
+            self.factored.basis.put_link(date - 1, false)?;
         }
+        Ok(())
     }
 
     /// Starts from the highest prices that never rise under which no line that matures so far has a negative reduced cost.
-    pub(crate) fn start_greedily(&mut self, duals: &mut Duals) {
+    pub(crate) fn start_greedily(&mut self, duals: &mut Duals) -> Result<(), Stop> {
         self.factored.basis.reset(Multiplier::Zero);
         duals.put_multiplier(Price::zero());
-        duals.put_price(0, self.aim.price);
+        duals.put_price(0, self.aim.price)?;
         let mut progress = Progress {
             passed: 0,
             price: self.aim.price,
@@ -114,24 +115,27 @@ impl<'a> Base<'a> {
         };
         let dates = usize::from(self.dates());
         for date in 1..dates + 1 {
-            progress = self.next_price(duals, date, progress);
-            self.take_in(date, progress.line);
-            duals.put_price(date, progress.price);
+            progress = self.next_price(duals, date, progress)?;
+            self.take_in(date, progress.line)?;
+            duals.put_price(date, progress.price)?;
         }
-        self.factored.basis.put_link(dates, false);
-        duals.put_price(dates + 1, Price::zero());
+        self.factored.basis.put_link(dates, false)?;
+        duals.put_price(dates + 1, Price::zero())
     }
 
-    // Takes over the prices and the multiplier of a leaf.
-    fn take_prices(&self, duals: &mut Duals, leaf: &Leaf) {
+    // Takes over the prices and the multiplier of a leaf. It stops where that has more or fewer prices than there are need dates.
+    fn take_prices(&self, duals: &mut Duals, leaf: &Leaf) -> Result<(), Stop> {
+        if leaf.prices.as_slice().len() != usize::from(self.dates()) {
+            return Err(Stop::WrongPlace);
+        }
         duals.put_multiplier(from_leaf(leaf.mu));
-        duals.put_price(0, self.aim.price);
+        duals.put_price(0, self.aim.price)?;
         let mut date: usize = 1;
         for price in leaf.prices.as_slice() {
-            duals.put_price(date, from_leaf(*price));
+            duals.put_price(date, from_leaf(*price))?;
             date = date.saturating_add(1);
         }
-        duals.put_price(usize::from(self.dates()) + 1, Price::zero());
+        duals.put_price(usize::from(self.dates()) + 1, Price::zero())
     }
 
     // Where the multiplier of a leaf stands.
@@ -155,31 +159,33 @@ impl<'a> Base<'a> {
     }
 
     // Joins the dates of equal prices, and opens the links between others.
-    fn join_equal(&mut self, duals: &Duals) {
+    fn join_equal(&mut self, duals: &Duals) -> Result<(), Stop> {
         for link in 0..usize::from(self.dates()) + 1 {
-            let joined = duals.price(link).get() == duals.price(link + 1).get();
-            self.factored.basis.put_link(link, joined);
+            let joined = duals.price(link)?.get() == duals.price(link + 1)?.get();
+            self.factored.basis.put_link(link, joined)?;
         }
+        Ok(())
     }
 
     // Puts each line where it stands by its reduced cost.
-    fn place_lines(&mut self, duals: &Duals) {
+    fn place_lines(&mut self, duals: &Duals) -> Result<(), Stop> {
         for line in 0..self.lines() {
-            let state = state_by(duals.reduced_cost(line), self.ranges.is_single(line));
-            self.factored.basis.put_line(line, state);
+            let state = state_by(duals.reduced_cost(line)?, self.ranges.is_single(line)?);
+            self.factored.basis.put_line(line, state)?;
         }
+        Ok(())
     }
 
     /// Starts from a leaf's prices: dates of equal prices are joined, and lines with a reduced cost near 0 are basic. It stops where
     /// no basis comes of it.
     pub(crate) fn start_at(&mut self, duals: &mut Duals, leaf: &Leaf) -> Result<(), Stop> {
-        self.take_prices(duals, leaf);
+        self.take_prices(duals, leaf)?;
         let multiplier = duals.multiplier();
         let state = self.multiplier_at(multiplier);
         self.factored.basis.reset(state);
-        self.join_equal(duals);
-        duals.reduce(self);
-        self.place_lines(duals);
+        self.join_equal(duals)?;
+        duals.reduce(self)?;
+        self.place_lines(duals)?;
         let nearer = self.nearer_end(multiplier);
         self.factored.repair(nearer)
     }

@@ -6,7 +6,7 @@ use crate::test_files::{FOUR_OFFERS, TWO_NEEDS, case_of};
 use case_file::Case;
 use escrow_units::{Cents, Day, Flow, GREATEST_INDEX, YieldUnits};
 use fixed_powers::{Powers, Side};
-use price_lp::{Holding, Purpose, Simplex, SolveEnd};
+use price_lp::{Basis, Holding, Purpose, Simplex, SolveEnd, Stop};
 use proof_tree::{Interval, Leaf};
 use sparse_basis::LineState;
 use std::alloc::Global;
@@ -126,11 +126,49 @@ fn a_solve_starts_from_a_leaf_or_a_basis(rt: HostRuntime) -> Result<(), Fail> {
     simplex.fix(0, &nothing);
     assert_eq!(rt; simplex.solve(100, None), SolveEnd::Optimal);
     // More columns than runs of dates.
-    basis.put_line(2, LineState::Basic);
+    assert!(rt; basis.put_line(2, LineState::Basic).is_ok());
     simplex.start_from(&basis);
-    assert_eq!(rt; simplex.solve(1, None), SolveEnd::Stopped);
+    assert_eq!(rt; simplex.solve(1, None), SolveEnd::Stopped(Stop::Irregular));
     simplex.aim(Purpose::Plan, true);
     simplex.start_greedily();
     assert_eq!(rt; simplex.solve(100, None), SolveEnd::Optimal);
+    Ok(())
+}
+
+#[test]
+fn a_wrong_place_stops_the_next_solve_and_is_counted(rt: HostRuntime) -> Result<(), Fail> {
+    let case = case_of(&rt, rt.alloc(), TWO_NEEDS, FOUR_OFFERS, b"")?;
+    let mut simplex = simplex_of(rt.alloc(), &case)?;
+    let wrong = SolveEnd::Stopped(Stop::WrongPlace);
+    // Opening cash and four offers: there is no line 5.
+    simplex.start_greedily();
+    simplex.set_range(5, Interval { low: 0, high: 1 });
+    assert_eq!(rt; simplex.solve(100, None), wrong);
+    assert_eq!(rt; simplex.solve(100, None), SolveEnd::Optimal);
+    assert_eq!(rt; cents_of(&simplex), 285_028_911);
+    // Line 1 pays on the first of the two need dates alone.
+    let on_the_second = [Flow {
+        day: Day::new(20833),
+        cents: Cents(1),
+    }];
+    let holding = Holding {
+        units: 1,
+        cost: Cents(1),
+        payments: &on_the_second,
+        excess: 0,
+    };
+    simplex.fix(1, &holding);
+    assert_eq!(rt; simplex.solve(100, None), wrong);
+    // A basis of fewer lines, one of more dates, and a leaf of more dates too.
+    let narrow = Basis::with_room(rt.alloc(), 4, 2)?;
+    simplex.start_from(&narrow);
+    assert_eq!(rt; simplex.solve(100, None), wrong);
+    let long = Basis::with_room(rt.alloc(), 5, 3)?;
+    simplex.start_from(&long);
+    assert_eq!(rt; simplex.solve(100, None), wrong);
+    let leaf = Leaf::of_zeros(rt.alloc(), true, 3)?;
+    simplex.start_at(&leaf);
+    assert_eq!(rt; simplex.solve(100, None), wrong);
+    assert_eq!(rt; simplex.wrong_places(), 5);
     Ok(())
 }

@@ -1,6 +1,8 @@
 //! Worked figures of a factor.
 
-use sparse_basis::{Amount, FactoredBasis, LineState, Matrix, Multiplier, Price, Segment};
+use sparse_basis::{
+    Amount, Entry, FactoredBasis, LineState, Matrix, Multiplier, Price, Segment, Stop, product,
+};
 use std::alloc::Global;
 use std::test::Fail;
 
@@ -21,6 +23,14 @@ fn add_line(matrix: &mut Matrix, pays: [u16; 2], value: i16) -> Result<(), Fail>
     }
 }
 
+// Something that was set, on a line or a link that is there.
+fn set(done: Result<(), Stop>) -> Result<(), Fail> {
+    match done {
+        Ok(()) => Ok(()),
+        Err(_) => Err(Fail::new("no such place")),
+    }
+}
+
 // Opening cash, which pays at once, and two lines: one pays on the first date, and the other on both. Both lines are basic, and each
 // date has a price of its own.
 fn factored(alloc: Global) -> Result<FactoredBasis, Fail> {
@@ -30,10 +40,10 @@ fn factored(alloc: Global) -> Result<FactoredBasis, Fail> {
     add_line(&mut matrix, [1, 4], -2)?;
     matrix.arrange(alloc)?;
     let mut factored = FactoredBasis::make(alloc, matrix)?;
-    factored.basis.put_line(1, LineState::Basic);
-    factored.basis.put_line(2, LineState::Basic);
-    factored.basis.put_link(1, false);
-    factored.basis.put_link(2, false);
+    set(factored.basis.put_line(1, LineState::Basic))?;
+    set(factored.basis.put_line(2, LineState::Basic))?;
+    set(factored.basis.put_link(1, false))?;
+    set(factored.basis.put_link(2, false))?;
     Ok(factored)
 }
 
@@ -63,12 +73,12 @@ fn columns_before_the_first_change_stay(rt: HostRuntime) -> Result<(), Fail> {
     assert_eq!(rt; factored.refactor().ok(), Some(0));
     assert_eq!(rt; factored.refactor().ok(), Some(2));
     // The second date joins the first, and its line leaves.
-    factored.basis.put_line(2, LineState::Low);
-    factored.basis.put_link(1, true);
+    set(factored.basis.put_line(2, LineState::Low))?;
+    set(factored.basis.put_link(1, true))?;
     assert_eq!(rt; factored.refactor().ok(), Some(1));
     // The multiplier gets a row.
     factored.basis.put_multiplier(Multiplier::Free);
-    factored.basis.put_line(2, LineState::Basic);
+    set(factored.basis.put_line(2, LineState::Basic))?;
     assert_eq!(rt; factored.refactor().ok(), Some(0));
     assert!(rt; !factored.is_triangular());
     Ok(())
@@ -77,18 +87,68 @@ fn columns_before_the_first_change_stay(rt: HostRuntime) -> Result<(), Fail> {
 #[test]
 fn columns_that_depend_on_others_leave_the_basis(rt: HostRuntime) -> Result<(), Fail> {
     let mut factored = factored(rt.alloc())?;
-    factored.basis.put_line(0, LineState::Basic);
+    set(factored.basis.put_line(0, LineState::Basic))?;
     factored.basis.put_multiplier(Multiplier::Free);
-    factored.basis.put_link(1, true);
-    assert!(rt; factored.refactor().is_err());
+    set(factored.basis.put_link(1, true))?;
+    assert_eq!(rt; factored.refactor(), Err(Stop::Irregular));
     // A run and the multiplier have their pivots in the first two lines.
     assert!(rt; factored.repair(Multiplier::Top).is_ok());
-    assert!(rt; factored.is_basic(1) && !factored.is_basic(2));
-    assert!(rt; factored.segments.of(1) == Segment::Free(0));
-    assert!(rt; factored.segments.of(3) == Segment::Tail);
+    assert_eq!(rt;
+        [factored.is_basic(1), factored.is_basic(2)],
+        [Ok(true), Ok(false)]
+    );
+    assert!(rt; factored.segments.of(1).ok() == Some(Segment::Free(0)));
+    assert!(rt; factored.segments.of(3).ok() == Some(Segment::Tail));
     // Opening cash alone gives the multiplier none.
-    factored.basis.put_line(1, LineState::Low);
+    set(factored.basis.put_line(1, LineState::Low))?;
     assert!(rt; factored.repair(Multiplier::Top).is_ok());
     assert!(rt; factored.basis.multiplier() == Multiplier::Top && factored.count() == 1);
+    Ok(())
+}
+
+#[test]
+fn a_place_that_is_not_there_stops(rt: HostRuntime) -> Result<(), Fail> {
+    let mut factored = factored(rt.alloc())?;
+    // Three lines, two dates and the day of settlement, each with a link behind it, and the date after the last.
+    assert_eq!(rt;
+        factored.basis.put_line(3, LineState::Basic),
+        Err(Stop::WrongPlace)
+    );
+    assert_eq!(rt; factored.basis.put_link(3, true), Err(Stop::WrongPlace));
+    assert_eq!(rt; factored.basis.is_joined(3), Err(Stop::WrongPlace));
+    assert_eq!(rt; factored.is_basic(3), Err(Stop::WrongPlace));
+    assert!(rt; factored.segments.of(4).is_err());
+    assert_eq!(rt; factored.refactor(), Ok(0));
+    assert_eq!(rt; factored.line_of(2), Err(Stop::WrongPlace));
+    // Two columns have two right-hand sides and two rows.
+    let right = [Price::whole(1); 2];
+    let mut one = [Price::zero(); 1];
+    assert_eq!(rt;
+        factored.solve_prices(&right, &mut one),
+        Err(Stop::WrongPlace)
+    );
+    let mut needs = [Amount::zero(); 1];
+    let mut amounts = [Amount::zero(); 2];
+    assert_eq!(rt;
+        factored.solve_amounts(&mut needs, &mut amounts),
+        Err(Stop::WrongPlace)
+    );
+    let entry = Entry {
+        place: 1,
+        value: Price::one(),
+    };
+    assert_eq!(rt; product(&[entry], &one), Err(Stop::WrongPlace));
+    Ok(())
+}
+
+#[test]
+fn a_line_that_was_not_added_stops(rt: HostRuntime) -> Result<(), Fail> {
+    let mut matrix = Matrix::with_room(rt.alloc(), 2, 2, 4)?;
+    add_line(&mut matrix, [1, 0], 0)?;
+    matrix.arrange(rt.alloc())?;
+    let mut factored = FactoredBasis::make(rt.alloc(), matrix)?;
+    set(factored.basis.put_line(1, LineState::Basic))?;
+    set(factored.basis.put_link(1, false))?;
+    assert_eq!(rt; factored.refactor(), Err(Stop::WrongPlace));
     Ok(())
 }

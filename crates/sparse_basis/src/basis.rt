@@ -1,6 +1,7 @@
 //! The basis of a solution.
 
 use crate::cells::{put, read};
+use crate::sparse::Stop;
 use escrow_desk::NoMemory;
 use std::alloc::Global;
 
@@ -37,10 +38,13 @@ pub struct Basis {
     multiplier: Multiplier,
 }
 
-// Copies what two lists share: the first places, as far as both go.
-fn copy_shared<T: Copy>(into: &mut [T], from: &[T]) {
-    let shared = into.len().min(from.len());
-    into[..shared].copy_from_slice(&from[..shared]);
+// Copies a list into one of the same length.
+fn copy_whole<T: Copy>(into: &mut [T], from: &[T]) -> Result<(), Stop> {
+    if into.len() != from.len() {
+        return Err(Stop::WrongPlace);
+    }
+    into.copy_from_slice(from);
+    Ok(())
 }
 
 impl Basis {
@@ -50,33 +54,33 @@ impl Basis {
     ///
     /// Where memory ran out.
     pub fn with_room(alloc: Global, lines: u16, dates: u16) -> Result<Basis, NoMemory> {
-        let mut basis = Basis {
+        let mut joined = vec![in alloc; true; usize::from(dates) + 1]?;
+        joined[0] = false;
+        Ok(Basis {
             lines: vec![in alloc; LineState::Low; usize::from(lines)]?,
-            joined: vec![in alloc; true; usize::from(dates) + 1]?,
+            joined,
             multiplier: Multiplier::Zero,
-        };
-        basis.put_link(0, false);
-        Ok(basis)
+        })
     }
 
-    /// Where a line stands; at its low end where it isn't there.
-    pub fn line(&self, line: u16) -> LineState {
-        read(self.lines.as_slice(), usize::from(line), LineState::Low)
+    /// Where a line stands. It stops where there is no such line.
+    pub fn line(&self, line: u16) -> Result<LineState, Stop> {
+        read(self.lines.as_slice(), usize::from(line))
     }
 
-    /// Puts a line; one that isn't there is passed over.
-    pub fn put_line(&mut self, line: u16, state: LineState) {
-        put(self.lines.as_mut_slice(), usize::from(line), state);
+    /// Puts a line. It stops where there is no such line.
+    pub fn put_line(&mut self, line: u16, state: LineState) -> Result<(), Stop> {
+        put(self.lines.as_mut_slice(), usize::from(line), state)
     }
 
-    /// Whether a link is joined; it is open where it isn't there.
-    pub fn is_joined(&self, link: usize) -> bool {
-        read(self.joined.as_slice(), link, false)
+    /// Whether a link is joined. It stops where there is no such link.
+    pub fn is_joined(&self, link: usize) -> Result<bool, Stop> {
+        read(self.joined.as_slice(), link)
     }
 
-    /// Joins or opens a link; one that isn't there is passed over.
-    pub fn put_link(&mut self, link: usize, joined: bool) {
-        put(self.joined.as_mut_slice(), link, joined);
+    /// Joins or opens a link. It stops where there is no such link.
+    pub fn put_link(&mut self, link: usize, joined: bool) -> Result<(), Stop> {
+        put(self.joined.as_mut_slice(), link, joined)
     }
 
     /// Where the multiplier stands.
@@ -96,10 +100,11 @@ impl Basis {
         self.multiplier = multiplier;
     }
 
-    /// Takes over another basis, as far as both have room.
-    pub fn copy(&mut self, other: &Basis) {
-        copy_shared(self.lines.as_mut_slice(), other.lines.as_slice());
-        copy_shared(self.joined.as_mut_slice(), other.joined.as_slice());
+    /// Takes over another basis. It stops where that is of more or fewer lines or dates.
+    pub fn copy(&mut self, other: &Basis) -> Result<(), Stop> {
+        copy_whole(self.lines.as_mut_slice(), other.lines.as_slice())?;
+        copy_whole(self.joined.as_mut_slice(), other.joined.as_slice())?;
         self.multiplier = other.multiplier;
+        Ok(())
     }
 }

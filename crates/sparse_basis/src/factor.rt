@@ -67,7 +67,7 @@ pub(crate) fn over_pivot(left: i128, pivot: Price) -> Result<Price, Stop>
     if left == 0 {
         return Ok(Price::zero());
     }
-    Price::quotient(left, pivot).ok_or(Stop)
+    Price::quotient(left, pivot).ok_or(Stop::Irregular)
 }
 
 impl Factor {
@@ -95,11 +95,12 @@ impl Factor {
     }
 
     // Takes the marks off the pivots from a column on.
-    fn unmark(&mut self, columns: usize) {
+    fn unmark(&mut self, columns: usize) -> Result<(), Stop> {
         for place in columns..self.pivots.len() {
             let row = usize::from(self.pivots[place].row);
-            put(self.pivoted.as_mut_slice(), row, false);
+            put(self.pivoted.as_mut_slice(), row, false)?;
         }
+        Ok(())
     }
 
     // How many eliminations are of so many first columns.
@@ -114,22 +115,23 @@ impl Factor {
     }
 
     /// Leaves so many columns, the first ones.
-    pub(crate) fn truncate(&mut self, columns: usize) {
+    pub(crate) fn truncate(&mut self, columns: usize) -> Result<(), Stop> {
         let eliminations = self.eliminations_before(columns);
-        self.unmark(columns);
+        self.unmark(columns)?;
         self.pivots.truncate(columns);
         self.standing = self.standing.min(columns);
         self.eliminations.truncate(eliminations);
-        self.lower.truncate(columns);
-        self.upper.truncate(columns);
-        self.column.clear();
+        self.lower.truncate(columns)?;
+        self.upper.truncate(columns)?;
+        self.column.clear()
     }
 
     /// Notes the runs of dates that the columns are made for.
-    pub(crate) fn note_runs(&mut self, segments: &Segments) {
+    pub(crate) fn note_runs(&mut self, segments: &Segments) -> Result<(), Stop> {
         for date in 0..self.runs.len() {
-            self.runs[date] = segments.of(date);
+            self.runs[date] = segments.of(date)?;
         }
+        Ok(())
     }
 
     /// Whether each row has a pivot.
@@ -143,17 +145,17 @@ impl Factor {
     }
 
     /// Whether a row has a pivot.
-    pub(crate) fn is_pivoted(&self, row: u16) -> bool {
-        read(self.pivoted.as_slice(), usize::from(row), false)
+    pub(crate) fn is_pivoted(&self, row: u16) -> Result<bool, Stop> {
+        read(self.pivoted.as_slice(), usize::from(row))
     }
 
     /// Carries out on the column that is being made the eliminations of those before it.
     pub(crate) fn eliminate(&mut self) -> Result<(), Stop> {
         for elimination in self.eliminations.as_slice() {
-            let times = self.column.get(elimination.row);
+            let times = self.column.get(elimination.row)?;
             if !times.is_zero() {
                 self.column
-                    .subtract(self.lower.column(elimination.column), times)?;
+                    .subtract(self.lower.column(elimination.column)?, times)?;
             }
         }
         Ok(())
@@ -161,12 +163,12 @@ impl Factor {
 
     /// The pivot of the column that is being made: the greatest of its values in rows without a pivot, where it is at least so
     /// great.
-    pub(crate) fn pivot_of(&self, line: u16, least: u64) -> Option<Pivot> {
+    pub(crate) fn pivot_of(&self, line: u16, least: u64) -> Result<Option<Pivot>, Stop> {
         let mut greatest = None;
         let mut size = least.saturating_sub(1);
         for row in self.column.rows() {
-            let value = self.column.get(*row);
-            if size < value.size() && !self.is_pivoted(*row) {
+            let value = self.column.get(*row)?;
+            if size < value.size() && !self.is_pivoted(*row)? {
                 size = value.size();
                 greatest = Some(Pivot {
                     row: *row,
@@ -175,7 +177,7 @@ impl Factor {
                 });
             }
         }
-        greatest
+        Ok(greatest)
     }
 
     // Keeps an entry of a column below its pivot, divided by it.
@@ -192,12 +194,12 @@ impl Factor {
 
     // Keeps what the column that is being made has in a row beside its pivot: above where the row has a pivot, and else below.
     fn keep_entry(&mut self, row: u16, pivot: &Pivot) -> Result<(), Stop> {
-        let value = self.column.get(row);
+        let value = self.column.get(row)?;
         if row == pivot.row || value.is_zero() {
             return Ok(());
         }
         let entry = Entry { place: row, value };
-        if self.is_pivoted(row) {
+        if self.is_pivoted(row)? {
             self.upper.push(entry)
         } else {
             self.keep_below(entry, pivot.value)
@@ -207,7 +209,7 @@ impl Factor {
     /// Keeps the column that is being made, which has a pivot.
     pub(crate) fn keep(&mut self, pivot: &Pivot) -> Result<(), Stop> {
         for place in 0..self.column.rows().len() {
-            let row = read(self.column.rows(), place, pivot.row);
+            let row = read(self.column.rows(), place)?;
             self.keep_entry(row, pivot)?;
         }
         self.keep_pivot(pivot)
@@ -218,7 +220,7 @@ impl Factor {
         let column = self.pivots.len();
         self.upper.end_column()?;
         self.lower.end_column()?;
-        if !self.lower.column(column).is_empty() {
+        if !self.lower.column(column)?.is_empty() {
             push_within(
                 &mut self.eliminations,
                 Elimination {
@@ -227,7 +229,7 @@ impl Factor {
                 },
             )?;
         }
-        put(self.pivoted.as_mut_slice(), usize::from(pivot.row), true);
+        put(self.pivoted.as_mut_slice(), usize::from(pivot.row), true)?;
         push_within(&mut self.pivots, *pivot)
     }
 }

@@ -1,9 +1,11 @@
 //! A basis with its columns and their factor.
 
 use crate::basis::{Basis, LineState, Multiplier};
+use crate::cells::read;
 use crate::factor::Factor;
 use crate::matrix::Matrix;
 use crate::segments::Segments;
+use crate::sparse::Stop;
 use escrow_desk::NoMemory;
 use std::alloc::Global;
 
@@ -40,17 +42,15 @@ impl FactoredBasis {
         self.factor.pivots.len()
     }
 
-    /// The line of a column of the factor, counted from 0 in the order of the factor.
-    pub fn line_of(&self, column: usize) -> Option<u16> {
-        match self.factor.pivots.get(column) {
-            Some(pivot) => Some(pivot.line),
-            None => None,
-        }
+    /// The line of a column of the factor, counted from 0 in the order of the factor. It stops where there is no such column.
+    pub fn line_of(&self, column: usize) -> Result<u16, Stop> {
+        let pivot = read(self.factor.pivots.as_slice(), column)?;
+        Ok(pivot.line)
     }
 
-    /// Whether a line is in the basis.
-    pub fn is_basic(&self, line: u16) -> bool {
-        self.basis.line(line) == LineState::Basic
+    /// Whether a line is in the basis. It stops where there is no such line.
+    pub fn is_basic(&self, line: u16) -> Result<bool, Stop> {
+        Ok(self.basis.line(line)? == LineState::Basic)
     }
 
     /// Whether the multiplier is in the basis.

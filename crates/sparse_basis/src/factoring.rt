@@ -1,5 +1,6 @@
 //! Factoring: the columns of the basic lines, made triangular one after another.
 
+use crate::cells::read;
 use crate::factor::Pivot;
 use crate::factored::FactoredBasis;
 use crate::matrix::last_date;
@@ -22,63 +23,67 @@ impl FactoredBasis {
 
     // The first date whose run is another than that of the factor; the day of settlement where the factor isn't whole, or the
     // multiplier has come to a row or lost it.
-    fn first_change(&self) -> usize {
+    fn first_change(&self) -> Result<usize, Stop> {
         if !self.factor.made || self.factor.free != self.is_free() {
-            return 0;
+            return Ok(0);
         }
         for date in 0..self.factor.runs.len() {
-            if self.factor.runs[date] != self.segments.of(date) {
-                return date;
+            if self.factor.runs[date] != self.segments.of(date)? {
+                return Ok(date);
             }
         }
-        self.factor.runs.len()
+        Ok(self.factor.runs.len())
     }
 
-    // Whether a column stays as it is: it is that of a line which pays before the first change alone.
-    fn stays(&self, column: usize, line: u16, change: usize) -> bool {
-        self.line_of(column) == Some(line) && last_date(self.matrix.pays(line)) < change
+    // Whether a line has a column that stays as it is: the line pays before the first change alone.
+    fn stays(&self, column: usize, line: u16, change: usize) -> Result<bool, Stop> {
+        match self.factor.pivots.get(column) {
+            Some(pivot) if pivot.line == line => { Ok(last_date(self.matrix.pays(line)?) < change) }
+            _ => Ok(false),
+        }
     }
 
     // How many of the first columns stay as they are, and where the other lines begin in their order.
-    fn kept(&self, change: usize) -> Kept {
+    fn kept(&self, change: usize) -> Result<Kept, Stop> {
         let order = self.matrix.order();
         let mut columns = 0usize;
         for place in 0..order.len() {
             let line = order[place];
-            if self.is_basic(line) {
-                if !self.stays(columns, line, change) {
-                    return Kept {
+            if self.is_basic(line)? {
+                if !self.stays(columns, line, change)? {
+                    return Ok(Kept {
                         columns,
                         next: place,
-                    };
+                    });
                 }
                 columns = columns.saturating_add(1);
             }
         }
-        Kept {
+        Ok(Kept {
             columns,
             next: order.len(),
-        }
+        })
     }
 
     /// Leaves so many columns, the first ones, and notes for what the others are made.
-    pub(crate) fn begin(&mut self, columns: usize) {
-        self.factor.truncate(columns);
-        self.factor.note_runs(&self.segments);
+    pub(crate) fn begin(&mut self, columns: usize) -> Result<(), Stop> {
+        self.factor.made = false;
+        self.factor.truncate(columns)?;
+        self.factor.note_runs(&self.segments)?;
         self.factor.free = self.is_free();
         self.factor.rows = self.row_count();
-        self.factor.made = false;
+        Ok(())
     }
 
     // Puts a line's column into the rows.
     fn scatter(&mut self, line: u16) -> Result<(), Stop> {
-        for entry in self.matrix.pays(line) {
-            if let Segment::Free(row) = self.segments.of(usize::from(entry.place)) {
+        for entry in self.matrix.pays(line)? {
+            if let Segment::Free(row) = self.segments.of(usize::from(entry.place))? {
                 self.factor.column.add(row, entry.value)?;
             }
         }
         if self.is_free() {
-            let value = self.matrix.value(line).negated();
+            let value = self.matrix.value(line)?.negated();
             self.factor
                 .column
                 .put(self.segments.multiplier_row(), value)?;
@@ -87,30 +92,30 @@ impl FactoredBasis {
     }
 
     // What is paid in a run at the end.
-    fn paid_at_end(&self, pays: &[Entry], run: Segment) -> Price {
+    fn paid_at_end(&self, pays: &[Entry], run: Segment) -> Result<Price, Stop> {
         let mut paid = Price::zero();
         for entry in pays.iter().rev() {
-            if run_of(self.factor.runs.as_slice(), usize::from(entry.place)) != run {
-                return paid;
+            if run_of(self.factor.runs.as_slice(), usize::from(entry.place))? != run {
+                return Ok(paid);
             }
             paid = paid.plus(entry.value);
         }
-        paid
+        Ok(paid)
     }
 
     // The pivot of the column of a line as it stands: where it ends in the run that is next, and so do all columns before it.
-    fn standing_pivot(&self, line: u16, least: u64) -> Option<Pivot> {
-        let pays = self.matrix.pays(line);
-        let run = run_of(self.factor.runs.as_slice(), last_date(pays));
+    fn standing_pivot(&self, line: u16, least: u64) -> Result<Option<Pivot>, Stop> {
+        let pays = self.matrix.pays(line)?;
+        let run = run_of(self.factor.runs.as_slice(), last_date(pays))?;
         match run {
             Segment::Free(row) if usize::from(row) == self.count() && self.factor.may_stand() => {
-                let value = self.paid_at_end(pays, run);
+                let value = self.paid_at_end(pays, run)?;
                 if value.size() < least {
-                    return None;
+                    return Ok(None);
                 }
-                Some(Pivot { row, value, line })
+                Ok(Some(Pivot { row, value, line }))
             }
-            _ => None,
+            _ => Ok(None),
         }
     }
 
@@ -120,42 +125,44 @@ impl FactoredBasis {
         if self.factor.rows <= self.count() {
             return Ok(false);
         }
-        if let Some(pivot) = self.standing_pivot(line, least) {
+        if let Some(pivot) = self.standing_pivot(line, least)? {
             self.factor.standing = self.factor.standing.saturating_add(1);
             self.factor.keep_pivot(&pivot)?;
             return Ok(true);
         }
-        self.factor.column.clear();
+        self.factor.column.clear()?;
         self.scatter(line)?;
         self.factor.eliminate()?;
-        let Some(pivot) = self.factor.pivot_of(line, least) else {
+        let Some(pivot) = self.factor.pivot_of(line, least)? else {
             return Ok(false);
         };
         self.factor.keep(&pivot)?;
         Ok(true)
     }
 
-    /// The line at a place in the order of the lines, where it is basic.
-    pub(crate) fn basic_at(&self, place: usize) -> Option<u16> {
-        match self.matrix.order().get(place) {
-            Some(line) if self.is_basic(*line) => Some(*line),
-            _ => None,
+    /// The line at a place in the order of the lines, where it is basic. It stops where there is no such place.
+    pub(crate) fn basic_at(&self, place: usize) -> Result<Option<u16>, Stop> {
+        let line = read(self.matrix.order(), place)?;
+        if self.is_basic(line)? {
+            Ok(Some(line))
+        } else {
+            Ok(None)
         }
     }
 
     // Adds the columns of the basic lines from a place in their order on.
     fn add_lines(&mut self, next: usize) -> Result<(), Stop> {
         for place in next..self.matrix.order().len() {
-            if let Some(line) = self.basic_at(place) {
+            if let Some(line) = self.basic_at(place)? {
                 if !self.add_line(line, PIVOT_TOLERANCE)? {
-                    return Err(Stop);
+                    return Err(Stop::Irregular);
                 }
             }
         }
         if self.factor.is_full() {
             Ok(())
         } else {
-            Err(Stop)
+            Err(Stop::Irregular)
         }
     }
 
@@ -163,8 +170,8 @@ impl FactoredBasis {
     /// where a column depends on others, or there are more or fewer columns than rows.
     pub fn refactor(&mut self) -> Result<usize, Stop> {
         self.segments.refresh(&self.basis)?;
-        let kept = self.kept(self.first_change());
-        self.begin(kept.columns);
+        let kept = self.kept(self.first_change()?)?;
+        self.begin(kept.columns)?;
         self.add_lines(kept.next)?;
         self.factor.made = true;
         Ok(kept.columns)

@@ -19,7 +19,7 @@ mod sparse;
 mod total;
 
 pub use basis::{Basis, LineState, Multiplier};
-pub use cells::{amount_at, price_at, product, put, read};
+pub use cells::{product, push_within, put, read};
 pub use factored::FactoredBasis;
 pub use matrix::{Matrix, last_date};
 pub use number::{AMOUNT_PLACES, Amount, PRICE_PLACES, Price};

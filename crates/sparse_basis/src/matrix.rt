@@ -1,7 +1,7 @@
 //! The columns of the lines of a linear program.
-ghost use Rattle.std.specs.Prelude.{◌≡◌, ◌<◌, ◌≤◌, length};
+ghost use Rattle.std.specs.Prelude.{◌≡◌, ◌<◌, ◌≤◌, IfOk, length};
 
-use crate::cells::{price_at, push_within};
+use crate::cells::{push_within, read};
 use crate::number::Price;
 use crate::sparse::{Entry, MOST_ENTRIES, Sparse, Stop};
 use escrow_desk::NoMemory;
@@ -27,13 +27,21 @@ pub fn last_date(pays: &[Entry]) -> usize {
     }
 }
 
+// The last date of a line. One that wasn't added comes first: a solve stops at it.
+fn last_date_of(pays: &Sparse, line: u16) -> usize {
+    match pays.column(usize::from(line)) {
+        Ok(column) => last_date(column),
+        Err(_) => 0,
+    }
+}
+
 // The lines by their last date.
 fn order_of(alloc: Global, pays: &Sparse, lines: u16) -> Result<Vec<u16>, NoMemory> {
     let mut order = Vec::with_capacity(alloc, usize::from(lines))?;
     for line in 0..lines {
         order.push(line)?;
     }
-    order.sort_by_key(|line| last_date(pays.column(usize::from(*line))))?;
+    order.sort_by_key(|line| last_date_of(pays, *line))?;
     Ok(order)
 }
 
@@ -96,16 +104,17 @@ impl Matrix {
         self.pays.entry_count()
     }
 
-    /// What a cent of a line pays on each date, counted from 1: an entry a date, in order.
-    pub fn pays(&self, line: u16) -> &[Entry]
-        ensures few { length result.now ≤ MOST_ENTRIES }
+    /// What a cent of a line pays on each date, counted from 1: an entry a date, in order. It stops where there is no such line.
+    pub fn pays(&self, line: u16) -> Result<&[Entry], Stop>
+        ensures few { IfOk result (λ entries. length entries.now ≤ MOST_ENTRIES) }
     {
         self.pays.column(usize::from(line))
     }
 
-    /// What a cent of a line is worth by the yield limit: its coefficient in the row of the multiplier.
-    pub fn value(&self, line: u16) -> Price {
-        price_at(self.values.as_slice(), usize::from(line))
+    /// What a cent of a line is worth by the yield limit: its coefficient in the row of the multiplier. It stops where there is no
+    /// such line.
+    pub fn value(&self, line: u16) -> Result<Price, Stop> {
+        read(self.values.as_slice(), usize::from(line))
     }
 
     /// The lines in order of their last date, and of those of the same date in the order in which they were added.

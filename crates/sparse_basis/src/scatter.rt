@@ -1,5 +1,6 @@
 //! A column that is being made triangular.
 
+use crate::cells::{push_within, put};
 use crate::number::Price;
 use crate::sparse::{Entry, Stop};
 use escrow_desk::NoMemory;
@@ -27,7 +28,6 @@ impl Cell {
 pub(crate) struct Scatter {
     cells: Vec<Cell>,
     rows: Vec<u16>,
-    count: usize,
 }
 
 impl Scatter {
@@ -39,36 +39,21 @@ impl Scatter {
     pub(crate) fn with_room(alloc: Global, rows: usize) -> Result<Scatter, NoMemory> {
         Ok(Scatter {
             cells: vec![in alloc; Cell::empty(); rows]?,
-            rows: vec![in alloc; 0; rows]?,
-            count: 0,
+            rows: Vec::with_capacity(alloc, rows)?,
         })
     }
 
     /// The rows that it met, in the order in which it met them.
     pub(crate) fn rows(&self) -> &[u16] {
-        if self.count <= self.rows.len() {
-            &self.rows.as_slice()[..self.count]
-        } else {
-            &[]
-        }
+        self.rows.as_slice()
     }
 
-    /// The value of a row; nothing where there is no such row.
-    pub(crate) fn get(&self, row: u16) -> Price {
+    /// The value of a row. It stops where there is no such row.
+    pub(crate) fn get(&self, row: u16) -> Result<Price, Stop> {
         match self.cells.get(usize::from(row)) {
-            Some(cell) => cell.value,
-            None => Price::zero(),
+            Some(cell) => Ok(cell.value),
+            None => Err(Stop::WrongPlace),
         }
-    }
-
-    // Remembers that a row is met, which it wasn't before.
-    fn remember(&mut self, row: u16) -> Result<(), Stop> {
-        if self.count >= self.rows.len() {
-            return Err(Stop);
-        }
-        self.rows[self.count] = row;
-        self.count += 1;
-        Ok(())
     }
 
     // Puts the value of a row, and tells whether it is met for the first time.
@@ -79,14 +64,14 @@ impl Scatter {
                 *cell = Cell { value, met: true };
                 Ok(first)
             }
-            None => Err(Stop),
+            None => Err(Stop::WrongPlace),
         }
     }
 
     /// Puts the value of a row. It stops where there is no such row.
     pub(crate) fn put(&mut self, row: u16, value: Price) -> Result<(), Stop> {
         if self.put_value(row, value)? {
-            self.remember(row)?;
+            push_within(&mut self.rows, row)?;
         }
         Ok(())
     }
@@ -102,14 +87,14 @@ impl Scatter {
                 };
                 Ok(first)
             }
-            None => Err(Stop),
+            None => Err(Stop::WrongPlace),
         }
     }
 
     /// Adds to the value of a row. It stops where there is no such row.
     pub(crate) fn add(&mut self, row: u16, value: Price) -> Result<(), Stop> {
         if self.add_value(row, value)? {
-            self.remember(row)?;
+            push_within(&mut self.rows, row)?;
         }
         Ok(())
     }
@@ -117,27 +102,18 @@ impl Scatter {
     /// Takes off so many times another column. It stops where there is no such row.
     pub(crate) fn subtract(&mut self, column: &[Entry], times: Price) -> Result<(), Stop> {
         for entry in column {
-            let rest = self.get(entry.place).less_product(entry.value, times);
+            let rest = self.get(entry.place)?.less_product(entry.value, times);
             self.put(entry.place, rest)?;
         }
         Ok(())
     }
 
-    // Forgets a row.
-    fn forget(&mut self, row: u16) {
-        if let Some(cell) = self.cells.get_mut(usize::from(row)) {
-            *cell = Cell::empty();
-        }
-    }
-
     /// Leaves nothing in any row.
-    pub(crate) fn clear(&mut self) {
-        for place in 0..self.count {
-            if let Some(row) = self.rows.get(place) {
-                let row = *row;
-                self.forget(row);
-            }
+    pub(crate) fn clear(&mut self) -> Result<(), Stop> {
+        for row in self.rows.as_slice() {
+            put(self.cells.as_mut_slice(), usize::from(*row), Cell::empty())?;
         }
-        self.count = 0;
+        self.rows.clear();
+        Ok(())
     }
 }

@@ -36,40 +36,43 @@ pub struct Segments {
     multiplier: u16,
 }
 
-/// The run of a date in a list with one for each date; the tail for others.
-pub(crate) fn run_of(runs: &[Segment], date: usize) -> Segment {
-    read(runs, date, Segment::Tail)
+/// The run of a date in a list with one for each date. It stops where there is no such date.
+pub(crate) fn run_of(runs: &[Segment], date: usize) -> Result<Segment, Stop> {
+    read(runs, date)
 }
 
 // Puts the run of each date, where all runs but the head are counted from 0. How many there are beside the head.
-fn count_runs(of_date: &mut [Segment], basis: &Basis) -> u16 {
+fn count_runs(of_date: &mut [Segment], basis: &Basis) -> Result<u16, Stop> {
     let mut run = Segment::Head;
     let mut opened = 0u16;
     for date in 1..of_date.len() {
-        if !basis.is_joined(date - 1) {
+        if !basis.is_joined(date - 1)? {
             run = Segment::Free(opened);
             opened = opened.saturating_add(1);
         }
         of_date[date] = run;
     }
-    opened
+    Ok(opened)
 }
 
-// Marks the dates that share their run with another one, and finds where they are.
-fn mark_shared(shared: &mut [bool], basis: &Basis) -> SharedSpan {
+// Marks the dates that share their run with another one, and finds where they are. The last date, which no link follows, shares
+// that of the one before it.
+fn mark_shared(shared: &mut [bool], basis: &Basis) -> Result<SharedSpan, Stop> {
     let mut span = SharedSpan {
         first: shared.len(),
         end: 0,
     };
+    let mut joins_next = false;
     for date in (0..shared.len()).rev() {
-        let before = date > 0 && basis.is_joined(date - 1);
-        shared[date] = before || basis.is_joined(date);
+        let joins_last = date > 0 && basis.is_joined(date - 1)?;
+        shared[date] = joins_last || joins_next;
+        joins_next = joins_last;
         if shared[date] {
             span.first = date;
             span.end = span.end.max(date + 1);
         }
     }
-    span
+    Ok(span)
 }
 
 // Turns a run into the tail.
@@ -103,24 +106,24 @@ impl Segments {
     /// The runs of a basis. It stops where no link is open.
     pub fn refresh(&mut self, basis: &Basis) -> Result<(), Stop> {
         self.free = 0;
-        let opened = count_runs(self.of_date.as_mut_slice(), basis);
+        let opened = count_runs(self.of_date.as_mut_slice(), basis)?;
         if opened == 0 {
-            return Err(Stop);
+            return Err(Stop::Irregular);
         }
         self.free = opened - 1;
         end_with(self.of_date.as_mut_slice(), self.free);
-        self.shared_span = mark_shared(self.shared.as_mut_slice(), basis);
+        self.shared_span = mark_shared(self.shared.as_mut_slice(), basis)?;
         Ok(())
     }
 
-    /// The run of a date, from 0 to the one after the last; the tail for others.
-    pub fn of(&self, date: usize) -> Segment {
+    /// The run of a date, from 0 to the one after the last. It stops at others.
+    pub fn of(&self, date: usize) -> Result<Segment, Stop> {
         run_of(self.of_date.as_slice(), date)
     }
 
-    /// Whether a date shares its run with another one.
-    pub fn is_shared(&self, date: usize) -> bool {
-        read(self.shared.as_slice(), date, false)
+    /// Whether a date shares its run with another one. It stops where there is no such date.
+    pub fn is_shared(&self, date: usize) -> Result<bool, Stop> {
+        read(self.shared.as_slice(), date)
     }
 
     /// Where the dates are that share their run with another one.

@@ -1,7 +1,7 @@
 //! Solving by a factor: for prices, and for amounts.
-ghost use Rattle.std.specs.Prelude.{◌≤◌, ◌^◌, unsigned_abs};
+ghost use Rattle.std.specs.Prelude.{◌≤◌, ◌^◌, IfOk, unsigned_abs};
 
-use crate::cells::{amount_at, product, product_in_runs, put_at, subtract, subtract_in_runs};
+use crate::cells::{product, product_in_runs, put, read, subtract, subtract_in_runs};
 use crate::factor::{Pivot, over_pivot};
 use crate::factored::FactoredBasis;
 use crate::number::{Amount, Price};
@@ -12,33 +12,36 @@ fn amount_over(right: Amount, pivot: Price) -> Result<Amount, Stop> {
     if right.is_zero() {
         return Ok(Amount::zero());
     }
-    right.over(pivot).ok_or(Stop)
+    right.over(pivot).ok_or(Stop::Irregular)
 }
 
 impl FactoredBasis {
     // What a column has above its pivot, each times the price of its row. The price of the pivot's row is 0.
-    fn product_above(&self, column: usize, line: u16, prices: &[Price]) -> i128
-        ensures { unsigned_abs result ≤ 2 ^ 125 }
+    fn product_above(&self, column: usize, line: u16, prices: &[Price]) -> Result<i128, Stop>
+        ensures { IfOk result (λ sum. unsigned_abs sum ≤ 2 ^ 125) }
     {
         if column < self.factor.standing {
-            product_in_runs(self.matrix.pays(line), self.factor.runs.as_slice(), prices)
+            let pays = self.matrix.pays(line)?;
+            product_in_runs(pays, self.factor.runs.as_slice(), prices)
         } else {
-            product(self.factor.upper.column(column), prices)
+            product(self.factor.upper.column(column)?, prices)
         }
     }
 
     // Takes what an amount of a column pays above its pivot off the amounts of the rows. That of the pivot's row isn't read any
     // more.
-    fn subtract_above(&self, column: usize, line: u16, rows: &mut [Amount], amount: Amount) {
+    fn subtract_above(
+        &self,
+        column: usize,
+        line: u16,
+        rows: &mut [Amount],
+        amount: Amount,
+    ) -> Result<(), Stop> {
         if column < self.factor.standing {
-            subtract_in_runs(
-                rows,
-                self.matrix.pays(line),
-                self.factor.runs.as_slice(),
-                amount,
-            );
+            let pays = self.matrix.pays(line)?;
+            subtract_in_runs(rows, pays, self.factor.runs.as_slice(), amount)
         } else {
-            subtract(rows, self.factor.upper.column(column), amount);
+            subtract(rows, self.factor.upper.column(column)?, amount)
         }
     }
 
@@ -51,20 +54,21 @@ impl FactoredBasis {
         rows: &mut [Price],
     ) -> Result<(), Stop> {
         let row = usize::from(pivot.row);
-        put_at(rows, row, Price::zero())?;
-        let taken = self.product_above(column, pivot.line, rows);
-        put_at(rows, row, over_pivot(right.widened() - taken, pivot.value)?)
+        put(rows, row, Price::zero())?;
+        let taken = self.product_above(column, pivot.line, rows)?;
+        put(rows, row, over_pivot(right.widened() - taken, pivot.value)?)
     }
 
     // Undoes the eliminations, from the last to the first.
-    fn undo_eliminations(&self, rows: &mut [Price]) {
+    fn undo_eliminations(&self, rows: &mut [Price]) -> Result<(), Stop> {
         for place in (0..self.factor.eliminations.len()).rev() {
             let elimination = self.factor.eliminations[place];
-            let taken = product(self.factor.lower.column(elimination.column), rows);
-            if let Some(value) = rows.get_mut(usize::from(elimination.row)) {
-                *value = value.less_wide(taken);
-            }
+            let row = usize::from(elimination.row);
+            let taken = product(self.factor.lower.column(elimination.column)?, rows)?;
+            let left = read(rows, row)?.less_wide(taken);
+            put(rows, row, left)?;
         }
+        Ok(())
     }
 
     /// Solves for the price of each row, from what each column has to be worth.
@@ -81,7 +85,7 @@ impl FactoredBasis {
         rows: &mut [Price],
     ) -> Result<(), Stop> {
         if right.len() < self.factor.pivots.len() {
-            return Err(Stop);
+            return Err(Stop::WrongPlace);
         }
         let mut is_met = first > 0;
         for column in first..self.factor.pivots.len() {
@@ -90,29 +94,29 @@ impl FactoredBasis {
             if is_met {
                 self.solve_column(column, pivot, right[column], rows)?;
             } else {
-                put_at(rows, usize::from(pivot.row), Price::zero())?;
+                put(rows, usize::from(pivot.row), Price::zero())?;
             }
         }
-        self.undo_eliminations(rows);
-        Ok(())
+        self.undo_eliminations(rows)
     }
 
     // Carries out the eliminations on a right-hand side.
-    fn eliminate_right(&self, right: &mut [Amount]) {
+    fn eliminate_right(&self, right: &mut [Amount]) -> Result<(), Stop> {
         for elimination in self.factor.eliminations.as_slice() {
-            let amount = amount_at(right, usize::from(elimination.row));
-            subtract(right, self.factor.lower.column(elimination.column), amount);
+            let amount = read(right, usize::from(elimination.row))?;
+            subtract(right, self.factor.lower.column(elimination.column)?, amount)?;
         }
+        Ok(())
     }
 
     /// Solves for the amount of each column, from what each row has to be paid, which is used up.
     pub fn solve_amounts(&self, right: &mut [Amount], columns: &mut [Amount]) -> Result<(), Stop> {
-        self.eliminate_right(right);
+        self.eliminate_right(right)?;
         for column in (0..self.factor.pivots.len()).rev() {
             let pivot = self.factor.pivots[column];
-            let amount = amount_over(amount_at(right, usize::from(pivot.row)), pivot.value)?;
-            put_at(columns, column, amount)?;
-            self.subtract_above(column, pivot.line, right, amount);
+            let amount = amount_over(read(right, usize::from(pivot.row))?, pivot.value)?;
+            put(columns, column, amount)?;
+            self.subtract_above(column, pivot.line, right, amount)?;
         }
         Ok(())
     }

@@ -1,6 +1,7 @@
 //! Columns of a sparse matrix.
-ghost use Rattle.std.specs.Prelude.{◌<◌, ◌≤◌, IsTrue, length};
+ghost use Rattle.std.specs.Prelude.{◌≤◌, IfOk, length};
 
+use crate::cells::read;
 use crate::number::Price;
 use escrow_desk::NoMemory;
 use std::alloc::Global;
@@ -8,9 +9,16 @@ use std::alloc::Global;
 /// The most entries that a column has: more than there are need dates.
 pub const MOST_ENTRIES: usize = 512;
 
-/// A solve can't go on: the basis isn't as it should be, or the room for a factor is used up.
-#[derive(Clone, Copy)]
-pub struct Stop;
+/// Why a solve can't go on.
+#[derive(Clone, Copy, Debug, PartialEq, Eq)]
+pub enum Stop {
+    /// The basis isn't regular: a column depends on others, there are more or fewer columns than rows, or nothing can enter it.
+    Irregular,
+    /// The room that was taken is used up.
+    NoRoom,
+    /// A line, a date, a row or a column was named that isn't there, which is a mistake of who named it.
+    WrongPlace,
+}
 
 /// An entry of a column.
 #[derive(Clone, Copy)]
@@ -63,10 +71,11 @@ impl Sparse {
     }
 
     /// Leaves so many columns, the first ones, and no entry of one that is being made.
-    pub(crate) fn truncate(&mut self, columns: usize) {
+    pub(crate) fn truncate(&mut self, columns: usize) -> Result<(), Stop> {
         self.columns = self.columns.min(columns);
-        self.begin = self.start(self.columns);
+        self.begin = self.start(self.columns)?;
         self.used = self.begin;
+        Ok(())
     }
 
     /// How many entries there are in all columns together.
@@ -77,48 +86,32 @@ impl Sparse {
     /// Adds an entry to the column that is being made.
     pub(crate) fn push(&mut self, entry: Entry) -> Result<(), Stop> {
         if self.used >= self.entries.len() {
-            return Err(Stop);
+            return Err(Stop::NoRoom);
         }
         self.entries[self.used] = entry;
         self.used += 1;
         Ok(())
     }
 
-    // Whether the column that is being made ends with an entry of a place.
-    fn ends_at(&self, place: u16) -> bool
-        ensures { IsTrue result → 0 < self.now.used }
-    {
-        if self.used <= self.begin {
-            return false;
-        }
-        match self.entries.get(self.used - 1) {
-            Some(last) => last.place == place,
-            None => false,
-        }
-    }
-
-    // Adds to the last entry.
-    fn add_to_last(&mut self, value: Price)
-        requires { 0 < self.old.used }
-    {
-        if let Some(last) = self.entries.get_mut(self.used - 1) {
-            last.value = last.value.plus(value);
-        }
-    }
-
     /// Adds an entry to the column that is being made, or to its last entry where that is of the same place.
     pub(crate) fn add(&mut self, entry: Entry) -> Result<(), Stop> {
-        if self.ends_at(entry.place) {
-            self.add_to_last(entry.value);
-            return Ok(());
+        if self.used <= self.begin {
+            return self.push(entry);
         }
-        self.push(entry)
+        match self.entries.get_mut(self.used - 1) {
+            Some(last) if last.place == entry.place => {
+                last.value = last.value.plus(entry.value);
+                Ok(())
+            }
+            Some(_) => self.push(entry),
+            None => Err(Stop::WrongPlace),
+        }
     }
 
     /// Ends the column that is being made.
     pub(crate) fn end_column(&mut self) -> Result<(), Stop> {
         if self.columns >= self.ends.len() {
-            return Err(Stop);
+            return Err(Stop::NoRoom);
         }
         self.ends[self.columns] = self.used;
         self.columns += 1;
@@ -127,28 +120,25 @@ impl Sparse {
     }
 
     // Where a column begins: behind the columns before it.
-    fn start(&self, column: usize) -> usize {
+    fn start(&self, column: usize) -> Result<usize, Stop> {
         if column == 0 {
-            return 0;
+            return Ok(0);
         }
-        match self.ends.get(column - 1) {
-            Some(end) => *end,
-            None => 0,
-        }
+        read(self.ends.as_slice(), column - 1)
     }
 
-    /// The entries of a column, counted from 0; none where there is no such column, or it has more than the most entries.
-    pub(crate) fn column(&self, column: usize) -> &[Entry]
-        ensures few { length result.now ≤ MOST_ENTRIES }
+    /// The entries of a column, counted from 0. It stops where there is no such column, or it has more than the most entries.
+    pub(crate) fn column(&self, column: usize) -> Result<&[Entry], Stop>
+        ensures few { IfOk result (λ entries. length entries.now ≤ MOST_ENTRIES) }
     {
         if column >= self.columns {
-            return &[];
+            return Err(Stop::WrongPlace);
         }
-        let start = self.start(column);
-        let end = self.start(column + 1);
+        let start = self.start(column)?;
+        let end = self.start(column + 1)?;
         if end < start || MOST_ENTRIES < end - start || self.entries.len() < end {
-            return &[];
+            return Err(Stop::WrongPlace);
         }
-        &self.entries.as_slice()[start..end]
+        Ok(&self.entries.as_slice()[start..end])
     }
 }
