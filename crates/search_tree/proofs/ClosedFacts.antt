@@ -76,7 +76,7 @@ strong-leaf case claim ranges own priced borne strong =
     let at : not (is_closed_leaf case claim ranges own.priced.leaf) ≡ false = subst (λ (how : Closing). is_weak case claim (end_by case.book.needs own.priced.leaf how, ranges) ≡ false) borne strong in
     let closed : not (bears_out own.priced.bound claim) ≡ false =
     ap (λ (b : ℤ). not (bears_out b claim)) priced.bound
-    ∙ sym (ap (λ (w : Bool). not (if w then bears_out (bound_of (case.limit - 1) case.book ranges own.priced.leaf) claim else int_lt (pos 0) (bound_of (case.limit - 1) case.book ranges own.priced.leaf))) priced.improved.rho)
+    ∙ sym (ap (λ (w : ℕ). not (if w == 0 then int_lt (pos 0) (bound_of (case.limit - 1) case.book ranges own.priced.leaf) else bears_out_by w (bound_of (case.limit - 1) case.book ranges own.priced.leaf) claim)) priced.improved.cost)
     ∙ at in
     from-not (bears_out own.priced.bound claim) closed
   where

@@ -15,7 +15,7 @@ use Rattle.node_ranges.proofs.RangeLaws.{root_is_tight, sides_are_tight}
 use Rattle.dual_bound.proofs.Soundness.{all-lines}
 use Rattle.dual_bound.specs.LeafBound.{bound_of}
 use Rattle.node_ranges.specs.Ranges.{AreTight, is_proper, root_of}
-use Rattle.node_ranges.specs.Claims.{Claim, IsProper, bears_out, is_bad_split, placed_nodes}
+use Rattle.node_ranges.specs.Claims.{Claim, IsProper, bears_out, bears_out_by, is_bad_split, placed_nodes}
 use Rattle.proof_tree.specs.Tree.{AreTrees, IsNode}
 use Rattle.proof_tree.specs.declared.interval.Interval.{Interval}
 use Rattle.proof_tree.specs.declared.tree.Leaf.{Leaf}
@@ -151,7 +151,7 @@ weak-by case claim ranges own priced opened borne unreached infeasible point = b
   where
     at : bears_out own.priced.bound claim ≡ true → not (is_closed_leaf case claim ranges own.priced.leaf) ≡ false
     at is =
-        ap (λ (w : Bool). not (if w then bears_out (bound_of (case.limit - 1) case.book ranges own.priced.leaf) claim else int_lt (pos 0) (bound_of (case.limit - 1) case.book ranges own.priced.leaf))) priced.improved.rho
+        ap (λ (w : ℕ). not (if w == 0 then int_lt (pos 0) (bound_of (case.limit - 1) case.book ranges own.priced.leaf) else bears_out_by w (bound_of (case.limit - 1) case.book ranges own.priced.leaf) claim)) priced.improved.cost
         ∙ ap (λ (b : ℤ). not (bears_out b claim)) (sym priced.bound) ∙ ap not is
 
     by : (how : Closing) → own.closing ≡ how → is_weak case claim (end_by case.book.needs own.priced.leaf how, ranges) ≡ false
