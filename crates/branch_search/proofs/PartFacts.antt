@@ -14,6 +14,7 @@ use Rattle.dual_bound.specs.LeafBound.{bound_of}
 use Rattle.node_ranges.proofs.RangeFacts.{narrowed-set, tight-length}
 use Rattle.node_ranges.specs.Ranges.{AreTight, is_single, narrowed, side_of}
 use Rattle.node_ranges.specs.Claims.{costs_enough, low_ends}
+use Rattle.proof_tree.specs.declared.prices.TheConstants.{PRICE_SCALE}
 use Rattle.proof_tree.specs.Tree.{IsLeaf}
 use Rattle.proof_tree.specs.declared.interval.Interval.{Interval}
 use Rattle.proof_tree.specs.declared.tree.Leaf.{Leaf}

@@ -4,6 +4,7 @@ use Rattle.std.specs.List.{count_by}
 use Rattle.case_file.specs.Case.{CaseContents}
 use Rattle.dual_bound.specs.LeafBound.{bound_of}
 use Rattle.node_ranges.specs.Ranges.{narrowed, root_of}
+use Rattle.proof_tree.specs.declared.prices.TheConstants.{PRICE_SCALE}
 use Rattle.proof_tree.specs.declared.interval.Interval.{Interval}
 use Rattle.proof_tree.specs.declared.tree.Leaf.{Leaf}
 use Rattle.node_pool.specs.Pool.{PoolContents, is_waiting}

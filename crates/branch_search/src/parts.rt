@@ -24,7 +24,7 @@ use node_ranges::Ranges;
 use offer_book::Book;
 use plan_finder::{Finder, YieldLimit};
 use price_lp::Basis;
-use proof_tree::Leaf;
+use proof_tree::{Leaf, PRICE_SCALE};
 use search_tree::{Closing, Priced};
 use std::alloc::Global;
 use std::marker::Model;
