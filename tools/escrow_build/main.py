@@ -21,6 +21,7 @@ from .schedule import jobs_for_machine
 from .sources import LIST, read_sources
 from .stamps import PROVED, TRIAL
 from .trial import build_trial
+from .trying import try_crates
 from .version import read_version
 
 ROOT = Path(__file__).resolve().parents[2]
@@ -67,7 +68,9 @@ def _trial(_chosen) -> None:
 
 def _prove(chosen) -> None:
     jobs = chosen.jobs or jobs_for_machine()
-    if chosen.crate:
+    if chosen.tests:
+        try_crates(find_kit(), ROOT, chosen.crate, jobs, read_sources(ROOT))
+    elif chosen.crate:
         prove_crates(find_kit(), ROOT, chosen.crate, jobs, read_sources(ROOT))
     else:
         prove_program(find_kit(), ROOT, place() / PROVED, jobs, _further())
@@ -102,6 +105,8 @@ def _words() -> argparse.ArgumentParser:
     prove.add_argument("--jobs", type=_number_of_jobs, metavar="N", help=jobs)
     part = "prove this crate and what it stands on alone, and build nothing; once for each"
     prove.add_argument("--crate", metavar="NAME", action="append", default=[], help=part)
+    tests = "prove and run the tests too, try the edits that must fail, and run the programs, of all crates or of those named"
+    prove.add_argument("--tests", action="store_true", help=tests)
     packs = kinds.add_parser("package", prog="./escrow package", description=PACKAGE, **how)
     packs.add_argument("folder", metavar="DIR", type=Path, help="the folder for the archive")
     kinds.add_parser("gate-begins", help="note the sources before the gate begins")

@@ -1,7 +1,8 @@
 """Proves one crate by the functions of the kit's own `rt`, as `rt ci` does, over libraries that are proved already: a process of its own.
 
 On standard input it takes, as JSON: the kit's folder, the repository's, the crate's name, how many processors it may use, where the
-libraries below it lie by their names, and where to put its own library or program. The status is 0 where it is proved and built."""
+libraries below it lie by their names, and where to put its own library or program. The status is 0 where it is proved and built. With
+a `part` it does that part of what the gate does of the crate, in the crate's folder `out`, and the status is 0 where it passed."""
 
 from __future__ import annotations
 
@@ -64,6 +65,33 @@ def prove_program(rt, crate, made: str, jobs: int) -> int:
         return status or crate.compile_by("llvm", words, os.path.relpath(made, crate.folder))
 
 
+def prove_tests(rt, crate, jobs: int) -> int:
+    """Proves the tests, and runs them."""
+    return crate.ci(["--jobs", str(jobs)], True) or int(not rt.run(crate, True))
+
+
+def run_program(rt, crate, jobs: int) -> int:
+    """Proves a program, and runs what each of the two compilers makes of it."""
+    programs = {ending: os.path.join(crate.folder, "out", crate.name + ending) for ending in rt.BACKENDS.values()}
+    for program in filter(os.path.exists, programs.values()):
+        os.remove(program)
+    status = crate.ci(["--jobs", str(jobs)], False)
+    built = [ending for ending, program in programs.items() if os.path.isfile(program)]
+    return status or int(not built or not all(rt.run(crate, False, ending) for ending in built))
+
+
+def try_edits(rt, crate, jobs: int) -> int:
+    """Tries the edits that the prover must refuse."""
+    good, bad = rt.edits_of(crate)
+    tried = rt.must_fail_all(crate, good, ["--jobs", str(jobs)])
+    for line in [text for _, text in tried] + ["%s isn't an edit" % edit for edit in bad]:
+        print(line, flush=True)
+    return int(bool(bad) or not all(refused for refused, _ in tried))
+
+
+_PARTS = {"program": run_program, "tests": prove_tests, "edits": try_edits}
+
+
 def prove(asked: dict) -> int:
     rt = load_rt(asked["kit"])
     set_up(rt, asked["root"])
@@ -73,6 +101,11 @@ def prove(asked: dict) -> int:
     for each in crate.below():
         each.rlib = asked["libraries"][each.name]
     stop_on_text(rt, crate)
+    if asked.get("part") and rt.rtlib.fmt(folder, "--check", sys.stdout):
+        rt.stop("run rt fmt in the crate's folder")
+    if asked.get("part") in _PARTS:
+        os.makedirs("out", exist_ok=True)
+        return _PARTS[asked["part"]](rt, crate, asked["jobs"])
     status = _prove_with(rt, crate, asked["made"], asked["jobs"])
     if status == -signal.SIGKILL:
         print("the check was killed, most likely for memory: once more", flush=True)

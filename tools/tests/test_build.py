@@ -376,6 +376,35 @@ class ProveTest(BuildTest):
             self.assertNotEqual(ran.status, 0)
             self.assertIn(said, ran.err)
 
+    def parts_done(self, last: str, status: int = 0) -> list:
+        """What was done by `prove --tests`, which ends by saying so."""
+        count = self.it.kit / "count"
+        count.unlink(missing_ok=True)
+        ran = self.it.run("prove", "--tests")
+        self.assertEqual(ran.status, status, ran.err)
+        self.assertIn(last, ran.err)
+        return sorted(count.read_text().splitlines()) if count.exists() else []
+
+    def test_parts_of_the_gate(self) -> None:
+        """Each part of the gate's work is done once, and again where what it rests on is another; what fails is told, and done again."""
+        self.it.write_source("low", "lib.rt", "#[test]\n")
+        edit = self.it.root / "crates" / "high" / "must-fail" / "one.edit"
+        edit.parent.mkdir()
+        edit.write_text("refused\n")
+        program = ["program escrow_cli", "run escrow_cli"]
+        whole = ["edits high", program[0], "prove high", "prove low", program[1], "run low", "tests low"]
+        self.assertEqual(self.parts_done("5 passed, 0 failed"), whole)
+        self.assertEqual(self.parts_done("5 passed, 0 failed"), [])
+        edit.write_text("another\n")
+        self.assertEqual(self.parts_done("these failed: high: edits", 125), ["edits high"])
+        self.assertEqual(self.parts_done("4 passed, 1 failed", 125), ["edits high"])
+        edit.write_text("refused\n")
+        self.it.answer_with("fails")
+        self.assertEqual(self.parts_done("these failed: escrow_cli: program", 125), program)
+        self.it.write_source("high", "lib.rt", "wrong\n")
+        self.assertEqual(self.parts_done("2 passed, 3 failed", 125), ["prove high"])
+        self.assertFalse(self.it.proved.exists())
+
     def gate(self, hook: str = "", last: str = "12 passed, 0 failed") -> Ran:
         """The gate's part around `rt ci`, which here leaves the program of the sources."""
         (self.folder / "said").write_text("something\n%s\n" % last)
