@@ -1,6 +1,7 @@
 //! Programs with ranges that are drawn.
-ghost use Rattle.std.specs.Prelude.{◌≡◌, ◌≤◌, length};
+ghost use Rattle.std.specs.Prelude.{◌≡◌, ◌≤◌};
 ghost use Rattle.fixed_powers.specs.DiscountPowers.{PowerTable};
+ghost use Rattle.proof_tree.specs.Tree.{IsLeaf};
 
 use crate::roots::{powers_of, starved};
 use escrow_units::{GREATEST_YIELD, YieldUnits};
@@ -161,9 +162,9 @@ fn solve(simplex: &mut Simplex, start: Start, leaf: &Leaf, tally: Tally) -> Tall
 
 // Solves a program from where it stands, from its own leaf or from nothing.
 fn try_one(draws: &mut Pcg32, simplex: &mut Simplex, leaf: &mut Leaf, tally: Tally) -> Tally
-    requires { length leaf.old.prices ≡ simplex.old.dates }
+    requires { IsLeaf simplex.old.dates leaf.old }
     ensures simplex { simplex.new ≡ simplex.old }
-    ensures leaf { length leaf.new.prices ≡ simplex.new.dates }
+    ensures leaf { IsLeaf simplex.new.dates leaf.new }
 {
     simplex.propose(leaf);
     let start = drawn_start(draws);
@@ -172,7 +173,7 @@ fn try_one(draws: &mut Pcg32, simplex: &mut Simplex, leaf: &mut Leaf, tally: Tal
 
 // Solves so many programs of a book, with ranges that are drawn.
 fn solve_all(book: &Book, simplex: &mut Simplex, leaf: &mut Leaf, programs: u32) -> Tally
-    requires { length leaf.old.prices ≡ simplex.old.dates }
+    requires { IsLeaf simplex.old.dates leaf.old }
 {
     let mut draws = Pcg32::seed_from_u64(1);
     let mut tally = Tally::new();
