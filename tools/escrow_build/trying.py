@@ -17,6 +17,7 @@ from .crates import Crates, read_crates
 from .kit import Kit
 from .locking import held
 from .proofs import KEPT_DAYS, Proofs
+from .proving import stop_where_crate_touched
 from .running import end
 from .saying import Stop, tell, time_text
 from .schedule import chains, expected
@@ -56,6 +57,7 @@ class Work:
     """The parts of some crates: what passed, what failed, and what is left."""
 
     proofs: Proofs
+    before: Sources
     named: List[str]
     jobs: int
     passed: set = field(default_factory=set)
@@ -133,7 +135,7 @@ class Work:
         with open(self.log(part), "wb") as log:
             how = {"stdin": subprocess.PIPE, "stdout": log, "stderr": subprocess.STDOUT, "start_new_session": True}
             process = subprocess.Popen([sys.executable, "-B", str(_PROVER)], **how)
-        self.running[part] = (process, time.monotonic())
+        self.running[part] = (process, time.monotonic(), self.mark(part))
         process.stdin.write(json.dumps(asked).encode())
         process.stdin.close()
 
@@ -141,8 +143,12 @@ class Work:
         return self.folder / ("%s-%s.log" % (part.crate, part.kind))
 
     def finish(self, part: Part) -> None:
-        process, start = self.running.pop(part)
+        """Takes what a part came to, or stops where a file of its crate was touched while it was done: then nothing is kept of it."""
+        process, start, mark = self.running.pop(part)
         end(process)
+        stop_where_crate_touched(self.crates.root, part.crate, self.before)
+        if mark != self.mark(part):
+            raise Stop("the crate %s was changed while it was tried; run the same command again" % part.crate)
         if process.returncode != 0:
             self.failed.add(part)
             return
@@ -152,10 +158,10 @@ class Work:
             self.took[part.crate] = time.monotonic() - start
             keep_times(self.took)
         else:
-            write_whole(self.mark(part), b"")
+            write_whole(mark, b"")
 
     def end_all(self) -> None:
-        for part, (process, _start) in self.running.items():
+        for part, (process, _start, _mark) in self.running.items():
             end(process)
             if part.kind == LIBRARY:
                 self.proofs.throw_away(part.crate)
@@ -188,7 +194,7 @@ def _do_all(work: Work, left: List[Part]) -> None:
                 work.begin(part)
                 continue
             time.sleep(0.1)
-            for part in [part for part, (process, _start) in work.running.items() if process.poll() is not None]:
+            for part in [part for part, (process, _start, _mark) in work.running.items() if process.poll() is not None]:
                 work.finish(part)
                 well = "passed" if part in work.passed else "FAILED; %s has what was said" % work.log(part)
                 tell("%s %s; %d parts are left" % (part, well, len(left) + len(work.running)))
@@ -202,7 +208,7 @@ def try_crates(kit: Kit, root: Path, named: List[str], jobs: int, before: Source
     named = named or list(crates.direct)
     proofs = Proofs(crates, crates.order(*named), kit, cache_folder() / "proofs")
     with held(proofs.folder, "proving crates"):
-        work, start = Work(proofs, named, jobs), time.monotonic()
+        work, start = Work(proofs, before, named, jobs), time.monotonic()
         work.folder.mkdir(parents=True, exist_ok=True)
         work.take_kept()
         left = _in_order(work, [part for part in work.parts() if part not in work.passed])

@@ -405,6 +405,20 @@ class ProveTest(BuildTest):
         self.assertEqual(self.parts_done("2 passed, 3 failed", 125), ["prove high"])
         self.assertFalse(self.it.proved.exists())
 
+    def test_part_edited_in_between(self) -> None:
+        """A source or an edit of a crate is changed, or put back, while a part of the crate is done: nothing of that part is kept."""
+        source = self.it.root / "crates" / "low" / "src" / "lib.rt"
+        edit = self.it.root / "crates" / "low" / "must-fail" / "one.edit"
+        edit.parent.mkdir()
+        edit.write_text("refused\n")
+        self.it.hook("[[ $1 != 'prove low' ]] || { cp '%s' kept; echo x >>'%s'; cat kept >'%s'; }" % (source, source, source))
+        self.assertEqual(self.parts_done("changed while", 125), ["prove low"])
+        self.it.hook("[[ $1 != 'edits low' ]] || echo x >>'%s'" % edit)
+        self.assertIn("edits low", self.parts_done("changed while", 125))
+        self.it.no_hook()
+        self.assertIn("edits low", self.parts_done("4 passed, 0 failed"))
+        self.assertEqual(self.parts_done("4 passed, 0 failed"), [])
+
     def gate(self, hook: str = "", last: str = "12 passed, 0 failed") -> Ran:
         """The gate's part around `rt ci`, which here leaves the program of the sources."""
         (self.folder / "said").write_text("something\n%s\n" % last)
