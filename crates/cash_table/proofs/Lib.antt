@@ -13,3 +13,4 @@ pub mod BalanceLaws
 pub mod LaterFacts
 pub mod PointFacts
 pub mod StandingFacts
+pub mod ScheduledFacts

@@ -15,3 +15,4 @@ pub mod LaterFlows
 pub mod Points
 pub mod Reach
 pub mod Receipts
+pub mod Schedules

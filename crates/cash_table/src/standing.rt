@@ -7,11 +7,13 @@ ghost use Rattle.offer_book.specs.Portfolio.{IsPermitted, payments, security_flo
 ghost use Rattle.cash_table.specs.First.{first_short_of};
 ghost use Rattle.cash_table.specs.Points.{plan_yield as plan_yield_of};
 ghost use Rattle.cash_table.specs.Receipts.{AreReceipts};
+ghost use Rattle.cash_table.specs.Schedules.{schedules_of};
 
 use crate::cash::{add_receipts, first_uncovered, line_receipts};
 use crate::costs::security_cost;
 use crate::plan::Plan;
-use crate::security_flows::flows;
+use crate::schedules::Schedules;
+use crate::security_flows::scheduled;
 use escrow_desk::NoMemory;
 use escrow_units::{Day, Flow};
 use offer_book::Book;
@@ -28,17 +30,23 @@ pub struct Standing {
 }
 
 /// How a permitted portfolio stands: as [`first_short`](crate::first_short) and [`plan_yield`](crate::plan_yield) have it, but
-/// what its securities pay is looked up once for both.
+/// what its securities pay is looked up once for both, by the schedules of the book's lines.
 ///
 /// # Errors
 ///
 /// Where memory ran out.
-pub fn plan_standing(alloc: Global, book: &Book, plan: &Plan) -> Result<Standing, NoMemory>
-    requires { IsPermitted book.now plan.now }
+pub fn plan_standing(
+    alloc: Global,
+    book: &Book,
+    schedules: &Schedules,
+    plan: &Plan,
+) -> Result<Standing, NoMemory>
+    requires permitted { IsPermitted book.now plan.now }
+    requires schedules { schedules.now ≡ schedules_of book.now }
     ensures short { IfOk result (λ standing. standing.short ≡ first_short_of book.now plan.now) }
     ensures answer { IfOk result (λ standing. standing.answer ≡ plan_yield_of book.now plan.now) }
 {
-    let flows = flows(alloc, book, plan)?;
+    let flows = scheduled(alloc, book, schedules, plan)?;
     let cost = security_cost(book, plan);
     let answer = interval(alloc, book.settle(), flows.as_slice(), cost)?;
     Ok(Standing {

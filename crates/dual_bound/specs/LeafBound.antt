@@ -14,6 +14,7 @@ use Rattle.offer_book.specs.declared.coefficients.TheConstants.{COEFFICIENT_SCAL
 use Rattle.offer_book.specs.declared.line.Line.{Line}
 use Rattle.offer_book.specs.declared.line.LineKind.{LineKind}
 use Rattle.offer_book.specs.declared.line.LineKind.TheVariants.{Cash, Market, Security}
+use Rattle.node_ranges.specs.Claims.{least_cost}
 use Rattle.proof_tree.specs.declared.prices.TheConstants.{PRICE_SCALE}
 use Rattle.dual_bound.specs.declared.form.Form.{Form}
 use Rattle.proof_tree.specs.declared.interval.Interval.{Interval}
@@ -93,3 +94,7 @@ unfoldable pub bound_of : ℕ → BookContents → List Interval → Leaf → �
 bound_of n book ranges leaf =
     pos (COEFFICIENT_SCALE * priced_needs book.needs leaf.prices)
     +ℤ signed_sum (λ p. least_within n book leaf p.0 p.1) (zip book.lines ranges)
+
+-- what a leaf shows over ranges, at the yield n, that a rival costs at least, in units of 1 / COEFFICIENT_SCALE of a cent
+abbrev pub least_cost_of : ℕ → BookContents → List Interval → Leaf → ℤ
+least_cost_of n book ranges leaf = least_cost leaf.rho (bound_of n book ranges leaf)

@@ -11,6 +11,7 @@ ghost use Rattle.payment_schedule.specs.Schedule.{IsShort, flow_by};
 ghost use Rattle.offer_book.specs.Schedule.{kind_accrued, kind_rate, schedule_of};
 ghost use Rattle.slgs_interest.specs.Payments.{slgs_schedule};
 ghost use Rattle.dual_bound.specs.Columns.{Extends, HasHead, IsColumn, IsDayTable, IsLightWorth, IsSmallColumn, IsSmallOther, IsSmallPay, KeepsHead, column_form, column_paid, column_reduced, form_plus, is_other, is_principal, is_regular as is_regular_of, other_by, other_forms, others_paid as others_paid_of, paying as paying_of, regular_form as regular_form_of, regular_on, signed_worth, worth_at, worth_together};
+ghost use Rattle.cash_table.specs.Schedules.{kept_of};
 ghost use Rattle.dual_bound.specs.declared.worth.Worth.{Worth as WorthOf};
 
 use crate::day_table::DayTable;
@@ -125,20 +126,6 @@ fn principal_of(line: &Line, days: &Days) -> ArrayVec<ScheduledPayment, 84>
     match line.kind {
         LineKind::Security(slgs) if slgs.first != slgs.maturity => late_principal(&slgs, days),
         _ => principal_alone(line.schedule(days).as_slice()),
-    }
-}
-
-// The payments of a line that pay anything: where there is no interest, the principal alone.
-fn paying(line: &Line, days: &Days) -> ArrayVec<ScheduledPayment, 84>
-    requires settlement { IsSettlement days.now.settle }
-    requires line { IsLine days.now line.now }
-    ensures value { result.items ≡ paying_of days.now line.now }
-    ensures short { All (λ payment. IsShort payment.accrual) result.items }
-{
-    if line.rate().0 == 0 {
-        principal_of(line, days)
-    } else {
-        line.schedule(days)
     }
 }
 
@@ -258,7 +245,40 @@ impl Column {
         }
     }
 
-    /// The column of a line of a book, whose days are put into a table.
+    // Puts the payments of a line that pay anything, whose days are put into a table.
+    fn put_all(
+        &mut self,
+        book: &Book,
+        powers: &Powers,
+        table: &mut DayTable,
+        line: &Line,
+        payments: &[ScheduledPayment],
+    ) -> Result<(), NoMemory>
+        requires limits { IsBook book.now }
+        requires powers { IsLowTable powers.now }
+        requires line { IsLine book.now.days line.now }
+        requires room { length table.old.days.items + 84 ≤ 65_535 }
+        requires table { IsDayTable powers.now.yield_units book.now table.old }
+        requires payments { payments.now ≡ paying_of book.now.days line.now }
+        requires few { length payments.now ≤ 84 }
+        requires short { All (λ payment. IsShort payment.accrual) payments.now }
+        requires head { HasHead book.now.days.settle line.now self.old }
+        requires places { self.old.places.items ≡ [] }
+        requires others { self.old.others.items ≡ [] }
+        ensures table { OnOk result (IsDayTable powers.now.yield_units book.now table.new) }
+        ensures extends { OnOk result (Extends table.old.days.items table.new.days.items) }
+        ensures more { OnOk result (length table.new.days.items ≤ length table.old.days.items + 84) }
+        ensures column { OnOk result (IsColumn powers.now.yield_units book.now table.new.days.items line.now self.new) }
+        ensures small { OnOk result (IsSmallColumn self.new) }
+    {
+        for payment in payments {
+            let place = table.place(book, powers, line.kind, payment)?;
+            self.put(line, payment, place)?;
+        }
+        Ok(())
+    }
+
+    /// The column of a line of a book, by the payments that are kept of it. Its days are put into a table.
     ///
     /// # Errors
     ///
@@ -269,10 +289,12 @@ impl Column {
         powers: &Powers,
         table: &mut DayTable,
         line: &Line,
+        kept: &[ScheduledPayment],
     ) -> Result<Column, NoMemory>
         requires limits { IsBook book.now }
         requires powers { IsLowTable powers.now }
         requires line { IsLine book.now.days line.now }
+        requires kept { kept.now ≡ kept_of book.now.days line.now }
         requires few { length table.old.days.items + 84 ≤ 65_535 }
         requires table { IsDayTable powers.now.yield_units book.now table.old }
         ensures table { OnOk result (IsDayTable powers.now.yield_units book.now table.new) }
@@ -282,11 +304,12 @@ impl Column {
         ensures small { IfOk result IsSmallColumn }
     {
         let mut column = Column::without_payments(alloc, book.payment_days(), line)?;
-        let payments = paying(line, book.payment_days());
-        for payment in payments.as_slice() {
-            let place = table.place(book, powers, line.kind, payment)?;
-            column.put(line, payment, place)?;
+        if line.rate().0 == 0 {
+            let principal = principal_of(line, book.payment_days());
+            column.put_all(book, powers, table, line, principal.as_slice())?;
+            return Ok(column);
         }
+        column.put_all(book, powers, table, line, kept)?;
         Ok(column)
     }
 

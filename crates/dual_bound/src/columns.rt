@@ -2,7 +2,10 @@
 ghost use Rattle.std.specs.Prelude.{◌≡◌, ◌*◌, ◌^◌, ◌<◌, ◌≤◌, ℕ, IfOk, length, slice_index_or, slice_set, unsigned_abs};
 ghost use Rattle.std.specs.List.{AllZip};
 ghost use Rattle.fixed_powers.specs.DiscountPowers.{IsLowTable, PowerTable};
+ghost use Rattle.offer_book.specs.Portfolio.{IsPermitted};
 ghost use Rattle.offer_book.specs.declared.line.Line.{Line};
+ghost use Rattle.cash_table.specs.First.{first_short_of};
+ghost use Rattle.cash_table.specs.Points.{plan_yield as plan_yield_of};
 ghost use Rattle.dual_bound.specs.LeafBound.{bound_of, form_of, least_within};
 ghost use Rattle.node_ranges.specs.Ranges.{HasRoomFor};
 ghost use Rattle.proof_tree.specs.Tree.{IsLeaf, with_price};
@@ -12,6 +15,7 @@ use crate::form::Form;
 use crate::leasts::Leasts;
 use crate::rooms::Rooms;
 use crate::tableau::Tableau;
+use cash_table::{Plan, Schedules, Standing, plan_standing};
 use escrow_desk::NoMemory;
 use fixed_powers::Powers;
 use node_ranges::Ranges;
@@ -28,6 +32,7 @@ use std::marker::Model;
 #[derive(Drop)]
 pub struct Columns<'a> {
     book: &'a Book,
+    schedules: Schedules,
     tableau: Tableau,
     leasts: Leasts,
     rooms: Rooms,
@@ -35,6 +40,8 @@ pub struct Columns<'a> {
 }
 
 impl<'a> Model for Columns<'a> {
+    ghost use Rattle.std.specs.Prelude.{◌≡◌};
+    ghost use Rattle.cash_table.specs.Schedules.{schedules_of};
     ghost use Rattle.dual_bound.specs.Columns.{ColumnsContents};
     ghost use Rattle.dual_bound.specs.Rooms.{AreColumns};
 
@@ -42,7 +49,7 @@ impl<'a> Model for Columns<'a> {
 
     ghost view = { λ c. record { book = c.book.now; yield_units = c.tableau.yield_units.0; leaf = c.tableau.priced.leaf } };
 
-    ghost invariant = { λ c. AreColumns c.book.now c.tableau c.leasts c.rooms c.changed };
+    ghost invariant = { λ c. AreColumns c.book.now c.tableau c.leasts c.rooms c.changed × (c.schedules ≡ schedules_of c.book.now) };
 }
 
 impl<'a> Columns<'a> {
@@ -57,15 +64,30 @@ impl<'a> Columns<'a> {
         ensures book { IfOk result (λ columns. columns.book ≡ book.now) }
         ensures yield_units { IfOk result (λ columns. columns.yield_units ≡ powers.now.yield_units) }
     {
-        let tableau = Tableau::make(alloc, book, powers)?;
+        let schedules = Schedules::make(alloc, book)?;
+        let tableau = Tableau::make(alloc, book, powers, &schedules)?;
         let leasts = Leasts::make(alloc, book, &tableau)?;
         Ok(Columns {
             book,
+            schedules,
             tableau,
             leasts,
             rooms: Rooms::none(alloc),
             changed: ChangedDates::make(alloc, book.need_count())?,
         })
+    }
+
+    /// How a permitted portfolio of the book stands: its payments come from the schedules of which the columns were made.
+    ///
+    /// # Errors
+    ///
+    /// Where memory ran out.
+    pub fn standing(&self, alloc: Global, plan: &Plan) -> Result<Standing, NoMemory>
+        requires { IsPermitted self.now.book plan.now }
+        ensures short { IfOk result (λ standing. standing.short ≡ first_short_of self.now.book plan.now) }
+        ensures answer { IfOk result (λ standing. standing.answer ≡ plan_yield_of self.now.book plan.now) }
+    {
+        plan_standing(alloc, self.book, &self.schedules, plan)
     }
 
     /// Prices the columns at a leaf that keeps its limits, with one price for each need date: each payment day once. Where the

@@ -5,6 +5,7 @@ ghost use Rattle.fixed_powers.specs.DiscountPowers.{IsLowTable, PowerTable, one}
 ghost use Rattle.offer_book.specs.Book.{IsBook};
 ghost use Rattle.offer_book.specs.declared.line.Line.{Line};
 ghost use Rattle.escrow_units.specs.Flows.{total};
+ghost use Rattle.cash_table.specs.Schedules.{schedules_of};
 ghost use Rattle.dual_bound.specs.Changes.{AreChangedDates};
 ghost use Rattle.dual_bound.specs.Columns.{AreSums, IsColumn, IsDayTable, IsLightWorth, IsSmallColumn, IsStopWithin, IsTableau, worth_on, worth_together};
 ghost use Rattle.dual_bound.specs.declared.column.Column.{Column as ColumnOf};
@@ -20,6 +21,7 @@ use crate::leaf_bound::{cost_worth, priced_needs};
 use crate::series::{Run, Series, Stop};
 use crate::sums::{mend_at, mend_dates, sum_of, sum_up};
 use crate::worth::{PricedDay, Worth, price_day, price_days, price_days_at};
+use cash_table::Schedules;
 use escrow_desk::NoMemory;
 use escrow_units::{AMOUNT_LIMIT, Cents, Flow, YieldUnits};
 use fixed_powers::Powers;
@@ -63,10 +65,12 @@ fn columns_of(
     alloc: Global,
     book: &Book,
     powers: &Powers,
+    schedules: &Schedules,
     table: &mut DayTable,
 ) -> Result<Vec<Column>, NoMemory>
     requires limits { IsBook book.now }
     requires powers { IsLowTable powers.now }
+    requires schedules { schedules.now ≡ schedules_of book.now }
     requires empty { length table.old.days.items ≡ 0 }
     requires table { IsDayTable powers.now.yield_units book.now table.old }
     ensures table { OnOk result (IsDayTable powers.now.yield_units book.now table.new) }
@@ -75,7 +79,8 @@ fn columns_of(
 {
     let mut columns = Vec::with_capacity(alloc, book.lines().len())?;
     for line in book.lines() {
-        columns.push(Column::make(alloc, book, powers, table, line)?)?;
+        let kept = schedules.line(columns.len());
+        columns.push(Column::make(alloc, book, powers, table, line, kept)?)?;
     }
     Ok(columns)
 }
@@ -169,19 +174,25 @@ impl Priced {
 }
 
 impl Tableau {
-    /// The tableau of a book, by the powers of a yield, priced at a leaf at which nothing has a weight.
+    /// The tableau of a book, by the powers of a yield and the schedules of its lines, priced at a leaf at which nothing has a weight.
     ///
     /// # Errors
     ///
     /// Where memory ran out.
-    pub(crate) fn make(alloc: Global, book: &Book, powers: &Powers) -> Result<Tableau, NoMemory>
+    pub(crate) fn make(
+        alloc: Global,
+        book: &Book,
+        powers: &Powers,
+        schedules: &Schedules,
+    ) -> Result<Tableau, NoMemory>
         requires powers { IsLowTable powers.now }
+        requires schedules { schedules.now ≡ schedules_of book.now }
         ensures tableau { IfOk result (IsTableau book.now) }
         ensures yield_units { IfOk result (λ tableau. tableau.yield_units.0 ≡ powers.now.yield_units) }
     {
         let leaf = Leaf::of_zeros(alloc, false, book.need_count())?;
         let mut table = DayTable::with_room(alloc, 84 * book.lines().len())?;
-        let columns = columns_of(alloc, book, powers, &mut table)?;
+        let columns = columns_of(alloc, book, powers, schedules, &mut table)?;
         let date_days = days_by_date(alloc, book.need_count(), table.days.as_slice())?;
         let worths = worths_of(alloc, &leaf, table.days.as_slice())?;
         let series = Series::make(

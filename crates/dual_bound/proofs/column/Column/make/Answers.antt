@@ -1,52 +1,56 @@
-use Rattle.std.proofs.Common.{◌≡◌, ◌∙◌, ◌≤ℤ◌, ap, subst, arith}
-use Rattle.std.proofs.lemmas.Int.{ints}
-use Rattle.std.proofs.lemmas.List.Elements.{All-same}
-use Rattle.escrow_units.specs.Calendar.{years_after_of}
+use Rattle.std.proofs.Common.{◌≡◌, ◌∙◌, ◌==◌, All, true, false, ap, subst, sym, arith}
+use Rattle.std.proofs.lemmas.Bool.Decides.{nat_tests}
+use Rattle.std.proofs.lemmas.List.Elements.{All-filter}
+use Rattle.std.specs.List.{filter}
+use Rattle.payment_schedule.specs.Schedule.{IsShort}
 use Rattle.payment_schedule.specs.declared.schedule.ScheduledPayment.{ScheduledPayment}
-use Rattle.dual_bound.specs.Columns.{HasHead, paying}
-use Rattle.dual_bound.proofs.ColumnMade.{extends-on, keeps-on, made, made-small, one-more, paying-within}
+use Rattle.offer_book.specs.Schedule.{kind_rate, schedule_of}
+use Rattle.offer_book.specs.declared.payment_days.PaymentDays.{PaymentDays}
+use Rattle.offer_book.proofs.ScheduleFacts.{schedule-short}
+use Rattle.cash_table.proofs.ScheduledFacts.{kept-all, kept-few}
+use Rattle.dual_bound.specs.Columns.{HasHead, is_principal, paying}
+use Rattle.dual_bound.proofs.PayingFacts.{all-pay, principal-pays}
 use Rattle.dual_bound.proofs.column.Column.make.Goals as goal
 
-pub place-requires-clause-from : goal.place-requires-clause-from
-place-requires-clause-from c =
-    let is : c.as_slice-payment-items.result.now ≡ paying c.args.book.now.days c.args.line.now =
-    c.as_slice-payment-items.ensures.value ∙ c.paying-payments.ensures.value ∙ ap (λ days. paying days c.args.line.now) c.payment_days-2.ensures in
-    let within = All-same (λ (p : ScheduledPayment). (c.args.book.now.days.settle ≤ℤ p.day) × (p.day ≤ℤ years_after_of c.args.book.now.days.settle 40)) c.as_slice-payment-items.result.now (paying c.args.book.now.days c.args.line.now)
-    is (paying-within c.args.book.now.days c.args.line.now c.requires.limits.settlement c.requires.line)
-    c.loop-payment.payment-index c.payment-item.result c.loop-payment-test.true in
-    omega (arith, ints, ap (λ (p : ScheduledPayment). p.day) c.payment-item.is, within.0)
-
-pub place-requires-clause-to : goal.place-requires-clause-to
-place-requires-clause-to c =
-    let is : c.as_slice-payment-items.result.now ≡ paying c.args.book.now.days c.args.line.now =
-    c.as_slice-payment-items.ensures.value ∙ c.paying-payments.ensures.value ∙ ap (λ days. paying days c.args.line.now) c.payment_days-2.ensures in
-    let within = All-same (λ (p : ScheduledPayment). (c.args.book.now.days.settle ≤ℤ p.day) × (p.day ≤ℤ years_after_of c.args.book.now.days.settle 40)) c.as_slice-payment-items.result.now (paying c.args.book.now.days c.args.line.now)
-    is (paying-within c.args.book.now.days c.args.line.now c.requires.limits.settlement c.requires.line)
-    c.loop-payment.payment-index c.payment-item.result c.loop-payment-test.true in
-    omega (arith, ints, ap (λ (p : ScheduledPayment). p.day) c.payment-item.is, within.1)
-
-pub loop-payment-preserved : goal.loop-payment-preserved
-loop-payment-preserved c = record {
-  table = c.in_ok-place.ensures.table;
-  extends = extends-on c.args.table.now.days.items c.loop-payment.table.days.items c.place.new.self.days.items c.loop-payment.invariant.extends c.in_ok-place.ensures.extends;
-  more = omega (arith, c.loop-payment.invariant.more, c.in_ok-place.ensures.more);
-  head = keeps-on c.in_ok-column.column c.loop-payment.column c.put.new.self c.loop-payment.invariant.head c.in_ok-put.ensures.head;
-  so_far = one-more c.args.powers.now.yield_units c.args.book.now c.loop-payment.table.days.items c.place.new.self.days.items c.args.line.now c.as_slice-payment-items.result.now
-      c.loop-payment.payment-index c.payment-item.result c.in_ok-place.place c.loop-payment.column c.put.new.self c.loop-payment-test.true c.payment-item.is c.in_ok-place.ensures.extends
-      c.loop-payment.invariant.so_far c.in_ok-place.ensures.place c.in_ok-put.ensures.places c.in_ok-put.ensures.others c.in_ok-put.ensures.small;
-}
-
-pub returns : goal.returns
-returns c =
-    let sliced : c.as_slice-payment-items.result.now ≡ paying c.args.book.now.days c.args.line.now =
-    c.as_slice-payment-items.ensures.value ∙ c.paying-payments.ensures.value ∙ ap (λ days. paying days c.args.line.now) c.payment_days-2.ensures in
-    let head = subst (λ z. HasHead z.settle c.args.line.now c.in_ok-column.column) c.payment_days.ensures c.in_ok-column.ensures.head in
+pub put_all-requires : goal.put_all-requires
+put_all-requires c =
+    let days : PaymentDays = c.args.book.now.days in
+    let schedule = schedule_of days c.args.line.now in
+    let none : (kind_rate c.args.line.now.kind == 0) ≡ true = grind (arith, nat_tests) in
+    let principal : c.as_slice.result.now ≡ filter is_principal (schedule_of c.args.book.now.days c.args.line.now) =
+    c.as_slice.ensures.value ∙ c.principal_of-principal.ensures ∙ ap (λ (ds : PaymentDays). filter is_principal (schedule_of ds c.args.line.now)) c.payment_days-then-rate-eq0.ensures in
+    let P : ScheduledPayment → Type 0 = λ payment. IsShort payment.accrual in
     record {
-      table = c.loop-payment.invariant.table;
-      extends = c.loop-payment.invariant.extends;
-      more = omega (arith, c.loop-payment.invariant.more, c.as_slice-payment-items.ensures.fits, c.loop-payment.auto.payment-index-end);
-      column = made c.args.powers.now.yield_units c.args.book.now c.loop-payment.table.days.items c.args.line.now c.as_slice-payment-items.result.now c.loop-payment.payment-index
-          c.in_ok-column.column c.loop-payment.column sliced c.loop-payment-test.false head c.loop-payment.invariant.head c.loop-payment.invariant.so_far;
-      small = made-small c.args.powers.now.yield_units c.args.book.now c.loop-payment.table.days.items c.args.line.now c.as_slice-payment-items.result.now c.loop-payment.payment-index
-          c.in_ok-column.column c.loop-payment.column (omega (arith, c.as_slice-payment-items.ensures.fits, c.loop-payment.auto.payment-index-end)) head c.loop-payment.invariant.head c.loop-payment.invariant.so_far;
+      limits = c.requires.limits;
+      powers = c.requires.powers;
+      line = c.requires.line;
+      room = c.requires.few;
+      table = c.requires.table;
+      payments = principal ∙ sym (principal-pays (kind_rate c.args.line.now.kind) schedule none);
+      few = c.as_slice.ensures.fits;
+      short = subst (All P) (sym principal) (All-filter is_principal P schedule (schedule-short days c.args.line.now c.requires.limits.settlement c.requires.line));
+      head = subst (λ (ds : PaymentDays). HasHead ds.settle c.args.line.now c.in_ok-column.column) c.payment_days.ensures c.in_ok-column.ensures.head;
+      places = c.in_ok-column.ensures.places;
+      others = c.in_ok-column.ensures.others;
+    }
+
+pub put_all-requires-2 : goal.put_all-requires-2
+put_all-requires-2 c =
+    let days : PaymentDays = c.args.book.now.days in
+    let schedule = schedule_of days c.args.line.now in
+    let some : (kind_rate c.args.line.now.kind == 0) ≡ false = grind (arith, nat_tests) in
+    let all : c.args.kept.now ≡ schedule_of c.args.book.now.days c.args.line.now = c.requires.kept ∙ kept-all days c.args.line.now some in
+    let P : ScheduledPayment → Type 0 = λ payment. IsShort payment.accrual in
+    record {
+      limits = c.requires.limits;
+      powers = c.requires.powers;
+      line = c.requires.line;
+      room = c.requires.few;
+      table = c.requires.table;
+      payments = all ∙ sym (all-pay (kind_rate c.args.line.now.kind) schedule some);
+      few = rw c.requires.kept (kept-few days c.args.line.now c.requires.limits.settlement c.requires.line);
+      short = subst (All P) (sym all) (schedule-short days c.args.line.now c.requires.limits.settlement c.requires.line);
+      head = subst (λ (ds : PaymentDays). HasHead ds.settle c.args.line.now c.in_ok-column.column) c.payment_days.ensures c.in_ok-column.ensures.head;
+      places = c.in_ok-column.ensures.places;
+      others = c.in_ok-column.ensures.others;
     }

@@ -16,8 +16,8 @@ returns-clause-slope c =
     omega (
       arith,
       ap (λ (f : Form). unsigned_abs f.slope * units) (c.form.ensures d),
-      form-times c.self.inside.tableau.yield_units.0 book c.self.inside.tableau.priced.leaf line units c.self.invariant.known.of_book.limits.settlement c.self.invariant.known.of_book.leaf
-          (all-lines book.days book.lines c.self.invariant.known.of_book.limits.lines c.args.line d there) most,
+      form-times c.self.inside.tableau.yield_units.0 book c.self.inside.tableau.priced.leaf line units c.self.invariant.0.known.of_book.limits.settlement c.self.invariant.0.known.of_book.leaf
+          (all-lines book.days book.lines c.self.invariant.0.known.of_book.limits.lines c.args.line d there) most,
     )
 
 pub returns-clause-slack : goal.returns-clause-slack
@@ -28,6 +28,6 @@ returns-clause-slack c =
     omega (
       arith,
       ap (λ (f : Form). f.slack) (c.form.ensures some-line),
-      form-slack c.self.inside.tableau.yield_units.0 book c.self.inside.tableau.priced.leaf line c.self.invariant.known.of_book.limits.settlement c.self.invariant.known.of_book.leaf
-          (all-lines book.days book.lines c.self.invariant.known.of_book.limits.lines c.args.line some-line there),
+      form-slack c.self.inside.tableau.yield_units.0 book c.self.inside.tableau.priced.leaf line c.self.invariant.0.known.of_book.limits.settlement c.self.invariant.0.known.of_book.leaf
+          (all-lines book.days book.lines c.self.invariant.0.known.of_book.limits.lines c.args.line some-line there),
     )
