@@ -3,7 +3,6 @@
 from __future__ import annotations
 
 import os
-from dataclasses import replace
 
 from . import program
 from .amounts import money, money_for_people
@@ -96,7 +95,7 @@ def _nothing_found(answer: Answer, names: dict, case: CaseBytes, search: Search,
 
     is_written = answer.status == program.NONE_WITHIN and search.proves_none
     if is_written:
-        outputs.write([(names[CERT], search.folder.certificate.read_bytes())])
+        outputs.write([(names[CERT], search.folder.certificate())])
     fault = _said(answer.said)
     _tell_of_earlier(names[CERT], is_written)
     data = {ISSUE: case.issue, RATES: case.rates, PRICES: case.prices}
@@ -109,7 +108,7 @@ def _nothing_found(answer: Answer, names: dict, case: CaseBytes, search: Search,
 def _try_plan(search: Search, case: CaseBytes) -> Answer:
     """Tries the certificate with the allowance that is going to be said; and the answer with the issue file as it stands."""
     plan = search.best
-    tried = replace(search.case, issue=with_allowance(search.case.issue, money(plan.gap)))
+    tried = search.case._replace(issue=with_allowance(search.case.issue, money(plan.gap)))
     allowed, as_it_stands = search.check(tried, plan), search.check(case, plan)
     if allowed.status != program.DONE or as_it_stands.lines[:1] not in (["yes"], ["no GapAbove"]):
         raise Stop("`%s` doesn't accept what the search wrote; nothing is kept" % search.check_words)

@@ -3,9 +3,8 @@
 from __future__ import annotations
 
 from bisect import bisect_right, insort
-from dataclasses import dataclass, field
 from datetime import date
-from typing import Callable, Optional
+from typing import Callable, NamedTuple, Optional
 
 from . import amounts
 from .amounts import FieldFault
@@ -46,44 +45,42 @@ class Refusal(Exception):
         return self.record.number if self.record else 0
 
 
-@dataclass(frozen=True)
-class Bond:
+class Bond(NamedTuple):
     record: Record
     maturity: date
     principal: int
     coupon: int
 
 
-@dataclass(frozen=True)
-class Call:
+class Call(NamedTuple):
     record: Record
     day: date
     price: int
 
 
-@dataclass(frozen=True)
-class Flow:
+class Flow(NamedTuple):
     record: Record
     day: date
     cents: int
 
 
-@dataclass(frozen=True)
-class Amount:
+class Amount(NamedTuple):
     record: Record
     value: int
 
 
-@dataclass
 class Issue:
-    settlement: date
-    call: Optional[Call] = None
-    bonds: list[Bond] = field(default_factory=list)
-    needs: list[Flow] = field(default_factory=list)
-    pays: list[Flow] = field(default_factory=list)
-    amounts: dict[str, Amount] = field(default_factory=dict)
-    weekends: Optional[Record] = None
-    closed: dict[date, Record] = field(default_factory=dict)
+    """An issue file, as far as it was read."""
+
+    def __init__(self, settlement: date):
+        self.settlement = settlement
+        self.call: Optional[Call] = None
+        self.bonds: list[Bond] = []
+        self.needs: list[Flow] = []
+        self.pays: list[Flow] = []
+        self.amounts: dict[str, Amount] = {}
+        self.weekends: Optional[Record] = None
+        self.closed: dict[date, Record] = {}
 
     def amount(self, word: str, default: Optional[int] = None) -> Optional[int]:
         """What the row of this word says: cents, units of yield, or a count."""
@@ -99,22 +96,19 @@ class Issue:
         return years_after(self.settlement, TERM_YEARS)
 
 
-@dataclass(frozen=True)
-class Terms:
+class Terms(NamedTuple):
     minimum: int
     step: int
 
 
-@dataclass(frozen=True)
-class RateRange:
+class RateRange(NamedTuple):
     record: Record
     first: date
     last: date
     rate: int
 
 
-@dataclass(frozen=True)
-class Offer:
+class Offer(NamedTuple):
     record: Record
     maturity: date
     rate: Optional[int]
@@ -122,8 +116,7 @@ class Offer:
     cap: int
 
 
-@dataclass(frozen=True)
-class Note:
+class Note(NamedTuple):
     record: Record
     maturity: date
     coupon: int
@@ -131,11 +124,13 @@ class Note:
     cap: int
 
 
-@dataclass
 class Rates:
-    terms: Optional[Terms] = None
-    ranges: list[RateRange] = field(default_factory=list)
-    offers: list[Offer] = field(default_factory=list)
+    """A rate file, as far as it was read."""
+
+    def __init__(self, terms: Optional[Terms] = None):
+        self.terms = terms
+        self.ranges: list[RateRange] = []
+        self.offers: list[Offer] = []
 
 
 class RateIndex:
@@ -151,17 +146,19 @@ class RateIndex:
         return found if found is not None and day <= found.last else None
 
 
-@dataclass
 class Prices:
-    terms: Optional[Terms] = None
-    notes: list[Note] = field(default_factory=list)
+    """A price file, as far as it was read."""
+
+    def __init__(self, terms: Optional[Terms] = None):
+        self.terms = terms
+        self.notes: list[Note] = []
 
 
-@dataclass
 class Held:
     """What the escrow receives of securities that it holds already."""
 
-    receipts: list[Flow] = field(default_factory=list)
+    def __init__(self) -> None:
+        self.receipts: list[Flow] = []
 
     @property
     def total(self) -> int:

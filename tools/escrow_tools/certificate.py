@@ -2,18 +2,15 @@
 
 from __future__ import annotations
 
-from dataclasses import dataclass
-from typing import Optional
+from typing import NamedTuple, Optional
 
 
-@dataclass(frozen=True)
-class Purchase:
+class Purchase(NamedTuple):
     line: int
     units: int
 
 
-@dataclass(frozen=True)
-class Certificate:
+class Certificate(NamedTuple):
     """Purchases by line; None where it shows that there is no rival."""
 
     purchases: Optional[list[Purchase]]
@@ -25,17 +22,21 @@ MOST_LINES = 600
 """More than stand before the nodes: at most 513 purchases, 64 vectors, and five lines of their own words."""
 
 
+TITLES = ("escrow-certificate 1", "escrow-certificate 2", "escrow-certificate 3")
+"""The first line of each version."""
+
+
 def is_packed(data: bytes) -> bool:
-    """Whether a text is of version 2, whose leaves share vectors of prices."""
-    return data.startswith(b"escrow-certificate 2\n")
+    """Whether a text is of version 2 or 3, whose leaves share vectors of prices."""
+    return data.startswith((b"escrow-certificate 2\n", b"escrow-certificate 3\n"))
 
 
 def read_certificate(data: bytes) -> Optional[Certificate]:
-    """The head of a certificate of either version; None where the text isn't one up to its nodes."""
+    """The head of a certificate of any version; None where the text isn't one up to its nodes."""
     try:
         lines = data.decode("ascii").split("\n", MOST_LINES)
         words = [line.split(" ") for line in lines[:MOST_LINES]]
-        if lines[0] not in ("escrow-certificate 1", "escrow-certificate 2") or words[1][0] != "portfolio":
+        if lines[0] not in TITLES or words[1][0] != "portfolio":
             return None
         count = 0 if words[1][1] == "none" else int(words[1][1])
         purchases = [Purchase(int(line), int(units)) for _, line, units in words[2 : 2 + count]]

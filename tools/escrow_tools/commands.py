@@ -4,42 +4,40 @@ from __future__ import annotations
 
 import importlib
 import re
-from dataclasses import dataclass, field
 from functools import lru_cache
 from pathlib import Path
+from typing import NamedTuple
 
 TABLE = Path(__file__).resolve().parents[1] / "commands.txt"
 SHARED = ("kinds", "words", "statuses")
 
 
-@dataclass
-class Command:
+class Command(NamedTuple):
     """One command: its words, what it is for, what it reads and writes, and how it may end."""
 
     name: str
-    kind: str = ""
-    words: list[str] = field(default_factory=list)
-    brief: str = ""
-    more: list[str] = field(default_factory=list)
-    options: list[str] = field(default_factory=list)
-    reads: str = ""
-    writes: str = ""
-    statuses: dict[str, str] = field(default_factory=dict)
+    kind: str
+    words: list[str]
+    brief: str
+    more: list[str]
+    options: list[str]
+    reads: str
+    writes: str
+    statuses: dict[str, str]
 
     @property
     def form(self) -> str:
         return " ".join([self.name] + self.words)
 
 
-@dataclass
-class Commands:
+class Commands(NamedTuple):
     kinds: dict[str, str]
     words: dict[str, str]
     statuses: dict[str, str]
     commands: list[Command]
 
     def named(self, name: str) -> Command:
-        return next((command for command in self.commands if command.name == name), Command(name))
+        return next((command for command in self.commands if command.name == name), _command(name, [], self.statuses))
 
     def of(self, kind: str) -> list[Command]:
         return [command for command in self.commands if command.kind == kind]

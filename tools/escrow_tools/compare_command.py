@@ -5,7 +5,7 @@ from __future__ import annotations
 import csv
 import io
 import time
-from dataclasses import dataclass, replace
+from dataclasses import dataclass
 from html import escape
 from typing import Optional
 
@@ -88,7 +88,7 @@ def _idle(read: CaseRead, case, search: Search) -> str:
         return ""
     plan = search.best
     issue = compact(read.issue, read.needs) if case.held is not None else search.case.issue
-    allowed = replace(case, issue=with_allowance(issue, money(plan.gap)), held=None)
+    allowed = case._replace(issue=with_allowance(issue, money(plan.gap)), held=None)
     with program.folder() as folder:
         folder.keep(plan.certificate)
         said = folder.savings(allowed)
@@ -110,7 +110,7 @@ def _found(variant: Variant, names: dict) -> Row:
         if search.best is None:
             return Row(variant.name, answer.lines[0] if answer.lines else "status %d" % answer.status, tenths)
         plan = search.best
-        tried = replace(search.case, issue=with_allowance(search.case.issue, money(plan.gap)))
+        tried = search.case._replace(issue=with_allowance(search.case.issue, money(plan.gap)))
         if folder.check(tried, plan.certificate).status != program.DONE:
             raise Stop("`check` doesn't accept what the search wrote for %s; nothing is said" % variant.name)
     return Row(variant.name, "yes", tenths, plan.summary.cost, plan.summary.yields, plan.gap, _idle(read, variant.case, search))

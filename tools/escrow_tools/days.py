@@ -2,10 +2,9 @@
 
 from __future__ import annotations
 
-from dataclasses import dataclass
 from datetime import date, timedelta
 from functools import lru_cache
-from typing import Iterable
+from typing import Iterable, NamedTuple
 
 MONTH_DAYS = (31, 28, 31, 30, 31, 30, 31, 31, 30, 31, 30, 31)
 
@@ -80,8 +79,7 @@ def weekday_name(day: date) -> str:
     return ("Monday", "Tuesday", "Wednesday", "Thursday", "Friday", "Saturday", "Sunday")[day.weekday()]
 
 
-@dataclass(frozen=True)
-class ClosedDays:
+class ClosedDays(NamedTuple):
     """The days on which no receipt comes: each Saturday and Sunday, or none of them, and a set of days."""
 
     weekends: bool = False

@@ -3,10 +3,9 @@
 from __future__ import annotations
 
 from bisect import bisect_right
-from dataclasses import dataclass
 from datetime import date
 from functools import lru_cache
-from typing import Iterable, Iterator, Optional
+from typing import Iterable, Iterator, NamedTuple, Optional
 
 from .days import NONE_CLOSED, ClosedDays
 from .securities import Market, indexed
@@ -21,8 +20,7 @@ MOST_FROM_LIST = 100
 LEAST_YIELD, MOST_YIELD = -5_000, 10_000
 
 
-@dataclass(frozen=True)
-class FarYield:
+class FarYield(NamedTuple):
     """A note by its place among others, its yield rounded down, and the table's rate or the list's yield, in hundredths of
     a percentage point."""
 

@@ -2,8 +2,8 @@
 
 from __future__ import annotations
 
-from dataclasses import dataclass
 from datetime import date
+from typing import NamedTuple
 
 from . import program
 from .amounts import money, yield_text
@@ -28,8 +28,7 @@ def series_way(words: list) -> str:
     return SERIES_WAY % (kept_bonds(words[0]) or "FILE..", " ".join(words))
 
 
-@dataclass(frozen=True)
-class Worth:
+class Worth(NamedTuple):
     """Two whole numbers of cents between which a present value lies."""
 
     low: int

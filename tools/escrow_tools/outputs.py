@@ -7,12 +7,10 @@ command made it and nobody changed it since, which a list in its folder says by 
 
 from __future__ import annotations
 
-import hashlib
 import os
 import stat
 import tempfile
-from dataclasses import dataclass
-from typing import Callable, Optional
+from typing import Callable, NamedTuple, Optional
 
 from .interrupts import held_back
 from .speaking import Stop
@@ -55,6 +53,9 @@ def _stream_is(descriptor: int, path: str) -> bool:
 
 
 def digest(data: bytes) -> str:
+    # Most runs put out what needs no digest, and this library takes long to read.
+    import hashlib
+
     return hashlib.sha256(data).hexdigest()
 
 
@@ -94,8 +95,7 @@ def _kept_bytes(target: str, most: int) -> Optional[bytes]:
         return None
 
 
-@dataclass(frozen=True)
-class Output:
+class Output(NamedTuple):
     """One file that is written: what it is called, its name, and how one of its kind begins, where that can be told."""
 
     what: str

@@ -2,7 +2,6 @@
 
 from __future__ import annotations
 
-from dataclasses import dataclass, replace
 from typing import Optional
 
 from . import program
@@ -21,13 +20,13 @@ MOST_SEARCHES = 12
 SMALL_GAP = 1000
 
 
-@dataclass(frozen=True)
 class Plan:
     """A plan that was found: its summary, what was said, word for word, and the certificate."""
 
-    summary: Summary
-    said: bytes
-    certificate: bytes
+    def __init__(self, summary: Summary, said: bytes, certificate: bytes):
+        self.summary = summary
+        self.said = said
+        self.certificate = certificate
 
     @property
     def gap(self) -> int:
@@ -44,7 +43,7 @@ def with_room(case: CaseBytes, read: CaseRead) -> CaseBytes:
     """The case with room for an `allowance` row: the same one, or where its issue file is as long as it may be, one of the same needs."""
     if len(with_allowance(case.issue, GREATEST_ALLOWANCE)) <= INPUT_LIMIT or len(case.issue) > INPUT_LIMIT or read.refusal is not None:
         return case
-    return replace(case, issue=compact(read.issue, needs_by_day(read.issue)))
+    return case._replace(issue=compact(read.issue, needs_by_day(read.issue)))
 
 
 class Search:
@@ -75,13 +74,13 @@ class Search:
         changed = with_allowance(self.case.issue, amount)
         # One that is refused as it stands is refused for its own fault, and not for want of room.
         issue = changed if len(changed) <= INPUT_LIMIT else self.case.issue
-        return self._search(replace(self.case, issue=issue))
+        return self._search(self.case._replace(issue=issue))
 
     def _search(self, case: CaseBytes) -> Answer:
         answer = self.folder.structure(case, shows_progress=True)
         if answer.status == program.DONE:
             summary = read_report(answer.lines).summary if self.case.held is None else read_summary(answer.lines)
-            self._keep(Plan(summary, answer.said, self.folder.certificate.read_bytes()))
+            self._keep(Plan(summary, answer.said, self.folder.certificate()))
         return answer
 
     def _keep(self, plan: Plan) -> None:
@@ -114,12 +113,13 @@ class Search:
                 self.allow(money(gap))
 
 
-@dataclass(frozen=True)
 class CapPlan(Plan):
     """A plan at a cap on the SLGS rates, in thousandths of a percentage point, and what is said of the next hundredth."""
 
-    cap: int
-    further: str
+    def __init__(self, summary: Summary, said: bytes, certificate: bytes, cap: int, further: str):
+        super().__init__(summary, said, certificate)
+        self.cap = cap
+        self.further = further
 
     @property
     def rate(self) -> str:
@@ -175,7 +175,7 @@ class CapSearch(Search):
         answer = self.folder.cap(case)
         if answer.status == program.DONE:
             cap, summary = read_rate(answer.lines[0].split(" ")[1]), read_summary(answer.lines[1:5])
-            self.found.append(CapPlan(summary, answer.said, self.folder.certificate.read_bytes(), cap, answer.lines[5]))
+            self.found.append(CapPlan(summary, answer.said, self.folder.certificate(), cap, answer.lines[5]))
             self._keep(self.found[-1])
         return answer
 

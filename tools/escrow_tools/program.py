@@ -7,9 +7,7 @@ import shutil
 import subprocess
 import tempfile
 from contextlib import contextmanager
-from dataclasses import dataclass
-from pathlib import Path
-from typing import Iterator, Optional
+from typing import Iterator, NamedTuple, Optional
 
 from .interrupts import ended_by
 from .speaking import Stop
@@ -32,8 +30,7 @@ from .statuses import (  # noqa: F401 (what the program's answers are compared w
 from .working import wait_for
 
 
-@dataclass(frozen=True)
-class Answer:
+class Answer(NamedTuple):
     """What the program answered: its status, and what it said on standard output and standard error."""
 
     status: int
@@ -81,8 +78,7 @@ def run(words: list[str], standard_error=subprocess.PIPE) -> Answer:
     return Answer(running.returncode, said, complained or b"")
 
 
-@dataclass(frozen=True)
-class CaseBytes:
+class CaseBytes(NamedTuple):
     """The bytes of the three input files, and of the holdings where there are any."""
 
     issue: bytes
@@ -95,14 +91,28 @@ class Folder:
     """Copies of a case's files in a folder of their own, on which the program is run. The program's words about files are of these
     copies, so a fault in reading or writing them is told here, and isn't the answer."""
 
-    def __init__(self, folder: Path):
+    def __init__(self, folder: str):
         self.folder = folder
+        # What stands here of the case, by name.
+        self.copies: dict[str, bytes] = {}
 
-    def _write(self, path: Path, data: bytes) -> None:
+    def _path(self, name: str) -> str:
+        return os.path.join(self.folder, name)
+
+    def _write(self, path: str, data: bytes) -> None:
         try:
-            path.write_bytes(data)
+            with open(path, "wb") as opened:
+                opened.write(data)
         except OSError as fault:
             raise self._no_room(fault.strerror) from None
+
+    def _copy(self, name: str, data: bytes) -> str:
+        """Puts a file of the case here, unless it stands here already: the program writes none of these."""
+        path = self._path(name)
+        if self.copies.get(name) != data:
+            self._write(path, data)
+            self.copies[name] = data
+        return path
 
     def _no_room(self, why: str) -> Stop:
         return Stop(
@@ -121,14 +131,17 @@ class Folder:
         words = [command if case.held is None else command + "-held", *further]
         for name, data in (("issue", case.issue), ("rates", case.rates), ("prices", case.prices), ("held", case.held)):
             if data is not None:
-                path = self.folder / (name + ".csv")
-                self._write(path, data)
-                words.append(str(path))
-        return words + [str(self.certificate)]
+                words.append(self._copy(name + ".csv", data))
+        return words + [self._certificate]
 
     @property
-    def certificate(self) -> Path:
-        return self.folder / "certificate.txt"
+    def _certificate(self) -> str:
+        return self._path("certificate.txt")
+
+    def certificate(self) -> bytes:
+        """The certificate that the program wrote here."""
+        with open(self._certificate, "rb") as opened:
+            return opened.read()
 
     def structure(self, case: CaseBytes, shows_progress: bool = False) -> Answer:
         words = self._words("structure", case)
@@ -136,7 +149,7 @@ class Folder:
 
     def keep(self, certificate: bytes) -> None:
         """Puts a certificate in its place here."""
-        self._write(self.certificate, certificate)
+        self._write(self._certificate, certificate)
 
     def check(self, case: CaseBytes, certificate: bytes) -> Answer:
         words = self._words("check", case)
@@ -164,6 +177,6 @@ def folder() -> Iterator[Folder]:
     except OSError as fault:
         raise Stop("no folder can be made for the program's copies: %s" % fault.strerror, "TMPDIR may name a folder; nothing is made") from None
     try:
-        yield Folder(Path(name))
+        yield Folder(name)
     finally:
         shutil.rmtree(name, ignore_errors=True)

@@ -3,14 +3,13 @@
 from __future__ import annotations
 
 import re
-from dataclasses import dataclass
+from typing import NamedTuple
 
 BYTE_ORDER_MARK = b"\xef\xbb\xbf"
 LINE_END = re.compile("\r\n|\n|\r")
 
 
-@dataclass(frozen=True)
-class Record:
+class Record(NamedTuple):
     """One record: its number among the records and its line in an editor, both from 1."""
 
     number: int

@@ -2,17 +2,15 @@
 
 from __future__ import annotations
 
-from dataclasses import dataclass, field
 from datetime import date
-from typing import Optional
+from typing import NamedTuple, Optional
 
 
 class BadReport(Exception):
     """A text that isn't a whole report."""
 
 
-@dataclass(frozen=True)
-class Summary:
+class Summary(NamedTuple):
     """Cost, yield, limit and gap: in cents, and in units of 10^-8 percent; `yields` as it is said."""
 
     cost: int
@@ -21,8 +19,7 @@ class Summary:
     gap: int
 
 
-@dataclass(frozen=True)
-class Bought:
+class Bought(NamedTuple):
     line: int
     kind: str
     maturity: date
@@ -31,46 +28,44 @@ class Bought:
     cost: int
 
 
-@dataclass(frozen=True)
-class Paid:
+class Paid(NamedTuple):
     line: int
     day: date
     cents: int
 
 
-@dataclass(frozen=True)
-class Balance:
+class Balance(NamedTuple):
     day: date
     receipts: int
     needs: int
     left: int
 
 
-@dataclass(frozen=True)
-class Idle:
+class Idle(NamedTuple):
     day: date
     until: date
     left: int
 
 
-@dataclass(frozen=True)
-class Proved:
+class Proved(NamedTuple):
     day: date
     cents: int
     low: int
     high: int
 
 
-@dataclass
 class Report:
-    settlement: date
-    cash: int
-    summary: Summary
-    bought: list[Bought] = field(default_factory=list)
-    paid: list[Paid] = field(default_factory=list)
-    balances: list[Balance] = field(default_factory=list)
-    idle: list[Idle] = field(default_factory=list)
-    proved: list[Proved] = field(default_factory=list)
+    """A whole report: what stands at its head, and its rows by their kinds."""
+
+    def __init__(self, settlement: date, cash: int, summary: Summary, bought: list[Bought]):
+        self.settlement = settlement
+        self.cash = cash
+        self.summary = summary
+        self.bought = bought
+        self.paid: list[Paid] = []
+        self.balances: list[Balance] = []
+        self.idle: list[Idle] = []
+        self.proved: list[Proved] = []
 
 
 def _units(text: str, decimals: int) -> int:

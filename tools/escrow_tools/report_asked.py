@@ -6,8 +6,7 @@ bought up to what is bought of it, and what is needed is all that they pay. Its 
 
 from __future__ import annotations
 
-from dataclasses import dataclass, replace
-from typing import Optional
+from typing import NamedTuple, Optional
 
 from . import program
 from .amounts import money, rate_text, short_rate, yield_text
@@ -22,8 +21,7 @@ from .report import Balance, Idle, Report, Summary, read_report
 from .speaking import Stop
 
 
-@dataclass(frozen=True)
-class Asked:
+class Asked(NamedTuple):
     """A case that only some purchases meet, and the lines that are bought, in order."""
 
     case: CaseBytes
@@ -95,8 +93,8 @@ def asked_report(folder: Folder, case: CaseRead, certificate: Certificate, summa
         or report.cash != purchased.cash
     ):
         raise Stop("the program doesn't report these purchases as they are worked out here; nothing is made of them")
-    report.bought = [replace(one, line=asked.lines[one.line - 1]) for one in report.bought]
-    report.paid = [replace(one, line=asked.lines[one.line - 1]) for one in report.paid]
+    report.bought = [one._replace(line=asked.lines[one.line - 1]) for one in report.bought]
+    report.paid = [one._replace(line=asked.lines[one.line - 1]) for one in report.paid]
     receipts: dict = dict(case.receipts_held)
     if report.cash:
         receipts[case.issue.settlement] = receipts.get(case.issue.settlement, 0) + report.cash

@@ -119,4 +119,4 @@ def _beside(series: list[Refunded], units: int, answer: Answer) -> list[str]:
     together = worth_of(old_service([one.issue for one in series]), settlement, units)
     new = dict(line.split(" ", 1) for line in answer.lines)["new"]
     saved = "none" if new == "none" else str(together.less(Worth(*(int(end.replace(".", "")) for end in new.split(" ")))))
-    return lines + ["series old %s" % together, "series saved %s" % saved]
+    return lines + ["series old " + str(together), "series saved " + saved]

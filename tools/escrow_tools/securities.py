@@ -2,9 +2,8 @@
 
 from __future__ import annotations
 
-from dataclasses import dataclass
 from datetime import date
-from typing import Optional
+from typing import NamedTuple, Optional
 
 from .amounts import near
 from .case_files import PRICES, RATES, Issue, Prices, RateIndex, Rates, first_dates, try_end, try_terms
@@ -25,8 +24,7 @@ HALF_RATE = 200_000
 PRICE_UNITS = 10**10
 
 
-@dataclass(frozen=True)
-class Receipt:
+class Receipt(NamedTuple):
     """What a line pays on a day, in cents; it was due on that day, or on a closed one before it."""
 
     day: date
@@ -43,8 +41,7 @@ class Receipt:
         return self.day != self.due
 
 
-@dataclass(frozen=True)
-class Cost:
+class Cost(NamedTuple):
     """What a line costs, in cents: the clean price and the accrued interest, rounded apart."""
 
     price: int
@@ -55,8 +52,7 @@ class Cost:
         return self.price + self.accrued
 
 
-@dataclass(frozen=True)
-class Slgs:
+class Slgs(NamedTuple):
     """A SLGS time deposit security."""
 
     kind: str
@@ -103,8 +99,7 @@ class Slgs:
         return near(face * self.rate * (half + (begins - self.settlement).days), HALF_RATE * half)
 
 
-@dataclass(frozen=True)
-class Market:
+class Market(NamedTuple):
     """A marketable note."""
 
     settlement: date
@@ -136,8 +131,7 @@ def _receipt(security, due: date, face: int, interest: int) -> Receipt:
     return Receipt(security.closed.open_day(due), face if due == security.maturity else 0, interest, due)
 
 
-@dataclass(frozen=True)
-class Line:
+class Line(NamedTuple):
     """A line on offer, by its number from 1, with its step, least purchase and most in cents."""
 
     number: int

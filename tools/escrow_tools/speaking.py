@@ -5,7 +5,6 @@ from __future__ import annotations
 import argparse
 import os
 import sys
-from typing import Sequence
 
 from .statuses import MADE_NOTHING
 
@@ -63,19 +62,20 @@ def forget_output() -> None:
 class Words(argparse.ArgumentParser):
     """The words of one of the tools; faulty ones end with status 2, as the program's own do."""
 
-    def __init__(self, name: str, what: str, epilog: Sequence[str] = (), **further):
+    def __init__(self, name: str, what: str, **further):
         super().__init__(
             prog="./escrow " + name,
             description=what,
             allow_abbrev=False,
             formatter_class=argparse.RawDescriptionHelpFormatter,
-            epilog="\n".join(epilog) or help_end(name),
             **further,
         )
+        self.command = name
 
+    def format_help(self) -> str:
+        """The help, and below the words what the table of commands says of this one: what it reads and writes, and how it ends."""
+        # The table is read only where somebody asks for help.
+        from .commands import end_of_help
 
-def help_end(name: str) -> str:
-    """What the table of commands says of one, below its words: what it reads and writes, and how it ends."""
-    from .commands import end_of_help
-
-    return end_of_help(name)
+        self.epilog = end_of_help(self.command)
+        return super().format_help()

@@ -6,9 +6,8 @@ import contextlib
 import io
 import os
 import tempfile
-from dataclasses import dataclass, replace
 from datetime import date
-from typing import Optional
+from typing import NamedTuple, Optional
 
 from . import offers_command
 from .amounts import FieldFault, rate_text, read_day, read_hundredths, read_yield, short_rate
@@ -21,8 +20,7 @@ NOT_RESTRICTED = "29.99"
 MOST_VARIANTS = 60
 
 
-@dataclass(frozen=True)
-class Variant:
+class Variant(NamedTuple):
     """A case, and what is other about it than the files have it: by limit, settlement, notes and cap."""
 
     case: CaseBytes
@@ -65,11 +63,11 @@ def with_limit(variant: Variant, percent: str) -> Variant:
     rows = _lines(variant.case.issue, lambda record: record.word not in ("restricted", "price", "pay"))
     rows.append("restricted," + (NOT_RESTRICTED if percent == "not" else percent))
     said = "not restricted" if percent == "not" else "restricted %s" % percent
-    return replace(variant, case=replace(variant.case, issue=("\n".join(rows) + "\n").encode()), limit=said)
+    return variant._replace(case=variant.case._replace(issue=("\n".join(rows) + "\n").encode()), limit=said)
 
 
 def without_notes(variant: Variant) -> Variant:
-    return replace(variant, case=replace(variant.case, prices=b""), notes="without notes")
+    return variant._replace(case=variant.case._replace(prices=b""), notes="without notes")
 
 
 def with_cap(variant: Variant, percent: str) -> Variant:
@@ -82,7 +80,7 @@ def with_cap(variant: Variant, percent: str) -> Variant:
         rate = "max" if one.rate is None else short_rate(min(one.rate, cap))
         rows.append("offer,%s,%s,%s,%d" % (one.maturity, rate, one.first or "", one.cap))
     data = "".join(row + "\n" for row in rows).encode()
-    return replace(variant, case=replace(variant.case, rates=data), cap="SLGS rates up to %s" % rate_text(cap))
+    return variant._replace(case=variant.case._replace(rates=data), cap="SLGS rates up to %s" % rate_text(cap))
 
 
 def settled(text: str) -> tuple[date, str]:
@@ -112,7 +110,7 @@ def with_settlement(variant: Variant, day: date, table: str, further: list[str])
             raise Stop("settled on %s with %s:" % (day, table), *stop.lines, status=stop.status) from None
         with open(paths[2], "rb") as opened:
             rates = opened.read()
-    return replace(variant, case=replace(variant.case, issue=issue, rates=rates), settlement="settled %s" % day)
+    return variant._replace(case=variant.case._replace(issue=issue, rates=rates), settlement="settled %s" % day)
 
 
 def variants_of(case: CaseBytes, settlements: list, limits: list[str], notes: bool, caps: list[str], further: list[str]) -> list[Variant]:

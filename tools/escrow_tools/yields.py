@@ -2,9 +2,8 @@
 
 from __future__ import annotations
 
-from dataclasses import dataclass
 from functools import lru_cache
-from typing import Optional
+from typing import NamedTuple, Optional
 
 ONE = 2**62
 TWO_HUNDRED_PERCENT = 2 * 10**10
@@ -14,8 +13,7 @@ HALF_YEAR = 180
 MATERIALLY_HIGHER = 100_000
 
 
-@dataclass(frozen=True)
-class IndexedFlow:
+class IndexedFlow(NamedTuple):
     index: int
     cents: int
 
@@ -86,8 +84,7 @@ def high_value(units: int, flows: list[IndexedFlow]) -> int:
     return Powers(units, _last(flows), True).value(flows)
 
 
-@dataclass(frozen=True)
-class Interval:
+class Interval(NamedTuple):
     """Where the exact yield lies, in units of 10^-8 percent."""
 
     low: int
@@ -112,8 +109,7 @@ def interval(flows: list[IndexedFlow], cost: int) -> Optional[Interval]:
     return Interval(low, above)
 
 
-@dataclass(frozen=True)
-class Proof:
+class Proof(NamedTuple):
     """A flow with its present values in cents, at the lower end rounded down and at the upper end rounded up."""
 
     index: int

@@ -13,6 +13,7 @@ ISSUE = "settle,2025-01-15\nneed,2025-04-15,5000.00\nrestricted,4.00\n"
 RATES = "terms,1000,100\noffer,2025-04-15,0.00,,10000\n"
 CERTIFICATE = "escrow-certificate 1\nportfolio 1\nbuy 1 50\ngap 0\nnodes 1\nl 1 0 1000000000000\nend\n"
 PACKED = "escrow-certificate 2\nportfolio 1\nbuy 1 50\ngap 0\nvectors 1\nv 1000000000000\nnodes 1\nl 1 0 1\nend\n"
+WEIGHED = PACKED.replace("certificate 2", "certificate 3").replace("l 1 0 1", "l 500000000000 0 1 1 500000000000")
 
 
 @dataclass(frozen=True)
@@ -66,6 +67,10 @@ def cert(old: str, new: str) -> Callable:
 
 def packed(old: str, new: str) -> Callable:
     return case(certificate=PACKED.replace(old, new))
+
+
+def weighed(old: str, new: str) -> Callable:
+    return case(certificate=WEIGHED.replace(old, new))
 
 
 NOT_ENOUGH = "terms,1000,100\noffer,2025-04-15,0.00,,3000\n"
@@ -146,6 +151,11 @@ ANSWERED = (
     Answered("too few prices", cert("l 1 0 1000000000000", "l 1 0"), CHECK, "no Grammar 6 Count", ("1 need date", "0 prices")),
     Answered("too few prices of a vector", packed("v 1000000000000", "v"), CHECK, "no Grammar 6 Count", ("1 need date", "0 prices")),
     Answered("a place without a price", packed("l 1 0 1", "l 1 0 1 1"), CHECK, "no Grammar 8 Count", ("pairs of a place and a price",)),
+    Answered("a place without a price beside a weight", weighed("l 500000000000 0 1 1 500000000000", "l 500000000000 0 1 1"), CHECK,
+             "no Grammar 8 Count", ("behind `l`, WEIGHT, MULTIPLIER and VECTOR",)),
+    Answered("a blank behind version 3", weighed("escrow-certificate 3", "escrow-certificate 3 "), CHECK, "no Grammar 1 Header",
+             ("`escrow-certificate 3`", "`l WEIGHT MULTIPLIER VECTOR PLACE PRICE ..`")),
+    Answered("a purchase of a certificate of version 3", weighed("buy 1 50", "buy 1 5"), CHECK, "no NotPermitted 1", ("500.00",)),
     Answered("no version", packed("escrow-certificate 2", "escrow-certificate"), CHECK, "no Grammar 1 Header",
              ("`escrow-certificate 2`", "`vectors COUNT`")),
     Answered("a blank behind the version", packed("escrow-certificate 2", "escrow-certificate 2 "), CHECK, "no Grammar 1 Header",

@@ -3,7 +3,6 @@
 from __future__ import annotations
 
 import difflib
-from dataclasses import dataclass, field
 from datetime import date
 from typing import Optional
 
@@ -27,17 +26,18 @@ from .told import explain_refusal
 HUGE_ALLOWANCE = 10**13
 
 
-@dataclass
 class Run:
     """A run of the program: its words, its answer, and the bytes of the files that could be read beside it."""
 
-    words: list[str]
-    status: int
-    lines: list[str]
-    names: dict = field(default_factory=dict)
-    data: dict = field(default_factory=dict)
-    # Whether a certificate of an earlier run stands where this one was to be written.
-    old_certificate: bool = False
+    def __init__(self, words: list[str], status: int, lines: list[str], names: dict, data: dict, old_certificate: bool = False):
+        self.words = words
+        self.status = status
+        self.lines = lines
+        self.names = names
+        self.data = data
+        # Whether a certificate of an earlier run stands where this one was to be written.
+        self.old_certificate = old_certificate
+        self._case: Optional[CaseRead] = None
 
     @property
     def command(self) -> str:
@@ -77,10 +77,10 @@ class Run:
         return "check-held" if self.has_holdings else "check"
 
     def read_case(self) -> CaseRead:
-        if "read" not in self.__dict__:
+        if self._case is None:
             case = self._read_files()
-            self.__dict__["read"] = case if self.cap is None else at_cap(case, self.cap)
-        return self.__dict__["read"]
+            self._case = case if self.cap is None else at_cap(case, self.cap)
+        return self._case
 
     def _read_files(self) -> CaseRead:
         """The case; nothing of one whose holdings can't be read again, since it isn't known what is still needed."""

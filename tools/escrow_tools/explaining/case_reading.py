@@ -2,7 +2,7 @@
 
 from __future__ import annotations
 
-from dataclasses import dataclass, field, replace
+import copy
 from typing import Optional
 
 from ..case_files import (
@@ -31,18 +31,18 @@ from ..securities import Line, indexed, lines_of
 from ..yields import MATERIALLY_HIGHER, interval
 
 
-@dataclass
 class CaseRead:
     """What was read, as far as it goes, and the first refusal. Where there are holdings, the needs are what is still needed."""
 
-    issue: Optional[Issue] = None
-    rates: Optional[Rates] = None
-    prices: Optional[Prices] = None
-    held: Optional[Held] = None
-    needs: dict = field(default_factory=dict)
-    lines: list[Line] = field(default_factory=list)
-    limit: Optional[int] = None
-    refusal: Optional[Refusal] = None
+    def __init__(self, issue: Optional[Issue] = None):
+        self.issue = issue
+        self.rates: Optional[Rates] = None
+        self.prices: Optional[Prices] = None
+        self.held: Optional[Held] = None
+        self.needs: dict = {}
+        self.lines: list[Line] = []
+        self.limit: Optional[int] = None
+        self.refusal: Optional[Refusal] = None
 
     @property
     def receipts_held(self) -> dict:
@@ -126,8 +126,9 @@ def read_whole_case(
 
 def at_cap(case: CaseRead, cap: int) -> CaseRead:
     """The case in which each SLGS line bears the lesser of its own rate and a cap, in thousandths of a percentage point."""
-    lines = [
-        replace(line, security=replace(line.security, rate=min(line.security.rate, cap))) if line.is_slgs else line
+    capped = copy.copy(case)
+    capped.lines = [
+        line._replace(security=line.security._replace(rate=min(line.security.rate, cap))) if line.is_slgs else line
         for line in case.lines
     ]
-    return replace(case, lines=lines)
+    return capped

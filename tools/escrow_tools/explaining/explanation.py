@@ -2,20 +2,21 @@
 
 from __future__ import annotations
 
-from dataclasses import dataclass, field
-from typing import Optional
+from typing import Optional, Sequence
 
 from ..records import Record
 
 LONGEST_TEXT = 160
 
 
-@dataclass
 class Explanation:
-    meaning: str
-    place: Optional[str] = None
-    advice: list[str] = field(default_factory=list)
-    mended: Optional[str] = None
+    """What an answer means, the place in a file that it is of, what to do, and the row as it is meant."""
+
+    def __init__(self, meaning: str, place: Optional[str] = None, advice: Sequence[str] = (), mended: Optional[str] = None):
+        self.meaning = meaning
+        self.place = place
+        self.advice = list(advice)
+        self.mended = mended
 
     def lines(self) -> list[str]:
         lines = [self.place] if self.place else []

@@ -2,9 +2,8 @@
 
 from __future__ import annotations
 
-from dataclasses import dataclass, field, replace
 from datetime import date
-from typing import Optional
+from typing import NamedTuple, Optional
 
 from ..case_files import (
     HELD,
@@ -38,8 +37,7 @@ DAY_FAULTS = ("OutOfRange", "Matured", "DateOrder")
 NO_ISSUE = date(2000, 1, 1)
 
 
-@dataclass(frozen=True)
-class Fault:
+class Fault(NamedTuple):
     """A row that is refused: why, and the row as it is meant. Sure is one that says the same in another way; of one that isn't, and of
     one without a mended row, somebody has to say what is meant. An empty row is to be deleted."""
 
@@ -50,13 +48,13 @@ class Fault:
     is_sure: bool = False
 
 
-@dataclass
 class FileRead:
     """A file that was read to its end: its rows as they stand or are meant, and its faults in order."""
 
-    case: CaseRead
-    rows: list = field(default_factory=list)
-    faults: list = field(default_factory=list)
+    def __init__(self, case: CaseRead):
+        self.case = case
+        self.rows: list = []
+        self.faults: list = []
 
 
 def _says_nothing(record: Record, is_first: bool) -> bool:
@@ -151,7 +149,7 @@ class FaultReader:
             if not self._is_open(refusal):
                 return refusal
             day = days_after(NO_ISSUE, record.number % 14_000 + 1).isoformat()
-            return self._try(replace(record, fields=(record.word, day) + record.fields[2:]), is_first)
+            return self._try(record._replace(fields=(record.word, day) + record.fields[2:]), is_first)
         return None
 
     def _is_open(self, refusal: Refusal) -> bool:
@@ -179,7 +177,7 @@ class FaultReader:
             if change is None or row_text(change.fields) == text:
                 break
             fields, text, is_sure = change.fields, row_text(change.fields), is_sure and change.is_sure
-            refusal = self._try(replace(record, fields=tuple(fields), text=text), is_first)
+            refusal = self._try(record._replace(fields=tuple(fields), text=text), is_first)
             if refusal is None:
                 self._add(Fault(first, record, tuple(dict.fromkeys(why)), text, is_sure))
                 return

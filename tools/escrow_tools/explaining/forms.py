@@ -2,16 +2,14 @@
 
 from __future__ import annotations
 
-from dataclasses import dataclass
-from typing import Callable, Iterable, Optional
+from typing import Callable, Iterable, NamedTuple, Optional
 
 from ..case_files import HELD, ISSUE, PRICES, RATES
 from ..records import Record
 from . import mending
 
 
-@dataclass(frozen=True)
-class Field:
+class Field(NamedTuple):
     name: str
     mender: Callable
 

@@ -12,8 +12,12 @@ from .forms import words_of
 
 HEAD = ("portfolio COUNT", "buy LINE UNITS", "gap CENTS")
 TREE = ("nodes COUNT", "s LINE UNITS", "p")
-FORMS = ("escrow-certificate 1",) + HEAD + TREE + ("l WHOLE MULTIPLIER PRICE ..", "end")
-PACKED_FORMS = ("escrow-certificate 2",) + HEAD + ("vectors COUNT", "v PRICE ..") + TREE + ("l WHOLE MULTIPLIER VECTOR PLACE PRICE ..", "end")
+PACKED_HEAD = HEAD + ("vectors COUNT", "v PRICE ..")
+FORMS = {
+    1: ("escrow-certificate 1",) + HEAD + TREE + ("l WHOLE MULTIPLIER PRICE ..", "end"),
+    2: ("escrow-certificate 2",) + PACKED_HEAD + TREE + ("l WHOLE MULTIPLIER VECTOR PLACE PRICE ..", "end"),
+    3: ("escrow-certificate 3",) + PACKED_HEAD + TREE + ("l WEIGHT MULTIPLIER VECTOR PLACE PRICE ..", "end"),
+}
 MEANINGS = {
     "Truncated": "the text ends before this line does: the last line, `end`, has a line end too",
     "Trailing": "something stands behind `end`: delete it, blank lines too",
@@ -37,19 +41,21 @@ def explain_grammar(data: Optional[bytes], names: dict, number: int, kind: str, 
 
 
 def _meaning(data: Optional[bytes], kind: str) -> str:
-    """What is wrong with a line of a text of either version."""
+    """What is wrong with a line of a text of any version."""
     if kind != "Header":
         return MEANINGS.get(kind, kind)
-    forms = PACKED_FORMS if data is not None and is_meant_packed(data) else FORMS
+    forms = FORMS[1 if data is None else meant_version(data)]
     return MEANINGS[kind] % ", ".join("`%s`" % form for form in forms)
 
 
-def is_meant_packed(data: bytes) -> bool:
-    """Whether a text is meant as one of version 2, though its first line may be damaged: that has a 2, or has no 1 and vectors follow."""
+def meant_version(data: bytes) -> int:
+    """The version of which a text is meant to be, though its first line may be damaged: the least that this has; or else it is 2, where
+    vectors follow, and 1."""
     head = data[:65_536].split(b"\n")
-    if b"escrow-certificate" in head[0] and re.search(rb"[12]", head[0]):
-        return b"2" in head[0] and b"1" not in head[0]
-    return any(line.startswith((b"vectors ", b"v ")) for line in head)
+    said = re.findall(rb"[123]", head[0]) if b"escrow-certificate" in head[0] else []
+    if said:
+        return min(int(version) for version in said)
+    return 2 if any(line.startswith((b"vectors ", b"v ")) for line in head) else 1
 
 
 def _advice(data: bytes, names: dict, text: str, kind: str, needs: Optional[dict]) -> list[str]:
@@ -68,8 +74,11 @@ def _advice(data: bytes, names: dict, text: str, kind: str, needs: Optional[dict
     if words[0] == "v" and kind == "Count":
         return _counted_prices(names, "behind `v`", len(words) - 1, needs)
     if words[0] == "l" and kind == "Count":
-        if is_meant_packed(data):
-            return ["behind `l`, WHOLE, MULTIPLIER and VECTOR stand pairs of a place and a price, and none where no price changes"]
+        version = meant_version(data)
+        if version > 1:
+            weight = "WHOLE" if version == 2 else "WEIGHT"
+            rule = "behind `l`, %s, MULTIPLIER and VECTOR stand pairs of a place and a price, and none where no price changes"
+            return [rule % weight]
         return _counted_prices(names, "behind `l`, WHOLE and MULTIPLIER", max(len(words) - 3, 0), needs)
     if text != text.strip() or "  " in text or "\t" in text:
         return ["words are parted by one blank, and none stands before or behind them"]

@@ -3,10 +3,9 @@
 from __future__ import annotations
 
 import re
-from dataclasses import dataclass
 from datetime import date, timedelta
 from decimal import ROUND_FLOOR, ROUND_HALF_UP, Decimal, InvalidOperation
-from typing import Callable, Iterable, Optional
+from typing import Callable, Iterable, NamedTuple, Optional
 
 from .. import amounts
 from ..amounts import FieldFault
@@ -26,8 +25,7 @@ VULGAR = {"½": "1/2", "¼": "1/4", "¾": "3/4", "⅛": "1/8", "⅜": "3/8", "�
 SPREADSHEET_EPOCH = date(1899, 12, 30)
 
 
-@dataclass(frozen=True)
-class Mended:
+class Mended(NamedTuple):
     """What is meant, as the file wants it, and why it isn't what stands there. No text: it can't be told. It is sure where it says the
     same in another way; where it rounds, scales or picks, somebody has to say yes to it."""
 

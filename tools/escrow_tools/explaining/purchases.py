@@ -3,8 +3,8 @@
 from __future__ import annotations
 
 from collections import defaultdict
-from dataclasses import dataclass
 from datetime import date
+from typing import NamedTuple
 
 from ..certificate import Certificate
 from ..amounts import counted, money_for_people
@@ -12,8 +12,7 @@ from ..securities import Line, Receipt
 from .case_reading import CaseRead
 
 
-@dataclass
-class Purchased:
+class Purchased(NamedTuple):
     """Opening cash, the faces of lines, and what comes in by day; all in cents."""
 
     cash: int

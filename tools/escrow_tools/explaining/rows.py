@@ -4,9 +4,8 @@ from __future__ import annotations
 
 import difflib
 import re
-from dataclasses import dataclass
 from decimal import Decimal
-from typing import Callable, Optional
+from typing import Callable, NamedTuple, Optional
 
 from ..amounts import read_day
 from ..case_files import HELD, ISSUE, PRICES, RATES, Refusal
@@ -65,8 +64,7 @@ def joined_decimals(fields: list[str], width: int) -> list[str]:
     return fields
 
 
-@dataclass(frozen=True)
-class Change:
+class Change(NamedTuple):
     """A row's fields with one fault mended; sure where they say the same in another way, and nothing is guessed."""
 
     fields: list
