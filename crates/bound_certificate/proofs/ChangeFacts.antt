@@ -8,6 +8,8 @@ use Rattle.proof_tree.specs.declared.prices.TheConstants.{PRICE_SCALE}
 use Rattle.line_words.specs.declared.range.Range.{Range}
 use Rattle.bound_certificate.specs.declared.packed.Change.{Change}
 use Rattle.bound_certificate.specs.declared.row.Row.TheVariants as row
+use Rattle.bound_certificate.specs.declared.weighing.Weighing.{Weighing}
+use Rattle.bound_certificate.specs.Weights.{most_weight}
 use Rattle.bound_certificate.specs.declared.limits.TheConstants.{MOST_DATES}
 use Rattle.bound_certificate.specs.Grammar.{ArePlaces, are_rising, changes_of, places_of, restates}
 use Rattle.bound_certificate.specs.Packed.{IsChange, changed}
@@ -25,57 +27,57 @@ pub record InChange (dates : ℕ) (change : Change) : Type 0 where
   pub range : change.price ≤ 2 * PRICE_SCALE
 
 -- the ranges of a leaf behind its three first numbers
-even_range : (dates vectors place : ℕ) → 4 ≤ place → place % 2 ≡ 0 → leaf_range dates vectors place ≡ from_to 1 dates
-even_range dates vectors place h even =
+even_range : (how : Weighing) (dates vectors place : ℕ) → 4 ≤ place → place % 2 ≡ 0 → leaf_range how dates vectors place ≡ from_to 1 dates
+even_range how dates vectors place h even =
     let one : (place == 1) ≡ false = grind (arith, h) in
     let two : (place == 2) ≡ false = grind (arith, h) in
     let three : (place == 3) ≡ false = grind (arith, h) in
     let here : (place % 2 == 0) ≡ true = grind (arith, even) in
-    ap (λ (b : Bool). if b then from_to 0 1 else if place == 2 then from_to 0 PRICE_SCALE else if place == 3 then from_to 1 vectors
+    ap (λ (b : Bool). if b then from_to 0 (most_weight how) else if place == 2 then from_to 0 PRICE_SCALE else if place == 3 then from_to 1 vectors
     else if place % 2 == 0 then from_to 1 dates else price_range) one
     ∙ ap (λ (b : Bool). if b then from_to 0 PRICE_SCALE else if place == 3 then from_to 1 vectors else if place % 2 == 0 then from_to 1 dates else price_range) two
     ∙ ap (λ (b : Bool). if b then from_to 1 vectors else if place % 2 == 0 then from_to 1 dates else price_range) three
     ∙ ap (λ (b : Bool). if b then from_to 1 dates else price_range) here
 
-odd_range : (dates vectors place : ℕ) → 4 ≤ place → place % 2 ≡ 1 → leaf_range dates vectors place ≡ price_range
-odd_range dates vectors place h odd =
+odd_range : (how : Weighing) (dates vectors place : ℕ) → 4 ≤ place → place % 2 ≡ 1 → leaf_range how dates vectors place ≡ price_range
+odd_range how dates vectors place h odd =
     let one : (place == 1) ≡ false = grind (arith, h) in
     let two : (place == 2) ≡ false = grind (arith, h) in
     let low : 3 < place = omega arith in
     let three : (place == 3) ≡ false = grind (arith, low) in
     let here : (place % 2 == 0) ≡ false = grind (arith, odd) in
-    ap (λ (b : Bool). if b then from_to 0 1 else if place == 2 then from_to 0 PRICE_SCALE else if place == 3 then from_to 1 vectors
+    ap (λ (b : Bool). if b then from_to 0 (most_weight how) else if place == 2 then from_to 0 PRICE_SCALE else if place == 3 then from_to 1 vectors
     else if place % 2 == 0 then from_to 1 dates else price_range) one
     ∙ ap (λ (b : Bool). if b then from_to 0 PRICE_SCALE else if place == 3 then from_to 1 vectors else if place % 2 == 0 then from_to 1 dates else price_range) two
     ∙ ap (λ (b : Bool). if b then from_to 1 vectors else if place % 2 == 0 then from_to 1 dates else price_range) three
     ∙ ap (λ (b : Bool). if b then from_to 1 dates else price_range) here
 
-pub changes-in : (dates vectors : ℕ) (numbers : List ℕ) (place : ℕ) → 4 ≤ place → place % 2 ≡ 0 → InRanges (leaf_range dates vectors) place numbers →
+pub changes-in : (how : Weighing) (dates vectors : ℕ) (numbers : List ℕ) (place : ℕ) → 4 ≤ place → place % 2 ≡ 0 → InRanges (leaf_range how dates vectors) place numbers →
     All (InChange dates) (changes_of numbers)
-changes-in dates vectors [] place h even inside = All-nil (InChange dates)
-changes-in dates vectors (at ∷ []) place h even inside = All-nil (InChange dates)
-changes-in dates vectors (at ∷ price ∷ numbers) place h even inside =
+changes-in how dates vectors [] place h even inside = All-nil (InChange dates)
+changes-in how dates vectors (at ∷ []) place h even inside = All-nil (InChange dates)
+changes-in how dates vectors (at ∷ price ∷ numbers) place h even inside =
     let next : place + 1 + 1 ≡ place + 2 = omega arith in
-    let P : ℕ → Type 0 = λ k. InRanges (leaf_range dates vectors) k numbers in
-    let first : is_in (from_to 1 dates) at ≡ true = ap (λ (r : Range). is_in r at) (sym (even_range dates vectors place h even)) ∙ inside.0 in
+    let P : ℕ → Type 0 = λ k. InRanges (leaf_range how dates vectors) k numbers in
+    let first : is_in (from_to 1 dates) at ≡ true = ap (λ (r : Range). is_in r at) (sym (even_range how dates vectors place h even)) ∙ inside.0 in
     let second : is_in (from_to 0 (2 * PRICE_SCALE)) price ≡ true =
-    ap (λ (r : Range). is_in r price) (sym (odd_range dates vectors (place + 1) (omega arith) (omega (arith, even)))) ∙ inside.1.0 in
+    ap (λ (r : Range). is_in r price) (sym (odd_range how dates vectors (place + 1) (omega arith) (omega (arith, even)))) ∙ inside.1.0 in
     let here : (1 ≤ at) × (at ≤ dates) = in_range 1 dates at first in
     let there : (0 ≤ price) × (price ≤ 2 * PRICE_SCALE) = in_range 0 (2 * PRICE_SCALE) price second in
     All-cons (InChange dates) (record { place = at; price = price }) (changes_of numbers) (record { first = here.0; last = here.1; range = there.1 })
-    (changes-in dates vectors numbers (place + 2) (omega arith) (omega (arith, even)) (subst P next inside.1.1))
+    (changes-in how dates vectors numbers (place + 2) (omega arith) (omega (arith, even)) (subst P next inside.1.1))
 
-pub changes-ranges : (dates vectors : ℕ) (changes : List Change) (place : ℕ) → 4 ≤ place → place % 2 ≡ 0 → All (InChange dates) changes →
-    InRanges (leaf_range dates vectors) place (change_numbers changes)
-changes-ranges dates vectors [] place h even all = tt
-changes-ranges dates vectors (change ∷ changes) place h even all =
+pub changes-ranges : (how : Weighing) (dates vectors : ℕ) (changes : List Change) (place : ℕ) → 4 ≤ place → place % 2 ≡ 0 → All (InChange dates) changes →
+    InRanges (leaf_range how dates vectors) place (change_numbers changes)
+changes-ranges how dates vectors [] place h even all = tt
+changes-ranges how dates vectors (change ∷ changes) place h even all =
     let next : place + 2 ≡ place + 1 + 1 = omega arith in
-    let P : ℕ → Type 0 = λ k. InRanges (leaf_range dates vectors) k (change_numbers changes) in
+    let P : ℕ → Type 0 = λ k. InRanges (leaf_range how dates vectors) k (change_numbers changes) in
     let is : InChange dates change = All-head (InChange dates) change changes all in (
-      ap (λ (r : Range). is_in r change.place) (even_range dates vectors place h even) ∙ within 1 dates change.place is.first is.last,
+      ap (λ (r : Range). is_in r change.place) (even_range how dates vectors place h even) ∙ within 1 dates change.place is.first is.last,
       (
-        ap (λ (r : Range). is_in r change.price) (odd_range dates vectors (place + 1) (omega arith) (omega (arith, even))) ∙ within 0 (2 * PRICE_SCALE) change.price (omega arith) is.range,
-        subst P next (changes-ranges dates vectors changes (place + 2) (omega arith) (omega (arith, even)) (All-tail (InChange dates) change changes all)),
+        ap (λ (r : Range). is_in r change.price) (odd_range how dates vectors (place + 1) (omega arith) (omega (arith, even))) ∙ within 0 (2 * PRICE_SCALE) change.price (omega arith) is.range,
+        subst P next (changes-ranges how dates vectors changes (place + 2) (omega arith) (omega (arith, even)) (All-tail (InChange dates) change changes all)),
       ),
     )
 
@@ -197,28 +199,28 @@ are-changes dates vector changes all others i d inside =
     let here = all i d inside in record { first = here.first; last = here.last; range = here.range; other = others i d inside }
 
 -- the changes of a leaf's line are in range
-pub leaf_three : (dates count : ℕ) → row_fits dates row.Leaf count ≡ true → (3 ≤ count) × (count ≤ 3 + 2 * dates) × (count % 2 ≡ 1)
-leaf_three dates count h = (grind (arith, h), grind (arith, h), grind (arith, h))
+pub leaf_three : (how : Weighing) (dates count : ℕ) → row_fits dates (row.Leaf how) count ≡ true → (3 ≤ count) × (count ≤ 3 + 2 * dates) × (count % 2 ≡ 1)
+leaf_three how dates count h = (grind (arith, h), grind (arith, h), grind (arith, h))
 
-pub leaf-changes : (dates vectors : ℕ) (numbers : List ℕ) → AreRowNumbers dates vectors row.Leaf numbers → All (InChange dates) (changes_of (drop 3 numbers))
-leaf-changes dates vectors [] are = absurd (omega (arith, (leaf_three dates 0 are.fits).0))
-leaf-changes dates vectors (rho ∷ []) are = absurd (omega (arith, (leaf_three dates 1 are.fits).0))
-leaf-changes dates vectors (rho ∷ mu ∷ []) are = absurd (omega (arith, (leaf_three dates 2 are.fits).0))
-leaf-changes dates vectors (rho ∷ mu ∷ vector ∷ numbers) are = changes-in dates vectors numbers 4 (omega arith) refl are.ranges.1.1.1
+pub leaf-changes : (how : Weighing) (dates vectors : ℕ) (numbers : List ℕ) → AreRowNumbers dates vectors (row.Leaf how) numbers → All (InChange dates) (changes_of (drop 3 numbers))
+leaf-changes how dates vectors [] are = absurd (omega (arith, (leaf_three how dates 0 are.fits).0))
+leaf-changes how dates vectors (rho ∷ []) are = absurd (omega (arith, (leaf_three how dates 1 are.fits).0))
+leaf-changes how dates vectors (rho ∷ mu ∷ []) are = absurd (omega (arith, (leaf_three how dates 2 are.fits).0))
+leaf-changes how dates vectors (rho ∷ mu ∷ vector ∷ numbers) are = changes-in how dates vectors numbers 4 (omega arith) refl are.ranges.1.1.1
 
 pub up-to : (dates last : ℕ) (changes : List Change) → dates ≤ last → All (InChange dates) changes → ArePlaces last changes
 up-to dates last changes few all i d inside = let here = all i d inside in (here.first, omega (arith, here.last, few))
 
-pub leaf-places : (dates vectors last : ℕ) (numbers : List ℕ) → dates ≤ last → AreRowNumbers dates vectors row.Leaf numbers →
+pub leaf-places : (how : Weighing) (dates vectors last : ℕ) (numbers : List ℕ) → dates ≤ last → AreRowNumbers dates vectors (row.Leaf how) numbers →
     ArePlaces last (changes_of (take (length numbers - 3) (drop 3 numbers)))
-leaf-places dates vectors last numbers few are =
+leaf-places how dates vectors last numbers few are =
     let whole : take (length numbers - 3) (drop 3 numbers) ≡ drop 3 numbers = take_all (length numbers - 3) (drop 3 numbers) (omega (arith, length-drop 3 numbers)) in
     let P : List ℕ → Type 0 = λ ns. ArePlaces last (changes_of ns) in
-    subst P (sym whole) (up-to dates last (changes_of (drop 3 numbers)) few (leaf-changes dates vectors numbers are))
+    subst P (sym whole) (up-to dates last (changes_of (drop 3 numbers)) few (leaf-changes how dates vectors numbers are))
 
 -- a vector that is there
-pub leaf-vector : (dates vectors : ℕ) (numbers : List ℕ) → AreRowNumbers dates vectors row.Leaf numbers → (1 ≤ get_or numbers 2 0) × (get_or numbers 2 0 ≤ vectors)
-leaf-vector dates vectors [] are = absurd (omega (arith, (leaf_three dates 0 are.fits).0))
-leaf-vector dates vectors (rho ∷ []) are = absurd (omega (arith, (leaf_three dates 1 are.fits).0))
-leaf-vector dates vectors (rho ∷ mu ∷ []) are = absurd (omega (arith, (leaf_three dates 2 are.fits).0))
-leaf-vector dates vectors (rho ∷ mu ∷ vector ∷ numbers) are = in_range 1 vectors vector are.ranges.1.1.0
+pub leaf-vector : (how : Weighing) (dates vectors : ℕ) (numbers : List ℕ) → AreRowNumbers dates vectors (row.Leaf how) numbers → (1 ≤ get_or numbers 2 0) × (get_or numbers 2 0 ≤ vectors)
+leaf-vector how dates vectors [] are = absurd (omega (arith, (leaf_three how dates 0 are.fits).0))
+leaf-vector how dates vectors (rho ∷ []) are = absurd (omega (arith, (leaf_three how dates 1 are.fits).0))
+leaf-vector how dates vectors (rho ∷ mu ∷ []) are = absurd (omega (arith, (leaf_three how dates 2 are.fits).0))
+leaf-vector how dates vectors (rho ∷ mu ∷ vector ∷ numbers) are = in_range 1 vectors vector are.ranges.1.1.0

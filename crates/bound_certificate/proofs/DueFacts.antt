@@ -3,7 +3,6 @@ use Rattle.std.proofs.Common.{◌≡◌, ◌∙◌, ℕ, ◌≤◌, Bool, true, 
 use lib.Pointwise.{pointwise, bytes_decides}
 use Rattle.bound_certificate.specs.declared.fault.FaultKind.{FaultKind}
 use Rattle.bound_certificate.specs.declared.fault.FaultKind.TheVariants as kind
-use Rattle.bound_certificate.specs.declared.packed.PackedNode.TheVariants as node
 use Rattle.bound_certificate.specs.declared.due.Due.{Due}
 use Rattle.bound_certificate.specs.declared.due.Due.TheVariants as due
 use Rattle.bound_certificate.specs.declared.line.Line.{Line}
@@ -12,28 +11,29 @@ use Rattle.bound_certificate.specs.declared.row.Row.{Row}
 use Rattle.bound_certificate.specs.declared.row.Row.TheVariants as row
 use Rattle.bound_certificate.specs.declared.version.Version.{Version}
 use Rattle.bound_certificate.specs.declared.version.Version.TheVariants as version
-use Rattle.proof_tree.specs.Tree.{IsLeaf}
+use Rattle.bound_certificate.specs.declared.weighing.Weighing.{Weighing}
+use Rattle.bound_certificate.specs.declared.weighing.Weighing.TheVariants as weighing
 use Rattle.proof_tree.specs.declared.tree.TheConstants.{GREATEST_UNITS}
 use Rattle.bound_certificate.specs.declared.limits.TheConstants.{GREATEST_GAP, MOST_DATES, MOST_NODES, MOST_VECTORS}
 use Rattle.std.proofs.lemmas.List.{append-nil}
 use Rattle.std.proofs.lemmas.List.Elements.{All-head}
 use Rattle.bound_certificate.specs.Certificate.{IsBuy}
 use Rattle.bound_certificate.specs.Grammar.{begins_with, leaf_row, line_said, most_buys, node_row, row_line, title_word}
-use Rattle.bound_certificate.specs.Packed.{IsPackedLeaf, IsVector}
+use Rattle.bound_certificate.specs.Packed.{IsVector}
 use Rattle.bound_certificate.specs.Row.{row_word}
 use Rattle.bound_certificate.specs.Text.{IsOneLine, spaced_numbers}
 use Rattle.line_words.specs.Words.{first_word}
-use Rattle.bound_certificate.proofs.LineFacts.{FoundLine, IsLineOf, IsShort, RowSays, ShowsLine, body, numbers_of_line, row-line-found, row-line-shows, row-shows-line}
+use Rattle.bound_certificate.proofs.LineFacts.{FoundLine, IsClosed, IsLineOf, IsPlainLeaf, IsShort, RowSays, ShowsLine, body, numbers_of_line, row-line-found, row-line-shows, row-shows-line}
 use Rattle.bound_certificate.proofs.PriceFacts.{line_by}
 use Rattle.bound_certificate.proofs.RowFacts.{AreWritten, IsDigit, decimal-digits, row-words}
 use Rattle.bound_certificate.proofs.TableFacts.{row-word}
 
 -- a node's line that may stand in a version
 abbrev pub IsNodeLine : Version → ℕ → List (List ℕ) → Line → Type 0
-IsNodeLine v dates vectors (line.Node (node.Split number at)) = (number ≤ 65_535) × (at ≤ GREATEST_UNITS)
-IsNodeLine v dates vectors (line.Node node.Point) = Unit {0}
-IsNodeLine version.One dates vectors (line.Leaf leaf) = IsLeaf dates leaf
-IsNodeLine version.Two dates vectors (line.Node (node.Closed rho mu vector changes)) = IsPackedLeaf dates vectors rho mu vector changes
+IsNodeLine v dates vectors (line.Split number at) = (number ≤ 65_535) × (at ≤ GREATEST_UNITS)
+IsNodeLine v dates vectors line.Point = Unit {0}
+IsNodeLine version.One dates vectors (line.Leaf leaf) = IsPlainLeaf dates leaf
+IsNodeLine (version.Packed w) dates vectors (line.Closed how rho mu vector changes) = IsClosed w dates vectors how rho mu vector changes
 IsNodeLine v dates vectors said = ⊥
 
 -- a line that may stand where it is due
@@ -107,12 +107,12 @@ abbrev IsNodeRow : Version → Row → Type 0
 IsNodeRow v row.Split = Unit {0}
 IsNodeRow v row.Point = Unit {0}
 IsNodeRow version.One row.Priced = Unit {0}
-IsNodeRow version.Two row.Leaf = Unit {0}
+IsNodeRow (version.Packed w) (row.Leaf how) = how ≡ w
 IsNodeRow v other = ⊥
 
 leaf_is : (v : Version) → IsNodeRow v (leaf_row v)
 leaf_is version.One = tt
-leaf_is version.Two = tt
+leaf_is (version.Packed w) = refl
 
 node_by : (v : Version) (b c : Bool) → IsNodeRow v (if b then row.Split else if c then row.Point else leaf_row v)
 node_by v true c = tt
@@ -120,16 +120,17 @@ node_by v false true = tt
 node_by v false false = leaf_is v
 
 node_says : (v : Version) (dates : ℕ) (vectors : List (List ℕ)) (r : Row) (said : Line) → IsNodeRow v r → RowSays dates vectors r said → IsNodeLine v dates vectors said
-node_says v dates vectors row.Split (line.Node (node.Split number at)) is says = says
-node_says v dates vectors row.Point (line.Node node.Point) is says = tt
+node_says v dates vectors row.Split (line.Split number at) is says = says
+node_says v dates vectors row.Point line.Point is says = tt
 node_says version.One dates vectors row.Priced (line.Leaf leaf) is says = says
-node_says version.Two dates vectors row.Leaf (line.Node (node.Closed rho mu vector changes)) is says = says.1
-node_says version.One dates vectors row.Leaf said is says = absurd is
-node_says version.Two dates vectors row.Priced said is says = absurd is
+node_says (version.Packed w) dates vectors (row.Leaf u) (line.Closed how rho mu vector changes) is says =
+    let P : Weighing → Type 0 = λ x. IsClosed x dates vectors how rho mu vector changes in subst P is says.1
+node_says version.One dates vectors (row.Leaf u) said is says = absurd is
+node_says (version.Packed w) dates vectors row.Priced said is says = absurd is
 node_says v dates vectors row.Split said is says = absurd says
 node_says v dates vectors row.Point said is says = absurd says
 node_says version.One dates vectors row.Priced said is says = absurd says
-node_says version.Two dates vectors row.Leaf said is says = absurd says
+node_says (version.Packed w) dates vectors (row.Leaf u) said is says = absurd says
 node_says v dates vectors r said is says = absurd is
 
 some_trees : (trees : ℕ) → nat_lt 0 trees ≡ true → 1 ≤ trees
@@ -185,30 +186,30 @@ pub record IsShown (v : Version) (dates : ℕ) (vectors : List (List ℕ)) (d : 
 -- there are few need dates, where a version says their places
 abbrev pub IsFew : Version → ℕ → Type 0
 IsFew version.One dates = Unit {0}
-IsFew version.Two dates = dates ≤ MOST_DATES
+IsFew (version.Packed w) dates = dates ≤ MOST_DATES
 
 few_row : (v : Version) (dates : ℕ) → IsFew v dates → IsShort dates (leaf_row v)
 few_row version.One dates few = tt
-few_row version.Two dates few = few
+few_row (version.Packed w) dates few = few
 
 -- the row that a node's line begins
 abbrev row_of_node : Version → Line → Row
-row_of_node v (line.Node (node.Split number at)) = row.Split
-row_of_node v (line.Node node.Point) = row.Point
+row_of_node v (line.Split number at) = row.Split
+row_of_node v line.Point = row.Point
 row_of_node v other = leaf_row v
 
 row_says : (v : Version) (dates : ℕ) (vectors : List (List ℕ)) (said : Line) → length vectors ≤ MOST_VECTORS → IsNodeLine v dates vectors said → RowSays dates vectors (row_of_node v said) said
-row_says v dates vectors (line.Node (node.Split number at)) few is = is
-row_says v dates vectors (line.Node node.Point) few is = tt
+row_says v dates vectors (line.Split number at) few is = is
+row_says v dates vectors line.Point few is = tt
 row_says version.One dates vectors (line.Leaf leaf) few is = is
-row_says version.Two dates vectors (line.Node (node.Closed rho mu vector changes)) few is = (few, is)
+row_says (version.Packed w) dates vectors (line.Closed how rho mu vector changes) few is = (few, is)
 row_says version.One dates vectors said few is = absurd is
-row_says version.Two dates vectors said few is = absurd is
+row_says (version.Packed w) dates vectors said few is = absurd is
 
 node_short : (v : Version) (dates : ℕ) (said : Line) → IsFew v dates → IsShort dates (row_of_node v said)
-node_short v dates (line.Node (node.Split number at)) few = tt
-node_short v dates (line.Node node.Point) few = tt
-node_short v dates (line.Node (node.Closed rho mu vector changes)) few = few_row v dates few
+node_short v dates (line.Split number at) few = tt
+node_short v dates line.Point few = tt
+node_short v dates (line.Closed how rho mu vector changes) few = few_row v dates few
 node_short v dates (line.Leaf leaf) few = few_row v dates few
 node_short v dates (line.Title w) few = few_row v dates few
 node_short v dates (line.Portfolio count) few = few_row v dates few
@@ -227,15 +228,15 @@ named v w = if pointwise nat_eq (codes "s") w then row.Split else if pointwise n
 
 leaf_named : (v : Version) → named v (row_word (leaf_row v)) ≡ leaf_row v
 leaf_named version.One = refl
-leaf_named version.Two = refl
+leaf_named (version.Packed w) = refl
 
 node_named : (v : Version) (dates : ℕ) (vectors : List (List ℕ)) (said : Line) → IsNodeLine v dates vectors said → named v (row_word (row_of_node v said)) ≡ row_of_node v said
-node_named v dates vectors (line.Node (node.Split number at)) is = refl
-node_named v dates vectors (line.Node node.Point) is = refl
+node_named v dates vectors (line.Split number at) is = refl
+node_named v dates vectors line.Point is = refl
 node_named version.One dates vectors (line.Leaf leaf) is = refl
-node_named version.Two dates vectors (line.Node (node.Closed rho mu vector changes)) is = refl
+node_named (version.Packed w) dates vectors (line.Closed how rho mu vector changes) is = refl
 node_named version.One dates vectors said is = absurd is
-node_named version.Two dates vectors said is = absurd is
+node_named (version.Packed w) dates vectors said is = absurd is
 
 node_row_of : (v : Version) (dates : ℕ) (vectors : List (List ℕ)) (said : Line) → IsNodeLine v dates vectors said → ShowsLine dates vectors (row_of_node v said) said →
     node_row v (body said) ≡ row_of_node v said
@@ -255,7 +256,7 @@ no_none count h true e =
 
 buys_written : (v : Version) (count : ℕ) → count ≤ most_buys v → count ≤ GREATEST_GAP
 buys_written version.One count h = omega (arith, h)
-buys_written version.Two count h = omega (arith, h)
+buys_written (version.Packed w) count h = omega (arith, h)
 
 row_shown : (v : Version) (dates : ℕ) (vectors : List (List ℕ)) (d : Due) (r : Row) (said : Line) → IsShort dates r → RowSays dates vectors r said →
     line_said v dates vectors d (body said) ≡ row_line dates vectors r true (body said) → IsShown v dates vectors d said
@@ -264,7 +265,8 @@ row_shown v dates vectors d r said short says same =
 
 title_shown : (v : Version) (dates : ℕ) (vectors : List (List ℕ)) → IsShown v dates vectors due.Title (line.Title v)
 title_shown version.One dates vectors = record { said_is = refl; one = line_by (title_word version.One) refl }
-title_shown version.Two dates vectors = record { said_is = refl; one = line_by (title_word version.Two) refl }
+title_shown (version.Packed weighing.WholeOrNone) dates vectors = record { said_is = refl; one = line_by (title_word (version.Packed weighing.WholeOrNone)) refl }
+title_shown (version.Packed weighing.Number) dates vectors = record { said_is = refl; one = line_by (title_word (version.Packed weighing.Number)) refl }
 
 node_shown : (v : Version) (dates left trees : ℕ) (vectors : List (List ℕ)) (said : Line) → IsFew v dates → Fits v dates vectors (due.Node left trees) said →
     IsShown v dates vectors (due.Node left trees) said

@@ -10,7 +10,6 @@ use Rattle.proof_tree.specs.declared.tree.TreeNode.{TreeNode}
 use Rattle.proof_tree.specs.declared.tree.TreeNode.TheVariants as tree
 use Rattle.proof_tree.specs.Tree.{AreTrees}
 use Rattle.bound_certificate.specs.declared.certificate.Buy.{Buy}
-use Rattle.bound_certificate.specs.declared.packed.PackedNode.TheVariants as node
 use Rattle.bound_certificate.specs.declared.due.Due.{Due}
 use Rattle.bound_certificate.specs.declared.due.Due.TheVariants as due
 use Rattle.bound_certificate.specs.declared.line.Line.{Line}
@@ -21,7 +20,7 @@ use Rattle.bound_certificate.specs.declared.limits.TheConstants.{GREATEST_GAP, M
 use Rattle.bound_certificate.specs.Certificate.{IsBuy, IsPortfolio}
 use Rattle.bound_certificate.specs.Due.{buys_due, is_over, next_due, nodes_due, tree_due, vectors_due}
 use Rattle.bound_certificate.specs.Grammar.{line_item, most_buys, rises, vectors_with}
-use Rattle.bound_certificate.specs.Packed.{IsVector, leaf_with, unpacked_node}
+use Rattle.bound_certificate.specs.Packed.{IsVector, leaf_with}
 use Rattle.bound_certificate.specs.Text.{lines_of, portfolio_lines, vector_lines}
 use Rattle.bound_certificate.proofs.DueFacts.{Fits, IsNodeLine}
 
@@ -34,7 +33,8 @@ pub record Written : Type 0 where
 
 -- the node of a node's line, with its prices written out
 abbrev pub tree_of : List (List ℕ) → Line → TreeNode
-tree_of vectors (line.Node said) = unpacked_node vectors said
+tree_of vectors (line.Split number at) = tree.Split number at
+tree_of vectors (line.Closed how rho mu vector changes) = tree.Closed (leaf_with vectors rho mu vector changes)
 tree_of vectors (line.Leaf leaf) = tree.Closed leaf
 tree_of vectors other = tree.Point
 
@@ -45,7 +45,7 @@ IsPortfolioOf v buys gap = IsPortfolio (most_buys v) buys gap
 -- vectors, which version 1 doesn't have
 abbrev pub AreVectorsOf : Version → ℕ → List (List ℕ) → Type 0
 AreVectorsOf version.One dates vectors = vectors ≡ []
-AreVectorsOf version.Two dates vectors = (length vectors ≤ MOST_VECTORS) × All (IsVector dates) vectors
+AreVectorsOf (version.Packed how) dates vectors = (length vectors ≤ MOST_VECTORS) × All (IsVector dates) vectors
 
 -- what is said is within the limits of a version
 pub record IsWritten (v : Version) (dates : ℕ) (w : Written) : Type 0 where
@@ -161,18 +161,18 @@ nodes-follow : (v : Version) (dates : ℕ) (vectors : List (List ℕ)) (nodes : 
 nodes-follow v dates vectors [] zero rest few all are follows = follows
 nodes-follow v dates vectors [] (suc others) rest few all are follows = absurd are
 nodes-follow v dates vectors (said ∷ nodes) zero rest few all are follows = absurd (cc)
-nodes-follow v dates vectors (line.Node (node.Split number at) ∷ nodes) (suc others) rest few all are follows =
-    let said : Line = line.Node (node.Split number at) in
+nodes-follow v dates vectors (line.Split number at ∷ nodes) (suc others) rest few all are follows =
+    let said : Line = line.Split number at in
     let more : suc others + 1 ≡ suc (suc others) = omega arith in
     node-first v dates vectors said nodes (suc others) (suc (suc others)) rest few (All-head (IsNodeLine v dates vectors) said nodes all) (omega arith)
     (ap (λ (k : ℕ). nodes_due (suc (length nodes) - 1) k) more) refl
     (nodes-follow v dates vectors nodes (suc (suc others)) rest few (All-tail (IsNodeLine v dates vectors) said nodes all) are follows)
-nodes-follow v dates vectors (line.Node node.Point ∷ nodes) (suc others) rest few all are follows =
-    let said : Line = line.Node node.Point in
+nodes-follow v dates vectors (line.Point ∷ nodes) (suc others) rest few all are follows =
+    let said : Line = line.Point in
     node-first v dates vectors said nodes (suc others) others rest few (All-head (IsNodeLine v dates vectors) said nodes all) (omega arith)
     (less_due (suc (length nodes) - 1) others) refl (nodes-follow v dates vectors nodes others rest few (All-tail (IsNodeLine v dates vectors) said nodes all) are follows)
-nodes-follow v dates vectors (line.Node (node.Closed rho mu vector changes) ∷ nodes) (suc others) rest few all are follows =
-    let said : Line = line.Node (node.Closed rho mu vector changes) in
+nodes-follow v dates vectors (line.Closed how rho mu vector changes ∷ nodes) (suc others) rest few all are follows =
+    let said : Line = line.Closed how rho mu vector changes in
     node-first v dates vectors said nodes (suc others) others rest few (All-head (IsNodeLine v dates vectors) said nodes all) (omega arith)
     (less_due (suc (length nodes) - 1) others) refl (nodes-follow v dates vectors nodes others rest few (All-tail (IsNodeLine v dates vectors) said nodes all) are follows)
 nodes-follow v dates vectors (line.Leaf leaf ∷ nodes) (suc others) rest few all are follows =
@@ -198,10 +198,10 @@ rest-follows version.One dates w is =
     let P : List (List ℕ) → Type 0 = λ vs. Follows version.One dates due.Count vs (tree_lines w.nodes) in
     let few : length w.vectors ≤ MOST_VECTORS = omega (arith, ap length is.vectors_are) in
     subst P is.vectors_are (tree-follows version.One dates w.vectors w.nodes few is.few is.nodes_are is.tree)
-rest-follows version.Two dates w is = (
+rest-follows (version.Packed how) dates w is = (
   is.vectors_are.0,
-  vectors-follow version.Two dates w.vectors [] (tree_lines w.nodes) is.vectors_are.1
-      (tree-follows version.Two dates w.vectors w.nodes is.vectors_are.0 is.few is.nodes_are is.tree),
+  vectors-follow (version.Packed how) dates w.vectors [] (tree_lines w.nodes) is.vectors_are.1
+      (tree-follows (version.Packed how) dates w.vectors w.nodes is.vectors_are.0 is.few is.nodes_are is.tree),
 )
 
 pub record ArePortfolio (v : Version) (buys : List Buy) (gap : ℕ) : Type 0 where
@@ -363,18 +363,18 @@ nodes-split v dates zero trees vectors lines follows =
     let P : ℕ → Type 0 = λ k. AreTrees k [] in
     record { nodes = []; are = last.1; count = refl; range = All-nil (IsNodeLine v dates vectors); tree = subst P (sym last.0) refl }
 nodes-split v dates (suc left) trees vectors [] follows = absurd (let P : Due → Type 0 = λ d. is_over d ≡ true in let bad : false ≡ true = subst P (sym (some_nodes_due left trees)) follows in cc)
-nodes-split v dates (suc left) trees vectors (line.Node (node.Split number at) ∷ lines) follows =
-    let said : Line = line.Node (node.Split number at) in
+nodes-split v dates (suc left) trees vectors (line.Split number at ∷ lines) follows =
+    let said : Line = line.Split number at in
     let here : Follows v dates (due.Node (suc left) trees) vectors (said ∷ lines) = node-here v dates left trees vectors said lines follows in
     node_before v dates left trees (trees + 1) vectors said lines here.0.2 (λ more are. split_closes trees number at more here.0.0 are)
     (nodes-split v dates left (trees + 1) vectors lines (node-behind v dates left trees (trees + 1) vectors said lines here refl refl))
-nodes-split v dates (suc left) trees vectors (line.Node node.Point ∷ lines) follows =
-    let said : Line = line.Node node.Point in
+nodes-split v dates (suc left) trees vectors (line.Point ∷ lines) follows =
+    let said : Line = line.Point in
     let here : Follows v dates (due.Node (suc left) trees) vectors (said ∷ lines) = node-here v dates left trees vectors said lines follows in
     node_before v dates left trees (trees - 1) vectors said lines here.0.2 (λ more are. point_closes trees more here.0.0 are)
     (nodes-split v dates left (trees - 1) vectors lines (node-behind v dates left trees (trees - 1) vectors said lines here refl refl))
-nodes-split v dates (suc left) trees vectors (line.Node (node.Closed rho mu vector changes) ∷ lines) follows =
-    let said : Line = line.Node (node.Closed rho mu vector changes) in
+nodes-split v dates (suc left) trees vectors (line.Closed how rho mu vector changes ∷ lines) follows =
+    let said : Line = line.Closed how rho mu vector changes in
     let here : Follows v dates (due.Node (suc left) trees) vectors (said ∷ lines) = node-here v dates left trees vectors said lines follows in
     node_before v dates left trees (trees - 1) vectors said lines here.0.2 (λ more are. leaf_closes trees (leaf_with vectors rho mu vector changes) more here.0.0 are)
     (nodes-split v dates left (trees - 1) vectors lines (node-behind v dates left trees (trees - 1) vectors said lines here refl refl))
@@ -433,9 +433,9 @@ rest-split version.One dates most (line.Gap cents ∷ lines) follows =
       nodes_are = tree.range;
       tree = tree.tree;
     }
-rest-split version.Two dates most (line.Gap cents ∷ line.Vectors count ∷ lines) follows =
-    let vectors : AreVectorLines version.Two dates count [] lines = vectors-split version.Two dates count [] lines follows.1.1 in
-    let tree : AreTreeLines version.Two dates vectors.more vectors.rest = tree-split version.Two dates vectors.more vectors.rest vectors.follow in
+rest-split (version.Packed how) dates most (line.Gap cents ∷ line.Vectors count ∷ lines) follows =
+    let vectors : AreVectorLines (version.Packed how) dates count [] lines = vectors-split (version.Packed how) dates count [] lines follows.1.1 in
+    let tree : AreTreeLines (version.Packed how) dates vectors.more vectors.rest = tree-split (version.Packed how) dates vectors.more vectors.rest vectors.follow in
     record {
       gap = cents;
       vectors = vectors.more;
@@ -452,8 +452,8 @@ rest-split version.Two dates most (line.Gap cents ∷ line.Vectors count ∷ lin
       tree = tree.tree;
     }
 rest-split v dates most [] follows = absurd (let bad : false ≡ true = follows in cc)
-rest-split version.Two dates most (line.Gap cents ∷ []) follows = absurd (let bad : false ≡ true = follows.1 in cc)
-rest-split version.Two dates most (line.Gap cents ∷ other ∷ lines) follows = absurd follows.1.0
+rest-split (version.Packed how) dates most (line.Gap cents ∷ []) follows = absurd (let bad : false ≡ true = follows.1 in cc)
+rest-split (version.Packed how) dates most (line.Gap cents ∷ other ∷ lines) follows = absurd follows.1.0
 rest-split v dates most (other ∷ lines) follows = absurd follows.0
 
 -- what lines say whose text this is
@@ -506,7 +506,9 @@ and_line w (line.Portfolio (Some count)) = record { buys = Some []; gap = w.gap;
 and_line w (line.Purchase buy) = record { buys = option_map (λ buys. buys ++ buy ∷ []) w.buys; gap = w.gap; vectors = w.vectors; nodes = w.nodes }
 and_line w (line.Gap cents) = record { buys = w.buys; gap = cents; vectors = w.vectors; nodes = w.nodes }
 and_line w (line.Vector prices) = record { buys = w.buys; gap = w.gap; vectors = w.vectors ++ prices ∷ []; nodes = w.nodes }
-and_line w (line.Node said) = record { buys = w.buys; gap = w.gap; vectors = w.vectors; nodes = w.nodes ++ line.Node said ∷ [] }
+and_line w (line.Split number at) = record { buys = w.buys; gap = w.gap; vectors = w.vectors; nodes = w.nodes ++ line.Split number at ∷ [] }
+and_line w line.Point = record { buys = w.buys; gap = w.gap; vectors = w.vectors; nodes = w.nodes ++ line.Point ∷ [] }
+and_line w (line.Closed how rho mu vector changes) = record { buys = w.buys; gap = w.gap; vectors = w.vectors; nodes = w.nodes ++ line.Closed how rho mu vector changes ∷ [] }
 and_line w (line.Leaf leaf) = record { buys = w.buys; gap = w.gap; vectors = w.vectors; nodes = w.nodes ++ line.Leaf leaf ∷ [] }
 and_line w other = w
 
@@ -537,7 +539,9 @@ vectors-fold (vector ∷ vectors) w =
 
 -- a node's line adds itself
 one-node : (v : Version) (dates : ℕ) (vectors : List (List ℕ)) (w : Written) (said : Line) → IsNodeLine v dates vectors said → and_line w said ≡ with_nodes w (w.nodes ++ said ∷ [])
-one-node v dates vectors w (line.Node said) is = refl
+one-node v dates vectors w (line.Split number at) is = refl
+one-node v dates vectors w line.Point is = refl
+one-node v dates vectors w (line.Closed how rho mu vector changes) is = refl
 one-node v dates vectors w (line.Leaf leaf) is = refl
 one-node v dates vectors w said is = absurd is
 
@@ -557,7 +561,7 @@ tree-fold v dates vectors nodes w all =
 vector-lines-fold : (v : Version) (dates : ℕ) (vectors : List (List ℕ)) (w : Written) → AreVectorsOf v dates vectors → and_lines w (vector_lines v vectors) ≡ with_vectors w (w.vectors ++ vectors)
 vector-lines-fold version.One dates vectors w none =
     ap (λ (vs : List (List ℕ)). with_vectors w vs) (sym (append-nil w.vectors) ∙ ap (λ (vs : List (List ℕ)). w.vectors ++ vs) (sym none))
-vector-lines-fold version.Two dates vectors w are = vectors-fold vectors w
+vector-lines-fold (version.Packed how) dates vectors w are = vectors-fold vectors w
 
 pub lines-fold : (v : Version) (dates : ℕ) (w : Written) → IsWritten v dates w → and_lines none_written (written_lines v w) ≡ w
 lines-fold v dates w is =
@@ -579,6 +583,8 @@ with-vectors w (line.Gap cents) = refl
 with-vectors w (line.Vectors count) = refl
 with-vectors w (line.Vector prices) = refl
 with-vectors w (line.Nodes count) = refl
-with-vectors w (line.Node said) = refl
+with-vectors w (line.Split number at) = refl
+with-vectors w line.Point = refl
+with-vectors w (line.Closed how rho mu vector changes) = refl
 with-vectors w (line.Leaf leaf) = refl
 with-vectors w line.End = refl

@@ -3,28 +3,30 @@ use Rattle.std.proofs.Common.{◌≡◌, ◌∙◌, ℕ, ◌+◌, ◌-◌, ◌*�
 use Rattle.std.proofs.lemmas.List.{take_all}
 use Rattle.std.proofs.lemmas.List.Elements.{All-cons, All-head, All-tail}
 use Rattle.proof_tree.specs.declared.prices.TheConstants.{PRICE_SCALE}
-use Rattle.proof_tree.specs.Tree.{IsLeaf, IsWholeOrNone}
+use Rattle.proof_tree.specs.Tree.{IsLeaf}
 use Rattle.proof_tree.specs.declared.tree.Leaf.{Leaf}
 use Rattle.line_words.specs.declared.range.Range.{Range}
 use Rattle.bound_certificate.specs.declared.certificate.Buy.{Buy}
 use Rattle.bound_certificate.specs.declared.fault.FaultKind.{FaultKind}
 use Rattle.bound_certificate.specs.declared.fault.FaultKind.TheVariants as kind
 use Rattle.bound_certificate.specs.declared.packed.Change.{Change}
-use Rattle.bound_certificate.specs.declared.packed.PackedNode.TheVariants as node
 use Rattle.bound_certificate.specs.declared.line.Line.{Line}
 use Rattle.bound_certificate.specs.declared.line.Line.TheVariants as line
 use Rattle.bound_certificate.specs.declared.row.Row.{Row}
 use Rattle.bound_certificate.specs.declared.row.Row.TheVariants as row
+use Rattle.bound_certificate.specs.declared.weighing.Weighing.{Weighing}
+use Rattle.bound_certificate.specs.declared.weighing.Weighing.TheVariants as weighing
 use Rattle.bound_certificate.specs.declared.limits.TheConstants.{GREATEST_GAP, MOST_DATES, MOST_NODES, MOST_VECTORS}
 use Rattle.proof_tree.specs.declared.tree.TheConstants.{GREATEST_UNITS}
 use Rattle.bound_certificate.specs.Certificate.{IsBuy}
-use Rattle.bound_certificate.specs.Grammar.{are_rising, changes_of, leaf_said, places_of, restates, rho_said, rises, row_line, said_by, said_or, title_word}
+use Rattle.bound_certificate.specs.Grammar.{are_rising, changes_of, leaf_said, places_of, restates, rises, row_line, said_by, said_or, title_word}
 use Rattle.bound_certificate.specs.Packed.{IsPackedLeaf, IsVector, changed, leaf_with, vector_of}
 use Rattle.bound_certificate.specs.Row.{AreRowNumbers, InRanges, price_range, row_fits, row_range, row_said, row_word, weight_range}
-use Rattle.bound_certificate.specs.Text.{IsOneLine, change_numbers, line_text, rho_number, spaced_numbers}
+use Rattle.bound_certificate.specs.Text.{IsOneLine, change_numbers, line_text, spaced_numbers}
+use Rattle.bound_certificate.specs.Weights.{IsSayable, IsWholeOrNone, most_weight, rho_number, rho_said}
 use Rattle.line_words.specs.Words.{from_to, is_in}
 use Rattle.bound_certificate.proofs.ChangeFacts.{InChange, are-changes, change-count, changed-length, changed-range, changes-back, changes-in, changes-ranges, changes-written, few-changes, in-changes, numbers-back, other-changes, others-found, others-read, places-rising, rising-places}
-use Rattle.bound_certificate.proofs.PriceFacts.{IsPrice, equal_by, falling-order, in_range, order-falling, prices-written, rho-counts, rho-small, weight-found, weight_read, weight_within, weight_written, within}
+use Rattle.bound_certificate.proofs.PriceFacts.{IsPrice, equal_by, falling-order, in_range, order-falling, prices-written, rho-sayable, rho-small, weight-found, weight_read, weight_within, weight_written, within}
 use Rattle.bound_certificate.proofs.RowFacts.{AreWritten}
 use Rattle.bound_certificate.proofs.TableFacts.{IsRowOf, row-found, row-one, row-shows}
 
@@ -36,9 +38,9 @@ numbers_of_line (line.Gap cents) = cents ∷ []
 numbers_of_line (line.Vectors count) = count ∷ []
 numbers_of_line (line.Vector prices) = prices
 numbers_of_line (line.Nodes count) = count ∷ []
-numbers_of_line (line.Node (node.Split number at)) = number ∷ at ∷ []
-numbers_of_line (line.Node (node.Closed rho mu vector changes)) = rho_number rho ∷ mu ∷ vector ∷ change_numbers changes
-numbers_of_line (line.Leaf leaf) = rho_number leaf.rho ∷ leaf.mu ∷ leaf.prices
+numbers_of_line (line.Split number at) = number ∷ at ∷ []
+numbers_of_line (line.Closed how rho mu vector changes) = rho_number how rho ∷ mu ∷ vector ∷ change_numbers changes
+numbers_of_line (line.Leaf leaf) = rho_number weighing.WholeOrNone leaf.rho ∷ leaf.mu ∷ leaf.prices
 numbers_of_line other = []
 
 -- its bytes before the line feed
@@ -51,10 +53,10 @@ body (line.Gap cents) = codes "gap" ++ spaced_numbers (cents ∷ [])
 body (line.Vectors count) = codes "vectors" ++ spaced_numbers (count ∷ [])
 body (line.Vector prices) = codes "v" ++ spaced_numbers prices
 body (line.Nodes count) = codes "nodes" ++ spaced_numbers (count ∷ [])
-body (line.Node (node.Split number at)) = codes "s" ++ spaced_numbers (number ∷ at ∷ [])
-body (line.Node node.Point) = codes "p" ++ spaced_numbers []
-body (line.Node (node.Closed rho mu vector changes)) = codes "l" ++ spaced_numbers (rho_number rho ∷ mu ∷ vector ∷ change_numbers changes)
-body (line.Leaf leaf) = codes "l" ++ spaced_numbers (rho_number leaf.rho ∷ leaf.mu ∷ leaf.prices)
+body (line.Split number at) = codes "s" ++ spaced_numbers (number ∷ at ∷ [])
+body line.Point = codes "p" ++ spaced_numbers []
+body (line.Closed how rho mu vector changes) = codes "l" ++ spaced_numbers (rho_number how rho ∷ mu ∷ vector ∷ change_numbers changes)
+body (line.Leaf leaf) = codes "l" ++ spaced_numbers (rho_number weighing.WholeOrNone leaf.rho ∷ leaf.mu ∷ leaf.prices)
 body line.End = codes "end" ++ spaced_numbers []
 
 pub body-text : (said : Line) → line_text said ≡ body said ++ 10 ∷ []
@@ -66,11 +68,21 @@ body-text (line.Gap cents) = refl
 body-text (line.Vectors count) = refl
 body-text (line.Vector prices) = refl
 body-text (line.Nodes count) = refl
-body-text (line.Node (node.Split number at)) = refl
-body-text (line.Node node.Point) = refl
-body-text (line.Node (node.Closed rho mu vector changes)) = refl
+body-text (line.Split number at) = refl
+body-text line.Point = refl
+body-text (line.Closed how rho mu vector changes) = refl
 body-text (line.Leaf leaf) = refl
 body-text line.End = refl
+
+-- a leaf of a vector, whose weight is said so
+pub record IsClosed (w : Weighing) (dates : ℕ) (vectors : List (List ℕ)) (how : Weighing) (rho mu vector : ℕ) (changes : List Change) : Type 0 where
+  pub said : how ≡ w
+  pub leaf : IsPackedLeaf dates vectors rho mu vector changes
+  pub weight : IsSayable w rho
+
+-- a leaf at which the cost counts wholly or not at all
+abbrev pub IsPlainLeaf : ℕ → Leaf → Type 0
+IsPlainLeaf dates leaf = IsLeaf dates leaf × IsWholeOrNone leaf.rho
 
 -- what a row may say
 abbrev pub RowSays : ℕ → List (List ℕ) → Row → Line → Type 0
@@ -80,10 +92,10 @@ RowSays dates vectors (row.Gap most) (line.Gap cents) = (cents ≤ most) × (cen
 RowSays dates vectors row.Vectors (line.Vectors count) = count ≤ MOST_VECTORS
 RowSays dates vectors row.Vector (line.Vector prices) = IsVector dates prices
 RowSays dates vectors row.Nodes (line.Nodes count) = (1 ≤ count) × (count ≤ MOST_NODES)
-RowSays dates vectors row.Split (line.Node (node.Split number at)) = (number ≤ 65_535) × (at ≤ GREATEST_UNITS)
-RowSays dates vectors row.Point (line.Node node.Point) = Unit {0}
-RowSays dates vectors row.Leaf (line.Node (node.Closed rho mu vector changes)) = (length vectors ≤ MOST_VECTORS) × IsPackedLeaf dates vectors rho mu vector changes
-RowSays dates vectors row.Priced (line.Leaf leaf) = IsLeaf dates leaf
+RowSays dates vectors row.Split (line.Split number at) = (number ≤ 65_535) × (at ≤ GREATEST_UNITS)
+RowSays dates vectors row.Point line.Point = Unit {0}
+RowSays dates vectors (row.Leaf w) (line.Closed how rho mu vector changes) = (length vectors ≤ MOST_VECTORS) × IsClosed w dates vectors how rho mu vector changes
+RowSays dates vectors row.Priced (line.Leaf leaf) = IsPlainLeaf dates leaf
 RowSays dates vectors row.End line.End = Unit {0}
 RowSays dates vectors r said = ⊥
 
@@ -177,13 +189,13 @@ split_says : (dates : ℕ) (vectors : List (List ℕ)) (numbers : List ℕ) (sai
 split_says dates vectors [] said wide inside h = absurd (omega arith)
 split_says dates vectors (number ∷ []) said wide inside h = absurd (omega arith)
 split_says dates vectors (number ∷ at ∷ []) said wide inside h =
-    same_line dates vectors row.Split (number ∷ at ∷ []) (line.Node (node.Split number at)) said (ok_said _ _ h)
+    same_line dates vectors row.Split (number ∷ at ∷ []) (line.Split number at) said (ok_said _ _ h)
     (record { says = ((in_range 0 65_535 number inside.0).1, (in_range 0 GREATEST_UNITS at inside.1.0).1); bytes = refl })
 split_says dates vectors (number ∷ at ∷ more ∷ numbers) said wide inside h = absurd (omega arith)
 
 point_says : (dates : ℕ) (vectors : List (List ℕ)) (numbers : List ℕ) (said : Line) → length numbers ≡ 0 → said_by vectors row.Point numbers ≡ Ok said →
     SaysLine dates vectors row.Point numbers said
-point_says dates vectors [] said wide h = same_line dates vectors row.Point [] (line.Node node.Point) said (ok_said _ _ h) (record { says = tt; bytes = refl })
+point_says dates vectors [] said wide h = same_line dates vectors row.Point [] line.Point said (ok_said _ _ h) (record { says = tt; bytes = refl })
 point_says dates vectors (more ∷ numbers) said wide h = absurd (omega arith)
 
 end_says : (dates : ℕ) (vectors : List (List ℕ)) (numbers : List ℕ) (said : Line) → length numbers ≡ 0 → said_by vectors row.End numbers ≡ Ok said →
@@ -195,50 +207,53 @@ end_says dates vectors (more ∷ numbers) said wide h = absurd (omega arith)
 vector_there : (dates number : ℕ) (vectors : List (List ℕ)) → All (IsVector dates) vectors → 1 ≤ number → number ≤ length vectors → IsVector dates (vector_of vectors number)
 vector_there dates number vectors all some inside = all (number - 1) [] (omega arith)
 
-is_leaf_with : (dates rho mu number : ℕ) (vectors : List (List ℕ)) (changes : List Change) → IsVector dates (vector_of vectors number) → IsWholeOrNone rho → mu ≤ PRICE_SCALE →
+is_leaf_with : (dates rho mu number : ℕ) (vectors : List (List ℕ)) (changes : List Change) → IsVector dates (vector_of vectors number) → rho ≤ PRICE_SCALE → mu ≤ PRICE_SCALE →
     All (InChange dates) changes → rises (changed (vector_of vectors number) changes) ≡ false → IsLeaf dates (leaf_with vectors rho mu number changes)
-is_leaf_with dates rho mu number vectors changes vector counts limit all order = record {
-  cost = rho-small rho counts;
-  counts = counts;
+is_leaf_with dates rho mu number vectors changes vector small limit all order = record {
+  cost = small;
   limit = limit;
   every_date = changed-length changes (vector_of vectors number) ∙ vector.every_date;
   range = changed-range dates changes (vector_of vectors number) all vector.range;
   falling = order-falling (changed (vector_of vectors number) changes) order;
 }
 
-leaf_says : (dates : ℕ) (vectors : List (List ℕ)) (numbers : List ℕ) (said : Line) → All (IsVector dates) vectors → length vectors ≤ MOST_VECTORS →
-    (3 ≤ length numbers) × (length numbers % 2 ≡ 1) → InRanges (row_range dates (length vectors) row.Leaf) 1 numbers →
-    said_by vectors row.Leaf numbers ≡ Ok said → SaysLine dates vectors row.Leaf numbers said
-leaf_says dates vectors [] said all few wide inside h = absurd (omega (arith, wide.0))
-leaf_says dates vectors (rho ∷ []) said all few wide inside h = absurd (omega (arith, wide.0))
-leaf_says dates vectors (rho ∷ mu ∷ []) said all few wide inside h = absurd (omega (arith, wide.0))
-leaf_says dates vectors (rho ∷ mu ∷ number ∷ numbers) said all few wide inside h =
+leaf_says : (how : Weighing) (dates : ℕ) (vectors : List (List ℕ)) (numbers : List ℕ) (said : Line) → All (IsVector dates) vectors → length vectors ≤ MOST_VECTORS →
+    (3 ≤ length numbers) × (length numbers % 2 ≡ 1) → InRanges (row_range dates (length vectors) (row.Leaf how)) 1 numbers →
+    said_by vectors (row.Leaf how) numbers ≡ Ok said → SaysLine dates vectors (row.Leaf how) numbers said
+leaf_says how dates vectors [] said all few wide inside h = absurd (omega (arith, wide.0))
+leaf_says how dates vectors (rho ∷ []) said all few wide inside h = absurd (omega (arith, wide.0))
+leaf_says how dates vectors (rho ∷ mu ∷ []) said all few wide inside h = absurd (omega (arith, wide.0))
+leaf_says how dates vectors (rho ∷ mu ∷ number ∷ numbers) said all few wide inside h =
     let changes : List Change = changes_of numbers in
     let vector : List ℕ = vector_of vectors number in
-    let leaf : Line = line.Node (node.Closed (rho_said rho) mu number changes) in
+    let leaf : Line = line.Closed how (rho_said how rho) mu number changes in
     let first : (restates vector changes ≡ false)
     × ((if not (are_rising (places_of changes)) || rises (changed vector changes) then Err kind.Order else Ok leaf) ≡ Ok said) = rest_if _ kind.Number _ said h in
     let second : ((not (are_rising (places_of changes)) || rises (changed vector changes)) ≡ false) × (leaf ≡ said) = order_if _ kind.Order leaf said first.1 in
     let order : (are_rising (places_of changes) ≡ true) × (rises (changed vector changes) ≡ false) = neither_order _ _ second.0 in
-    let one : (0 ≤ rho) × (rho ≤ 1) = in_range 0 1 rho inside.0 in
+    let one : (0 ≤ rho) × (rho ≤ most_weight how) = in_range 0 (most_weight how) rho inside.0 in
     let two : (0 ≤ mu) × (mu ≤ PRICE_SCALE) = in_range 0 PRICE_SCALE mu inside.1.0 in
     let three : (1 ≤ number) × (number ≤ length vectors) = in_range 1 (length vectors) number inside.1.1.0 in
-    let all_changes : All (InChange dates) changes = changes-in dates (length vectors) numbers 4 (omega arith) refl inside.1.1.1 in
+    let all_changes : All (InChange dates) changes = changes-in how dates (length vectors) numbers 4 (omega arith) refl inside.1.1.1 in
     let there : IsVector dates vector = vector_there dates number vectors all three.0 three.1 in
     let even : length numbers % 2 ≡ 0 = omega (arith, wide.1) in
-    same_line dates vectors row.Leaf (rho ∷ mu ∷ number ∷ numbers) leaf said second.1 (record {
+    same_line dates vectors (row.Leaf how) (rho ∷ mu ∷ number ∷ numbers) leaf said second.1 (record {
       says = (
         few,
         record {
-          first = three.0;
-          last = three.1;
-          changes_are = record { all = are-changes dates vector changes all_changes (others-found vector changes first.0); rising = rising-places changes order.0 };
-          leaf = is_leaf_with dates (rho_said rho) mu number vectors changes there (rho-counts rho) two.1 all_changes order.1;
+          said = refl;
+          leaf = record {
+            first = three.0;
+            last = three.1;
+            changes_are = record { all = are-changes dates vector changes all_changes (others-found vector changes first.0); rising = rising-places changes order.0 };
+            leaf = is_leaf_with dates (rho_said how rho) mu number vectors changes there (rho-small how rho one.1) two.1 all_changes order.1;
+          };
+          weight = rho-sayable how rho;
         },
       );
       bytes =
-          ap (λ (k : ℕ). codes "l" ++ spaced_numbers (k ∷ mu ∷ number ∷ numbers)) (sym (weight-found rho one.1))
-          ∙ ap (λ (ns : List ℕ). codes "l" ++ spaced_numbers (rho_number (rho_said rho) ∷ mu ∷ number ∷ ns)) (sym (numbers-back numbers even));
+          ap (λ (k : ℕ). codes "l" ++ spaced_numbers (k ∷ mu ∷ number ∷ numbers)) (sym (weight-found how rho one.1))
+          ∙ ap (λ (ns : List ℕ). codes "l" ++ spaced_numbers (rho_number how (rho_said how rho) ∷ mu ∷ number ∷ ns)) (sym (numbers-back numbers even));
     })
 
 weights_found : (place : ℕ) (prices : List ℕ) → 3 ≤ place → InRanges weight_range place prices → All IsPrice prices
@@ -252,19 +267,21 @@ priced_says : (dates : ℕ) (vectors : List (List ℕ)) (numbers : List ℕ) (sa
 priced_says dates vectors [] said wide inside h = absurd (omega (arith, wide))
 priced_says dates vectors (rho ∷ []) said wide inside h = absurd (omega (arith, wide))
 priced_says dates vectors (rho ∷ mu ∷ prices) said wide inside h =
-    let leaf : Leaf = record { rho = rho_said rho; mu = mu; prices = prices } in
+    let leaf : Leaf = record { rho = rho_said weighing.WholeOrNone rho; mu = mu; prices = prices } in
     let both : (rises prices ≡ false) × (line.Leaf leaf ≡ said) = order_if (rises prices) kind.Order (line.Leaf leaf) said h in
     let one : (0 ≤ rho) × (rho ≤ 1) = in_range 0 1 rho inside.0 in
     same_line dates vectors row.Priced (rho ∷ mu ∷ prices) (line.Leaf leaf) said both.1 (record {
-      says = record {
-        cost = rho-small (rho_said rho) (rho-counts rho);
-        counts = rho-counts rho;
-        limit = (in_range 0 PRICE_SCALE mu inside.1.0).1;
-        every_date = omega (arith, wide);
-        range = weights_found 3 prices (omega arith) inside.1.1;
-        falling = order-falling prices both.0;
-      };
-      bytes = ap (λ (k : ℕ). codes "l" ++ spaced_numbers (k ∷ mu ∷ prices)) (sym (weight-found rho one.1));
+      says = (
+        record {
+          cost = rho-small weighing.WholeOrNone rho one.1;
+          limit = (in_range 0 PRICE_SCALE mu inside.1.0).1;
+          every_date = omega (arith, wide);
+          range = weights_found 3 prices (omega arith) inside.1.1;
+          falling = order-falling prices both.0;
+        },
+        rho-sayable weighing.WholeOrNone rho,
+      );
+      bytes = ap (λ (k : ℕ). codes "l" ++ spaced_numbers (k ∷ mu ∷ prices)) (sym (weight-found weighing.WholeOrNone rho one.1));
     })
 
 -- the prices of a vector's line, and those of a leaf with all its prices
@@ -279,8 +296,8 @@ priced-range dates vectors (rho ∷ mu ∷ prices) are =
     let P : List ℕ → Type 0 = λ ps. All IsPrice ps in
     subst P (sym whole) (weights_found 3 prices (omega arith) are.ranges.1.1)
 
-leaf_wide : (dates count : ℕ) → row_fits dates row.Leaf count ≡ true → (3 ≤ count) × (count % 2 ≡ 1)
-leaf_wide dates count h = (grind (arith, h), grind (arith, h))
+leaf_wide : (how : Weighing) (dates count : ℕ) → row_fits dates (row.Leaf how) count ≡ true → (3 ≤ count) × (count % 2 ≡ 1)
+leaf_wide how dates count h = (grind (arith, h), grind (arith, h))
 
 pub says-line : (dates : ℕ) (vectors : List (List ℕ)) (r : Row) (numbers : List ℕ) (said : Line) → All (IsVector dates) vectors → length vectors ≤ MOST_VECTORS →
     row_fits dates r (length numbers) ≡ true → InRanges (row_range dates (length vectors) r) 1 numbers → AreWritten numbers → said_by vectors r numbers ≡ Ok said →
@@ -293,7 +310,7 @@ says-line dates vectors row.Vector numbers said all few fits inside small h = ve
 says-line dates vectors row.Nodes numbers said all few fits inside small h = nodes_says dates vectors numbers said (equal_by _ _ fits) inside h
 says-line dates vectors row.Split numbers said all few fits inside small h = split_says dates vectors numbers said (equal_by _ _ fits) inside h
 says-line dates vectors row.Point numbers said all few fits inside small h = point_says dates vectors numbers said (equal_by _ _ fits) h
-says-line dates vectors row.Leaf numbers said all few fits inside small h = leaf_says dates vectors numbers said all few (leaf_wide dates (length numbers) fits) inside h
+says-line dates vectors (row.Leaf how) numbers said all few fits inside small h = leaf_says how dates vectors numbers said all few (leaf_wide how dates (length numbers) fits) inside h
 says-line dates vectors row.Priced numbers said all few fits inside small h = priced_says dates vectors numbers said (equal_by _ _ fits) inside h
 says-line dates vectors row.End numbers said all few fits inside small h = end_says dates vectors numbers said (equal_by _ _ fits) h
 
@@ -331,8 +348,8 @@ prices_read dates vectors place [] all = tt
 prices_read dates vectors place (price ∷ prices) all =
     (within 0 (2 * PRICE_SCALE) price (omega arith) (All-head IsPrice price prices all), prices_read dates vectors (place + 1) prices (All-tail IsPrice price prices all))
 
-leaf_fits : (dates count : ℕ) → count ≤ dates → row_fits dates row.Leaf (3 + 2 * count) ≡ true
-leaf_fits dates count h =
+leaf_fits : (how : Weighing) (dates count : ℕ) → count ≤ dates → row_fits dates (row.Leaf how) (3 + 2 * count) ≡ true
+leaf_fits how dates count h =
     let low : 3 ≤ 3 + 2 * count = omega arith in
     let high : 3 + 2 * count ≤ 3 + 2 * dates = omega arith in
     let odd : (3 + 2 * count) % 2 ≡ 1 = omega arith in
@@ -342,37 +359,43 @@ order_read : (a b : Bool) → a ≡ true → b ≡ false → (not a || b) ≡ fa
 order_read true b h k = k
 order_read false b h k = absurd (cc)
 
-leaf_shows : (dates : ℕ) (vectors : List (List ℕ)) (rho mu number : ℕ) (changes : List Change) → dates ≤ MOST_DATES → length vectors ≤ MOST_VECTORS →
-    IsPackedLeaf dates vectors rho mu number changes → ShowsLine dates vectors row.Leaf (line.Node (node.Closed rho mu number changes))
-leaf_shows dates vectors rho mu number changes short few is =
+own_shows : (how : Weighing) (dates : ℕ) (vectors : List (List ℕ)) (rho mu number : ℕ) (changes : List Change) → dates ≤ MOST_DATES → length vectors ≤ MOST_VECTORS →
+    IsPackedLeaf dates vectors rho mu number changes → IsSayable how rho → ShowsLine dates vectors (row.Leaf how) (line.Closed how rho mu number changes)
+own_shows how dates vectors rho mu number changes short few is counts =
     let vector : List ℕ = vector_of vectors number in
-    let said : Line = line.Node (node.Closed rho mu number changes) in
+    let said : Line = line.Closed how rho mu number changes in
     let all : All (InChange dates) changes = in-changes dates vector changes is.changes_are.all in
     let count : length (numbers_of_line said) ≡ 3 + 2 * length changes = omega (arith, change-count changes) in
-    let weight : ℕ = rho_number rho in
+    let weight : ℕ = rho_number how rho in
     record {
-      small = (weight_written rho, (omega (arith, is.leaf.limit), (omega (arith, is.last, few), changes-written dates changes short all)));
+      small = (weight_written how rho is.leaf.cost, (omega (arith, is.leaf.limit), (omega (arith, is.last, few), changes-written dates changes short all)));
       ranges = (
-        weight_within rho,
+        weight_within how rho is.leaf.cost,
         (
           within 0 PRICE_SCALE mu (omega arith) is.leaf.limit,
-          (within 1 (length vectors) number is.first is.last, changes-ranges dates (length vectors) changes 4 (omega arith) refl all),
+          (within 1 (length vectors) number is.first is.last, changes-ranges how dates (length vectors) changes 4 (omega arith) refl all),
         ),
       );
-      fits = ap (λ (k : ℕ). row_fits dates row.Leaf k) count ∙ leaf_fits dates (length changes) (few-changes dates changes all is.changes_are.rising);
+      fits = ap (λ (k : ℕ). row_fits dates (row.Leaf how) k) count ∙ leaf_fits how dates (length changes) (few-changes dates changes all is.changes_are.rising);
       said_is =
-          ap (λ (cs : List Change). leaf_said vector weight mu number cs) (changes-back changes)
+          ap (λ (cs : List Change). leaf_said how vector weight mu number cs) (changes-back changes)
           ∙ ap (λ (b : Bool). if b then Err kind.Number else if not (are_rising (places_of changes)) || rises (changed vector changes) then Err kind.Order
-          else Ok (line.Node (node.Closed (rho_said weight) mu number changes))) (others-read vector changes (other-changes dates vector changes is.changes_are.all))
-          ∙ ap (λ (b : Bool). if b then Err kind.Order else Ok (line.Node (node.Closed (rho_said weight) mu number changes)))
+          else Ok (line.Closed how (rho_said how weight) mu number changes)) (others-read vector changes (other-changes dates vector changes is.changes_are.all))
+          ∙ ap (λ (b : Bool). if b then Err kind.Order else Ok (line.Closed how (rho_said how weight) mu number changes))
           (order_read _ _ (places-rising changes is.changes_are.rising) (falling-order (changed vector changes) is.leaf.falling))
-          ∙ ap (λ (w : ℕ). Ok (line.Node (node.Closed w mu number changes))) (weight_read rho is.leaf.counts);
+          ∙ ap (λ (w : ℕ). Ok (line.Closed how w mu number changes)) (weight_read how rho counts);
       bytes = refl;
     }
 
+leaf_shows : (w : Weighing) (dates : ℕ) (vectors : List (List ℕ)) (how : Weighing) (rho mu number : ℕ) (changes : List Change) → dates ≤ MOST_DATES → length vectors ≤ MOST_VECTORS →
+    IsClosed w dates vectors how rho mu number changes → ShowsLine dates vectors (row.Leaf w) (line.Closed how rho mu number changes)
+leaf_shows w dates vectors how rho mu number changes short few closed =
+    let P : Weighing → Type 0 = λ u. ShowsLine dates vectors (row.Leaf w) (line.Closed u rho mu number changes) in
+    subst P (sym closed.said) (own_shows w dates vectors rho mu number changes short few closed.leaf closed.weight)
+
 -- the places of changes are written where there are few need dates
 abbrev pub IsShort : ℕ → Row → Type 0
-IsShort dates row.Leaf = dates ≤ MOST_DATES
+IsShort dates (row.Leaf how) = dates ≤ MOST_DATES
 IsShort dates other = Unit {0}
 
 weights_read : (place : ℕ) (prices : List ℕ) → 3 ≤ place → All IsPrice prices → InRanges weight_range place prices
@@ -382,14 +405,14 @@ weights_read place (price ∷ prices) h all = (
   weights_read (place + 1) prices (omega arith) (All-tail IsPrice price prices all),
 )
 
-priced_shows : (dates : ℕ) (vectors : List (List ℕ)) (leaf : Leaf) → IsLeaf dates leaf → ShowsLine dates vectors row.Priced (line.Leaf leaf)
+priced_shows : (dates : ℕ) (vectors : List (List ℕ)) (leaf : Leaf) → IsPlainLeaf dates leaf → ShowsLine dates vectors row.Priced (line.Leaf leaf)
 priced_shows dates vectors leaf is = record {
-  small = (weight_written leaf.rho, (omega (arith, is.limit), prices-written leaf.prices is.range));
-  ranges = (weight_within leaf.rho, (within 0 PRICE_SCALE leaf.mu (omega arith) is.limit, weights_read 3 leaf.prices (omega arith) is.range));
-  fits = same_count (length (numbers_of_line (line.Leaf leaf))) (2 + dates) (omega (arith, is.every_date));
+  small = (weight_written weighing.WholeOrNone leaf.rho is.0.cost, (omega (arith, is.0.limit), prices-written leaf.prices is.0.range));
+  ranges = (weight_within weighing.WholeOrNone leaf.rho is.0.cost, (within 0 PRICE_SCALE leaf.mu (omega arith) is.0.limit, weights_read 3 leaf.prices (omega arith) is.0.range));
+  fits = same_count (length (numbers_of_line (line.Leaf leaf))) (2 + dates) (omega (arith, is.0.every_date));
   said_is =
-      ap (λ (b : Bool). if b then Err kind.Order else Ok (line.Leaf (record { rho = rho_said (rho_number leaf.rho); mu = leaf.mu; prices = leaf.prices }))) (falling-order leaf.prices is.falling)
-      ∙ ap (λ (w : ℕ). Ok (line.Leaf (record { rho = w; mu = leaf.mu; prices = leaf.prices }))) (weight_read leaf.rho is.counts);
+      ap (λ (b : Bool). if b then Err kind.Order else Ok (line.Leaf (record { rho = rho_said weighing.WholeOrNone (rho_number weighing.WholeOrNone leaf.rho); mu = leaf.mu; prices = leaf.prices }))) (falling-order leaf.prices is.0.falling)
+      ∙ ap (λ (w : ℕ). Ok (line.Leaf (record { rho = w; mu = leaf.mu; prices = leaf.prices }))) (weight_read weighing.WholeOrNone leaf.rho is.1);
   bytes = refl;
 }
 
@@ -441,15 +464,15 @@ row-shows-line dates vectors row.Nodes (line.Nodes count) short says = record {
   said_is = refl;
   bytes = refl;
 }
-row-shows-line dates vectors row.Split (line.Node (node.Split number at)) short says = record {
+row-shows-line dates vectors row.Split (line.Split number at) short says = record {
   small = (omega (arith, says.0), (omega (arith, says.1), tt));
   ranges = (within 0 65_535 number (omega arith) says.0, (within 0 GREATEST_UNITS at (omega arith) says.1, tt));
   fits = refl;
   said_is = refl;
   bytes = refl;
 }
-row-shows-line dates vectors row.Point (line.Node node.Point) short says = record { small = tt; ranges = tt; fits = refl; said_is = refl; bytes = refl }
-row-shows-line dates vectors row.Leaf (line.Node (node.Closed rho mu vector changes)) short says = leaf_shows dates vectors rho mu vector changes short says.0 says.1
+row-shows-line dates vectors row.Point line.Point short says = record { small = tt; ranges = tt; fits = refl; said_is = refl; bytes = refl }
+row-shows-line dates vectors (row.Leaf w) (line.Closed how rho mu vector changes) short says = leaf_shows w dates vectors how rho mu vector changes short says.0 says.1
 row-shows-line dates vectors row.Priced (line.Leaf leaf) short says = priced_shows dates vectors leaf says
 row-shows-line dates vectors row.End line.End short says = record { small = tt; ranges = tt; fits = refl; said_is = refl; bytes = refl }
 row-shows-line dates vectors r said short says = absurd says

@@ -15,7 +15,8 @@ use Rattle.bound_certificate.specs.declared.row.Row.TheVariants as row
 use Rattle.bound_certificate.specs.declared.line.Line.TheVariants as line_of
 use Rattle.bound_certificate.specs.declared.version.Version.{Version}
 use Rattle.bound_certificate.specs.declared.version.Version.TheVariants as version
-use Rattle.bound_certificate.specs.Grammar.{begins_with, leaf_row, line_said, node_row, row_line, said_or, title_version, title_word}
+use Rattle.bound_certificate.specs.declared.weighing.Weighing.TheVariants as weighing
+use Rattle.bound_certificate.specs.Grammar.{begins_with, leaf_row, line_said, node_row, row_line, said_or, title_version, title_weighing, title_word}
 use Rattle.bound_certificate.specs.LongLine.{IsCounted, IsLongLine}
 use Rattle.bound_certificate.specs.Row.{numbers_by, numbers_or, row_fits, row_range, row_said, row_word, row_words}
 use Rattle.line_words.specs.Words.{first_word, is_space, words_of}
@@ -112,7 +113,7 @@ row_length row.Nodes = omega arith
 row_length row.Split = omega arith
 row_length row.Point = omega arith
 row_length row.Priced = omega arith
-row_length row.Leaf = omega arith
+row_length (row.Leaf how) = omega arith
 row_length row.End = omega arith
 
 -- so many spaces as don't fit need not be counted
@@ -206,11 +207,12 @@ long-node v head line spaces is =
 
 title_by : (v : Version) (head line : List ℕ) (spaces : ℕ) → IsLongLine head spaces line → pointwise nat_eq (title_word v) line ≡ false
 title_by version.One head line spaces is = long-other (title_word version.One) head line spaces is (omega arith)
-title_by version.Two head line spaces is = long-other (title_word version.Two) head line spaces is (omega arith)
+title_by (version.Packed weighing.WholeOrNone) head line spaces is = long-other (title_word (version.Packed weighing.WholeOrNone)) head line spaces is (omega arith)
+title_by (version.Packed weighing.Number) head line spaces is = long-other (title_word (version.Packed weighing.Number)) head line spaces is (omega arith)
 
 -- a long line is no first line, and says no version but 1
 pub long-title : (v : Version) (dates : ℕ) (vectors : List (List ℕ)) (head line : List ℕ) (spaces : ℕ) → IsLongLine head spaces line → line_said v dates vectors due.Title line ≡ Err kind.Header
 long-title v dates vectors head line spaces is = ap (λ (b : Bool). if b then Ok (line_of.Title v) else Err kind.Header) (title_by v head line spaces is)
 
 pub long-version : (head line : List ℕ) (spaces : ℕ) → IsLongLine head spaces line → title_version line ≡ version.One
-long-version head line spaces is = ap (λ (b : Bool). if b then version.Two else version.One) (title_by version.Two head line spaces is)
+long-version head line spaces is = ap (λ (b : Bool). if b then version.Packed (title_weighing line) else version.One) (title_by (version.Packed (title_weighing line)) head line spaces is)

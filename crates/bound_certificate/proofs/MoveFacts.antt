@@ -13,7 +13,6 @@ use Rattle.bound_certificate.specs.declared.item.Item.TheVariants as item
 use Rattle.bound_certificate.specs.declared.limits.TheConstants.{GREATEST_GAP, MOST_NODES, MOST_VECTORS}
 use Rattle.bound_certificate.specs.declared.line.Line.{Line}
 use Rattle.bound_certificate.specs.declared.line.Line.TheVariants as line
-use Rattle.bound_certificate.specs.declared.packed.PackedNode.TheVariants as node
 use Rattle.bound_certificate.specs.declared.text_reading.Stage.{Stage}
 use Rattle.bound_certificate.specs.declared.text_reading.Stage.TheVariants as stage
 use Rattle.bound_certificate.specs.declared.version.Version.{Version}
@@ -43,20 +42,20 @@ line_ended (line.Gap cents) h = absurd (cc)
 line_ended (line.Vectors count) h = absurd (cc)
 line_ended (line.Vector prices) h = absurd (cc)
 line_ended (line.Nodes count) h = absurd (cc)
-line_ended (line.Node (node.Split number at)) h = absurd (cc)
-line_ended (line.Node node.Point) h = absurd (cc)
-line_ended (line.Node (node.Closed rho mu vector changes)) h = absurd (cc)
+line_ended (line.Split number at) h = absurd (cc)
+line_ended line.Point h = absurd (cc)
+line_ended (line.Closed how rho mu vector changes) h = absurd (cc)
 line_ended (line.Leaf leaf) h = absurd (cc)
 line_ended line.End h = absurd (cc)
 
 node_suits : (v : Version) (dates left trees : ℕ) (vectors : List (List ℕ)) (said : Line) (leaf : Leaf) → IsNodeLine v dates vectors said →
     (line_item said ≡ item.Leaf → leaf ≡ line_leaf vectors said) → IsSuited dates (due.Node left trees) (line_item said) leaf
-node_suits v dates left trees vectors (line.Node (node.Split number at)) leaf is given = tt
-node_suits v dates left trees vectors (line.Node node.Point) leaf is given = tt
-node_suits version.Two dates left trees vectors (line.Node (node.Closed rho mu vector changes)) leaf is given = subst (IsLeaf dates) (sym (given refl)) is.leaf
-node_suits version.One dates left trees vectors (line.Leaf mine) leaf is given = subst (IsLeaf dates) (sym (given refl)) is
+node_suits v dates left trees vectors (line.Split number at) leaf is given = tt
+node_suits v dates left trees vectors line.Point leaf is given = tt
+node_suits (version.Packed w) dates left trees vectors (line.Closed how rho mu vector changes) leaf is given = subst (IsLeaf dates) (sym (given refl)) is.leaf.leaf
+node_suits version.One dates left trees vectors (line.Leaf mine) leaf is given = subst (IsLeaf dates) (sym (given refl)) is.0
 node_suits version.One dates left trees vectors said leaf is given = absurd is
-node_suits version.Two dates left trees vectors said leaf is given = absurd is
+node_suits (version.Packed w) dates left trees vectors said leaf is given = absurd is
 
 line_suits : (v : Version) (dates : ℕ) (vectors : List (List ℕ)) (d : Due) (said : Line) (leaf : Leaf) → Fits v dates vectors d said →
     (line_item said ≡ item.Leaf → leaf ≡ line_leaf vectors said) → IsSuited dates (seen_due d) (line_item said) leaf
@@ -116,9 +115,9 @@ few-step dates d told leaf mine cert suited said few = absurd suited
 
 -- ---- version 1
 node_few : (v : Version) (dates : ℕ) (vectors : List (List ℕ)) (said : Line) → IsNodeLine v dates vectors said → IsFewSaid (line_item said)
-node_few v dates vectors (line.Node (node.Split number at)) is = tt
-node_few v dates vectors (line.Node node.Point) is = tt
-node_few v dates vectors (line.Node (node.Closed rho mu vector changes)) is = tt
+node_few v dates vectors (line.Split number at) is = tt
+node_few v dates vectors line.Point is = tt
+node_few v dates vectors (line.Closed how rho mu vector changes) is = tt
 node_few v dates vectors (line.Leaf leaf) is = tt
 node_few v dates vectors said is = absurd is
 
@@ -150,13 +149,13 @@ seen_nodes left trees false = refl
 
 seen_tree : (v : Version) → seen_due (tree_due v) ≡ due.Count
 seen_tree version.One = refl
-seen_tree version.Two = refl
+seen_tree (version.Packed w) = refl
 
 node_after : (v : Version) (dates left trees : ℕ) (vectors : List (List ℕ)) (said : Line) → IsNodeLine v dates vectors said →
     seen_due (next_due v (due.Node left trees) (line_item said)) ≡ due_after (due.Node left trees) (line_item said)
-node_after v dates left trees vectors (line.Node (node.Split number at)) is = seen_nodes (left - 1) (trees + 1) (left - 1 == 0)
-node_after v dates left trees vectors (line.Node node.Point) is = seen_nodes (left - 1) (trees - 1) (left - 1 == 0)
-node_after v dates left trees vectors (line.Node (node.Closed rho mu vector changes)) is = seen_nodes (left - 1) (trees - 1) (left - 1 == 0)
+node_after v dates left trees vectors (line.Split number at) is = seen_nodes (left - 1) (trees + 1) (left - 1 == 0)
+node_after v dates left trees vectors line.Point is = seen_nodes (left - 1) (trees - 1) (left - 1 == 0)
+node_after v dates left trees vectors (line.Closed how rho mu vector changes) is = seen_nodes (left - 1) (trees - 1) (left - 1 == 0)
 node_after v dates left trees vectors (line.Leaf leaf) is = seen_nodes (left - 1) (trees - 1) (left - 1 == 0)
 node_after v dates left trees vectors said is = absurd is
 
@@ -279,7 +278,7 @@ first-stops v dates vectors bytes cause title stops number lines some =
 -- ---- what a line says where it stands
 few_buys_said : (v : Version) (count : ℕ) → count ≤ most_buys v → IsSaid due.Portfolio (item.Portfolio (Some count))
 few_buys_said version.One count few = omega (arith, few)
-few_buys_said version.Two count few = few
+few_buys_said (version.Packed w) count few = few
 
 line_is_said : (v : Version) (dates : ℕ) (vectors : List (List ℕ)) (d : Due) (said : Line) → Fits v dates vectors d said → IsSaid d (line_item said)
 line_is_said v dates vectors due.Title (line.Title w) fits = tt

@@ -5,10 +5,12 @@ use Rattle.std.proofs.lemmas.Bool.{and_parts}
 use Rattle.std.proofs.lemmas.List.Elements.{All-append, All-cons, All-head, All-nil, All-tail}
 use Rattle.std.proofs.lemmas.List.Kept.{AllPairs-cons}
 use Rattle.proof_tree.specs.declared.prices.TheConstants.{PRICE_SCALE}
-use Rattle.proof_tree.specs.Tree.{IsWholeOrNone}
 use Rattle.bound_certificate.specs.declared.limits.TheConstants.{GREATEST_GAP}
-use Rattle.bound_certificate.specs.Grammar.{rho_said, rises}
-use Rattle.bound_certificate.specs.Text.{IsOneLine, NotFeed, rho_number, spaced_numbers}
+use Rattle.bound_certificate.specs.declared.weighing.Weighing.{Weighing}
+use Rattle.bound_certificate.specs.declared.weighing.Weighing.TheVariants as weighing
+use Rattle.bound_certificate.specs.Weights.{IsSayable, IsWholeOrNone, most_weight, rho_number, rho_said}
+use Rattle.bound_certificate.specs.Grammar.{rises}
+use Rattle.bound_certificate.specs.Text.{IsOneLine, NotFeed, spaced_numbers}
 use Rattle.line_words.specs.Words.{is_in, is_space}
 use Rattle.bound_certificate.proofs.RowFacts.{AreWritten, IsDigit, IsWord, decimal-digits}
 
@@ -94,37 +96,52 @@ number_within : (none : Bool) → is_in (record { least = 0; most = 1 }) (if non
 number_within true = refl
 number_within false = refl
 
-pub weight_within : (rho : ℕ) → is_in (record { least = 0; most = 1 }) (rho_number rho) ≡ true
-weight_within rho = number_within (rho == 0)
+pub weight_within : (how : Weighing) (rho : ℕ) → rho ≤ PRICE_SCALE → is_in (record { least = 0; most = most_weight how }) (rho_number how rho) ≡ true
+weight_within weighing.WholeOrNone rho small = number_within (rho == 0)
+weight_within weighing.Number rho small = within 0 PRICE_SCALE rho (omega arith) small
 
 number_small : (none : Bool) → (if none then 0 else 1) ≤ 1
 number_small true = omega arith
 number_small false = omega arith
 
-pub weight-one : (rho : ℕ) → rho_number rho ≤ 1
-weight-one rho = number_small (rho == 0)
+pub weight-small : (how : Weighing) (rho : ℕ) → rho ≤ PRICE_SCALE → rho_number how rho ≤ PRICE_SCALE
+weight-small weighing.WholeOrNone rho small = let one : rho_number weighing.WholeOrNone rho ≤ 1 = number_small (rho == 0) in omega (arith, one)
+weight-small weighing.Number rho small = small
 
-pub weight_written : (rho : ℕ) → rho_number rho ≤ GREATEST_GAP
-weight_written rho = omega (arith, weight-one rho)
+pub weight_written : (how : Weighing) (rho : ℕ) → rho ≤ PRICE_SCALE → rho_number how rho ≤ GREATEST_GAP
+weight_written how rho small = omega (arith, weight-small how rho small)
 
-pub weight_read : (rho : ℕ) → IsWholeOrNone rho → rho_said (rho_number rho) ≡ rho
-weight_read zero counts = refl
-weight_read (suc rho) counts =
+whole_read : (rho : ℕ) → IsWholeOrNone rho → rho_said weighing.WholeOrNone (rho_number weighing.WholeOrNone rho) ≡ rho
+whole_read zero counts = refl
+whole_read (suc rho) counts =
     let all : suc rho ≡ PRICE_SCALE = counts (omega arith) in
-    ap (λ w. rho_said (rho_number w)) all ∙ sym all
+    ap (λ w. rho_said weighing.WholeOrNone (rho_number weighing.WholeOrNone w)) all ∙ sym all
+
+pub weight_read : (how : Weighing) (rho : ℕ) → IsSayable how rho → rho_said how (rho_number how rho) ≡ rho
+weight_read weighing.WholeOrNone rho counts = whole_read rho counts
+weight_read weighing.Number rho counts = refl
 
 said_counts : (one : Bool) → IsWholeOrNone (if one then PRICE_SCALE else 0)
 said_counts true = λ some. refl
 said_counts false = λ some. absurd (omega (arith, some))
 
-pub rho-counts : (number : ℕ) → IsWholeOrNone (rho_said number)
-rho-counts number = said_counts (number == 1)
+pub rho-sayable : (how : Weighing) (number : ℕ) → IsSayable how (rho_said how number)
+rho-sayable weighing.WholeOrNone number = said_counts (number == 1)
+rho-sayable weighing.Number number = tt
 
-pub rho-small : (rho : ℕ) → IsWholeOrNone rho → rho ≤ PRICE_SCALE
-rho-small zero counts = omega arith
-rho-small (suc rho) counts = let all : suc rho ≡ PRICE_SCALE = counts (omega arith) in omega (arith, all)
+said_small : (one : Bool) → (if one then PRICE_SCALE else 0) ≤ PRICE_SCALE
+said_small true = omega arith
+said_small false = omega arith
 
-pub weight-found : (number : ℕ) → number ≤ 1 → rho_number (rho_said number) ≡ number
-weight-found zero h = refl
-weight-found (suc zero) h = refl
-weight-found (suc (suc more)) h = absurd (omega (arith, h))
+pub rho-small : (how : Weighing) (number : ℕ) → number ≤ most_weight how → rho_said how number ≤ PRICE_SCALE
+rho-small weighing.WholeOrNone number few = said_small (number == 1)
+rho-small weighing.Number number few = few
+
+whole_found : (number : ℕ) → number ≤ 1 → rho_number weighing.WholeOrNone (rho_said weighing.WholeOrNone number) ≡ number
+whole_found zero h = refl
+whole_found (suc zero) h = refl
+whole_found (suc (suc more)) h = absurd (omega (arith, h))
+
+pub weight-found : (how : Weighing) (number : ℕ) → number ≤ most_weight how → rho_number how (rho_said how number) ≡ number
+weight-found weighing.WholeOrNone number h = whole_found number h
+weight-found weighing.Number number h = refl

@@ -73,7 +73,7 @@ few-numbers dates count row.Vector few fits = let same : count ≡ dates = grind
 few-numbers dates count row.Nodes few fits = let same : count ≡ 1 = grind (arith, fits) in omega (arith, same)
 few-numbers dates count row.Split few fits = let same : count ≡ 2 = grind (arith, fits) in omega (arith, same)
 few-numbers dates count row.Point few fits = let same : count ≡ 0 = grind (arith, fits) in omega (arith, same)
-few-numbers dates count row.Leaf few fits = let same : count ≤ 3 + 2 * dates = grind (arith, fits) in omega (arith, same, few)
+few-numbers dates count (row.Leaf how) few fits = let same : count ≤ 3 + 2 * dates = grind (arith, fits) in omega (arith, same, few)
 few-numbers dates count row.Priced few fits = let same : count ≡ 2 + dates = grind (arith, fits) in omega (arith, same, few)
 few-numbers dates count row.End few fits = let same : count ≡ 0 = grind (arith, fits) in omega (arith, same)
 

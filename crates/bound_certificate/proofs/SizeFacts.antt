@@ -16,14 +16,16 @@ use Rattle.bound_certificate.specs.declared.limits.TheConstants.{MOST_VECTORS}
 use Rattle.bound_certificate.specs.declared.line.Line.{Line}
 use Rattle.bound_certificate.specs.declared.line.Line.TheVariants as line
 use Rattle.bound_certificate.specs.declared.packed.Change.{Change}
-use Rattle.bound_certificate.specs.declared.packed.PackedNode.TheVariants as node
 use Rattle.bound_certificate.specs.declared.version.Version.{Version}
 use Rattle.bound_certificate.specs.declared.version.Version.TheVariants as version
+use Rattle.bound_certificate.specs.declared.weighing.Weighing.{Weighing}
+use Rattle.bound_certificate.specs.declared.weighing.Weighing.TheVariants as weighing
+use Rattle.bound_certificate.specs.Weights.{rho_number}
 use Rattle.bound_certificate.specs.Certificate.{IsBuy}
 use Rattle.bound_certificate.specs.Grammar.{most_buys}
 use Rattle.bound_certificate.specs.Packed.{AreChanges, IsChange, IsPackedLeaf, IsVector, vector_of}
-use Rattle.bound_certificate.proofs.PriceFacts.{weight-one}
-use Rattle.bound_certificate.specs.Text.{change_numbers, line_text, numbered, portfolio_lines, rho_number, spaced_numbers, vector_lines}
+use Rattle.bound_certificate.proofs.PriceFacts.{weight-small}
+use Rattle.bound_certificate.specs.Text.{change_numbers, line_text, numbered, portfolio_lines, spaced_numbers, vector_lines}
 use Rattle.bound_certificate.specs.Versions.{IsCertificateText}
 use Rattle.bound_certificate.proofs.ChangeFacts.{InChange, few-changes}
 use Rattle.bound_certificate.proofs.DueFacts.{IsNodeLine}
@@ -67,18 +69,18 @@ two_size word first second small other =
     )
 
 -- the line of a leaf: two numbers, and one price for each of at most 480 need dates
-rho_small : (rho : ℕ) → rho_number rho < 10 ^ 13
-rho_small rho = omega (arith, weight-one rho)
+rho_small : (how : Weighing) (rho : ℕ) → rho ≤ PRICE_SCALE → rho_number how rho < 10 ^ 13
+rho_small how rho small = omega (arith, weight-small how rho small)
 
 priced_size : (dates : ℕ) (leaf : Leaf) → dates ≤ 480 → IsLeaf dates leaf → length (line_text (line.Leaf leaf)) ≤ 6_750
 priced_size dates leaf few is_leaf =
     let prices = All-weaker (λ price. price ≤ 2 * PRICE_SCALE) (λ n. n < 10 ^ 13) (λ price most. omega (arith, most)) leaf.prices is_leaf.range in
-    let all = All-cons (λ n. n < 10 ^ 13) (rho_number leaf.rho) (leaf.mu ∷ leaf.prices) (rho_small leaf.rho)
+    let all = All-cons (λ n. n < 10 ^ 13) (rho_number weighing.WholeOrNone leaf.rho) (leaf.mu ∷ leaf.prices) (rho_small weighing.WholeOrNone leaf.rho is_leaf.cost)
     (All-cons (λ n. n < 10 ^ 13) leaf.mu leaf.prices (omega (arith, is_leaf.limit)) prices) in
     omega (
       arith,
-      line_size (codes "l") (rho_number leaf.rho ∷ leaf.mu ∷ leaf.prices),
-      numbers_size (rho_number leaf.rho ∷ leaf.mu ∷ leaf.prices) all,
+      line_size (codes "l") (rho_number weighing.WholeOrNone leaf.rho ∷ leaf.mu ∷ leaf.prices),
+      numbers_size (rho_number weighing.WholeOrNone leaf.rho ∷ leaf.mu ∷ leaf.prices) all,
       is_leaf.every_date,
       few,
     )
@@ -120,14 +122,14 @@ three_size first second third numbers one two three =
       length-append (decimal third) (spaced_numbers numbers),
     )
 
-leaf_size : (dates : ℕ) (vectors : List (List ℕ)) (rho mu vector : ℕ) (changes : List Change) → dates ≤ 480 → length vectors ≤ MOST_VECTORS
-    → IsPackedLeaf dates vectors rho mu vector changes → length (line_text (line.Node (node.Closed rho mu vector changes))) ≤ 8_700
-leaf_size dates vectors rho mu vector changes few count leaf =
-    let weight : ℕ = rho_number rho in
+leaf_size : (how : Weighing) (dates : ℕ) (vectors : List (List ℕ)) (rho mu vector : ℕ) (changes : List Change) → dates ≤ 480 → length vectors ≤ MOST_VECTORS
+    → IsPackedLeaf dates vectors rho mu vector changes → length (line_text (line.Closed how rho mu vector changes)) ≤ 8_700
+leaf_size how dates vectors rho mu vector changes few count leaf =
+    let weight : ℕ = rho_number how rho in
     omega (
       arith,
       line_size (codes "l") (weight ∷ mu ∷ vector ∷ change_numbers changes),
-      three_size weight mu vector (change_numbers changes) (rho_small rho) (omega (arith, leaf.leaf.limit)) (omega (arith, leaf.last, count)),
+      three_size weight mu vector (change_numbers changes) (rho_small how rho leaf.leaf.cost) (omega (arith, leaf.leaf.limit)) (omega (arith, leaf.last, count)),
       changes_size dates (vector_of vectors vector) changes few leaf.changes_are.all,
       few_of dates (vector_of vectors vector) changes leaf.changes_are,
       few,
@@ -139,8 +141,8 @@ nodes_size : (v : Version) (dates count : ℕ) (vectors : List (List ℕ)) (node
     → length (flat_map line_text nodes) ≤ 44 * length nodes + 4_340 * (length nodes + count)
 nodes_size v dates count vectors [] few many all trees = omega arith
 nodes_size v dates zero vectors (next ∷ nodes) few many all trees = absurd (cc)
-nodes_size v dates (suc count) vectors (line.Node (node.Split number at) ∷ nodes) few many all trees =
-    let own : Line = line.Node (node.Split number at) in
+nodes_size v dates (suc count) vectors (line.Split number at ∷ nodes) few many all trees =
+    let own : Line = line.Split number at in
     let here : IsNodeLine v dates vectors own = All-head (IsNodeLine v dates vectors) own nodes all in
     omega (
       arith,
@@ -148,31 +150,31 @@ nodes_size v dates (suc count) vectors (line.Node (node.Split number at) ∷ nod
       two_size (codes "s") number at (omega (arith, here.0)) (omega (arith, here.1)),
       nodes_size v dates (suc (suc count)) vectors nodes few many (All-tail (IsNodeLine v dates vectors) own nodes all) trees,
     )
-nodes_size v dates (suc count) vectors (line.Node node.Point ∷ nodes) few many all trees =
-    let own : Line = line.Node node.Point in
+nodes_size v dates (suc count) vectors (line.Point ∷ nodes) few many all trees =
+    let own : Line = line.Point in
     omega (
       arith,
       length-append (line_text own) (flat_map line_text nodes),
       nodes_size v dates count vectors nodes few many (All-tail (IsNodeLine v dates vectors) own nodes all) trees,
     )
-nodes_size version.Two dates (suc count) vectors (line.Node (node.Closed rho mu vector changes) ∷ nodes) few many all trees =
-    let own : Line = line.Node (node.Closed rho mu vector changes) in
+nodes_size (version.Packed w) dates (suc count) vectors (line.Closed how rho mu vector changes ∷ nodes) few many all trees =
+    let own : Line = line.Closed how rho mu vector changes in
     omega (
       arith,
       length-append (line_text own) (flat_map line_text nodes),
-      leaf_size dates vectors rho mu vector changes few many (All-head (IsNodeLine version.Two dates vectors) own nodes all),
-      nodes_size version.Two dates count vectors nodes few many (All-tail (IsNodeLine version.Two dates vectors) own nodes all) trees,
+      leaf_size how dates vectors rho mu vector changes few many (All-head (IsNodeLine (version.Packed w) dates vectors) own nodes all).leaf,
+      nodes_size (version.Packed w) dates count vectors nodes few many (All-tail (IsNodeLine (version.Packed w) dates vectors) own nodes all) trees,
     )
 nodes_size version.One dates (suc count) vectors (line.Leaf leaf ∷ nodes) few many all trees =
     let own : Line = line.Leaf leaf in
     omega (
       arith,
       length-append (line_text own) (flat_map line_text nodes),
-      priced_size dates leaf few (All-head (IsNodeLine version.One dates vectors) own nodes all),
+      priced_size dates leaf few (All-head (IsNodeLine version.One dates vectors) own nodes all).0,
       nodes_size version.One dates count vectors nodes few many (All-tail (IsNodeLine version.One dates vectors) own nodes all) trees,
     )
 nodes_size version.One dates (suc count) vectors (own ∷ nodes) few many all trees = absurd (All-head (IsNodeLine version.One dates vectors) own nodes all)
-nodes_size version.Two dates (suc count) vectors (own ∷ nodes) few many all trees = absurd (All-head (IsNodeLine version.Two dates vectors) own nodes all)
+nodes_size (version.Packed w) dates (suc count) vectors (own ∷ nodes) few many all trees = absurd (All-head (IsNodeLine (version.Packed w) dates vectors) own nodes all)
 
 -- the lines of vectors, each with one price for each of at most 480 need dates
 vectors_size : (dates : ℕ) (vectors : List (List ℕ)) → dates ≤ 480 → All (IsVector dates) vectors → length (flat_map line_text (map line.Vector vectors)) ≤ 6_750 * length vectors
@@ -204,7 +206,7 @@ buys_size (buy ∷ buys) all =
 
 few_bought : (v : Version) (count : ℕ) → count ≤ most_buys v → count ≤ 513
 few_bought version.One count few = omega (arith, few)
-few_bought version.Two count few = few
+few_bought (version.Packed w) count few = few
 
 portfolio_size : (v : Version) (buys : Option (List Buy)) (gap : ℕ) → IsPortfolioOf v buys gap → length (flat_map line_text (portfolio_lines buys)) ≤ 23_000
 portfolio_size v None gap none = omega arith
@@ -233,7 +235,7 @@ next_size own lines = length-append (line_text own) (flat_map line_text lines)
 
 vector_lines_size : (v : Version) (dates : ℕ) (vectors : List (List ℕ)) → dates ≤ 480 → AreVectorsOf v dates vectors → length (flat_map line_text (vector_lines v vectors)) ≤ 440_000
 vector_lines_size version.One dates vectors few are = omega arith
-vector_lines_size version.Two dates vectors few are =
+vector_lines_size (version.Packed w) dates vectors few are =
     omega (
       arith,
       next_size (line.Vectors (length vectors)) (map line.Vector vectors),
@@ -244,7 +246,7 @@ vector_lines_size version.Two dates vectors few are =
 
 few_vectors : (v : Version) (dates : ℕ) (vectors : List (List ℕ)) → AreVectorsOf v dates vectors → length vectors ≤ MOST_VECTORS
 few_vectors version.One dates vectors none = omega (arith, ap length none)
-few_vectors version.Two dates vectors are = are.0
+few_vectors (version.Packed w) dates vectors are = are.0
 
 -- the lines from the nodes on
 tree_size : (v : Version) (dates : ℕ) (w : Written) → dates ≤ 480 → IsWritten v dates w → length (flat_map line_text (tree_lines w.nodes)) ≤ 44_000_000
@@ -260,7 +262,8 @@ tree_size v dates w few well =
 
 title_size : (v : Version) → length (line_text (line.Title v)) ≤ 21
 title_size version.One = omega arith
-title_size version.Two = omega arith
+title_size (version.Packed weighing.WholeOrNone) = omega arith
+title_size (version.Packed weighing.Number) = omega arith
 
 written_fits : (v : Version) (dates : ℕ) (w : Written) → dates ≤ 480 → IsWritten v dates w → length (flat_map line_text (written_lines v w)) ≤ CERTIFICATE_LIMIT
 written_fits v dates w few well =
@@ -278,8 +281,8 @@ written_fits v dates w few well =
       tree_size v dates w few well,
     )
 
--- a text of a certificate, of either version
+-- a text of a certificate, of whichever version
 pub certificate_fits : (dates : ℕ) (cert : Certificate) (bytes : List ℕ) → dates ≤ 480 → IsCertificateText dates cert bytes → length bytes ≤ CERTIFICATE_LIMIT
 certificate_fits dates cert bytes few (inl own) = omega (arith, ap length own.text, written_fits version.One dates (whole_written cert) few (is-written dates cert own.well_formed))
 certificate_fits dates cert bytes few (inr own) =
-    omega (arith, ap length own.text.text, written_fits version.Two dates (packed_written own.packed) few (is-packed dates own.packed own.text.well_formed))
+    omega (arith, ap length own.text.text, written_fits (version.Packed own.text.version) dates (packed_written own.text.version own.packed) few (is-packed own.text.version dates own.packed own.text.well_formed own.text.sayable))

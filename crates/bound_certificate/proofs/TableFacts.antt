@@ -105,7 +105,7 @@ row-word row.Nodes = word_by (row_word row.Nodes) refl
 row-word row.Split = word_by (row_word row.Split) refl
 row-word row.Point = word_by (row_word row.Point) refl
 row-word row.Priced = word_by (row_word row.Priced) refl
-row-word row.Leaf = word_by (row_word row.Leaf) refl
+row-word (row.Leaf how) = word_by (row_word (row.Leaf how)) refl
 row-word row.End = word_by (row_word row.End) refl
 
 row_one : (r : Row) → IsOneLine (row_word r)
@@ -118,7 +118,7 @@ row_one row.Nodes = line_by (row_word row.Nodes) refl
 row_one row.Split = line_by (row_word row.Split) refl
 row_one row.Point = line_by (row_word row.Point) refl
 row_one row.Priced = line_by (row_word row.Priced) refl
-row_one row.Leaf = line_by (row_word row.Leaf) refl
+row_one (row.Leaf how) = line_by (row_word (row.Leaf how)) refl
 row_one row.End = line_by (row_word row.End) refl
 
 pub row-one : (r : Row) (numbers : List ℕ) → AreWritten numbers → IsOneLine (row_word r ++ spaced_numbers numbers)

@@ -6,6 +6,7 @@ use Rattle.bound_certificate.specs.declared.item.Item.TheVariants as item
 use Rattle.bound_certificate.specs.declared.limits.TheConstants.{MOST_DATES, MOST_VECTORS}
 use Rattle.bound_certificate.specs.declared.packed.Change.{Change}
 use Rattle.bound_certificate.specs.declared.row.Row.TheVariants as row
+use Rattle.bound_certificate.specs.declared.weighing.Weighing.{Weighing}
 use Rattle.bound_certificate.specs.Grammar.{changes_of, leaf_said, said_by}
 use Rattle.bound_certificate.specs.Packed.{vector_of}
 use Rattle.bound_certificate.specs.Row.{AreRowNumbers}
@@ -13,14 +14,14 @@ use Rattle.bound_certificate.specs.Taken.{AreFaulty, AreOfLeaf, ArePricesAfter, 
 use Rattle.bound_certificate.proofs.ChangeFacts.{leaf-changes, leaf-vector, leaf_three, up-to}
 
 -- the numbers of a leaf's line
-leaf_row : (dates vectors : ℕ) (numbers : List ℕ) → dates ≤ MOST_DATES → vectors ≤ MOST_VECTORS → AreRowNumbers dates vectors row.Leaf numbers → AreOfLeaf numbers
-leaf_row dates vectors numbers short few are =
-    let three = leaf_three dates (length numbers) are.fits in
+leaf_row : (how : Weighing) (dates vectors : ℕ) (numbers : List ℕ) → dates ≤ MOST_DATES → vectors ≤ MOST_VECTORS → AreRowNumbers dates vectors (row.Leaf how) numbers → AreOfLeaf numbers
+leaf_row how dates vectors numbers short few are =
+    let three = leaf_three how dates (length numbers) are.fits in
     record {
       some = three.0;
       few = omega (arith, three.1, short);
-      vector = omega (arith, (leaf-vector dates vectors numbers are).1, few);
-      places = up-to dates 65_535 (changes_of (drop 3 numbers)) (omega (arith, short)) (leaf-changes dates vectors numbers are);
+      vector = omega (arith, (leaf-vector how dates vectors numbers are).1, few);
+      places = up-to dates 65_535 (changes_of (drop 3 numbers)) (omega (arith, short)) (leaf-changes how dates vectors numbers are);
     }
 
 -- a leaf's numbers: three, and those of its changes
@@ -31,28 +32,28 @@ three (rho ∷ []) some = absurd (omega (arith, some))
 three (rho ∷ mu ∷ []) some = absurd (omega (arith, some))
 three (rho ∷ mu ∷ vector ∷ numbers) some = ap (λ (ns : List ℕ). rho ∷ mu ∷ vector ∷ ns) (sym (take_all (length (rho ∷ mu ∷ vector ∷ numbers) - 3) numbers (omega arith)))
 
-leaf_by : (vectors : List (List ℕ)) (numbers prices : List ℕ) → 3 ≤ length numbers → prices ≡ vector_of vectors (get_or numbers 2 0) →
-    said_by vectors row.Leaf numbers ≡ leaf_said prices (get_or numbers 0 0) (get_or numbers 1 0) (get_or numbers 2 0) (changes_of (take (length numbers - 3) (drop 3 numbers)))
-leaf_by vectors numbers prices some same =
+leaf_by : (how : Weighing) (vectors : List (List ℕ)) (numbers prices : List ℕ) → 3 ≤ length numbers → prices ≡ vector_of vectors (get_or numbers 2 0) →
+    said_by vectors (row.Leaf how) numbers ≡ leaf_said how prices (get_or numbers 0 0) (get_or numbers 1 0) (get_or numbers 2 0) (changes_of (take (length numbers - 3) (drop 3 numbers)))
+leaf_by how vectors numbers prices some same =
     let changes : List Change = changes_of (take (length numbers - 3) (drop 3 numbers)) in
-    ap (said_by vectors row.Leaf) (three numbers some)
-    ∙ ap (λ (ps : List ℕ). leaf_said ps (get_or numbers 0 0) (get_or numbers 1 0) (get_or numbers 2 0) changes) (sym same)
+    ap (said_by vectors (row.Leaf how)) (three numbers some)
+    ∙ ap (λ (ps : List ℕ). leaf_said how ps (get_or numbers 0 0) (get_or numbers 1 0) (get_or numbers 2 0) changes) (sym same)
 
-pub leaf-numbers : (dates : ℕ) (vectors : List (List ℕ)) (numbers prices after : List ℕ) → dates ≤ MOST_DATES → length vectors ≤ MOST_VECTORS →
-    AreRowNumbers dates (length vectors) row.Leaf numbers → prices ≡ vector_of vectors (get_or numbers 2 0) →
-    ArePricesAfter prices (changes_of (take (length numbers - 3) (drop 3 numbers))) after → IsOfNumbers (said_by vectors row.Leaf numbers) numbers item.Leaf
-leaf-numbers dates vectors numbers prices after short few are same taken =
-    let of_leaf : AreOfLeaf numbers = leaf_row dates (length vectors) numbers short few are in
+pub leaf-numbers : (how : Weighing) (dates : ℕ) (vectors : List (List ℕ)) (numbers prices after : List ℕ) → dates ≤ MOST_DATES → length vectors ≤ MOST_VECTORS →
+    AreRowNumbers dates (length vectors) (row.Leaf how) numbers → prices ≡ vector_of vectors (get_or numbers 2 0) →
+    ArePricesAfter prices (changes_of (take (length numbers - 3) (drop 3 numbers))) after → IsOfNumbers how (said_by vectors (row.Leaf how) numbers) numbers item.Leaf
+leaf-numbers how dates vectors numbers prices after short few are same taken =
+    let of_leaf : AreOfLeaf numbers = leaf_row how dates (length vectors) numbers short few are in
     record {
-      is = leaf_by vectors numbers prices of_leaf.some same
-          ∙ taken.leaf (get_or numbers 0 0) (get_or numbers 1 0) (get_or numbers 2 0)
-          ∙ ap (λ (ns : List ℕ). Ok (line_with item.Leaf ns)) (sym (three numbers of_leaf.some));
+      is = leaf_by how vectors numbers prices of_leaf.some same
+          ∙ taken.leaf how (get_or numbers 0 0) (get_or numbers 1 0) (get_or numbers 2 0)
+          ∙ ap (λ (ns : List ℕ). Ok (line_with how item.Leaf ns)) (sym (three numbers of_leaf.some));
       leaf = λ _. of_leaf;
     }
 
 -- numbers that are no leaf
-pub leaf-fault : (dates : ℕ) (vectors : List (List ℕ)) (numbers prices : List ℕ) (found : FaultKind) → AreRowNumbers dates (length vectors) row.Leaf numbers →
+pub leaf-fault : (how : Weighing) (dates : ℕ) (vectors : List (List ℕ)) (numbers prices : List ℕ) (found : FaultKind) → AreRowNumbers dates (length vectors) (row.Leaf how) numbers →
     prices ≡ vector_of vectors (get_or numbers 2 0) → AreFaulty prices (changes_of (take (length numbers - 3) (drop 3 numbers))) found →
-    said_by vectors row.Leaf numbers ≡ Err found
-leaf-fault dates vectors numbers prices found are same fault =
-    leaf_by vectors numbers prices (leaf_three dates (length numbers) are.fits).0 same ∙ fault (get_or numbers 0 0) (get_or numbers 1 0) (get_or numbers 2 0)
+    said_by vectors (row.Leaf how) numbers ≡ Err found
+leaf-fault how dates vectors numbers prices found are same fault =
+    leaf_by how vectors numbers prices (leaf_three how dates (length numbers) are.fits).0 same ∙ fault how (get_or numbers 0 0) (get_or numbers 1 0) (get_or numbers 2 0)

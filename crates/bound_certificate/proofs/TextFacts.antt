@@ -123,13 +123,15 @@ node_left v left trees item.End = nodes_left (left - 1) (trees - 1) (left - 1 ==
 
 -- no vector comes by a node's line
 node_kept : (v : Version) (dates : ℕ) (vectors : List (List ℕ)) (said : Line) → IsNodeLine v dates vectors said → vectors_with vectors said ≡ vectors
-node_kept v dates vectors (line.Node said) is = refl
+node_kept v dates vectors (line.Split number at) is = refl
+node_kept v dates vectors line.Point is = refl
+node_kept v dates vectors (line.Closed how rho mu vector changes) is = refl
 node_kept v dates vectors (line.Leaf leaf) is = refl
 node_kept v dates vectors said is = absurd is
 
 tree_room : (v : Version) → left_for (tree_due v) ≤ MOST_VECTORS
 tree_room version.One = omega arith
-tree_room version.Two = omega arith
+tree_room (version.Packed how) = omega arith
 
 node_holds : (v : Version) (dates left trees : ℕ) (vectors : List (List ℕ)) (said : Line) → Holds dates (due.Node left trees) vectors → IsNodeLine v dates vectors said →
     Holds dates (next_due v (due.Node left trees) (line_item said)) (vectors_with vectors said)

@@ -9,7 +9,6 @@ use Rattle.bound_certificate.specs.declared.due.Due.TheVariants as due
 use Rattle.bound_certificate.specs.declared.fault.FaultKind.{FaultKind}
 use Rattle.bound_certificate.specs.declared.line.Line.{Line}
 use Rattle.bound_certificate.specs.declared.line.Line.TheVariants as line
-use Rattle.bound_certificate.specs.declared.packed.PackedNode.TheVariants as node
 use Rattle.bound_certificate.specs.declared.version.Version.{Version}
 use Rattle.bound_certificate.specs.declared.version.Version.TheVariants as version
 use Rattle.bound_certificate.specs.declared.limits.TheConstants.{GREATEST_GAP}
@@ -52,13 +51,13 @@ nodes_may w left trees false = tt
 
 tree_none : (v : Version) (w : Written) → w.nodes ≡ [] → NoNodes (tree_due v) w
 tree_none version.One w none = none
-tree_none version.Two w none = none
+tree_none (version.Packed how) w none = none
 
 node_may : (v : Version) (dates left trees : ℕ) (vectors : List (List ℕ)) (w : Written) (said : Line) → IsNodeLine v dates vectors said →
     NoNodes (next_due v (due.Node left trees) (line_item said)) w
-node_may v dates left trees vectors w (line.Node (node.Split number at)) is = nodes_may w (left - 1) (trees + 1) (left - 1 == 0)
-node_may v dates left trees vectors w (line.Node node.Point) is = nodes_may w (left - 1) (trees - 1) (left - 1 == 0)
-node_may v dates left trees vectors w (line.Node (node.Closed rho mu vector changes)) is = nodes_may w (left - 1) (trees - 1) (left - 1 == 0)
+node_may v dates left trees vectors w (line.Split number at) is = nodes_may w (left - 1) (trees + 1) (left - 1 == 0)
+node_may v dates left trees vectors w line.Point is = nodes_may w (left - 1) (trees - 1) (left - 1 == 0)
+node_may v dates left trees vectors w (line.Closed how rho mu vector changes) is = nodes_may w (left - 1) (trees - 1) (left - 1 == 0)
 node_may v dates left trees vectors w (line.Leaf leaf) is = nodes_may w (left - 1) (trees - 1) (left - 1 == 0)
 node_may v dates left trees vectors w said is = absurd is
 
@@ -85,9 +84,9 @@ one_node : (w : Written) (said : Line) →
 one_node w said = ap (λ (ns : List TreeNode). record { buys = w.buys; gap = w.gap; nodes = ns }) (sym (map-append (tree_of w.vectors) w.nodes (said ∷ [])))
 
 node_tells : (v : Version) (dates : ℕ) (w : Written) (said : Line) → IsNodeLine v dates w.vectors said → with_told (cert_of w) (line_told w.vectors said) ≡ cert_of (and_line w said)
-node_tells v dates w (line.Node (node.Split number at)) is = one_node w (line.Node (node.Split number at))
-node_tells v dates w (line.Node node.Point) is = one_node w (line.Node node.Point)
-node_tells v dates w (line.Node (node.Closed rho mu vector changes)) is = one_node w (line.Node (node.Closed rho mu vector changes))
+node_tells v dates w (line.Split number at) is = one_node w (line.Split number at)
+node_tells v dates w line.Point is = one_node w line.Point
+node_tells v dates w (line.Closed how rho mu vector changes) is = one_node w (line.Closed how rho mu vector changes)
 node_tells v dates w (line.Leaf leaf) is = one_node w (line.Leaf leaf)
 node_tells v dates w said is = absurd is
 
@@ -147,4 +146,5 @@ texts-say dates bytes cert is = written-tells version.One dates (whole_written c
 pub lines-tell : LinesTellTheCertificate
 lines-tell dates bytes cert short (inl is) = texts-say dates bytes cert is
 lines-tell dates bytes cert short (inr is) =
-    written-tells version.Two dates (packed_written is.packed) bytes short (packed-text-written dates is.packed bytes is.text) ∙ cert-packed is.packed ∙ is.same
+    written-tells (version.Packed is.text.version) dates (packed_written is.text.version is.packed) bytes short (packed-text-written dates is.packed bytes is.text)
+    ∙ cert-packed is.text.version is.packed ∙ is.same

@@ -1,5 +1,5 @@
 -- What has come of a text that is read whole, line by line.
-use Rattle.std.proofs.Common.{◌≡◌, ◌∙◌, ℕ, ◌+◌, ◌<◌, ◌≤◌, Bool, true, false, List, [], ◌∷◌, ◌++◌, length, refl, sym, subst, ap, arith, Option, Some, None, Result, Ok, Err, append_assoc}
+use Rattle.std.proofs.Common.{◌≡◌, ◌∙◌, ℕ, ◌+◌, ◌<◌, ◌≤◌, Bool, true, false, List, [], ◌∷◌, ◌++◌, length, map, refl, sym, subst, ap, arith, Option, Some, None, Result, Ok, Err, append_assoc}
 use Rattle.std.specs.List.{flat_map, join_with_byte}
 use Rattle.std.proofs.lemmas.Grind.{flat_map-append}
 use Rattle.std.proofs.lemmas.List.{append-nil, map-append}
@@ -15,6 +15,7 @@ use Rattle.bound_certificate.specs.declared.item.Item.{Item}
 use Rattle.bound_certificate.specs.declared.line.Line.{Line}
 use Rattle.bound_certificate.specs.declared.version.Version.{Version}
 use Rattle.bound_certificate.specs.declared.version.Version.TheVariants as version
+use Rattle.bound_certificate.specs.declared.weighing.Weighing.{Weighing}
 use Rattle.bound_certificate.specs.declared.certificate.Certificate.{Certificate}
 use Rattle.bound_certificate.specs.declared.item.Item.TheVariants as item
 use Rattle.bound_certificate.specs.declared.line.Line.TheVariants as line
@@ -166,33 +167,39 @@ cert-more v dates d w said cert told leaf fits none came told_is leaf_is =
     leaf_taken cert told leaf (line_leaf w.vectors said) leaf_is ∙ ap (λ (i : Item). with_item cert i (line_leaf w.vectors said)) told_is
     ∙ ap (λ (c : Certificate). with_item c (line_item said) (line_leaf w.vectors said)) came ∙ line-tells v dates d w said fits none
 
--- version 2 has no leaf with all its prices
-no_leaf_line : (dates : ℕ) (vectors : List (List ℕ)) (d : Due) (leaf : Leaf) → Fits version.Two dates vectors d (line.Leaf leaf) → ⊥
-no_leaf_line dates vectors (due.Node left trees) leaf fits = fits.2
-no_leaf_line dates vectors due.Title leaf fits = fits
-no_leaf_line dates vectors due.Portfolio leaf fits = fits
-no_leaf_line dates vectors (due.Buy left least) leaf fits = fits
-no_leaf_line dates vectors (due.Gap most) leaf fits = fits
-no_leaf_line dates vectors due.VectorCount leaf fits = fits
-no_leaf_line dates vectors (due.Vector left) leaf fits = fits
-no_leaf_line dates vectors due.Count leaf fits = fits
-no_leaf_line dates vectors (due.End trees) leaf fits = fits
-no_leaf_line dates vectors due.Nothing leaf fits = fits
+-- versions 2 and 3 have no leaf with all its prices
+no_leaf_line : (how : Weighing) (dates : ℕ) (vectors : List (List ℕ)) (d : Due) (leaf : Leaf) → Fits (version.Packed how) dates vectors d (line.Leaf leaf) → ⊥
+no_leaf_line how dates vectors (due.Node left trees) leaf fits = fits.2
+no_leaf_line how dates vectors due.Title leaf fits = fits
+no_leaf_line how dates vectors due.Portfolio leaf fits = fits
+no_leaf_line how dates vectors (due.Buy left least) leaf fits = fits
+no_leaf_line how dates vectors (due.Gap most) leaf fits = fits
+no_leaf_line how dates vectors due.VectorCount leaf fits = fits
+no_leaf_line how dates vectors (due.Vector left) leaf fits = fits
+no_leaf_line how dates vectors due.Count leaf fits = fits
+no_leaf_line how dates vectors (due.End trees) leaf fits = fits
+no_leaf_line how dates vectors due.Nothing leaf fits = fits
 
-packed_line : (dates : ℕ) (d : Due) (w : Written) (said : Line) → Fits version.Two dates w.vectors d said → with_line (packed_of w) said ≡ packed_of (and_line w said)
-packed_line dates d w (line.Title v) fits = refl
-packed_line dates d w (line.Portfolio None) fits = refl
-packed_line dates d w (line.Portfolio (Some count)) fits = refl
-packed_line dates d w (line.Purchase buy) fits = refl
-packed_line dates d w (line.Gap cents) fits = refl
-packed_line dates d w (line.Vectors count) fits = refl
-packed_line dates d w (line.Vector prices) fits = refl
-packed_line dates d w (line.Nodes count) fits = refl
-packed_line dates d w (line.Node said) fits =
-    ap (λ (ns : List PackedNode). record { buys = w.buys; gap = w.gap; vectors = w.vectors; nodes = ns }) (sym (map-append node_of w.nodes (line.Node said ∷ [])))
-packed_line dates d w (line.Leaf leaf) fits = absurd (no_leaf_line dates w.vectors d leaf fits)
-packed_line dates d w line.End fits = refl
+node_adds : (w : Written) (said : Line) →
+    ◌≡◌ {A = Packed} (record { buys = w.buys; gap = w.gap; vectors = w.vectors; nodes = map node_of w.nodes ++ node_of said ∷ [] })
+    (record { buys = w.buys; gap = w.gap; vectors = w.vectors; nodes = map node_of (w.nodes ++ said ∷ []) })
+node_adds w said = ap (λ (ns : List PackedNode). record { buys = w.buys; gap = w.gap; vectors = w.vectors; nodes = ns }) (sym (map-append node_of w.nodes (said ∷ [])))
 
-pub packed-more : (dates : ℕ) (d : Due) (w : Written) (said : Line) (packed : Packed) → Fits version.Two dates w.vectors d said → packed ≡ packed_of w →
+line_adds : (how : Weighing) (dates : ℕ) (d : Due) (w : Written) (said : Line) → Fits (version.Packed how) dates w.vectors d said → with_line (packed_of w) said ≡ packed_of (and_line w said)
+line_adds how dates d w (line.Title v) fits = refl
+line_adds how dates d w (line.Portfolio None) fits = refl
+line_adds how dates d w (line.Portfolio (Some count)) fits = refl
+line_adds how dates d w (line.Purchase buy) fits = refl
+line_adds how dates d w (line.Gap cents) fits = refl
+line_adds how dates d w (line.Vectors count) fits = refl
+line_adds how dates d w (line.Vector prices) fits = refl
+line_adds how dates d w (line.Nodes count) fits = refl
+line_adds how dates d w (line.Split number at) fits = node_adds w (line.Split number at)
+line_adds how dates d w line.Point fits = node_adds w line.Point
+line_adds how dates d w (line.Closed own rho mu vector changes) fits = node_adds w (line.Closed own rho mu vector changes)
+line_adds how dates d w (line.Leaf leaf) fits = absurd (no_leaf_line how dates w.vectors d leaf fits)
+line_adds how dates d w line.End fits = refl
+
+pub packed-more : (how : Weighing) (dates : ℕ) (d : Due) (w : Written) (said : Line) (packed : Packed) → Fits (version.Packed how) dates w.vectors d said → packed ≡ packed_of w →
     with_line packed said ≡ packed_of (and_line w said)
-packed-more dates d w said packed fits came = ap (λ (p : Packed). with_line p said) came ∙ packed_line dates d w said fits
+packed-more how dates d w said packed fits came = ap (λ (p : Packed). with_line p said) came ∙ line_adds how dates d w said fits

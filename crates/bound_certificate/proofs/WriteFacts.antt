@@ -9,7 +9,8 @@ use Rattle.bound_certificate.specs.declared.line.Line.{Line}
 use Rattle.bound_certificate.specs.declared.line.Line.TheVariants as line
 use Rattle.bound_certificate.specs.declared.version.Version.{Version}
 use Rattle.bound_certificate.specs.declared.version.Version.TheVariants as version
-use Rattle.bound_certificate.specs.Text.{line_text, numbered, packed_text_of, portfolio_lines}
+use Rattle.bound_certificate.specs.declared.weighing.Weighing.{Weighing}
+use Rattle.bound_certificate.specs.Text.{line_text, numbered, packed_line, packed_text_in, portfolio_lines}
 
 -- the first lines
 abbrev pub begin_lines : Version → Option (List Buy) → ℕ → List Line
@@ -28,19 +29,19 @@ tree_text nodes = flat_map-append line_text nodes (line.End ∷ []) ∙ ap (λ (
 five : (a b c d e f : List ℕ) → ((((a ++ b) ++ c) ++ d) ++ e) ++ f ≡ a ++ (b ++ (c ++ (d ++ (e ++ f))))
 five a b c d e f = simp append_assoc
 
-pub packed-text : (packed : Packed) →
-    ((((flat_map line_text (begin_lines version.Two packed.buys packed.gap) ++ numbered (codes "vectors") (length packed.vectors ∷ [])) ++ flat_map line_text (map line.Vector packed.vectors))
-    ++ numbered (codes "nodes") (length packed.nodes ∷ [])) ++ flat_map line_text (map line.Node packed.nodes)) ++ numbered (codes "end") []
-    ≡ packed_text_of packed
-packed-text packed =
-    let nodes : List Line = map line.Node packed.nodes in
+pub packed-text : (how : Weighing) (packed : Packed) →
+    ((((flat_map line_text (begin_lines (version.Packed how) packed.buys packed.gap) ++ numbered (codes "vectors") (length packed.vectors ∷ [])) ++ flat_map line_text (map line.Vector packed.vectors))
+    ++ numbered (codes "nodes") (length packed.nodes ∷ [])) ++ flat_map line_text (map (packed_line how) packed.nodes)) ++ numbered (codes "end") []
+    ≡ packed_text_in how packed
+packed-text how packed =
+    let nodes : List Line = map (packed_line how) packed.nodes in
     let vectors : List Line = map line.Vector packed.vectors in
     let tree : List Line = line.Nodes (length nodes) ∷ (nodes ++ line.End ∷ []) in
     let rest : List Line = line.Vectors (length packed.vectors) ∷ (vectors ++ tree) in
-    let begun : List ℕ = flat_map line_text (begin_lines version.Two packed.buys packed.gap) in
+    let begun : List ℕ = flat_map line_text (begin_lines (version.Packed how) packed.buys packed.gap) in
     let count : List ℕ = line_text (line.Vectors (length packed.vectors)) in
     let behind : flat_map line_text (vectors ++ tree) ≡ flat_map line_text vectors ++ (line_text (line.Nodes (length nodes)) ++ (flat_map line_text nodes ++ line_text line.End)) =
     flat_map-append line_text vectors tree ∙ ap (λ (bs : List ℕ). flat_map line_text vectors ++ (line_text (line.Nodes (length nodes)) ++ bs)) (tree_text nodes) in
-    ap (λ (k : ℕ). ((((begun ++ count) ++ flat_map line_text vectors) ++ numbered (codes "nodes") (k ∷ [])) ++ flat_map line_text nodes) ++ line_text line.End) (sym (length-map packed.nodes line.Node))
+    ap (λ (k : ℕ). ((((begun ++ count) ++ flat_map line_text vectors) ++ numbered (codes "nodes") (k ∷ [])) ++ flat_map line_text nodes) ++ line_text line.End) (sym (length-map packed.nodes (packed_line how)))
     ∙ five begun count (flat_map line_text vectors) (line_text (line.Nodes (length nodes))) (flat_map line_text nodes) (line_text line.End)
-    ∙ ap (λ (bs : List ℕ). begun ++ (count ++ bs)) (sym behind) ∙ begin_rest version.Two packed.buys packed.gap rest
+    ∙ ap (λ (bs : List ℕ). begun ++ (count ++ bs)) (sym behind) ∙ begin_rest (version.Packed how) packed.buys packed.gap rest

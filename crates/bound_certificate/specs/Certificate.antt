@@ -1,10 +1,13 @@
 -- Well-formed certificates. The limits are this project's own.
 use Rattle.std.specs.Prelude.{◌≡◌, ℕ, ◌≤◌, ◌<◌, List, length, All, AllPairs, Option, Some, None}
 use Rattle.proof_tree.specs.Tree.{AreTrees, IsNode}
+use Rattle.proof_tree.specs.declared.tree.TreeNode.{TreeNode}
+use Rattle.proof_tree.specs.declared.tree.TreeNode.TheVariants as tree
 use Rattle.bound_certificate.specs.declared.certificate.Buy.{Buy}
 use Rattle.bound_certificate.specs.declared.certificate.Certificate.{Certificate}
 use Rattle.bound_certificate.specs.declared.limits.TheConstants.{GREATEST_GAP, MOST_BUYS, MOST_DATES, MOST_NODES}
 use Rattle.proof_tree.specs.declared.tree.TheConstants.{GREATEST_UNITS}
+use Rattle.bound_certificate.specs.Weights.{IsWholeOrNone}
 
 -- at least one unit of a line
 abbrev pub IsBuy : Buy → Type 0
@@ -21,11 +24,18 @@ abbrev pub IsPortfolio : ℕ → Option (List Buy) → ℕ → Type 0
 IsPortfolio most None gap = gap ≡ 0
 IsPortfolio most (Some buys) gap = AreBuys most buys × (gap ≤ GREATEST_GAP)
 
--- a certificate for so many need dates: its portfolio, of at most 257 purchases, and the nodes of one tree, from 1 to 10,000
+-- the cost counts wholly at a leaf, or not at all
+abbrev pub IsPlainNode : TreeNode → Type 0
+IsPlainNode (tree.Closed leaf) = IsWholeOrNone leaf.rho
+IsPlainNode other = Unit {0}
+
+-- a certificate for so many need dates, as version 1 says it: its portfolio, of at most 257 purchases, and the nodes of one tree, from 1 to 10,000,
+-- at whose leaves the cost counts wholly or not at all
 pub record IsWellFormed (dates : ℕ) (cert : Certificate) : Type 0 where
   pub portfolio : IsPortfolio MOST_BUYS cert.buys cert.gap
   pub few : length cert.nodes ≤ MOST_NODES
   pub nodes : All (IsNode dates) cert.nodes
+  pub plain : All IsPlainNode cert.nodes
   pub tree : AreTrees 1 cert.nodes
 
 -- a certificate is well formed for some number of need dates, at most 480

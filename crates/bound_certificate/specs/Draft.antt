@@ -8,6 +8,7 @@ use Rattle.bound_certificate.specs.declared.item.Item.TheVariants as item
 use Rattle.bound_certificate.specs.declared.line.Line.{Line}
 use Rattle.bound_certificate.specs.declared.line.Line.TheVariants as line
 use Rattle.bound_certificate.specs.declared.packed.Packed.{Packed}
+use Rattle.bound_certificate.specs.declared.packed.PackedNode.TheVariants as packed_node
 
 -- before the first line
 abbrev pub no_lines : Certificate
@@ -35,5 +36,7 @@ with_line packed (line.Portfolio (Some count)) = record packed { buys = Some [] 
 with_line packed (line.Purchase buy) = record packed { buys = option_map (λ buys. buys ++ buy ∷ []) packed.buys }
 with_line packed (line.Gap cents) = record packed { gap = cents }
 with_line packed (line.Vector prices) = record packed { vectors = packed.vectors ++ prices ∷ [] }
-with_line packed (line.Node said) = record packed { nodes = packed.nodes ++ said ∷ [] }
+with_line packed (line.Split line at) = record packed { nodes = packed.nodes ++ packed_node.Split line at ∷ [] }
+with_line packed line.Point = record packed { nodes = packed.nodes ++ packed_node.Point ∷ [] }
+with_line packed (line.Closed w rho mu vector changes) = record packed { nodes = packed.nodes ++ packed_node.Closed rho mu vector changes ∷ [] }
 with_line packed other = packed

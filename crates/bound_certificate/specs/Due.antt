@@ -15,7 +15,7 @@ buys_due left least = if left == 0 then due.Gap GREATEST_GAP else due.Buy left l
 -- what follows the gap: the vectors, where the version has them, or the nodes
 abbrev pub tree_due : Version → Due
 tree_due version.One = due.Count
-tree_due version.Two = due.VectorCount
+tree_due (version.Packed w) = due.VectorCount
 
 -- so many vectors, or what follows them
 abbrev pub vectors_due : ℕ → Due

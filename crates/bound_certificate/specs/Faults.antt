@@ -11,8 +11,10 @@ use Rattle.bound_certificate.specs.declared.fault.FaultKind.TheVariants as kind
 use Rattle.bound_certificate.specs.declared.line.Line.{Line}
 use Rattle.bound_certificate.specs.declared.version.Version.{Version}
 use Rattle.bound_certificate.specs.declared.version.Version.TheVariants as version
+use Rattle.bound_certificate.specs.declared.weighing.Weighing.{Weighing}
+use Rattle.bound_certificate.specs.declared.weighing.Weighing.TheVariants as weighing
 use Rattle.bound_certificate.specs.Due.{is_over, next_due}
-use Rattle.bound_certificate.specs.Grammar.{line_item, line_said, vectors_with}
+use Rattle.bound_certificate.specs.Grammar.{line_item, line_said, title_weighing, vectors_with}
 use Rattle.line_words.specs.Words.{is_feed}
 
 -- the lines of a text: what stands before each line feed, and last what stands behind the last one
@@ -51,9 +53,18 @@ abbrev pub IsCauseIn : Version → ℕ → List ℕ → CertError → Type 0
 IsCauseIn v dates bytes error.NoMemory = Unit {0}
 IsCauseIn v dates bytes (error.Fault fault) = text_fault v dates bytes ≡ Some fault
 
--- why a text of version 1 isn't read, and one of version 2
+-- how leaves weigh the cost in a packed text: as in version 3 where its first line says so, and else as in version 2
+abbrev pub packed_weighing_in : List (List ℕ) → Weighing
+packed_weighing_in (first ∷ lines) = title_weighing first
+packed_weighing_in [] = weighing.WholeOrNone
+
+-- the first fault of a packed text
+abbrev pub packed_fault : ℕ → List ℕ → Option CertFault
+packed_fault dates bytes = text_fault (version.Packed (packed_weighing_in (lines_in bytes))) dates bytes
+
+-- why a text of version 1 isn't read, and a packed one
 abbrev pub IsCause : ℕ → List ℕ → CertError → Type 0
 IsCause dates bytes found = IsCauseIn version.One dates bytes found
 
 abbrev pub IsPackedCause : ℕ → List ℕ → CertError → Type 0
-IsPackedCause dates bytes found = IsCauseIn version.Two dates bytes found
+IsPackedCause dates bytes found = IsCauseIn (version.Packed (packed_weighing_in (lines_in bytes))) dates bytes found

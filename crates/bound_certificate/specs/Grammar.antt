@@ -2,7 +2,6 @@
 use Rattle.std.specs.Prelude.{ℕ, ◌-◌, ◌≤◌, All, Bool, true, false, ◌==◌, ◌&&◌, ◌||◌, not, nat_eq, nat_lt, if◌then◌else◌, List, [], ◌∷◌, ◌++◌, length, map, slice_index, Some, None, Result, Ok, Err, codes}
 use Rattle.std.specs.List.{list_any}
 use lib.Pointwise.{pointwise}
-use Rattle.proof_tree.specs.declared.prices.TheConstants.{PRICE_SCALE}
 use Rattle.bound_certificate.specs.declared.due.Due.{Due}
 use Rattle.bound_certificate.specs.declared.due.Due.TheVariants as due
 use Rattle.bound_certificate.specs.declared.fault.FaultKind.{FaultKind}
@@ -13,34 +12,42 @@ use Rattle.bound_certificate.specs.declared.limits.TheConstants.{MOST_BUYS, MOST
 use Rattle.bound_certificate.specs.declared.line.Line.{Line}
 use Rattle.bound_certificate.specs.declared.line.Line.TheVariants as line
 use Rattle.bound_certificate.specs.declared.packed.Change.{Change}
-use Rattle.bound_certificate.specs.declared.packed.PackedNode.TheVariants as node
 use Rattle.bound_certificate.specs.declared.row.Row.{Row}
 use Rattle.bound_certificate.specs.declared.row.Row.TheVariants as row
 use Rattle.bound_certificate.specs.declared.version.Version.{Version}
 use Rattle.bound_certificate.specs.declared.version.Version.TheVariants as version
+use Rattle.bound_certificate.specs.declared.weighing.Weighing.{Weighing}
+use Rattle.bound_certificate.specs.declared.weighing.Weighing.TheVariants as weighing
 use Rattle.bound_certificate.specs.Packed.{changed, vector_of}
 use Rattle.bound_certificate.specs.Row.{row_said}
+use Rattle.bound_certificate.specs.Weights.{rho_said}
 use Rattle.line_words.specs.Words.{first_word}
 
 -- ---- what a version has of its own
 -- the first line of a version
 abbrev pub title_word : Version → List ℕ
 title_word version.One = codes "escrow-certificate 1"
-title_word version.Two = codes "escrow-certificate 2"
+title_word (version.Packed weighing.WholeOrNone) = codes "escrow-certificate 2"
+title_word (version.Packed weighing.Number) = codes "escrow-certificate 3"
 
--- the version that a first line says: 1 unless it is that of version 2
+-- how a first line says that leaves weigh the cost: as in version 2 unless it is that of version 3
+abbrev pub title_weighing : List ℕ → Weighing
+title_weighing line = if pointwise nat_eq (title_word (version.Packed weighing.Number)) line then weighing.Number else weighing.WholeOrNone
+
+-- the version that a first line says: 1 unless it is that of version 2 or 3
 abbrev pub title_version : List ℕ → Version
-title_version line = if pointwise nat_eq (title_word version.Two) line then version.Two else version.One
+title_version line =
+    if pointwise nat_eq (title_word (version.Packed (title_weighing line))) line then version.Packed (title_weighing line) else version.One
 
 -- the most purchases of a version
 abbrev pub most_buys : Version → ℕ
 most_buys version.One = MOST_BUYS
-most_buys version.Two = MOST_PACKED_BUYS
+most_buys (version.Packed w) = MOST_PACKED_BUYS
 
 -- the row of the leaves of a version
 abbrev pub leaf_row : Version → Row
 leaf_row version.One = row.Priced
-leaf_row version.Two = row.Leaf
+leaf_row (version.Packed w) = row.Leaf w
 
 -- ---- what the numbers of a line say
 -- numbers by turns are the place of a change and its price
@@ -70,20 +77,16 @@ abbrev pub rises : List ℕ → Bool
 rises (x ∷ y ∷ ys) = nat_lt x y || rises (y ∷ ys)
 rises prices = false
 
--- how much a leaf weighs the cost, by the number that says it
-abbrev pub rho_said : ℕ → ℕ
-rho_said number = if number == 1 then PRICE_SCALE else 0
-
 -- a leaf with all its prices: none rises
 abbrev pub priced_said : ℕ → ℕ → List ℕ → Result Line FaultKind
-priced_said rho mu prices = if rises prices then Err kind.Order else Ok (line.Leaf (record { rho = rho_said rho; mu = mu; prices = prices }))
+priced_said rho mu prices = if rises prices then Err kind.Order else Ok (line.Leaf (record { rho = rho_said weighing.WholeOrNone rho; mu = mu; prices = prices }))
 
 -- the leaf of a vector and changes: no change is to the vector's own price, places rise, and after the changes no price rises
-abbrev pub leaf_said : List ℕ → ℕ → ℕ → ℕ → List Change → Result Line FaultKind
-leaf_said prices rho mu vector changes =
+abbrev pub leaf_said : Weighing → List ℕ → ℕ → ℕ → ℕ → List Change → Result Line FaultKind
+leaf_said w prices rho mu vector changes =
     if restates prices changes then Err kind.Number
     else if not (are_rising (places_of changes)) || rises (changed prices changes) then Err kind.Order
-    else Ok (line.Node (node.Closed (rho_said rho) mu vector changes))
+    else Ok (line.Closed w (rho_said w rho) mu vector changes)
 
 -- what the numbers of a line say
 abbrev pub said_by : List (List ℕ) → Row → List ℕ → Result Line FaultKind
@@ -94,10 +97,10 @@ said_by vectors (row.Gap most) (cents ∷ _) = Ok (line.Gap cents)
 said_by vectors row.Vectors (count ∷ _) = Ok (line.Vectors count)
 said_by vectors row.Vector prices = if rises prices then Err kind.Order else Ok (line.Vector prices)
 said_by vectors row.Nodes (count ∷ _) = Ok (line.Nodes count)
-said_by vectors row.Split (number ∷ at ∷ _) = Ok (line.Node (node.Split number at))
-said_by vectors row.Point _ = Ok (line.Node node.Point)
+said_by vectors row.Split (number ∷ at ∷ _) = Ok (line.Split number at)
+said_by vectors row.Point _ = Ok line.Point
 said_by vectors row.Priced (rho ∷ mu ∷ prices) = priced_said rho mu prices
-said_by vectors row.Leaf (rho ∷ mu ∷ vector ∷ numbers) = leaf_said (vector_of vectors vector) rho mu vector (changes_of numbers)
+said_by vectors (row.Leaf w) (rho ∷ mu ∷ vector ∷ numbers) = leaf_said w (vector_of vectors vector) rho mu vector (changes_of numbers)
 said_by vectors row.End _ = Ok line.End
 said_by vectors _ _ = Err kind.Count
 
@@ -143,9 +146,9 @@ line_item (line.Gap cents) = item.Gap cents
 line_item (line.Vectors count) = item.Vectors count
 line_item (line.Vector prices) = item.Vector
 line_item (line.Nodes count) = item.Nodes count
-line_item (line.Node (node.Split number at)) = item.Split number at
-line_item (line.Node node.Point) = item.Point
-line_item (line.Node (node.Closed rho mu vector changes)) = item.Leaf
+line_item (line.Split number at) = item.Split number at
+line_item line.Point = item.Point
+line_item (line.Closed w rho mu vector changes) = item.Leaf
 line_item (line.Leaf leaf) = item.Leaf
 line_item line.End = item.End
 

@@ -4,7 +4,7 @@ use Rattle.bound_certificate.specs.declared.certificate.Certificate.{Certificate
 use Rattle.bound_certificate.specs.declared.limits.TheConstants.{MOST_DATES}
 use Rattle.bound_certificate.specs.declared.packed.Packed.{Packed}
 use Rattle.bound_certificate.specs.declared.version.Version.TheVariants as version
-use Rattle.bound_certificate.specs.Faults.{text_fault}
+use Rattle.bound_certificate.specs.Faults.{packed_fault, text_fault}
 use Rattle.bound_certificate.specs.Text.{IsPackedTextOf, IsTextOf}
 use Rattle.bound_certificate.specs.Told.{certificate_told, told_in}
 use Rattle.bound_certificate.specs.Versions.{IsCertificateText, certificate_fault}
@@ -25,16 +25,16 @@ CertificatesHaveOneText = (dates others : ℕ) (cert : Certificate) (bytes more 
 abbrev pub TextsSayTheirCertificate : Type 0
 TextsSayTheirCertificate = (dates : ℕ) (bytes : List ℕ) (cert : Certificate) → IsTextOf dates cert bytes → certificate_told (told_in dates bytes) ≡ cert
 
--- ---- version 2
+-- ---- versions 2 and 3
 -- a text has no fault exactly where it is that of a well-formed packed certificate
 abbrev pub PackedTextsHaveNoFault : Type 0
-PackedTextsHaveNoFault = (dates : ℕ) (bytes : List ℕ) → dates ≤ MOST_DATES → (text_fault version.Two dates bytes ≡ None) ↔ ((packed : Packed) × IsPackedTextOf dates packed bytes)
+PackedTextsHaveNoFault = (dates : ℕ) (bytes : List ℕ) → dates ≤ MOST_DATES → (packed_fault dates bytes ≡ None) ↔ ((packed : Packed) × IsPackedTextOf dates packed bytes)
 
 -- a text is that of one packed certificate
 abbrev pub PackedTextsAreOfOne : Type 0
 PackedTextsAreOfOne = (dates : ℕ) (bytes : List ℕ) (one other : Packed) → dates ≤ MOST_DATES → IsPackedTextOf dates one bytes → IsPackedTextOf dates other bytes → one ≡ other
 
--- ---- either
+-- ---- each
 -- bytes have no fault exactly where they are a text of some certificate
 abbrev pub CertificateTextsHaveNoFault : Type 0
 CertificateTextsHaveNoFault = (dates : ℕ) (bytes : List ℕ) → dates ≤ MOST_DATES → (certificate_fault dates bytes ≡ None) ↔ ((cert : Certificate) × IsCertificateText dates cert bytes)

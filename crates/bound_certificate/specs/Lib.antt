@@ -15,3 +15,4 @@ pub mod Text
 pub mod TextReading
 pub mod Told
 pub mod Versions
+pub mod Weights

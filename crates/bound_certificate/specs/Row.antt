@@ -11,6 +11,8 @@ use Rattle.bound_certificate.specs.declared.fault.FaultKind.TheVariants as kind
 use Rattle.bound_certificate.specs.declared.limits.TheConstants.{MOST_NODES, MOST_VECTORS}
 use Rattle.bound_certificate.specs.declared.row.Row.{Row}
 use Rattle.bound_certificate.specs.declared.row.Row.TheVariants as row
+use Rattle.bound_certificate.specs.declared.weighing.Weighing.{Weighing}
+use Rattle.bound_certificate.specs.Weights.{most_weight}
 use Rattle.line_words.specs.Words.{from_to, is_in, number_in, parts_behind, words_of}
 
 -- how the first word of a line is written
@@ -24,7 +26,7 @@ row_word row.Nodes = codes "nodes"
 row_word row.Split = codes "s"
 row_word row.Point = codes "p"
 row_word row.Priced = codes "l"
-row_word row.Leaf = codes "l"
+row_word (row.Leaf w) = codes "l"
 row_word row.End = codes "end"
 
 -- the range of a price
@@ -35,11 +37,11 @@ price_range = from_to 0 (2 * PRICE_SCALE)
 abbrev pub weight_range : ℕ → Range
 weight_range place = if place == 1 then from_to 0 1 else if place == 2 then from_to 0 PRICE_SCALE else price_range
 
--- the range of the number at a place of a leaf with changes, from 1: whether the cost counts, the multiplier of the limit, the vector,
--- and by turns the place of a change and its price
-abbrev pub leaf_range : ℕ → ℕ → ℕ → Range
-leaf_range dates vectors place =
-    if place == 1 then from_to 0 1 else if place == 2 then from_to 0 PRICE_SCALE else if place == 3 then from_to 1 vectors
+-- the range of the number at a place of a leaf with changes, from 1: the weight of the cost, the multiplier of the limit, the vector, and
+-- by turns the place of a change and its price
+abbrev pub leaf_range : Weighing → ℕ → ℕ → ℕ → Range
+leaf_range w dates vectors place =
+    if place == 1 then from_to 0 (most_weight w) else if place == 2 then from_to 0 PRICE_SCALE else if place == 3 then from_to 1 vectors
     else if place % 2 == 0 then from_to 1 dates else price_range
 
 -- the range of the number at a place of a line, from 1 behind the line's first word
@@ -52,7 +54,7 @@ row_range dates vectors row.Vector place = price_range
 row_range dates vectors row.Nodes place = from_to 1 MOST_NODES
 row_range dates vectors row.Split place = if place == 1 then from_to 0 65_535 else from_to 0 GREATEST_UNITS
 row_range dates vectors row.Priced place = weight_range place
-row_range dates vectors row.Leaf place = leaf_range dates vectors place
+row_range dates vectors (row.Leaf w) place = leaf_range w dates vectors place
 row_range dates vectors other place = from_to 0 0
 
 -- whether so many numbers make a line: a vector has one for each need date, a leaf with all its prices two more, and one with changes
@@ -63,7 +65,7 @@ row_fits dates row.Vector count = count == dates
 row_fits dates row.Split count = count == 2
 row_fits dates row.Point count = count == 0
 row_fits dates row.Priced count = count == 2 + dates
-row_fits dates row.Leaf count = nat_le 3 count && nat_le count (3 + 2 * dates) && (count % 2 == 1)
+row_fits dates (row.Leaf w) count = nat_le 3 count && nat_le count (3 + 2 * dates) && (count % 2 == 1)
 row_fits dates row.End count = count == 0
 row_fits dates other count = count == 1
 

@@ -10,13 +10,14 @@ use Rattle.bound_certificate.specs.declared.limits.TheConstants.{MOST_NUMBERS, M
 use Rattle.bound_certificate.specs.declared.line.Line.{Line}
 use Rattle.bound_certificate.specs.declared.line.Line.TheVariants as line
 use Rattle.bound_certificate.specs.declared.packed.Change.{Change}
-use Rattle.bound_certificate.specs.declared.packed.PackedNode.TheVariants as node
 use Rattle.bound_certificate.specs.declared.row.Row.{Row}
 use Rattle.bound_certificate.specs.declared.row.Row.TheVariants as row
 use Rattle.bound_certificate.specs.declared.version.Version.TheVariants as version
-use Rattle.bound_certificate.specs.Grammar.{ArePlaces, changes_of, leaf_said, line_item, rho_said, vectors_with}
+use Rattle.bound_certificate.specs.declared.weighing.Weighing.{Weighing}
+use Rattle.bound_certificate.specs.Grammar.{ArePlaces, changes_of, leaf_said, line_item, vectors_with}
 use Rattle.bound_certificate.specs.Packed.{changed}
 use Rattle.bound_certificate.specs.Told.{line_leaf}
+use Rattle.bound_certificate.specs.Weights.{rho_said}
 
 -- there is room for the vectors that are due
 abbrev pub HasRoom : Due → List (List ℕ) → Type 0
@@ -40,25 +41,25 @@ pub record IsGiven (told : Result Line FaultKind) (before after : List (List ℕ
 -- prices are a vector's after changes that a leaf may have
 pub record ArePricesAfter (vector : List ℕ) (changes : List Change) (prices : List ℕ) : Type 0 where
   pub are : prices ≡ changed vector changes
-  pub leaf : (rho mu number : ℕ) → leaf_said vector rho mu number changes ≡ Ok (line.Node (node.Closed (rho_said rho) mu number changes))
+  pub leaf : (w : Weighing) (rho mu number : ℕ) → leaf_said w vector rho mu number changes ≡ Ok (line.Closed w (rho_said w rho) mu number changes)
 
 -- a leaf may not have these changes from a vector, and why
 abbrev pub AreFaulty : List ℕ → List Change → FaultKind → Type 0
-AreFaulty vector changes found = (rho mu number : ℕ) → leaf_said vector rho mu number changes ≡ Err found
+AreFaulty vector changes found = (w : Weighing) (rho mu number : ℕ) → leaf_said w vector rho mu number changes ≡ Err found
 
--- what a line of version 2 says, by its item and its numbers
-abbrev pub line_with : Item → List ℕ → Line
-line_with item.Header numbers = line.Title version.Two
-line_with (item.Portfolio count) numbers = line.Portfolio count
-line_with (item.Buy buy) numbers = line.Purchase buy
-line_with (item.Gap cents) numbers = line.Gap cents
-line_with (item.Vectors count) numbers = line.Vectors count
-line_with item.Vector numbers = line.Vector numbers
-line_with (item.Nodes count) numbers = line.Nodes count
-line_with (item.Split number at) numbers = line.Node (node.Split number at)
-line_with item.Point numbers = line.Node node.Point
-line_with item.Leaf (rho ∷ mu ∷ vector ∷ numbers) = line.Node (node.Closed (rho_said rho) mu vector (changes_of numbers))
-line_with other numbers = line.End
+-- what a line of version 2 or 3 says, by its item and its numbers
+abbrev pub line_with : Weighing → Item → List ℕ → Line
+line_with w item.Header numbers = line.Title (version.Packed w)
+line_with w (item.Portfolio count) numbers = line.Portfolio count
+line_with w (item.Buy buy) numbers = line.Purchase buy
+line_with w (item.Gap cents) numbers = line.Gap cents
+line_with w (item.Vectors count) numbers = line.Vectors count
+line_with w item.Vector numbers = line.Vector numbers
+line_with w (item.Nodes count) numbers = line.Nodes count
+line_with w (item.Split number at) numbers = line.Split number at
+line_with w item.Point numbers = line.Point
+line_with w item.Leaf (rho ∷ mu ∷ vector ∷ numbers) = line.Closed w (rho_said w rho) mu vector (changes_of numbers)
+line_with w other numbers = line.End
 
 -- the numbers of a leaf with changes
 pub record AreOfLeaf (numbers : List ℕ) : Type 0 where
@@ -68,11 +69,12 @@ pub record AreOfLeaf (numbers : List ℕ) : Type 0 where
   pub places : ArePlaces 65_535 (changes_of (drop 3 numbers))
 
 -- an item and numbers are what a line says
-pub record IsOfNumbers (told : Result Line FaultKind) (numbers : List ℕ) (given : Item) : Type 0 where
-  pub is : told ≡ Ok (line_with given numbers)
+pub record IsOfNumbers (w : Weighing) (told : Result Line FaultKind) (numbers : List ℕ) (given : Item) : Type 0 where
+  pub is : told ≡ Ok (line_with w given numbers)
   pub leaf : given ≡ item.Leaf → AreOfLeaf numbers
 
--- a row is one of version 2
-abbrev pub IsOfTwo : Row → Type 0
-IsOfTwo row.Priced = ⊥
-IsOfTwo other = Unit {0}
+-- a row is one of version 2 or 3, whose leaves weigh the cost so
+abbrev pub IsPackedRow : Weighing → Row → Type 0
+IsPackedRow w (row.Leaf u) = u ≡ w
+IsPackedRow w row.Priced = ⊥
+IsPackedRow w other = Unit {0}

@@ -1,7 +1,8 @@
 -- The text of a certificate, of each version. It is this project's own.
-use Rattle.std.specs.Prelude.{◌≡◌, ◌≢◌, ℕ, ◌==◌, if◌then◌else◌, List, [], ◌∷◌, ◌++◌, All, length, map, Option, Some, None, codes}
+use Rattle.std.specs.Prelude.{◌≡◌, ◌≢◌, ℕ, Bool, true, ◌==◌, ◌||◌, if◌then◌else◌, List, [], ◌∷◌, ◌++◌, All, length, map, Option, Some, None, codes}
 use Rattle.std.specs.Fmt.{decimal}
-use Rattle.std.specs.List.{flat_map}
+use Rattle.std.specs.List.{flat_map, list_all}
+use Rattle.proof_tree.specs.declared.prices.TheConstants.{PRICE_SCALE}
 use Rattle.proof_tree.specs.declared.tree.TreeNode.{TreeNode}
 use Rattle.proof_tree.specs.declared.tree.TreeNode.TheVariants as tree
 use Rattle.bound_certificate.specs.declared.certificate.Buy.{Buy}
@@ -10,12 +11,16 @@ use Rattle.bound_certificate.specs.declared.line.Line.{Line}
 use Rattle.bound_certificate.specs.declared.line.Line.TheVariants as line
 use Rattle.bound_certificate.specs.declared.packed.Change.{Change}
 use Rattle.bound_certificate.specs.declared.packed.Packed.{Packed}
+use Rattle.bound_certificate.specs.declared.packed.PackedNode.{PackedNode}
 use Rattle.bound_certificate.specs.declared.packed.PackedNode.TheVariants as node
 use Rattle.bound_certificate.specs.declared.version.Version.{Version}
 use Rattle.bound_certificate.specs.declared.version.Version.TheVariants as version
+use Rattle.bound_certificate.specs.declared.weighing.Weighing.{Weighing}
+use Rattle.bound_certificate.specs.declared.weighing.Weighing.TheVariants as weighing
 use Rattle.bound_certificate.specs.Certificate.{IsWellFormed}
 use Rattle.bound_certificate.specs.Grammar.{title_word}
 use Rattle.bound_certificate.specs.Packed.{IsPackedWellFormed}
+use Rattle.bound_certificate.specs.Weights.{IsSayable, rho_number}
 
 -- numbers, with a space before each
 abbrev pub spaced_numbers : List ℕ → List ℕ
@@ -29,10 +34,6 @@ numbered word numbers = word ++ spaced_numbers numbers ++ 10 ∷ []
 abbrev pub change_numbers : List Change → List ℕ
 change_numbers changes = flat_map (λ change. change.place ∷ change.price ∷ []) changes
 
--- how much a leaf weighs the cost: 1 stands for wholly, 0 for not at all
-abbrev pub rho_number : ℕ → ℕ
-rho_number rho = if rho == 0 then 0 else 1
-
 -- the text of a line
 abbrev pub line_text : Line → List ℕ
 line_text (line.Title v) = title_word v ++ 10 ∷ []
@@ -43,10 +44,10 @@ line_text (line.Gap cents) = numbered (codes "gap") (cents ∷ [])
 line_text (line.Vectors count) = numbered (codes "vectors") (count ∷ [])
 line_text (line.Vector prices) = numbered (codes "v") prices
 line_text (line.Nodes count) = numbered (codes "nodes") (count ∷ [])
-line_text (line.Node (node.Split number at)) = numbered (codes "s") (number ∷ at ∷ [])
-line_text (line.Node node.Point) = numbered (codes "p") []
-line_text (line.Node (node.Closed rho mu vector changes)) = numbered (codes "l") (rho_number rho ∷ mu ∷ vector ∷ change_numbers changes)
-line_text (line.Leaf leaf) = numbered (codes "l") (rho_number leaf.rho ∷ leaf.mu ∷ leaf.prices)
+line_text (line.Split number at) = numbered (codes "s") (number ∷ at ∷ [])
+line_text line.Point = numbered (codes "p") []
+line_text (line.Closed w rho mu vector changes) = numbered (codes "l") (rho_number w rho ∷ mu ∷ vector ∷ change_numbers changes)
+line_text (line.Leaf leaf) = numbered (codes "l") (rho_number weighing.WholeOrNone leaf.rho ∷ leaf.mu ∷ leaf.prices)
 line_text line.End = numbered (codes "end") []
 
 -- the lines of a portfolio
@@ -57,7 +58,7 @@ portfolio_lines (Some buys) = line.Portfolio (Some (length buys)) ∷ map line.P
 -- the lines of vectors, where the version has them
 abbrev pub vector_lines : Version → List (List ℕ) → List Line
 vector_lines version.One vectors = []
-vector_lines version.Two vectors = line.Vectors (length vectors) ∷ map line.Vector vectors
+vector_lines (version.Packed w) vectors = line.Vectors (length vectors) ∷ map line.Vector vectors
 
 -- the lines of a text, of which these are the nodes
 abbrev pub lines_of : Version → Option (List Buy) → ℕ → List (List ℕ) → List Line → List Line
@@ -66,27 +67,54 @@ lines_of v buys gap vectors nodes =
 
 -- the line of a node whose leaf has all its prices
 abbrev pub tree_line : TreeNode → Line
-tree_line (tree.Split number at) = line.Node (node.Split number at)
-tree_line tree.Point = line.Node node.Point
+tree_line (tree.Split number at) = line.Split number at
+tree_line tree.Point = line.Point
 tree_line (tree.Closed leaf) = line.Leaf leaf
 
 -- the one text of a certificate in version 1
 abbrev pub text_of : Certificate → List ℕ
 text_of cert = flat_map line_text (lines_of version.One cert.buys cert.gap [] (map tree_line cert.nodes))
 
--- and that of a packed one in version 2
+-- the line of a node whose leaf has changes
+abbrev pub packed_line : Weighing → PackedNode → Line
+packed_line w (node.Split number at) = line.Split number at
+packed_line w node.Point = line.Point
+packed_line w (node.Closed rho mu vector changes) = line.Closed w rho mu vector changes
+
+-- the text of a packed certificate in version 2, or in version 3
+abbrev pub packed_text_in : Weighing → Packed → List ℕ
+packed_text_in w packed =
+    flat_map line_text (lines_of (version.Packed w) packed.buys packed.gap packed.vectors (map (packed_line w) packed.nodes))
+
+-- the weight of a leaf can be said
+abbrev pub IsSayableNode : Weighing → PackedNode → Type 0
+IsSayableNode w (node.Closed rho mu vector changes) = IsSayable w rho
+IsSayableNode w other = Unit {0}
+
+-- the cost counts wholly at a leaf, or not at all
+abbrev pub is_plain : PackedNode → Bool
+is_plain (node.Closed rho mu vector changes) = rho == 0 || rho == PRICE_SCALE
+is_plain other = true
+
+-- the version that is written: 2 where the cost counts wholly or not at all at each leaf, and else 3
+abbrev pub packed_weighing : List PackedNode → Weighing
+packed_weighing nodes = if list_all is_plain nodes then weighing.WholeOrNone else weighing.Number
+
+-- the text of a packed certificate that is written
 abbrev pub packed_text_of : Packed → List ℕ
-packed_text_of packed = flat_map line_text (lines_of version.Two packed.buys packed.gap packed.vectors (map line.Node packed.nodes))
+packed_text_of packed = packed_text_in (packed_weighing packed.nodes) packed
 
 -- bytes are the text of a well-formed certificate for so many need dates
 pub record IsTextOf (dates : ℕ) (cert : Certificate) (bytes : List ℕ) : Type 0 where
   pub well_formed : IsWellFormed dates cert
   pub text : bytes ≡ text_of cert
 
--- and of a packed one
+-- and of a packed one: in version 2, which can say that the cost counts wholly or not at all, or in version 3
 pub record IsPackedTextOf (dates : ℕ) (packed : Packed) (bytes : List ℕ) : Type 0 where
+  pub version : Weighing
   pub well_formed : IsPackedWellFormed dates packed
-  pub text : bytes ≡ packed_text_of packed
+  pub sayable : All (IsSayableNode version) packed.nodes
+  pub text : bytes ≡ packed_text_in version packed
 
 -- bytes without a line feed
 abbrev pub NotFeed : ℕ → Type 0

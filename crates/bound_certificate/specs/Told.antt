@@ -10,7 +10,6 @@ use Rattle.bound_certificate.specs.declared.item.Item.{Item}
 use Rattle.bound_certificate.specs.declared.item.Item.TheVariants as item
 use Rattle.bound_certificate.specs.declared.line.Line.{Line}
 use Rattle.bound_certificate.specs.declared.line.Line.TheVariants as line
-use Rattle.bound_certificate.specs.declared.packed.PackedNode.TheVariants as node
 use Rattle.bound_certificate.specs.declared.version.Version.{Version}
 use Rattle.bound_certificate.specs.Draft.{no_lines, with_item}
 use Rattle.bound_certificate.specs.Due.{next_due}
@@ -30,7 +29,7 @@ no_leaf = record { rho = 0; mu = 0; prices = [] }
 
 -- the leaf that a line says, with its prices written out; of other lines the leaf that stands for none
 abbrev pub line_leaf : List (List ℕ) → Line → Leaf
-line_leaf vectors (line.Node (node.Closed rho mu vector changes)) = leaf_with vectors rho mu vector changes
+line_leaf vectors (line.Closed w rho mu vector changes) = leaf_with vectors rho mu vector changes
 line_leaf vectors (line.Leaf leaf) = leaf
 line_leaf vectors said = no_leaf
 

@@ -15,7 +15,7 @@ abbrev pub version_of : List (List ℕ) → Version
 version_of (first ∷ next ∷ lines) = title_version first
 version_of lines = version.One
 
--- the first fault of a text of either version, where a leaf has a price for each of so many dates
+-- the first fault of a text of whichever version, where a leaf has a price for each of so many dates
 unfoldable pub certificate_fault : ℕ → List ℕ → Option CertFault
 certificate_fault dates bytes = text_fault (version_of (lines_in bytes)) dates bytes
 
@@ -25,6 +25,6 @@ pub record IsPackedFormOf (dates : ℕ) (cert : Certificate) (bytes : List ℕ) 
   pub text : IsPackedTextOf dates packed bytes
   pub same : unpacked packed ≡ cert
 
--- bytes are a text of a certificate, of either version
+-- bytes are a text of a certificate, of whichever version
 abbrev pub IsCertificateText : ℕ → Certificate → List ℕ → Type 0
 IsCertificateText dates cert bytes = IsTextOf dates cert bytes ⊎ IsPackedFormOf dates cert bytes

@@ -47,7 +47,7 @@ fn tree_due(version: Version) -> Due
 {
     match version {
         Version::One => Due::Count,
-        Version::Two => Due::VectorCount,
+        Version::Packed(_) => Due::VectorCount,
     }
 }
 

@@ -1,4 +1,4 @@
-//! The library's face: texts that are there whole, of version 1 alone and of version 2 alone. The program itself reads by
+//! The library's face: texts that are there whole, of version 1 alone and of versions 2 and 3. The program itself reads by
 //! [`CertReader`](crate::CertReader), in pieces.
 ghost use Rattle.std.specs.Prelude.{◌≡◌, ◌≤◌, ◌⊎◌, IfErr, IfOk, OnOk, Ok, Err};
 ghost use Rattle.bound_certificate.specs.Draft.{no_packed, with_line};
@@ -8,7 +8,6 @@ ghost use Rattle.bound_certificate.specs.Text.{IsPackedTextOf, IsTextOf};
 ghost use Rattle.bound_certificate.specs.declared.certificate.Certificate.{Certificate as CertificateOf};
 ghost use Rattle.bound_certificate.specs.declared.fault.CertError.TheVariants as error;
 ghost use Rattle.bound_certificate.specs.declared.item.Item.TheVariants as item_of;
-ghost use Rattle.bound_certificate.specs.declared.line.Line.TheVariants as line;
 ghost use Rattle.bound_certificate.specs.declared.packed.Packed.{Packed as PackedOf};
 
 use crate::certificate::{Buys, Certificate, empty_leaf};
@@ -18,9 +17,10 @@ use crate::item::Item;
 use crate::limits::MOST_DATES;
 use crate::line::Line;
 use crate::packed::{Changes, Packed, PackedNode, PackedNodes, Vectors};
-use crate::taken::{list_changes, rho_of_number, take_line};
+use crate::taken::{list_changes, take_line};
 use crate::vector_room::VectorRoom;
-use crate::version::Version;
+use crate::version::{Version, weighing_of_title};
+use crate::weighing::Weighing;
 use arrayvec::ArrayVec;
 use escrow_desk::NoMemory;
 use line_words::cut_line;
@@ -96,7 +96,20 @@ impl Packed {
             }
             Line::Gap(cents) => self.gap = cents,
             Line::Vector(prices) => self.vectors.push(prices)?,
-            Line::Node(node) => self.nodes.push(node)?,
+            Line::Split { line, at } => self.nodes.push(PackedNode::Split { line, at })?,
+            Line::Point => self.nodes.push(PackedNode::Point)?,
+            Line::Closed {
+                rho,
+                mu,
+                vector,
+                changes,
+                ..
+            } => self.nodes.push(PackedNode::Closed {
+                rho,
+                mu,
+                vector,
+                changes,
+            })?,
             Line::Title(_) | Line::Vectors(_) | Line::Nodes(_) | Line::End => {}
             Line::Leaf(_leaf) => {}
         }
@@ -105,13 +118,14 @@ impl Packed {
 }
 
 // A leaf, by its numbers.
-fn leaf_node(alloc: Global, numbers: &[u64]) -> Result<PackedNode, NoMemory>
+fn leaf_line(alloc: Global, weighing: Weighing, numbers: &[u64]) -> Result<Line, NoMemory>
     requires { AreOfLeaf numbers.now }
-    ensures { IfOk result (λ said. line.Node said ≡ line_with item_of.Leaf numbers.now) }
+    ensures { IfOk result (λ said. said ≡ line_with weighing item_of.Leaf numbers.now) }
 {
     let changes = list_changes::<MOST_DATES>(&numbers[3..]);
-    Ok(PackedNode::Closed {
-        rho: rho_of_number(numbers[0]),
+    Ok(Line::Closed {
+        weighing,
+        rho: weighing.weight(numbers[0]),
         mu: numbers[1],
         vector: numbers[2] as u16,
         changes: Changes::new(changes.as_slice().to_vec(alloc)?),
@@ -119,12 +133,12 @@ fn leaf_node(alloc: Global, numbers: &[u64]) -> Result<PackedNode, NoMemory>
 }
 
 // What a line says, by its item and its numbers.
-fn line_of(alloc: Global, item: Item, numbers: &[u64]) -> Result<Line, NoMemory>
+fn line_of(alloc: Global, weighing: Weighing, item: Item, numbers: &[u64]) -> Result<Line, NoMemory>
     requires { item ≡ item_of.Leaf → AreOfLeaf numbers.now }
-    ensures { IfOk result (λ said. said ≡ line_with item numbers.now) }
+    ensures { IfOk result (λ said. said ≡ line_with weighing item numbers.now) }
 {
     Ok(match item {
-        Item::Header => Line::Title(Version::Two),
+        Item::Header => Line::Title(Version::Packed(weighing)),
         Item::Portfolio(None) => Line::Portfolio(None),
         Item::Portfolio(Some(count)) => Line::Portfolio(Some(u64::from(count))),
         Item::Buy(buy) => Line::Purchase(buy),
@@ -132,14 +146,14 @@ fn line_of(alloc: Global, item: Item, numbers: &[u64]) -> Result<Line, NoMemory>
         Item::Vectors(count) => Line::Vectors(u64::from(count)),
         Item::Vector => Line::Vector(Prices::new(numbers.to_vec(alloc)?)),
         Item::Nodes(count) => Line::Nodes(u64::from(count)),
-        Item::Split { line, at } => Line::Node(PackedNode::Split { line, at }),
-        Item::Point => Line::Node(PackedNode::Point),
-        Item::Leaf => Line::Node(leaf_node(alloc, numbers)?),
+        Item::Split { line, at } => Line::Split { line, at },
+        Item::Point => Line::Point,
+        Item::Leaf => leaf_line(alloc, weighing, numbers)?,
         Item::Nothing | Item::End => Line::End,
     })
 }
 
-/// Reads the text of a packed certificate for so many need dates, at most 480: a vector has a price for each.
+/// Reads the text of a packed certificate, of version 2 or 3, for so many need dates, at most 480: a vector has a price for each.
 ///
 /// # Errors
 ///
@@ -157,9 +171,10 @@ pub fn read_packed(alloc: Global, bytes: &[u8], dates: u16) -> Result<Packed, Ce
     let mut due = Due::Title;
     let mut number = 1;
     let mut part = cut_line(bytes);
+    let weighing = weighing_of_title(part.front);
     while let Some(rest) = part.rest {
         let item = match take_line(
-            Version::Two,
+            Version::Packed(weighing),
             due,
             dates,
             &mut vectors,
@@ -170,8 +185,8 @@ pub fn read_packed(alloc: Global, bytes: &[u8], dates: u16) -> Result<Packed, Ce
             Ok(item) => item,
             Err(kind) => return Err(CertError::Fault(CertFault { line: number, kind })),
         };
-        due = due.after(Version::Two, item);
-        packed.take(alloc, line_of(alloc, item, numbers.as_slice())?)?;
+        due = due.after(Version::Packed(weighing), item);
+        packed.take(alloc, line_of(alloc, weighing, item, numbers.as_slice())?)?;
         number += 1;
         part = cut_line(rest);
     }

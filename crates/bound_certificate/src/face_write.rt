@@ -1,4 +1,4 @@
-//! The library's face: texts of version 1, and certificates that are unpacked. The program itself writes version 2 alone.
+//! The library's face: texts of version 1, and certificates that are unpacked. The program itself writes packed ones.
 ghost use Rattle.std.specs.Prelude.{◌≡◌, ◌++◌, map, ℕ, IfOk, OnOk, length, option_map};
 ghost use Rattle.std.specs.List.{flat_map};
 ghost use Rattle.bound_certificate.specs.Certificate.{IsWritable};
@@ -11,7 +11,8 @@ use crate::certificate::{Certificate, copied_buys};
 use crate::packed::{Change, Packed, PackedNode};
 use crate::taken::put_changes;
 use crate::version::Version;
-use crate::write::{push_begin, push_line, push_number, push_numbers, rho_number};
+use crate::weighing::Weighing;
+use crate::write::{push_begin, push_line, push_number, push_numbers};
 use escrow_desk::NoMemory;
 use proof_tree::{Leaf, Nodes, Prices, TreeNode};
 use std::alloc::Global;
@@ -21,7 +22,7 @@ fn push_leaf(text: &mut Vec<u8>, leaf: &Leaf) -> Result<(), NoMemory>
     ensures { OnOk result (text.new.items ≡ text.old.items ++ line_text (line.Leaf leaf.now)) }
 {
     text.push(b'l')?;
-    push_number(text, rho_number(leaf.rho))?;
+    push_number(text, Weighing::WholeOrNone.number(leaf.rho))?;
     push_number(text, leaf.mu)?;
     push_numbers(text, leaf.prices.as_slice())?;
     text.push(b'\n')?;
@@ -49,7 +50,7 @@ fn push_nodes(text: &mut Vec<u8>, nodes: &[TreeNode]) -> Result<(), NoMemory>
     Ok(())
 }
 
-/// The one text of a certificate.
+/// The one text of a certificate, in version 1.
 ///
 /// # Errors
 ///

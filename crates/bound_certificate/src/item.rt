@@ -15,9 +15,9 @@ pub enum Item {
     Buy(Buy),
     /// The gap, in cents.
     Gap(u64),
-    /// How many vectors follow, of version 2.
+    /// How many vectors follow, of version 2 or 3.
     Vectors(u32),
-    /// A vector of prices, of version 2.
+    /// A vector of prices, of version 2 or 3.
     Vector,
     /// How many nodes follow.
     Nodes(u32),

@@ -21,6 +21,7 @@ mod taken;
 mod text_reading;
 mod vector_room;
 mod version;
+mod weighing;
 mod write;
 
 pub use certificate::{Buy, Buys, Certificate, copied_buys};

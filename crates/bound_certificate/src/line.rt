@@ -3,9 +3,10 @@ ghost use Rattle.std.specs.Prelude.{◌≡◌, ◌≤◌, ◌*◌, All};
 ghost use Rattle.bound_certificate.specs.Grammar.{begins_with as begins_with_of, node_row as node_row_of, rises as rises_of};
 
 use crate::certificate::Buy;
-use crate::packed::PackedNode;
+use crate::packed::Changes;
 use crate::row::Row;
 use crate::version::Version;
+use crate::weighing::Weighing;
 use line_words::cut_at;
 use proof_tree::{Leaf, PRICE_SCALE, Prices};
 
@@ -26,8 +27,28 @@ pub(crate) enum Line {
     Vector(Prices),
     /// How many nodes follow.
     Nodes(u64),
-    /// A node, whose leaf has changes.
-    Node(PackedNode),
+    /// A split of the range of a line.
+    Split {
+        /// The line, counted from 0.
+        line: u16,
+        /// The most units of the left range.
+        at: u64,
+    },
+    /// A point.
+    Point,
+    /// A leaf with changes.
+    Closed {
+        /// How its line says how much it weighs the cost.
+        weighing: Weighing,
+        /// The weight of a cent of cost.
+        rho: u64,
+        /// The multiplier of the yield limit.
+        mu: u64,
+        /// The vector, counted from 1.
+        vector: u16,
+        /// The other prices.
+        changes: Changes,
+    },
     /// A leaf with all its prices.
     Leaf(Leaf),
     /// The last line.

@@ -68,7 +68,7 @@ pub enum PackedNode {
     Point,
     /// A leaf, whose prices are those of a vector, with another one at some places.
     Closed {
-        /// The weight of a cent of cost: 0, or `PRICE_SCALE`.
+        /// The weight of a cent of cost, in units of 1 / `PRICE_SCALE`, from 0 to `PRICE_SCALE`.
         rho: u64,
         /// The multiplier of the yield limit, at most `PRICE_SCALE`.
         mu: u64,

@@ -20,7 +20,7 @@ use proof_tree::Leaf;
 use std::alloc::Global;
 use std::marker::Model;
 
-/// A reader of the text of a certificate of either version, in pieces. Contracts see what has come of it.
+/// A reader of the text of a certificate of whichever version, in pieces. Contracts see what has come of it.
 #[derive(Drop)]
 pub struct CertReader {
     reading: TextReading,
@@ -129,7 +129,7 @@ impl CertReader {
         match (self.reading.stage, self.numbers.as_slice().get(2)) {
             (
                 Stage::Later {
-                    version: Version::Two,
+                    version: Version::Packed(_),
                     ..
                 },
                 Some(number),

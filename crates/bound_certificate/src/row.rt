@@ -6,6 +6,7 @@ ghost use Rattle.line_words.specs.Words.{parts_behind};
 
 use crate::fault::FaultKind;
 use crate::limits::{MOST_DATES, MOST_NODES, MOST_NUMBERS, MOST_VECTORS};
+use crate::weighing::Weighing;
 use arrayvec::ArrayVec;
 use line_words::{Range, Taken, cut_at, digit_count, front_number_in, quick_front_number};
 use proof_tree::{GREATEST_UNITS, PRICE_SCALE};
@@ -37,8 +38,8 @@ pub(crate) enum Row {
     Point,
     /// `l`: a leaf with all its prices.
     Priced,
-    /// `l`: a leaf of a vector, with changes.
-    Leaf,
+    /// `l`: a leaf of a vector, with changes, that weighs the cost so.
+    Leaf(Weighing),
     /// `end`.
     End,
 }
@@ -62,11 +63,11 @@ fn weight_range(place: usize) -> Range
 }
 
 // The range of the number at a place of a leaf with changes, from 1.
-fn leaf_range(dates: u16, vectors: u16, place: usize) -> Range
-    ensures { result ≡ leaf_range_of dates vectors place }
+fn leaf_range(weighing: Weighing, dates: u16, vectors: u16, place: usize) -> Range
+    ensures { result ≡ leaf_range_of weighing dates vectors place }
 {
     match place {
-        1 => Range::new(0, 1),
+        1 => Range::new(0, weighing.most()),
         2 => Range::new(0, PRICE_SCALE),
         3 => Range::new(1, u64::from(vectors)),
         _ if place % 2 == 0 => Range::new(1, u64::from(dates)),
@@ -88,7 +89,7 @@ impl Row {
             Row::Nodes => b"nodes",
             Row::Split => b"s",
             Row::Point => b"p",
-            Row::Priced | Row::Leaf => b"l",
+            Row::Priced | Row::Leaf(_) => b"l",
             Row::End => b"end",
         }
     }
@@ -105,7 +106,7 @@ impl Row {
             Row::Point | Row::End => count == 0,
             Row::Vector => count == dates,
             Row::Priced => count == 2 + dates,
-            Row::Leaf => 3 <= count && count <= 3 + 2 * dates && count % 2 == 1,
+            Row::Leaf(_) => 3 <= count && count <= 3 + 2 * dates && count % 2 == 1,
         }
     }
 
@@ -123,7 +124,7 @@ impl Row {
             Row::Split if place == 1 => Range::new(0, 65_535),
             Row::Split => Range::new(0, GREATEST_UNITS),
             Row::Priced => weight_range(place),
-            Row::Leaf => leaf_range(dates, vectors, place),
+            Row::Leaf(weighing) => leaf_range(weighing, dates, vectors, place),
             Row::Point | Row::End => Range::new(0, 0),
         }
     }

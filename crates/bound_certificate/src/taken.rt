@@ -4,10 +4,11 @@ ghost use Rattle.proof_tree.specs.declared.tree.Leaf.{Leaf as LeafOf};
 ghost use Rattle.bound_certificate.specs.declared.item.Item.TheVariants as item_of;
 ghost use Rattle.bound_certificate.specs.declared.row.Row.TheVariants as row_of;
 ghost use Rattle.bound_certificate.specs.declared.version.Version.TheVariants as version_of;
-ghost use Rattle.bound_certificate.specs.Grammar.{ArePlaces, are_rising, changes_of, line_said, places_of, restates as restates_of, rho_said, row_line, said_by};
+ghost use Rattle.bound_certificate.specs.declared.weighing.Weighing.{Weighing as WeighingOf};
+ghost use Rattle.bound_certificate.specs.Grammar.{ArePlaces, are_rising, changes_of, line_said, places_of, restates as restates_of, row_line, said_by};
 ghost use Rattle.bound_certificate.specs.Packed.{IsVector, changed};
 ghost use Rattle.bound_certificate.specs.Row.{AreRowNumbers};
-ghost use Rattle.bound_certificate.specs.Taken.{AreFaulty, ArePricesAfter, HasRoom, HasRoomFor, IsGiven, IsOfNumbers, IsOfTwo};
+ghost use Rattle.bound_certificate.specs.Taken.{AreFaulty, ArePricesAfter, HasRoom, HasRoomFor, IsGiven, IsOfNumbers, IsPackedRow};
 
 use crate::certificate::Buy;
 use crate::due::Due;
@@ -20,6 +21,7 @@ use crate::packed::Change;
 use crate::row::{Numbers, Row, read_row};
 use crate::vector_room::VectorRoom;
 use crate::version::Version;
+use crate::weighing::Weighing;
 use arrayvec::ArrayVec;
 use proof_tree::{Leaf, PRICE_SCALE, Prices};
 
@@ -138,13 +140,6 @@ fn take_changed(prices: &mut Prices, vector: &[u64], numbers: &[u64]) -> Result<
     }
 }
 
-/// How much a leaf weighs the cost, by the number that says it.
-pub(crate) fn rho_of_number(number: u64) -> u64
-    ensures { result ≡ rho_said number }
-{
-    if number == 1 { PRICE_SCALE } else { 0 }
-}
-
 // A leaf with all its prices, by its numbers.
 fn take_priced(numbers: &[u64], leaf: &mut Leaf) -> Result<Item, FaultKind>
     requires numbers { AreRowNumbers (length leaf.old.prices) 0 row_of.Priced numbers.now }
@@ -158,32 +153,33 @@ fn take_priced(numbers: &[u64], leaf: &mut Leaf) -> Result<Item, FaultKind>
         return Err(FaultKind::Order);
     }
     leaf.prices.copy(prices);
-    leaf.rho = rho_of_number(numbers[0]);
+    leaf.rho = Weighing::WholeOrNone.weight(numbers[0]);
     leaf.mu = numbers[1];
     Ok(Item::Leaf)
 }
 
 // A leaf of a vector, with changes, by its numbers.
 fn take_leaf(
+    weighing: Weighing,
     dates: u16,
     vectors: &VectorRoom,
     numbers: &[u64],
     leaf: &mut Leaf,
 ) -> Result<Item, FaultKind>
     requires dates { dates ≤ MOST_DATES }
-    requires numbers { AreRowNumbers dates (length vectors.now) row_of.Leaf numbers.now }
+    requires numbers { AreRowNumbers dates (length vectors.now) (row_of.Leaf weighing) numbers.now }
     requires vectors { All (IsVector dates) vectors.now }
     requires few { length vectors.now ≤ MOST_VECTORS }
     requires leaf { length leaf.old.prices ≡ dates }
     ensures dates { length leaf.new.prices ≡ dates }
-    ensures ok { IfOk result (IsGiven (said_by vectors.now row_of.Leaf numbers.now) vectors.now vectors.now leaf.new) }
+    ensures ok { IfOk result (IsGiven (said_by vectors.now (row_of.Leaf weighing) numbers.now) vectors.now vectors.now leaf.new) }
     ensures lent { IfOk result (λ item. item ≢ item_of.Leaf → leaf.new ≡ leaf.old) }
-    ensures numbers { IfOk result (IsOfNumbers (said_by vectors.now row_of.Leaf numbers.now) numbers.now) }
-    ensures err { IfErr result (λ found. said_by vectors.now row_of.Leaf numbers.now ≡ Err found) }
+    ensures numbers { IfOk result (IsOfNumbers weighing (said_by vectors.now (row_of.Leaf weighing) numbers.now) numbers.now) }
+    ensures err { IfErr result (λ found. said_by vectors.now (row_of.Leaf weighing) numbers.now ≡ Err found) }
 {
     let vector = vectors.at(numbers[2] as usize - 1);
     take_changed(&mut leaf.prices, vector, &numbers[3..])?;
-    leaf.rho = rho_of_number(numbers[0]);
+    leaf.rho = weighing.weight(numbers[0]);
     leaf.mu = numbers[1];
     Ok(Item::Leaf)
 }
@@ -193,7 +189,7 @@ fn take_purchase(least: u32, numbers: &[u64]) -> Result<Item, FaultKind>
     requires two { length numbers.now ≡ 2 }
     requires line { slice_index numbers.now 0 ≤ 65_535 }
     ensures ok { IfOk result (λ item. (vectors : List (List ℕ)) (leaf : LeafOf) → IsGiven (said_by vectors (row_of.Buy least) numbers.now) vectors vectors leaf item) }
-    ensures numbers { IfOk result (λ item. (vectors : List (List ℕ)) → IsOfNumbers (said_by vectors (row_of.Buy least) numbers.now) numbers.now item) }
+    ensures numbers { (w : WeighingOf) (vectors : List (List ℕ)) → IfOk result (IsOfNumbers w (said_by vectors (row_of.Buy least) numbers.now) numbers.now) }
     ensures err { IfErr result (λ found. (vectors : List (List ℕ)) → said_by vectors (row_of.Buy least) numbers.now ≡ Err found) }
 {
     if numbers[0] < u64::from(least) {
@@ -211,7 +207,7 @@ fn take_vector(vectors: &mut VectorRoom, numbers: &[u64]) -> Result<Item, FaultK
     requires few { length numbers.now ≤ MOST_DATES }
     requires prices { All (λ price. price ≤ 2 * PRICE_SCALE) numbers.now }
     ensures ok { IfOk result (λ item. (leaf : LeafOf) → IsGiven (said_by vectors.old row_of.Vector numbers.now) vectors.old vectors.new leaf item) }
-    ensures numbers { IfOk result (IsOfNumbers (said_by vectors.old row_of.Vector numbers.now) numbers.now) }
+    ensures numbers { (w : WeighingOf) → IfOk result (IsOfNumbers w (said_by vectors.old row_of.Vector numbers.now) numbers.now) }
     ensures err { IfErr result (λ found. said_by vectors.old row_of.Vector numbers.now ≡ Err found) }
 {
     if rises(numbers) {
@@ -238,7 +234,7 @@ fn take_said(
     ensures dates { length leaf.new.prices ≡ dates }
     ensures ok { IfOk result (IsGiven (said_by vectors.old row numbers.now) vectors.old vectors.new leaf.new) }
     ensures lent { IfOk result (λ item. item ≢ item_of.Leaf → leaf.new ≡ leaf.old) }
-    ensures numbers { IsOfTwo row → IfOk result (IsOfNumbers (said_by vectors.old row numbers.now) numbers.now) }
+    ensures numbers { (w : WeighingOf) → IsPackedRow w row → IfOk result (IsOfNumbers w (said_by vectors.old row numbers.now) numbers.now) }
     ensures err { IfErr result (λ found. said_by vectors.old row numbers.now ≡ Err found) }
 {
     match row {
@@ -254,7 +250,7 @@ fn take_said(
         }),
         Row::Point => Ok(Item::Point),
         Row::Priced => take_priced(numbers, leaf),
-        Row::Leaf => take_leaf(dates, vectors, numbers, leaf),
+        Row::Leaf(weighing) => take_leaf(weighing, dates, vectors, numbers, leaf),
         Row::End => Ok(Item::End),
     }
 }
@@ -289,7 +285,7 @@ fn take_row(
     ensures dates { length leaf.new.prices ≡ dates }
     ensures ok { IfOk result (IsGiven (row_line dates vectors.old due.row due.may line.now) vectors.old vectors.new leaf.new) }
     ensures lent { IfOk result (λ item. item ≢ item_of.Leaf → leaf.new ≡ leaf.old) }
-    ensures numbers { IsOfTwo due.row → IfOk result (IsOfNumbers (row_line dates vectors.old due.row due.may line.now) numbers.new.items) }
+    ensures numbers { (w : WeighingOf) → IsPackedRow w due.row → IfOk result (IsOfNumbers w (row_line dates vectors.old due.row due.may line.now) numbers.new.items) }
     ensures err { IfErr result (λ found. row_line dates vectors.old due.row due.may line.now ≡ Err found) }
 {
     read_row(due.row, due.may, dates, vectors.count(), line, numbers)?;
@@ -318,7 +314,7 @@ pub(crate) fn take_line(
     ensures dates { length leaf.new.prices ≡ dates }
     ensures ok { IfOk result (IsGiven (line_said version dates vectors.old due line.now) vectors.old vectors.new leaf.new) }
     ensures lent { IfOk result (λ item. item ≢ item_of.Leaf → leaf.new ≡ leaf.old) }
-    ensures numbers { version ≡ version_of.Two → IfOk result (IsOfNumbers (line_said version dates vectors.old due line.now) numbers.new.items) }
+    ensures numbers { (w : WeighingOf) → version ≡ version_of.Packed w → IfOk result (IsOfNumbers w (line_said version dates vectors.old due line.now) numbers.new.items) }
     ensures err { IfErr result (λ kind. line_said version dates vectors.old due line.now ≡ Err kind) }
 {
     let row = match due {

@@ -1,26 +1,20 @@
 //! The text of a packed certificate, line by line.
 ghost use Rattle.std.specs.Prelude.{◌≡◌, [], ◌∷◌, ◌++◌, map, IfOk, OnOk, option_map};
 ghost use Rattle.std.specs.Fmt.{decimal};
-ghost use Rattle.std.specs.List.{flat_map};
+ghost use Rattle.std.specs.List.{flat_map, list_all};
 ghost use Rattle.bound_certificate.specs.Grammar.{title_word};
 ghost use Rattle.bound_certificate.specs.Packed.{IsPackedWritable};
-ghost use Rattle.bound_certificate.specs.Text.{change_numbers, line_text, numbered, packed_text_of, portfolio_lines, rho_number as rho_number_of, spaced_numbers};
+ghost use Rattle.bound_certificate.specs.Text.{change_numbers, is_plain as is_plain_of, line_text, numbered, packed_line, packed_text_of, packed_weighing, portfolio_lines, spaced_numbers};
 ghost use Rattle.bound_certificate.specs.declared.line.Line.TheVariants as line;
 
 use crate::certificate::{Buy, Buys};
 use crate::packed::{Change, Packed, PackedNode};
 use crate::version::Version;
+use crate::weighing::Weighing;
 use escrow_desk::NoMemory;
 use itoa::Buffer;
-use proof_tree::Prices;
+use proof_tree::{PRICE_SCALE, Prices};
 use std::alloc::Global;
-
-/// The number by which a line says how much a leaf weighs the cost: 1 stands for wholly.
-pub(crate) fn rho_number(rho: u64) -> u64
-    ensures { result ≡ rho_number_of rho }
-{
-    u64::from(rho != 0)
-}
 
 /// Adds a space and a number.
 pub(crate) fn push_number(text: &mut Vec<u8>, number: u64) -> Result<(), NoMemory>
@@ -100,8 +94,12 @@ fn push_changes(text: &mut Vec<u8>, changes: &[Change]) -> Result<(), NoMemory>
 }
 
 // Adds the line of a node.
-fn push_packed_node(text: &mut Vec<u8>, node: &PackedNode) -> Result<(), NoMemory>
-    ensures { OnOk result (text.new.items ≡ text.old.items ++ line_text (line.Node node.now)) }
+fn push_packed_node(
+    text: &mut Vec<u8>,
+    weighing: Weighing,
+    node: &PackedNode,
+) -> Result<(), NoMemory>
+    ensures { OnOk result (text.new.items ≡ text.old.items ++ line_text (packed_line weighing node.now)) }
 {
     match node {
         PackedNode::Split { line, at } => push_line(text, b"s", &[*line as u64, *at]),
@@ -113,7 +111,7 @@ fn push_packed_node(text: &mut Vec<u8>, node: &PackedNode) -> Result<(), NoMemor
             changes,
         } => {
             text.push(b'l')?;
-            push_numbers(text, &[rho_number(*rho), *mu, u64::from(*vector)])?;
+            push_numbers(text, &[weighing.number(*rho), *mu, u64::from(*vector)])?;
             push_changes(text, changes.as_slice())?;
             text.push(b'\n')?;
             Ok(())
@@ -122,11 +120,15 @@ fn push_packed_node(text: &mut Vec<u8>, node: &PackedNode) -> Result<(), NoMemor
 }
 
 // Adds the lines of nodes.
-fn push_packed_nodes(text: &mut Vec<u8>, nodes: &[PackedNode]) -> Result<(), NoMemory>
-    ensures { OnOk result (text.new.items ≡ text.old.items ++ flat_map line_text (map line.Node nodes.now)) }
+fn push_packed_nodes(
+    text: &mut Vec<u8>,
+    weighing: Weighing,
+    nodes: &[PackedNode],
+) -> Result<(), NoMemory>
+    ensures { OnOk result (text.new.items ≡ text.old.items ++ flat_map line_text (map (packed_line weighing) nodes.now)) }
 {
     for node in nodes {
-        push_packed_node(text, node)?;
+        push_packed_node(text, weighing, node)?;
     }
     Ok(())
 }
@@ -141,7 +143,40 @@ fn push_vectors(text: &mut Vec<u8>, vectors: &[Prices]) -> Result<(), NoMemory>
     Ok(())
 }
 
-/// The one text of a packed certificate.
+// Whether the cost counts wholly at a leaf, or not at all; of other nodes it is so.
+fn is_plain(node: &PackedNode) -> bool
+    ensures { result ≡ is_plain_of node.now }
+{
+    match node {
+        PackedNode::Closed { rho, .. } => *rho == 0 || *rho == PRICE_SCALE,
+        _ => true,
+    }
+}
+
+// Whether the cost counts wholly at each leaf, or not at all.
+fn are_plain(nodes: &[PackedNode]) -> bool
+    ensures { result ≡ list_all is_plain_of nodes.now }
+{
+    for node in nodes {
+        if !is_plain(node) {
+            return false;
+        }
+    }
+    true
+}
+
+// How the leaves of a tree say how much they weigh the cost.
+fn weighing_of(nodes: &[PackedNode]) -> Weighing
+    ensures { result ≡ packed_weighing nodes.now }
+{
+    if are_plain(nodes) {
+        Weighing::WholeOrNone
+    } else {
+        Weighing::Number
+    }
+}
+
+/// The text of a packed certificate: in version 2 where the cost counts wholly or not at all at each leaf, and else in version 3.
 ///
 /// # Errors
 ///
@@ -151,7 +186,13 @@ pub fn write_packed(alloc: Global, packed: &Packed) -> Result<Vec<u8>, NoMemory>
     ensures { IfOk result (λ text. text.items ≡ packed_text_of packed.now) }
 {
     let mut text = Vec::new(alloc);
-    push_begin(&mut text, Version::Two, packed.buys.as_ref(), packed.gap)?;
+    let weighing = weighing_of(packed.nodes.as_slice());
+    push_begin(
+        &mut text,
+        Version::Packed(weighing),
+        packed.buys.as_ref(),
+        packed.gap,
+    )?;
     push_line(
         &mut text,
         b"vectors",
@@ -159,7 +200,7 @@ pub fn write_packed(alloc: Global, packed: &Packed) -> Result<Vec<u8>, NoMemory>
     )?;
     push_vectors(&mut text, packed.vectors.as_slice())?;
     push_line(&mut text, b"nodes", &[packed.nodes.as_slice().len() as u64])?;
-    push_packed_nodes(&mut text, packed.nodes.as_slice())?;
+    push_packed_nodes(&mut text, weighing, packed.nodes.as_slice())?;
     push_line(&mut text, b"end", &[])?;
     Ok(text)
 }

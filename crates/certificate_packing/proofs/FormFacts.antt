@@ -13,6 +13,7 @@ use Rattle.proof_tree.specs.Tree.{IsNode}
 use Rattle.bound_certificate.specs.Packed.{IsPackable, IsPackedNode, IsVector, unpacked_node}
 use Rattle.bound_certificate.specs.Text.{packed_text_of}
 use Rattle.bound_certificate.specs.Versions.{IsPackedFormOf}
+use Rattle.bound_certificate.proofs.PackableFacts.{written-packed-text}
 use Rattle.certificate_packing.specs.Packing.{IsDifference, IsNodePacked}
 use Rattle.certificate_packing.proofs.PackFacts.{IsSoFar, no-change, none-yet, one-change, whole-difference}
 use Rattle.certificate_packing.proofs.PackedOfFacts.{said-packed, said-same, unpacked-is, well-formed}
@@ -108,7 +109,7 @@ packed-form dates cert able =
       text = packed_text_of packed;
       is = record {
         packed = packed;
-        text = record { well_formed = well-formed dates cert packed able (omega arith) vectors nodes.same nodes.are refl refl; text = refl };
+        text = written-packed-text dates packed (well-formed dates cert packed able (omega arith) vectors nodes.same nodes.are refl refl);
         same = unpacked-is cert packed nodes.same refl refl;
       };
     }

@@ -7,7 +7,7 @@ ghost use Rattle.offer_book.specs.Book.{IsBook};
 ghost use Rattle.offer_book.specs.Portfolio.{IsPermitted};
 ghost use Rattle.yield_enclosure.specs.YieldAnswers.{is_within as is_within_of};
 ghost use Rattle.escrow_check.specs.Acceptance.{is_offered as is_offered_of};
-ghost use Rattle.escrow_check.specs.Trial.{Ends, IsNew, IsReady, TakesEnd, TakesSplit, closed_leaf, closed_point, may_go, plan_reason, verdict_on, with_buy, with_gap};
+ghost use Rattle.escrow_check.specs.Trial.{AreColumnsOf, Ends, IsNew, IsReady, TakesEnd, TakesSplit, closed_leaf, closed_point, may_go, plan_reason, verdict_on, with_buy, with_gap};
 ghost use Rattle.escrow_check.specs.Knows.{Comes, Knows};
 ghost use Rattle.escrow_check.specs.Walk.{IsWalk};
 ghost use Rattle.bound_certificate.specs.Draft.{with_item};
@@ -21,7 +21,7 @@ use crate::verdict::{Portfolio, Reason, Verdict};
 use crate::walk::Walk;
 use bound_certificate::{Buy, Item, MOST_NODES};
 use case_file::Case;
-use cash_table::{Plan, Standing, cost, plan_standing};
+use cash_table::{Plan, Standing, cost};
 use dual_bound::Columns;
 use escrow_desk::NoMemory;
 use escrow_units::{Cents, Day, GREATEST_INDEX, YieldUnits};
@@ -151,13 +151,14 @@ impl<'a> Trial<'a> {
     /// Where memory ran out.
     pub fn take_gap(&mut self, alloc: Global, case: &Case, gap: u64) -> Result<(), NoMemory>
         requires plan { IsPermitted case.now.book self.old.plan }
+        requires columns { AreColumnsOf (case_view case.now) self.old.columns }
         ensures { OnOk result (self.new ≡ with_gap (case_view case.now) self.old gap) }
     {
         self.gap = gap;
         if !self.named || self.reason.is_some() {
             return Ok(());
         }
-        let Standing { short, answer } = plan_standing(alloc, &case.book, &self.plan)?;
+        let Standing { short, answer } = self.columns.standing(alloc, &self.plan)?;
         self.answer = answer;
         self.claim = Some(i128::from(cost(&case.book, &self.plan).0) - i128::from(gap));
         self.reason = portfolio_reason(case, short, answer);

@@ -5,7 +5,7 @@ ghost use Rattle.proof_tree.specs.Tree.{IsLeaf, IsNode};
 use bound_certificate::{MOST_DATES, read_cert};
 use figure_sheets::Unread;
 use offer_book::Book;
-use proof_tree::{Leaf, TreeNode};
+use proof_tree::{Leaf, PRICE_SCALE, TreeNode};
 use std::alloc::{AllocError, Global};
 
 // The text of a certificate of one leaf alone.
@@ -70,13 +70,24 @@ pub fn own_leaf(alloc: Global, book: &Book, words: &[&str]) -> Result<Leaf, Unre
     leaf_of(alloc, words, dates)
 }
 
-/// The words of a leaf.
+// The word of a weight of the cost: 1 for the whole, 0 for none, and else the fraction.
+fn weight_text(alloc: Global, rho: u64) -> Result<String, AllocError> {
+    match rho {
+        0 => String::from_str(alloc, "0"),
+        PRICE_SCALE => String::from_str(alloc, "1"),
+        _ => format!(in alloc; "{rho}/{PRICE_SCALE}"),
+    }
+}
+
+/// The words of a leaf: the weight of the cost, as 1, 0 or a fraction, the multiplier of the limit, and the prices.
 ///
 /// # Errors
 ///
 /// Where memory ran out.
 pub fn leaf_text(alloc: Global, leaf: &Leaf) -> Result<String, AllocError> {
-    let mut text = format!(in alloc; "{} {}", u8::from(leaf.rho != 0), leaf.mu)?;
+    let mut text = weight_text(alloc, leaf.rho)?;
+    let multiplier = format!(in alloc; " {}", leaf.mu)?;
+    text.push_str(multiplier.as_str())?;
     for price in leaf.prices.as_slice() {
         let price = format!(in alloc; " {price}")?;
         text.push_str(price.as_str())?;

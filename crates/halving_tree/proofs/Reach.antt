@@ -33,7 +33,6 @@ price-falls day earlier later lt = by (int_le earlier.day day) refl (int_le late
 pub reach_is_leaf : (needs : List Flow) (day : ℤ) → Rise needs → IsLeaf (length needs) (reach_leaf needs day)
 reach_is_leaf needs day rising = record {
   cost = omega arith;
-  counts = λ some. absurd (omega (arith, some));
   limit = omega arith;
   every_date = length-map needs (reach_price day);
   range = All-map (λ (price : ℕ). price ≤ 2 * PRICE_SCALE) (reach_price day) needs (λ k d lt. price-small day (get_or needs k d));

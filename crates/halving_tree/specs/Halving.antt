@@ -7,7 +7,7 @@ use Rattle.backward_build.specs.declared.backward.BuildEnd.{BuildEnd}
 use Rattle.case_file.specs.Case.{CaseContents}
 use Rattle.cash_table.specs.First.{first_short_of}
 use Rattle.cash_table.specs.Points.{is_within_limit}
-use Rattle.dual_bound.specs.LeafBound.{bound_of}
+use Rattle.dual_bound.specs.LeafBound.{bound_of, least_cost_of}
 use Rattle.node_ranges.specs.Ranges.{is_single, narrowed, root_of}
 use Rattle.node_ranges.specs.Claims.{Claim, bears_out}
 use Rattle.proof_tree.specs.declared.interval.Interval.{Interval}
@@ -30,7 +30,7 @@ backward_claim case = claim_within case (backward_plan case.book)
 
 -- the base leaf bears that claim out over ranges
 abbrev pub is_borne_out : CaseContents → List Interval → Bool
-is_borne_out case ranges = bears_out (bound_of (case.limit - 1) case.book ranges (base_leaf case.book)) (backward_claim case)
+is_borne_out case ranges = bears_out (least_cost_of (case.limit - 1) case.book ranges (base_leaf case.book)) (backward_claim case)
 
 -- the portfolio of the high ends
 abbrev pub high_ends : List Interval → List ℕ

@@ -1,2 +1,3 @@
+pub mod CostFacts
 pub mod RangeFacts
 pub mod RangeLaws

@@ -1,12 +1,11 @@
 -- What a tree has to show, and its nodes with their ranges. The form of the proof that a tree gives is this project's own.
-use Rattle.std.specs.Prelude.{◌≡◌, ℕ, ◌*◌, Bool, false, true, not, List, [], ◌∷◌, map, Option, Some, None, ℤ, pos, ◌-ℤ◌, ◌*ℤ◌, int_le, int_lt}
+use Rattle.std.specs.Prelude.{◌≡◌, ℕ, zero, suc, ◌+◌, ◌*◌, ◌/◌, Bool, false, true, not, List, [], ◌∷◌, map, Option, Some, None, ℤ, pos, negsuc, neg_ℤ, ◌-ℤ◌, ◌*ℤ◌, int_le, int_lt}
 use Rattle.node_ranges.specs.Ranges.{is_proper, narrowed, root_of}
 use Rattle.offer_book.specs.Book.{BookContents}
 use Rattle.offer_book.specs.Portfolio.{cost}
 use Rattle.offer_book.specs.declared.coefficients.TheConstants.{COEFFICIENT_SCALE}
 use Rattle.offer_book.specs.declared.line.Line.{Line}
 use Rattle.proof_tree.specs.declared.interval.Interval.{Interval}
-use Rattle.proof_tree.specs.declared.prices.TheConstants.{PRICE_SCALE}
 use Rattle.proof_tree.specs.declared.tree.TreeNode.{TreeNode}
 use Rattle.proof_tree.specs.declared.tree.TreeNode.TheVariants as node
 
@@ -43,9 +42,18 @@ abbrev pub bears_out_by : ℕ → ℤ → Claim → Bool
 bears_out_by rho bound None = false
 bears_out_by rho bound (Some least) = int_lt (pos (COEFFICIENT_SCALE * rho) *ℤ (least -ℤ pos 1)) bound
 
--- a leaf that weighs the cost wholly bears out a claim
+-- what a leaf shows that a rival costs at least, by how much it weighs the cost, and its bound: the bound divided by that weight, rounded
+-- up, in units of 1 / COEFFICIENT_SCALE of a cent. Of a leaf that doesn't weigh the cost it is the bound itself
+abbrev pub least_cost : ℕ → ℤ → ℤ
+least_cost zero bound = bound
+least_cost (suc less) (pos zero) = pos 0
+least_cost (suc less) (pos (suc below)) = pos (below / suc less + 1)
+least_cost (suc less) (negsuc above) = neg_ℤ (pos (suc above / suc less))
+
+-- a least cost bears out a claim where it is more than a cent less
 abbrev pub bears_out : ℤ → Claim → Bool
-bears_out bound claim = bears_out_by PRICE_SCALE bound claim
+bears_out cost None = false
+bears_out cost (Some least) = int_lt (pos COEFFICIENT_SCALE *ℤ (least -ℤ pos 1)) cost
 
 -- the portfolio of the low ends, which is the one that single ranges hold
 abbrev pub low_ends : List Interval → List ℕ

@@ -85,7 +85,6 @@ curve-leaf limit book limits plain =
     let fall = first_falling book (length book.needs) plain.prices plain.curve in
     record {
       cost = omega arith;
-      counts = λ some. refl;
       limit = omega arith;
       every_date = (bootstrapped_fair book plain.prices limits plain.curve).dates;
       range = All-weaker (λ price. price ≤ PRICE_SCALE) (λ price. price ≤ 2 * PRICE_SCALE) (λ price small. omega (arith, small)) plain.prices fall.small;

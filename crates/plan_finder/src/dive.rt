@@ -119,7 +119,7 @@ impl<'a> Diver<'a> {
         ensures { IfOk result (λ diver. diver ≡ book.now) }
     {
         let mut simplex = Box::new(alloc, Simplex::make(alloc, book, powers)?)?;
-        simplex.aim(Purpose::Plan, true);
+        simplex.aim(Purpose::Cost);
         Ok(Diver {
             book,
             start: simplex.new_basis(alloc)?,

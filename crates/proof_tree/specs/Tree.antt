@@ -6,15 +6,10 @@ use Rattle.proof_tree.specs.declared.tree.TheConstants.{GREATEST_UNITS}
 use Rattle.proof_tree.specs.declared.tree.TreeNode.{TreeNode}
 use Rattle.proof_tree.specs.declared.tree.TreeNode.TheVariants as node
 
--- the cost counts wholly, or not at all: with a weight of 1, or of 0
-abbrev pub IsWholeOrNone : ℕ → Type 0
-IsWholeOrNone rho = 1 ≤ rho → rho ≡ PRICE_SCALE
-
--- weights of a leaf: that of the cost, which counts wholly or not at all, a multiplier of the limit from 0 to 1, and one price for each
--- need date, from 0 to 2, that never rises with time
+-- weights of a leaf: that of the cost and a multiplier of the limit, each from 0 to 1, and one price for each need date, from 0 to 2, that
+-- never rises with time
 pub record IsLeaf (dates : ℕ) (leaf : Leaf) : Type 0 where
   pub cost : leaf.rho ≤ PRICE_SCALE
-  pub counts : IsWholeOrNone leaf.rho
   pub limit : leaf.mu ≤ PRICE_SCALE
   pub every_date : length leaf.prices ≡ dates
   pub range : All (λ price. price ≤ 2 * PRICE_SCALE) leaf.prices

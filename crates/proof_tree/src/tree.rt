@@ -14,7 +14,8 @@ pub const GREATEST_UNITS: u64 = 10_000_000_000_000;
 /// The weights by which the lower bound of a leaf is computed.
 #[derive(Debug, Drop)]
 pub struct Leaf {
-    /// The weight of a cent of cost: `PRICE_SCALE`, which stands for 1, or 0. Where it is 0, the bound is on needs that can't be met.
+    /// The weight of a cent of cost, in units of 1 / `PRICE_SCALE`, from 0 to `PRICE_SCALE`. Where it is 0, the bound is on needs that
+    /// can't be met.
     pub rho: u64,
     /// The multiplier of the yield limit, at most `PRICE_SCALE`.
     pub mu: u64,

@@ -10,8 +10,10 @@ use escrow_desk::NoMemory;
 use figure_sheets::Unread;
 use std::alloc::{AllocError, Global};
 
-// The first line of a certificate of version 2.
+// The first line of a certificate of version 2, and of version 3.
 const PACKED_TITLE: &[u8] = b"escrow-certificate 2\n";
+
+const WEIGHED_TITLE: &[u8] = b"escrow-certificate 3\n";
 
 // The sizes of the pieces in which a text is read besides.
 const SIZES: [usize; 4] = [1, 2, 7, 65_536];
@@ -21,8 +23,13 @@ const SIZES: [usize; 4] = [1, 2, 7, 65_536];
 pub(crate) enum Version {
     /// That of version 1.
     Plain,
-    /// That of version 2.
+    /// That of versions 2 and 3.
     Packed,
+}
+
+// Whether a text is of version 2 or 3, as its first line says.
+fn is_packed(text: &[u8]) -> bool {
+    text.starts_with(PACKED_TITLE) || text.starts_with(WEIGHED_TITLE)
 }
 
 /// A fault, or none.
@@ -92,7 +99,7 @@ pub(crate) fn fault_by(
 pub(crate) fn fault(alloc: Global, text: &[u8], dates: u16) -> Result<String, Unread>
     requires { dates ≤ MOST_DATES }
 {
-    let version = if text.starts_with(PACKED_TITLE) {
+    let version = if is_packed(text) {
         Version::Packed
     } else {
         Version::Plain
@@ -117,7 +124,7 @@ fn packed(alloc: Global, text: &[u8], dates: u16) -> Result<Vec<u8>, CertError>
     Ok(write_packed(alloc, &packed)?)
 }
 
-// A certificate of version 2, unpacked and packed again.
+// A certificate of version 2 or 3, unpacked and packed again.
 fn packed_again(alloc: Global, text: &[u8], dates: u16) -> Result<Vec<u8>, CertError>
     requires { dates ≤ MOST_DATES }
 {
@@ -131,7 +138,7 @@ fn packed_again(alloc: Global, text: &[u8], dates: u16) -> Result<Vec<u8>, CertE
 fn written_again(alloc: Global, text: &[u8], dates: u16) -> Result<Vec<u8>, CertError>
     requires { dates ≤ MOST_DATES }
 {
-    if text.starts_with(PACKED_TITLE) {
+    if is_packed(text) {
         let packed = read_packed(alloc, text, dates)?;
         Ok(write_packed(alloc, &packed)?)
     } else {
@@ -145,7 +152,7 @@ fn written_again(alloc: Global, text: &[u8], dates: u16) -> Result<Vec<u8>, Cert
 pub(crate) enum Rewriting {
     /// One of version 1 is packed.
     Packed,
-    /// One of version 2 is unpacked and packed again.
+    /// One of version 2 or 3 is unpacked and packed again.
     PackedAgain,
     /// It is read and written.
     Written,

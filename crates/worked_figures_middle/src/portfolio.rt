@@ -5,8 +5,8 @@ ghost use Rattle.offer_book.specs.Portfolio.{IsPermitted};
 
 use crate::lines::receipts_shown;
 use cash_table::{
-    Plan, balances, cost, first_short, first_unpermitted, flows, plan_standing, plan_yield,
-    point_excluded, receipts, security_cost, within_limit,
+    Plan, Schedules, Standing, balances, cost, first_short, first_unpermitted, flows,
+    plan_standing, plan_yield, point_excluded, receipts, security_cost, within_limit,
 };
 use escrow_desk::NoMemory;
 use escrow_units::{GREATEST_INDEX, GREATEST_YIELD, YieldUnits, print_day};
@@ -93,11 +93,19 @@ fn balanced(alloc: Global, book: &Book, plan: &Plan) -> Result<String, Unread>
     Ok(text)
 }
 
+// How a portfolio stands, by the schedules of the book's lines.
+fn standing_of(alloc: Global, book: &Book, plan: &Plan) -> Result<Standing, NoMemory>
+    requires { IsPermitted book.now plan.now }
+{
+    let schedules = Schedules::make(alloc, book)?;
+    plan_standing(alloc, book, &schedules, plan)
+}
+
 // The first short day and the yield of a portfolio, by its flows.
 fn standing(alloc: Global, book: &Book, plan: &Plan) -> Result<String, Unread>
     requires { IsPermitted book.now plan.now }
 {
-    let Ok(standing) = plan_standing(alloc, book, plan) else {
+    let Ok(standing) = standing_of(alloc, book, plan) else {
         return Err(Unread::NoMemory);
     };
     let (short, answer) = (

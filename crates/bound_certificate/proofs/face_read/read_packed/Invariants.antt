@@ -9,7 +9,7 @@ use Rattle.bound_certificate.proofs.face_read.read_packed.Given as goal
 abbrev pub invariant-loop-part : goal.invariant-loop-part
 invariant-loop-part l = record {
   written : Written;
-  at : AtLine version.Two l.dates l.number l.due written l.bytes (l.part.front.now ∷ parts_behind 10 l.part.rest);
+  at : AtLine (version.Packed l.weighing) l.dates l.number l.due written l.bytes (l.part.front.now ∷ parts_behind 10 l.part.rest);
   vectors : l.vectors ≡ written.vectors;
   came : l.packed ≡ packed_of written;
   leaf : length l.leaf.prices ≡ l.dates;

@@ -1,4 +1,4 @@
-use Rattle.bound_certificate.proofs.WrittenFacts.{packed-text-found, packed-text-good, packed-text-one}
+use Rattle.bound_certificate.proofs.VersionFacts.{packed-text-found, packed-text-good, packed-text-one}
 use Rattle.bound_certificate.proofs.laws.packed_text_laws.Goals as goal
 
 pub returns-clause-exact : goal.returns-clause-exact

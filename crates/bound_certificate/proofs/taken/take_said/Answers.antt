@@ -1,5 +1,5 @@
-use Rattle.std.proofs.Common.{ap, length, subst, sym, ℕ, List, Err, ◌≡◌, ◌∙◌}
-use Rattle.std.proofs.lemmas.Result.{IfErr-weaker, IfOk-weaker}
+use Rattle.std.proofs.Common.{ap, length, subst, sym, ℕ, List, Err, IfOk, ◌≡◌, ◌∙◌}
+use Rattle.std.proofs.lemmas.Result.{IfErr-weaker}
 use Rattle.bound_certificate.specs.declared.row.Row.{Row}
 use Rattle.bound_certificate.specs.declared.row.Row.TheVariants as row
 use Rattle.bound_certificate.specs.Grammar.{said_by}
@@ -24,11 +24,14 @@ returns-in-Buy-clause-err c =
     (λ found all. ap (λ (r : Row). said_by c.args.vectors.now r c.args.numbers.now) c.in-Buy.is ∙ all c.args.vectors.now) c.take_purchase.ensures.err
 
 pub returns-in-Buy-clause-numbers : goal.returns-in-Buy-clause-numbers
-returns-in-Buy-clause-numbers c = λ two.
-    IfOk-weaker c.take_purchase.result (λ told. (vs : List (List ℕ)) → IsOfNumbers (said_by vs (row.Buy c.in-Buy.least) c.args.numbers.now) c.args.numbers.now told)
-    (IsOfNumbers (said_by c.args.vectors.now c.args.row c.args.numbers.now) c.args.numbers.now)
-    (λ told all. (let P : Row → Type 0 = λ r. IsOfNumbers (said_by c.args.vectors.now r c.args.numbers.now) c.args.numbers.now told in subst P (sym c.in-Buy.is) (all c.args.vectors.now)))
-    c.take_purchase.ensures.numbers
+returns-in-Buy-clause-numbers c = λ w of_row.
+    (let P : Row → Type 0 = λ r. IfOk c.take_purchase.result (IsOfNumbers w (said_by c.args.vectors.now r c.args.numbers.now) c.args.numbers.now) in
+    subst P (sym c.in-Buy.is) (c.take_purchase.ensures.numbers w c.args.vectors.now))
+
+pub returns-in-Vector-clause-numbers : goal.returns-in-Vector-clause-numbers
+returns-in-Vector-clause-numbers c = λ w of_row.
+    (let P : Row → Type 0 = λ r. IfOk c.take_vector.result (IsOfNumbers w (said_by c.args.vectors.now r c.args.numbers.now) c.args.numbers.now) in
+    subst P (sym c.in-Vector.is) (c.take_vector.ensures.numbers w))
 
 pub take_priced-requires : goal.take_priced-requires
 take_priced-requires c =

@@ -5,7 +5,7 @@ use Rattle.bound_certificate.specs.declared.item.Item.{Item}
 use Rattle.case_file.specs.Case.{CaseContents, case_view}
 use Rattle.proof_tree.specs.declared.tree.Leaf.{Leaf}
 use Rattle.escrow_check.specs.Knows.{Comes, Knows}
-use Rattle.escrow_check.proofs.TakeFacts.{comes_leaf, comes_point, comes_split, knows-buy, knows-gap, knows-leaf, knows-point, knows-split, ready-of}
+use Rattle.escrow_check.proofs.TakeFacts.{comes_gap, comes_leaf, comes_point, comes_split, knows-buy, knows-gap, knows-leaf, knows-point, knows-split, ready-of}
 use Rattle.escrow_check.proofs.trial.Trial.take.Goals as goal
 
 pub take_split-requires : goal.take_split-requires
@@ -68,3 +68,10 @@ returns-in-Leaf-clause-knows c = λ cert d comes.
     let P : Item → Type 0 = λ i. Comes case cert d i leaf c.args.self.now in
     let Q : Item → Type 0 = λ i. Knows case (with_item cert i leaf) (due_after d i) c.take_leaf.new.self in
     subst Q (sym c.in-Leaf.is) (knows-leaf case cert d leaf c.args.self.now c.take_leaf.new.self (subst P c.in-Leaf.is comes) c.take_leaf.ensures))
+
+pub take_gap-requires-clause-columns : goal.take_gap-requires-clause-columns
+take_gap-requires-clause-columns c =
+    let case : CaseContents = case_view c.args.case.now in
+    let leaf : Leaf = c.args.leaf.now in
+    let P : Item → Type 0 = λ i. Comes case c.requires.comes.0 c.requires.comes.1 i leaf c.args.self.now in
+    (comes_gap case c.requires.comes.0 c.requires.comes.1 c.in-Gap.cents leaf c.args.self.now (subst P c.in-Gap.is c.requires.comes.2)).0.columns
