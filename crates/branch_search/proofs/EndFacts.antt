@@ -4,7 +4,6 @@ use Rattle.std.proofs.lemmas.Int.{ints}
 use Rattle.std.proofs.lemmas.List.Elements.{All-get_or}
 use Rattle.case_file.specs.Case.{CaseContents}
 use Rattle.dual_bound.proofs.BoundSizes.{bound-small}
-use Rattle.node_ranges.proofs.RangeFacts.{tight-ordered, tight-room}
 use Rattle.node_ranges.specs.Ranges.{AreTight, root_of}
 use Rattle.proof_tree.specs.declared.interval.Interval.{Interval}
 use Rattle.proof_tree.specs.declared.tree.TreeNode.{TreeNode}
@@ -20,14 +19,14 @@ use Rattle.search_tree.specs.Laws.{IsClosedTree, IsFull}
 use Rattle.search_tree.specs.Tree.{AreNodesOf, IsDrained, TreeContents, new_tree, open_node}
 use Rattle.search_tree.specs.declared.node.Priced.{Priced}
 use Rattle.search_tree.specs.declared.node.SearchNode.{SearchNode}
-use Rattle.branch_search.proofs.GrowthFacts.{bounds-small, drained-ended}
+use Rattle.branch_search.proofs.GrowthFacts.{bounds-small, drained-ended, shown-small}
 use Rattle.branch_search.specs.Growth.{IsClosedTree as IsClosedGrowth, IsFullTree}
 
 -- ---- the root
-pub priced-small : (case : CaseContents) (ranges : List Interval) (priced : Priced) → IsBook case.book → AreTight case.book.lines ranges → IsPriced case ranges priced → unsigned_abs priced.bound < 10 ^ 37
+pub priced-small : (case : CaseContents) (ranges : List Interval) (priced : Priced) → IsBook case.book → AreTight case.book.lines ranges → IsPriced case ranges priced → unsigned_abs priced.bound < 10 ^ 28
 priced-small case ranges priced limits tight is =
-    subst (λ (b : ℤ). unsigned_abs b < 10 ^ 37) (sym is.bound)
-    (bound-small (case.limit - 1) case.book ranges priced.leaf limits is.improved.well_formed (tight-room case.book.lines ranges tight) (tight-ordered case.book.lines ranges tight))
+    subst (λ (b : ℤ). unsigned_abs b < 10 ^ 28) (sym is.bound)
+    (shown-small (case.limit - 1) case.book ranges priced.leaf limits tight is.improved.well_formed is.weighs)
 
 no-split : (key : ℤ) (parent line at : ℕ) (left right : NodeId) → state_at (state.Waiting key ∷ []) parent ≡ state.Split line at left right → ⊥
 no-split key zero line at left right split = (let clash : state.Waiting key ≡ state.Split line at left right = split in cc)
@@ -67,7 +66,7 @@ stuck-bound : (case : CaseContents) (Obeys : List Interval → ℕ → ℕ → T
 stuck-bound case Obeys best bound number ranges own s waits is = (subst (IsAt case Obeys best bound number ranges own) waits is.stands).0
 
 pub record IsStuckBound (case : CaseContents) (bound : ℤ) : Type 0 where
-  pub small : unsigned_abs bound < 10 ^ 37
+  pub small : unsigned_abs bound < 10 ^ 28
   pub some : pos 0 ≤ℤ bound
 
 pub stuck-small : (case : CaseContents) (Obeys : List Interval → ℕ → ℕ → Type 0) (best : Option ℕ) (bound : ℤ) (states : List State) (nodes : List SearchNode) → IsBook case.book → IsOneTree states → IsStuck case Obeys best bound states nodes → IsStuckBound case bound
@@ -76,8 +75,8 @@ stuck-small case Obeys best bound states nodes limits one stuck =
     let own = stuck.kept.grown.each stuck.number way.0 stuck.there way.1 in
     let is : bound ≡ (node_of nodes stuck.number).priced.bound = stuck-bound case Obeys best bound stuck.number (ranges_at case.book.lines way.0) (node_of nodes stuck.number) (state_at states stuck.number) stuck.waits own in
     record {
-      small = subst (λ (b : ℤ). unsigned_abs b < 10 ^ 37) (sym is)
-          (All-get_or (λ (n : SearchNode). unsigned_abs n.priced.bound < 10 ^ 37) nodes stuck.number no_node (omega (arith, stuck.there, stuck.kept.grown.same)) (bounds-small case Obeys best bound states nodes limits one stuck.kept.grown));
+      small = subst (λ (b : ℤ). unsigned_abs b < 10 ^ 28) (sym is)
+          (All-get_or (λ (n : SearchNode). unsigned_abs n.priced.bound < 10 ^ 28) nodes stuck.number no_node (omega (arith, stuck.there, stuck.kept.grown.same)) (bounds-small case Obeys best bound states nodes limits one stuck.kept.grown));
       some = subst (λ (b : ℤ). pos 0 ≤ℤ b) (sym is) own.priced.some;
     }
 

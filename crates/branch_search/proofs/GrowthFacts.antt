@@ -1,5 +1,6 @@
 -- What is known at the nodes of a tree while it grows, and once it has ended.
-use Rattle.std.proofs.Common.{◌≡◌, ◌∙◌, inl, inr, ℕ, ◌+◌, ◌-◌, ◌^◌, ◌<◌, ◌≤◌, ℤ, ◌≤ℤ◌, Bool, true, false, List, [], ◌∷◌, ◌++◌, length, set, refl, sym, ap, subst, arith, Option, unsigned_abs, cond}
+use Rattle.std.proofs.Common.{◌≡◌, ◌∙◌, inl, inr, ℕ, zero, suc, ◌+◌, ◌*◌, ◌/◌, ◌-◌, ◌^◌, ◌<◌, ◌≤◌, ℤ, pos, negsuc, neg_ℤ, ◌≤ℤ◌, Bool, true, false, List, [], ◌∷◌, ◌++◌, length, set, refl, sym, ap, subst, arith, Option, unsigned_abs, cond}
+use Rattle.std.proofs.Math.Nat.{div-le_of_le-mul}
 use Rattle.std.specs.List.{All, count_by}
 use Rattle.std.proofs.lemmas.Bool.{cases_lt}
 use Rattle.std.proofs.lemmas.Int.{ints}
@@ -8,11 +9,16 @@ use Rattle.std.proofs.lemmas.List.Elements.{All-from_get_or}
 use Rattle.std.proofs.lemmas.List.Sums.{sum_by-append}
 use Rattle.case_file.specs.Case.{CaseContents}
 use Rattle.dual_bound.proofs.BoundSizes.{bound-small}
+use Rattle.node_ranges.proofs.CostFacts.{cost-rises}
 use Rattle.node_ranges.proofs.RangeFacts.{tight-ordered, tight-room}
 use Rattle.node_ranges.proofs.RangeLaws.{root_is_tight, sides_are_tight}
-use Rattle.dual_bound.specs.LeafBound.{bound_of}
+use Rattle.dual_bound.specs.LeafBound.{bound_of, least_cost_of}
+use Rattle.node_ranges.specs.Claims.{least_cost}
 use Rattle.node_ranges.specs.Ranges.{AreTight, is_proper, narrowed}
+use Rattle.price_lp.specs.declared.proposing.TheConstants.{LEAST_WEIGHT}
+use Rattle.proof_tree.specs.Tree.{IsLeaf}
 use Rattle.proof_tree.specs.declared.interval.Interval.{Interval}
+use Rattle.proof_tree.specs.declared.tree.Leaf.{Leaf}
 use Rattle.halving_tree.specs.Halving.{IsHalved}
 use Rattle.node_pool.proofs.PoolFacts.{count-set, one_if}
 use Rattle.node_pool.proofs.WayFacts.{ways-tight}
@@ -22,7 +28,7 @@ use Rattle.node_pool.specs.Way.{AreProper, IsWay, Step, ranges_at}
 use Rattle.node_pool.specs.declared.node.NodeId.{NodeId}
 use Rattle.node_pool.specs.declared.node.State.{State}
 use Rattle.node_pool.specs.declared.node.State.TheVariants as state
-use Rattle.offer_book.specs.Book.{IsBook}
+use Rattle.offer_book.specs.Book.{BookContents, IsBook}
 use Rattle.search_tree.proofs.EndFacts.{split-there}
 use Rattle.search_tree.proofs.GrowFacts.{closed-kept, grown-cheaper, popped-kept, split-kept, stuck-kept}
 use Rattle.search_tree.proofs.Rising.{bound-rises}
@@ -118,10 +124,13 @@ rule-obeyed case rules.Halving best ranges priced line at covers is open_node ha
 }
 rule-obeyed case rules.Relaxation best ranges priced line at covers is open_node halved = tt
 
--- the bound of a side isn't below its parent's
+-- a side's leaf shows no lower least cost than its parent's
 side-above : (case : CaseContents) (ranges : List Interval) (line at : ℕ) (right : Bool) (own side : Priced) → (bound_of (case.limit - 1) case.book ranges own.leaf ≤ℤ bound_of (case.limit - 1) case.book (narrowed case.book.lines ranges line at right) own.leaf)
     → IsPriced case ranges own → IsSide case ranges line at right own.leaf side → own.bound ≤ℤ side.bound
-side-above case ranges line at right own side rises priced is = omega (arith, ints, rises, priced.bound, is.no_less priced.improved.cost)
+side-above case ranges line at right own side rises priced is =
+    let shown = cost-rises own.leaf.rho (bound_of (case.limit - 1) case.book ranges own.leaf) (bound_of (case.limit - 1) case.book (narrowed case.book.lines ranges line at right) own.leaf) rises in
+    let no_less = is.no_less (omega (arith, priced.weighs)) in
+    omega (arith, ints, shown, priced.bound, no_less)
 
 pub split-next : (case : CaseContents) (Obeys : List Interval → ℕ → ℕ → Type 0) (best : Option ℕ) (tree : TreeContents) (number line at : ℕ) (ranges : List Interval) (left right : Priced) → IsBook case.book → AreTight case.book.lines ranges → IsOneTree tree.pool.states
     → SplitsAreWhole tree.pool.states → IsHeld case Obeys best tree.pool.states tree.nodes number ranges → is_proper ranges line at ≡ true → line < length case.book.lines → Obeys ranges line at
@@ -180,19 +189,40 @@ less-split tree number line at left right held room =
     omega (arith, same, long, counted, none, more, room)
 
 -- ---- a tree that has ended
-pub bounds-small : (case : CaseContents) (Obeys : List Interval → ℕ → ℕ → Type 0) (best : Option ℕ) (popped : ℤ) (states : List State) (nodes : List SearchNode) → IsBook case.book → IsOneTree states → IsGrown case Obeys best popped states nodes
-    → All (λ (own : SearchNode). unsigned_abs own.priced.bound < 10 ^ 37) nodes
-bounds-small case Obeys best popped states nodes limits one grown = All-from_get_or (λ (own : SearchNode). unsigned_abs own.priced.bound < 10 ^ 37) nodes no_node by-number
+-- a quotient by a weight of a hundredth at least
+quotient-small : (n less : ℕ) → LEAST_WEIGHT ≤ suc less → n < 10 ^ 37 → n / suc less ≤ 10 ^ 27
+quotient-small n less weighs small =
+    let room : n ≤ suc less * 10 ^ 27 = omega (arith, weighs, small) in
+    div-le_of_le-mul (suc less) room
+
+cost-small : (rho : ℕ) (bound : ℤ) → LEAST_WEIGHT ≤ rho → unsigned_abs bound < 10 ^ 37 → unsigned_abs (least_cost rho bound) < 10 ^ 28
+cost-small zero bound weighs small = absurd (omega (arith, weighs))
+cost-small (suc less) (pos zero) weighs small = omega arith
+cost-small (suc less) (pos (suc below)) weighs small = omega (arith, quotient-small below less weighs (omega (arith, small)))
+cost-small (suc less) (negsuc above) weighs small = farther (suc above / suc less) (quotient-small (suc above) less weighs small)
   where
-    by-number : (number : ℕ) → number < length nodes → unsigned_abs (node_of nodes number).priced.bound < 10 ^ 37
+    farther : (n : ℕ) → n ≤ 10 ^ 27 → unsigned_abs (neg_ℤ (pos n)) < 10 ^ 28
+    farther n le = omega (arith, ints, le)
+
+-- no leaf that weighs the cost by a hundredth at least shows a least cost that is too great
+pub shown-small : (n : ℕ) (book : BookContents) (ranges : List Interval) (leaf : Leaf) → IsBook book → AreTight book.lines ranges → IsLeaf (length book.needs) leaf → LEAST_WEIGHT ≤ leaf.rho
+    → unsigned_abs (least_cost_of n book ranges leaf) < 10 ^ 28
+shown-small n book ranges leaf limits tight well weighs =
+    cost-small leaf.rho (bound_of n book ranges leaf) weighs (bound-small n book ranges leaf limits well (tight-room book.lines ranges tight) (tight-ordered book.lines ranges tight))
+
+pub bounds-small : (case : CaseContents) (Obeys : List Interval → ℕ → ℕ → Type 0) (best : Option ℕ) (popped : ℤ) (states : List State) (nodes : List SearchNode) → IsBook case.book → IsOneTree states → IsGrown case Obeys best popped states nodes
+    → All (λ (own : SearchNode). unsigned_abs own.priced.bound < 10 ^ 28) nodes
+bounds-small case Obeys best popped states nodes limits one grown = All-from_get_or (λ (own : SearchNode). unsigned_abs own.priced.bound < 10 ^ 28) nodes no_node by-number
+  where
+    by-number : (number : ℕ) → number < length nodes → unsigned_abs (node_of nodes number).priced.bound < 10 ^ 28
     by-number number few =
         let inside : number < length states = omega (arith, few, grown.same) in
         let way = some-way states number one inside in
         let own = (grown.each number way.0 inside way.1).priced in
         let tight = ways-tight sides_are_tight case.book.lines (root_is_tight case.book limits) way.0 (grown-proper case Obeys best popped states nodes grown number way.0 way.1) in
         let ranges = ranges_at case.book.lines way.0 in
-        subst (λ (b : ℤ). unsigned_abs b < 10 ^ 37) (sym own.bound)
-        (bound-small (case.limit - 1) case.book ranges (node_of nodes number).priced.leaf limits own.improved.well_formed (tight-room case.book.lines ranges tight) (tight-ordered case.book.lines ranges tight))
+        subst (λ (b : ℤ). unsigned_abs b < 10 ^ 28) (sym own.bound)
+        (shown-small (case.limit - 1) case.book ranges (node_of nodes number).priced.leaf limits tight own.improved.well_formed own.weighs)
 
 -- each closed node is closed by its own number
 closed-there : (states : List State) (number leaf : ℕ) → state_at states number ≡ state.Closed leaf → number < length states

@@ -13,7 +13,8 @@ use Rattle.cash_table.specs.Points.{is_within_limit}
 use Rattle.cash_table.specs.Reach.{IsInReach}
 use Rattle.dual_bound.specs.LeafBound.{bound_of}
 use Rattle.node_ranges.specs.Ranges.{is_single, root_of}
-use Rattle.node_ranges.specs.Claims.{Claim, bears_out, placed_nodes}
+use Rattle.node_ranges.proofs.CostFacts.{cost-bears}
+use Rattle.node_ranges.specs.Claims.{Claim, bears_out, bears_out_by, least_cost, placed_nodes}
 use Rattle.proof_tree.specs.Tree.{AreTrees}
 use Rattle.proof_tree.specs.declared.prices.TheConstants.{PRICE_SCALE}
 use Rattle.proof_tree.specs.declared.interval.Interval.{Interval}
@@ -89,7 +90,7 @@ none-is case rule popped tree nodes is reach small few beyond = record {
         (λ ranges point. point)
 
 -- ---- plain cases
-bears-more : (bound : ℤ) (cost gap allowance : ℕ) → gap ≤ allowance → (pos (COEFFICIENT_SCALE * PRICE_SCALE) *ℤ (pos cost -ℤ pos gap -ℤ pos 1)) <ℤ bound → bears_out bound (Some (pos cost -ℤ pos allowance)) ≡ true
+bears-more : (bound : ℤ) (cost gap allowance : ℕ) → gap ≤ allowance → (pos (COEFFICIENT_SCALE * PRICE_SCALE) *ℤ (pos cost -ℤ pos gap -ℤ pos 1)) <ℤ bound → bears_out_by PRICE_SCALE bound (Some (pos cost -ℤ pos allowance)) ≡ true
 bears-more bound cost gap allowance le above = grind (arith, ints)
 
 plain-within : (case : CaseContents) → IsBook case.book → 1 ≤ case.limit → case.limit ≤ GREATEST_YIELD → (p : IsPlainWithin case) → is_within_limit case.limit case.book p.plain.plan ≡ true
@@ -102,7 +103,8 @@ plain-within case book from to p = by (is_within_limit case.limit case.book p.pl
 -- at the root the base leaf bears the backward plan out
 plain-borne : (case : CaseContents) → IsBook case.book → 1 ≤ case.limit → case.limit ≤ GREATEST_YIELD → IsPlainWithin case → is_borne_out case (root_of case.book.lines) ≡ true
 plain-borne case book from to p =
-    ap (λ (claim : Claim). bears_out base claim) (ap (claim_within case) p.plain.built ∙ ap (λ (b : Bool). claim-if b) (plain-within case book from to p))
+    ap (λ (claim : Claim). bears_out (least_cost PRICE_SCALE base) claim) (ap (claim_within case) p.plain.built ∙ ap (λ (b : Bool). claim-if b) (plain-within case book from to p))
+    ∙ cost-bears PRICE_SCALE base (claim-if true) (omega arith)
     ∙ bears-more base (cost case.book p.plain.plan) (plain_gap case.book) case.allowance p.allowed
     (subst (λ (leaf : Leaf). (pos (COEFFICIENT_SCALE * PRICE_SCALE) *ℤ (pos (cost case.book p.plain.plan) -ℤ pos (plain_gap case.book) -ℤ pos 1)) <ℤ bound_of (case.limit - 1) case.book (root_of case.book.lines) leaf)
     base-is (plain_gap_holds case.limit case.book book p.plain))

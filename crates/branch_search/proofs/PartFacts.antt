@@ -1,7 +1,8 @@
 -- What a search finds at the node in hand, and how the best plan goes on.
-use Rattle.std.proofs.Common.{◌≡◌, ◌∙◌, inl, inr, ℕ, zero, suc, ◌-◌, ◌<◌, ◌≤◌, ℤ, pos, ◌≤ℤ◌, ◌<ℤ◌, Bool, true, false, ◌&&◌, ◌||◌, List, [], ◌∷◌, length, set, get_or, refl, sym, ap, subst, arith, Option, Some, None, Result, Ok, Err}
+use Rattle.std.proofs.Common.{◌≡◌, ◌∙◌, inl, inr, ℕ, zero, suc, ◌-◌, ◌<◌, ◌≤◌, ◌==◌, ℤ, pos, ◌≤ℤ◌, ◌<ℤ◌, Bool, true, false, ◌&&◌, ◌||◌, List, [], ◌∷◌, length, set, get_or, refl, sym, ap, subst, arith, Option, Some, None, Result, Ok, Err}
 use Rattle.std.specs.Prelude.{IfOk, MatchOption, OnOk, int_le, int_lt, option_map}
 use Rattle.std.proofs.lemmas.Bool.{cases_lt}
+use Rattle.std.proofs.lemmas.Bool.Decides.{nat_tests}
 use Rattle.std.proofs.lemmas.Int.{ints}
 use Rattle.std.proofs.lemmas.List.{get_or_default}
 use Rattle.case_file.specs.Case.{CaseContents}
@@ -10,15 +11,17 @@ use Rattle.cash_table.proofs.DayFacts.{first_short_is}
 use Rattle.cash_table.proofs.PointFacts.{beyond_limit, excluded_tells}
 use Rattle.cash_table.specs.Points.{IsExcluded, is_excluded, is_within_limit}
 use Rattle.day_sums.specs.Summed.{total_by}
-use Rattle.dual_bound.specs.LeafBound.{bound_of}
+use Rattle.dual_bound.specs.LeafBound.{bound_of, least_cost_of}
+use Rattle.node_ranges.proofs.CostFacts.{cost-some}
 use Rattle.node_ranges.proofs.RangeFacts.{narrowed-set, tight-length}
 use Rattle.node_ranges.specs.Ranges.{AreTight, is_single, narrowed, side_of}
 use Rattle.node_ranges.specs.Claims.{costs_enough, low_ends}
+use Rattle.price_lp.specs.declared.proposing.TheConstants.{LEAST_WEIGHT}
 use Rattle.proof_tree.specs.declared.prices.TheConstants.{PRICE_SCALE}
 use Rattle.proof_tree.specs.Tree.{IsLeaf}
 use Rattle.proof_tree.specs.declared.interval.Interval.{Interval}
 use Rattle.proof_tree.specs.declared.tree.Leaf.{Leaf}
-use Rattle.dual_tune.specs.Steps.{HasNoGreater, IsImproved, zeros_like}
+use Rattle.dual_tune.specs.Steps.{IsImproved, ShowsNoGreater, zeros_like}
 use Rattle.dual_tune.specs.Tuner.{TunerContents}
 use Rattle.halving_tree.specs.Base.{base_leaf, reach_leaf}
 use Rattle.halving_tree.specs.Halving.{high_ends, is_short_by, is_unreached}
@@ -41,22 +44,31 @@ tuned-improved case tuner base leaf ranges tuned based improved =
     (subst (λ (t : TunerContents). IsImproved t.yield_units t.book ranges base leaf) tuned improved)
 
 tuned-zeros : (case : CaseContents) (tuner : TunerContents) (base leaf : Leaf) (ranges : List Interval) → tuner ≡ record { book = case.book; yield_units = case.limit - 1 } → base ≡ base_leaf case.book
-    → HasNoGreater tuner.yield_units tuner.book ranges (zeros_like tuner.book base) leaf → HasNoGreater (case.limit - 1) case.book ranges (zeros_like case.book (base_leaf case.book)) leaf
+    → ShowsNoGreater tuner.yield_units tuner.book ranges (zeros_like tuner.book base) leaf → ShowsNoGreater (case.limit - 1) case.book ranges (zeros_like case.book (base_leaf case.book)) leaf
 tuned-zeros case tuner base leaf ranges tuned based zeros =
-    subst (λ (b : Leaf). HasNoGreater (case.limit - 1) case.book ranges (zeros_like case.book b) leaf) based
-    (subst (λ (t : TunerContents). HasNoGreater t.yield_units t.book ranges (zeros_like t.book base) leaf) tuned zeros)
+    subst (λ (b : Leaf). ShowsNoGreater (case.limit - 1) case.book ranges (zeros_like case.book b) leaf) based
+    (subst (λ (t : TunerContents). ShowsNoGreater t.yield_units t.book ranges (zeros_like t.book base) leaf) tuned zeros)
 
 pub tuned-bound : (case : CaseContents) (tuner : TunerContents) (leaf : Leaf) (ranges : List Interval) → tuner ≡ record { book = case.book; yield_units = case.limit - 1 }
     → bound_of tuner.yield_units tuner.book ranges leaf ≡ bound_of (case.limit - 1) case.book ranges leaf
 tuned-bound case tuner leaf ranges tuned = ap (λ (t : TunerContents). bound_of t.yield_units t.book ranges leaf) tuned
 
+tuned-shown : (case : CaseContents) (tuner : TunerContents) (leaf : Leaf) (ranges : List Interval) → tuner ≡ record { book = case.book; yield_units = case.limit - 1 }
+    → least_cost_of tuner.yield_units tuner.book ranges leaf ≡ least_cost_of (case.limit - 1) case.book ranges leaf
+tuned-shown case tuner leaf ranges tuned = ap (λ (t : TunerContents). least_cost_of t.yield_units t.book ranges leaf) tuned
+
 pub priced-is : (case : CaseContents) (tuner : TunerContents) (base leaf : Leaf) (ranges : List Interval) (bound : ℤ) → tuner ≡ record { book = case.book; yield_units = case.limit - 1 } → base ≡ base_leaf case.book
-    → IsBook case.book → AreTight case.book.lines ranges → IsImproved tuner.yield_units tuner.book ranges base leaf → HasNoGreater tuner.yield_units tuner.book ranges (zeros_like tuner.book base) leaf
-    → bound ≡ bound_of tuner.yield_units tuner.book ranges leaf → IsPriced case ranges (record { leaf = leaf; bound = bound })
-priced-is case tuner base leaf ranges bound tuned based limits tight improved zeros is = record {
+    → IsBook case.book → AreTight case.book.lines ranges → IsImproved tuner.yield_units tuner.book ranges base leaf → ShowsNoGreater tuner.yield_units tuner.book ranges (zeros_like tuner.book base) leaf
+    → LEAST_WEIGHT ≤ leaf.rho → bound ≡ least_cost_of tuner.yield_units tuner.book ranges leaf → IsPriced case ranges (record { leaf = leaf; bound = bound })
+priced-is case tuner base leaf ranges bound tuned based limits tight improved zeros weighs is = record {
   improved = own;
-  bound = is ∙ tuned-bound case tuner leaf ranges tuned;
-  some = omega (arith, ints, zeros-some (case.limit - 1) case.book (length case.book.needs) ranges limits tight, tuned-zeros case tuner base leaf ranges tuned based zeros (sym own.cost), is, tuned-bound case tuner leaf ranges tuned);
+  weighs = weighs;
+  bound = is ∙ tuned-shown case tuner leaf ranges tuned;
+  some =
+      let none = cost-some PRICE_SCALE (bound_of (case.limit - 1) case.book ranges (zeros_like case.book (base_leaf case.book)))
+      (zeros-some (case.limit - 1) case.book (length case.book.needs) ranges limits tight) in
+      let no_greater = tuned-zeros case tuner base leaf ranges tuned based zeros own.alike in
+      omega (arith, ints, none, no_greater, is, tuned-shown case tuner leaf ranges tuned);
 }
   where
     own : IsImproved (case.limit - 1) case.book ranges (base_leaf case.book) leaf
@@ -71,12 +83,18 @@ shows-none case tuner leaf ranges bound tuned well_formed without_cost is above 
   above = omega (arith, ints, is, above, tuned-bound case tuner leaf ranges tuned);
 }
 
--- the parent's leaf bounds no more
+-- a leaf that weighs the cost isn't one that doesn't
+weighs-some : (rho : ℕ) → 1 ≤ rho → (rho == 0) ≡ false
+weighs-some rho some = grind (arith, nat_tests)
+
+-- the parent's leaf shows no more
 pub parent-no_more : (case : CaseContents) (tuner : TunerContents) (base parent leaf : Leaf) (ranges : List Interval) (bound : ℤ) → tuner ≡ record { book = case.book; yield_units = case.limit - 1 } → base ≡ base_leaf case.book
-    → IsImproved tuner.yield_units tuner.book ranges base leaf → HasNoGreater tuner.yield_units tuner.book ranges parent leaf → bound ≡ bound_of tuner.yield_units tuner.book ranges leaf
-    → parent.rho ≡ PRICE_SCALE → bound_of (case.limit - 1) case.book ranges parent ≤ℤ bound
-parent-no_more case tuner base parent leaf ranges bound tuned based improved start is whole =
-    omega (arith, ints, start (whole ∙ sym (tuned-improved case tuner base leaf ranges tuned based improved).cost), is, tuned-bound case tuner parent ranges tuned)
+    → IsImproved tuner.yield_units tuner.book ranges base leaf → ShowsNoGreater tuner.yield_units tuner.book ranges parent leaf → bound ≡ least_cost_of tuner.yield_units tuner.book ranges leaf
+    → 1 ≤ parent.rho → least_cost_of (case.limit - 1) case.book ranges parent ≤ℤ bound
+parent-no_more case tuner base parent leaf ranges bound tuned based improved start is some =
+    let own = tuned-improved case tuner base leaf ranges tuned based improved in
+    let no_greater = start (weighs-some parent.rho some ∙ own.alike) in
+    omega (arith, ints, no_greater, is, tuned-shown case tuner parent ranges tuned)
 
 -- ---- whether the needs are reached
 pub reached-is : (case : CaseContents) (ranges : List Interval) (plan : List ℕ) (day : ℤ) → plan ≡ high_ends ranges → Some day ≡ first_short_of case.book plan

@@ -1,10 +1,9 @@
 -- How the growth of a tree goes on, and ends. This is this project's own.
-use Rattle.std.specs.Prelude.{◌≡◌, ℕ, ◌+◌, ◌-◌, ◌*◌, ◌<◌, true, Bool, List, length, Option, Some, None, ℤ, ◌≤ℤ◌}
+use Rattle.std.specs.Prelude.{◌≡◌, ℕ, ◌+◌, ◌-◌, ◌*◌, ◌<◌, ◌≤◌, true, Bool, List, length, Option, Some, None, ℤ, ◌≤ℤ◌}
 use Rattle.std.specs.List.{count_by}
 use Rattle.case_file.specs.Case.{CaseContents}
-use Rattle.dual_bound.specs.LeafBound.{bound_of}
+use Rattle.dual_bound.specs.LeafBound.{least_cost_of}
 use Rattle.node_ranges.specs.Ranges.{narrowed, root_of}
-use Rattle.proof_tree.specs.declared.prices.TheConstants.{PRICE_SCALE}
 use Rattle.proof_tree.specs.declared.interval.Interval.{Interval}
 use Rattle.proof_tree.specs.declared.tree.Leaf.{Leaf}
 use Rattle.node_pool.specs.Pool.{PoolContents, is_waiting}
@@ -15,10 +14,10 @@ use Rattle.branch_search.specs.declared.growing.Growth.{Growth}
 use Rattle.branch_search.specs.declared.growing.Growth.TheVariants as growth
 use Rattle.search_tree.specs.declared.node.Priced.{Priced}
 
--- a side of a split is priced: its leaf bounds no less than the parent's there
+-- a side of a split is priced: its leaf shows no lower least cost than the parent's there
 pub record IsSide (case : CaseContents) (ranges : List Interval) (line at : ℕ) (right : Bool) (parent : Leaf) (priced : Priced) : Type 0 where
   pub own : IsPriced case (narrowed case.book.lines ranges line at right) priced
-  pub no_less : parent.rho ≡ PRICE_SCALE → bound_of (case.limit - 1) case.book (narrowed case.book.lines ranges line at right) parent ≤ℤ priced.bound
+  pub no_less : 1 ≤ parent.rho → least_cost_of (case.limit - 1) case.book (narrowed case.book.lines ranges line at right) parent ≤ℤ priced.bound
 
 -- a tree of a case begins: its root alone stands, with room for the budget
 pub record IsBegun (case : CaseContents) (tree : TreeContents) : Type 0 where

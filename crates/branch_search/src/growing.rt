@@ -14,6 +14,7 @@ use escrow_desk::NoMemory;
 use escrow_units::Cents;
 use halving_tree::{Split, SplitRule};
 use node_pool::NodeId;
+use price_lp::LEAST_WEIGHT;
 use proof_tree::{Leaf, Nodes};
 use search_tree::{Closing, Priced, SearchTree};
 use std::alloc::Global;
@@ -81,6 +82,7 @@ impl<'a> Search<'a> {
         requires proper { IsTrue (is_proper self.old.ranges split.line split.at) }
         requires line { split.line < length self.old.case.book.lines }
         requires parent { IsLeaf (length self.old.case.book.needs) parent.now }
+        requires weight { LEAST_WEIGHT ≤ parent.now.rho }
         ensures search { OnOk result (self.new ≡ self.old) }
         ensures side { IfOk result (IsSide self.old.case self.old.ranges split.line split.at right parent.now) }
     {
@@ -103,6 +105,7 @@ impl<'a> Search<'a> {
         requires proper { IsTrue (is_proper self.old.ranges split.line split.at) }
         requires line { split.line < length self.old.case.book.lines }
         requires parent { IsLeaf (length self.old.case.book.needs) parent.now }
+        requires weight { LEAST_WEIGHT ≤ parent.now.rho }
         ensures search { OnOk result (self.new ≡ self.old) }
         ensures left { IfOk result (λ sides. IsSide self.old.case self.old.ranges split.line split.at false parent.now sides.left) }
         ensures right { IfOk result (λ sides. IsSide self.old.case self.old.ranges split.line split.at true parent.now sides.right) }

@@ -1,7 +1,7 @@
 //! What a search holds: the case, what prices its nodes, the ranges of the node at hand, and the best plan so far.
 ghost use Rattle.std.specs.Prelude.{◌≡◌, ◌≤◌, ◌<◌, ◌-◌, ◌^◌, ◌≤ℤ◌, ◌<ℤ◌, false, true, pos, length, ℕ, IfOk, IfSome, OnOk, MatchOption, unsigned_abs};
 ghost use Rattle.case_file.specs.Case.{CaseContents};
-ghost use Rattle.dual_bound.specs.LeafBound.{bound_of};
+ghost use Rattle.dual_bound.specs.LeafBound.{bound_of, least_cost_of};
 ghost use Rattle.node_ranges.specs.Ranges.{AreTight, is_single};
 ghost use Rattle.node_ranges.specs.Claims.{bears_out, low_ends};
 ghost use Rattle.proof_tree.specs.Tree.{IsLeaf};
@@ -23,8 +23,8 @@ use node_pool::NodeId;
 use node_ranges::Ranges;
 use offer_book::Book;
 use plan_finder::{Finder, YieldLimit};
-use price_lp::Basis;
-use proof_tree::{Leaf, PRICE_SCALE};
+use price_lp::{Basis, LEAST_WEIGHT};
+use proof_tree::Leaf;
 use search_tree::{Closing, Priced};
 use std::alloc::Global;
 use std::marker::Model;
@@ -114,9 +114,10 @@ impl<'a> Search<'a> {
         node: Option<NodeId>,
     ) -> Result<Priced, NoMemory>
         requires parent { IfSome parent (λ leaf. IsLeaf (length self.old.case.book.needs) leaf.now) }
+        requires weight { IfSome parent (λ leaf. LEAST_WEIGHT ≤ leaf.now.rho) }
         ensures search { self.new ≡ self.old }
         ensures priced { IfOk result (IsPriced self.old.case self.old.ranges) }
-        ensures parent { IfOk result (λ priced. IfSome parent.entry (λ leaf. leaf.now.rho ≡ PRICE_SCALE → bound_of (self.old.case.limit - 1) self.old.case.book self.old.ranges leaf.now ≤ℤ priced.bound)) }
+        ensures parent { IfOk result (λ priced. IfSome parent.entry (λ leaf. 1 ≤ leaf.now.rho → least_cost_of (self.old.case.limit - 1) self.old.case.book self.old.ranges leaf.now ≤ℤ priced.bound)) }
     {
         let mut leaf = Leaf::of_zeros(alloc, true, self.book.need_count())?;
         let basis = basis_at(self.bases.as_slice(), node);
@@ -164,7 +165,7 @@ impl<'a> Search<'a> {
 
     /// Whether a bound bears out that no rival costs less than the best plan by more than the allowance.
     pub(crate) fn is_borne(&self, bound: i128) -> bool
-        requires { unsigned_abs bound < 10 ^ 37 }
+        requires { unsigned_abs bound < 10 ^ 28 }
         ensures { result ≡ bears_out bound (claim_of_best self.now.case (best_cents self.now.best)) }
     {
         // A book keeps its limits, so that what a plan costs has room.
@@ -284,7 +285,7 @@ impl<'a> Search<'a> {
 
     // How a node of the ranges at hand is closed, whose leaf has this bound. The portfolio of a point may become the best one.
     fn closed_by(&mut self, alloc: Global, bound: i128) -> Result<Closing, NoMemory>
-        requires { unsigned_abs bound < 10 ^ 37 }
+        requires { unsigned_abs bound < 10 ^ 28 }
         ensures kept { OnOk result (AreSameBut self.old self.new) }
         ensures no_dearer { OnOk result (IsNoDearer (best_cents self.old.best) (best_cents self.new.best)) }
         ensures tried { OnOk result (IfOk result (IsTried self.old.case (best_cents self.new.best) self.old.ranges bound)) }
@@ -313,7 +314,7 @@ impl<'a> Search<'a> {
         node: NodeId,
         bound: i128,
     ) -> Result<Closing, NoMemory>
-        requires { unsigned_abs bound < 10 ^ 37 }
+        requires { unsigned_abs bound < 10 ^ 28 }
         ensures kept { OnOk result (AreSameBut self.old self.new) }
         ensures no_dearer { OnOk result (IsNoDearer (best_cents self.old.best) (best_cents self.new.best)) }
         ensures tried { OnOk result (IfOk result (IsTried self.old.case (best_cents self.new.best) self.old.ranges bound)) }

@@ -123,7 +123,7 @@ impl<'a> Search<'a> {
     // root's bound says, or a leaf shows that there is none.
     #[inline(never)]
     fn find_plan(&mut self, alloc: Global, bound: i128, hint: &Hint) -> Result<(), NoMemory>
-        requires bound { unsigned_abs bound < 10 ^ 37 }
+        requires bound { unsigned_abs bound < 10 ^ 28 }
         requires none { self.old.best ≡ None }
         ensures kept { OnOk result (AreSameBut self.old self.new) }
         ensures backward { OnOk result (IsNoDearerThanBackward self.old.case.limit self.old.case.book (best_cents self.new.best)) }

@@ -1,8 +1,9 @@
 -- What a price that changes changes.
-use Rattle.std.proofs.Common.{◌≡◌, ◌∙◌, ℕ, zero, suc, ◌+◌, ◌-◌, ◌*◌, ◌<◌, ◌≤◌, All, inl, inr, List, [], ◌∷◌, get_or, set, length, take, ap, subst, refl, arith, ℤ, pos, ◌+ℤ◌, ◌-ℤ◌, ◌≤ℤ◌}
+use Rattle.std.proofs.Common.{◌≡◌, ◌∙◌, ℕ, zero, suc, ◌+◌, ◌-◌, ◌*◌, ◌<◌, ◌≤◌, ◌==◌, All, inl, inr, List, [], ◌∷◌, get_or, set, length, take, ap, subst, sym, refl, arith, false, ℤ, pos, ◌+ℤ◌, ◌-ℤ◌, ◌≤ℤ◌}
 use Rattle.std.specs.List.{AllPairs, Contains, zip}
 use Rattle.std.proofs.lemmas.Int.{ints}
 use Rattle.std.proofs.lemmas.Bool.{cases_lt}
+use Rattle.std.proofs.lemmas.Bool.Decides.{nat_tests}
 use Rattle.std.proofs.lemmas.Grind.{get_or-set_at}
 use Rattle.std.proofs.lemmas.List.{get_or-set_other, get_or_default, get_or_past}
 use Rattle.std.proofs.lemmas.List.Elements.{All-cons}
@@ -17,9 +18,12 @@ use Rattle.proof_tree.specs.declared.interval.Interval.{Interval}
 use Rattle.proof_tree.specs.declared.tree.Leaf.{Leaf}
 use Rattle.dual_bound.proofs.BoundSizes.{bound-more, room-length}
 use Rattle.dual_bound.proofs.TableauFacts.{some-line}
+use Rattle.node_ranges.proofs.CostFacts.{cost-rises}
+use Rattle.price_lp.specs.declared.proposing.TheConstants.{LEAST_WEIGHT}
+use Rattle.node_ranges.specs.Claims.{least_cost}
 use Rattle.proof_tree.specs.Tree.{IsLeaf, with_price}
-use Rattle.dual_tune.specs.Steps.{IsBetter, IsImproved, price_after, price_before, price_beside, with_multiplier}
-use Rattle.dual_tune.specs.Sweep.{AreReached, IsStepOf, bound_at, lines_worth, stepped}
+use Rattle.dual_tune.specs.Steps.{IsBetter, IsImproved, IsStep, price_after, price_before, price_beside, with_multiplier}
+use Rattle.dual_tune.specs.Sweep.{AreReached, IsStepOf, bound_at, lines_worth, shown_at, stepped}
 use Rattle.dual_tune.specs.declared.given.Given.{Given}
 use Rattle.dual_tune.specs.declared.steps.Side.{Side}
 use Rattle.dual_tune.specs.declared.steps.Side.TheVariants as side
@@ -223,7 +227,6 @@ step-leaf : (dates : ℕ) (leaf : Leaf) (place v : ℕ) → IsLeaf dates leaf �
     → ((k d : ℕ) → place < k → k < length leaf.prices → get_or leaf.prices k d ≤ v) → IsLeaf dates (with_price leaf place v)
 step-leaf dates leaf place v well few small above below = record {
   cost = well.cost;
-  counts = well.counts;
   limit = well.limit;
   every_date = set-length leaf.prices place v ∙ well.every_date;
   range = set-range leaf.prices place v (2 * PRICE_SCALE) well.range small;
@@ -265,7 +268,7 @@ leaf-beside dates leaf place side.After well few = leaf-after dates leaf place w
 
 -- a leaf with a multiplier of the limit that is tried keeps its limits
 pub leaf-weighed : (dates : ℕ) (leaf : Leaf) (mu : ℕ) → IsLeaf dates leaf → mu ≤ PRICE_SCALE → IsLeaf dates (with_multiplier leaf mu)
-leaf-weighed dates leaf mu well small = record { cost = well.cost; counts = well.counts; limit = small; every_date = well.every_date; range = well.range; falling = well.falling }
+leaf-weighed dates leaf mu well small = record { cost = well.cost; limit = small; every_date = well.every_date; range = well.range; falling = well.falling }
 
 -- what is reached stays reached by more
 pub reached-more : (given : Given) (least most : ℤ) (place : ℕ) → least ≤ℤ most → AreReached given least place → AreReached given most place
@@ -279,7 +282,7 @@ pub improved-more : (given : Given) {other improved better : Leaf} → IsImprove
     → IsBetter given.yield_units.0 given.book.now given.ranges.now other improved better → IsImproved given.yield_units.0 given.book.now given.ranges.now given.leaf.now better
 improved-more given improved better = record {
   well_formed = better.well_formed;
-  cost = better.cost ∙ improved.cost;
+  alike = improved.alike ∙ better.alike;
   given = omega (arith, ints, improved.given, better.no_less);
   steps = λ step is. omega (arith, ints, improved.steps step is, better.no_less);
 }
@@ -295,3 +298,26 @@ pub step-whole : (leaf : Leaf) (step : Step) → (stepped leaf step).rho ≡ lea
 step-whole leaf step.Nothing = refl
 step-whole leaf (step.Price place price) = refl
 step-whole leaf (step.Multiplier mu) = refl
+
+-- a step of a leaf weighs the cost as the leaf does
+pub step-weight : (leaf step : Leaf) → IsStep leaf step → step.rho ≡ leaf.rho
+step-weight leaf step (inl price) = elim price.2 [
+  | inl before ↦ ap (λ (l : Leaf). l.rho) before
+  | inr after ↦ ap (λ (l : Leaf). l.rho) after
+]
+step-weight leaf step (inr multiplier) = ap (λ (l : Leaf). l.rho) multiplier.2
+
+-- where a bound isn't above another, neither is the least cost that it shows, at the same weight of the cost
+pub shown-rises : (given : Given) (leaf : Leaf) (rho : ℕ) (bound : ℤ) → leaf.rho ≡ rho → bound_at given leaf ≤ℤ bound → shown_at given leaf ≤ℤ least_cost rho bound
+shown-rises given leaf rho bound same le =
+    subst (λ (w : ℕ). least_cost w (bound_at given leaf) ≤ℤ least_cost rho bound) (sym same) (cost-rises rho (bound_at given leaf) bound le)
+
+-- a leaf that is proposed weighs the cost where the given one does
+some-weight : (rho : ℕ) → 1 ≤ rho → (rho == 0) ≡ false
+some-weight rho some = grind (arith, nat_tests)
+
+pub proposed-alike : (given old new : ℕ) → old ≡ given → (1 ≤ old → LEAST_WEIGHT ≤ new) → (old ≡ 0 → new ≡ 0) → (given == 0) ≡ (new == 0)
+proposed-alike zero old new same weighs none = let nothing : new ≡ zero = none same in sym (ap (λ (n : ℕ). n == 0) nothing)
+proposed-alike (suc given) old new same weighs none =
+    let least = weighs (omega (arith, same)) in
+    some-weight (suc given) (omega arith) ∙ sym (some-weight new (omega (arith, least)))

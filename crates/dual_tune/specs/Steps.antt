@@ -1,7 +1,7 @@
 -- The steps of a leaf, and what it means that a leaf is improved. Both are this project's own.
-use Rattle.std.specs.Prelude.{◌≡◌, ◌⊎◌, ℕ, zero, suc, ◌+◌, ◌*◌, ◌/◌, ◌<◌, List, length, replicate, slice_index, slice_index_or, ◌≤ℤ◌}
+use Rattle.std.specs.Prelude.{◌≡◌, ◌⊎◌, ℕ, zero, suc, ◌+◌, ◌*◌, ◌/◌, ◌<◌, ◌==◌, List, length, replicate, slice_index, slice_index_or, ◌≤ℤ◌}
 use Rattle.offer_book.specs.Book.{BookContents}
-use Rattle.dual_bound.specs.LeafBound.{bound_of}
+use Rattle.dual_bound.specs.LeafBound.{least_cost_of}
 use Rattle.proof_tree.specs.Tree.{IsLeaf, with_price}
 use Rattle.proof_tree.specs.declared.prices.TheConstants.{PRICE_SCALE}
 use Rattle.proof_tree.specs.declared.interval.Interval.{Interval}
@@ -53,25 +53,30 @@ IsMultiplierStep leaf step = (mu : ℕ) × IsTriedMultiplier mu × (step ≡ wit
 abbrev pub IsStep : Leaf → Leaf → Type 0
 IsStep leaf step = IsPriceStep leaf step ⊎ IsMultiplierStep leaf step
 
--- a leaf is improved over ranges, at the yield n: it keeps its limits and the weight of the cost, and its bound is below that of
--- neither the leaf nor any of its steps
+-- both of two leaves weigh the cost, or neither does
+abbrev pub WeighAlike : Leaf → Leaf → Type 0
+WeighAlike one other = (one.rho == 0) ≡ (other.rho == 0)
+
+-- a leaf is improved over ranges, at the yield n: it keeps its limits, weighs the cost where the leaf does, and shows a least cost below
+-- that of neither the leaf nor any of its steps
 pub record IsImproved (n : ℕ) (book : BookContents) (ranges : List Interval) (leaf improved : Leaf) : Type 0 where
   pub well_formed : IsLeaf (length book.needs) improved
-  pub cost : improved.rho ≡ leaf.rho
-  pub given : bound_of n book ranges leaf ≤ℤ bound_of n book ranges improved
-  pub steps : (step : Leaf) → IsStep leaf step → bound_of n book ranges step ≤ℤ bound_of n book ranges improved
+  pub alike : WeighAlike leaf improved
+  pub given : least_cost_of n book ranges leaf ≤ℤ least_cost_of n book ranges improved
+  pub steps : (step : Leaf) → IsStep leaf step → least_cost_of n book ranges step ≤ℤ least_cost_of n book ranges improved
 
 -- a leaf whose prices are 0, without a multiplier of the limit, that weighs the cost as another does
 abbrev pub zeros_like : BookContents → Leaf → Leaf
 zeros_like book leaf = record { rho = leaf.rho; mu = 0; prices = replicate (length book.needs) 0 }
 
--- a leaf that weighs the cost alike has no greater bound
-abbrev pub HasNoGreater : ℕ → BookContents → List Interval → Leaf → Leaf → Type 0
-HasNoGreater n book ranges other leaf = other.rho ≡ leaf.rho → bound_of n book ranges other ≤ℤ bound_of n book ranges leaf
+-- where both weigh the cost or neither does, a leaf shows no greater least cost than another
+abbrev pub ShowsNoGreater : ℕ → BookContents → List Interval → Leaf → Leaf → Type 0
+ShowsNoGreater n book ranges other leaf = WeighAlike other leaf → least_cost_of n book ranges other ≤ℤ least_cost_of n book ranges leaf
 
--- a leaf is better than a given one and another: it keeps its limits and the weight of the cost, and neither has a greater bound
+-- a leaf is better than a given one and another: it keeps its limits, weighs the cost where the given one does, and neither shows a
+-- greater least cost
 pub record IsBetter (n : ℕ) (book : BookContents) (ranges : List Interval) (other given better : Leaf) : Type 0 where
   pub well_formed : IsLeaf (length book.needs) better
-  pub cost : better.rho ≡ given.rho
-  pub no_less : bound_of n book ranges given ≤ℤ bound_of n book ranges better
-  pub no_greater : HasNoGreater n book ranges other better
+  pub alike : WeighAlike given better
+  pub no_less : least_cost_of n book ranges given ≤ℤ least_cost_of n book ranges better
+  pub no_greater : ShowsNoGreater n book ranges other better

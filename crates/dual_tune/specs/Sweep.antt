@@ -5,7 +5,7 @@ use Rattle.std.specs.List.{zip}
 use Rattle.offer_book.specs.Book.{BookContents}
 use Rattle.offer_book.specs.declared.line.Line.{Line}
 use Rattle.dual_bound.specs.Columns.{ColumnsContents}
-use Rattle.dual_bound.specs.LeafBound.{bound_of, form_of, least_within, signed_sum}
+use Rattle.dual_bound.specs.LeafBound.{bound_of, form_of, least_cost_of, least_within, signed_sum}
 use Rattle.proof_tree.specs.Tree.{IsLeaf, with_price}
 use Rattle.dual_bound.specs.declared.form.Form.{Form}
 use Rattle.proof_tree.specs.declared.interval.Interval.{Interval}
@@ -24,6 +24,10 @@ use Rattle.dual_tune.specs.declared.sweep.Step.TheVariants as step
 -- the bound of a leaf over the given ranges
 abbrev pub bound_at : Given → Leaf → ℤ
 bound_at given leaf = bound_of given.yield_units.0 given.book.now given.ranges.now leaf
+
+-- the least cost that a leaf shows over the given ranges
+abbrev pub shown_at : Given → Leaf → ℤ
+shown_at given leaf = least_cost_of given.yield_units.0 given.book.now given.ranges.now leaf
 
 -- columns are those of the book and the yield of a given leaf
 pub record AreColumnsOf (given : Given) (columns : ColumnsContents) : Type 0 where

@@ -1,9 +1,9 @@
 //! The parts of a tuner: the steps, the linear program, and what it proposes.
-ghost use Rattle.std.specs.Prelude.{◌≡◌, length, IfOk, IfSome};
+ghost use Rattle.std.specs.Prelude.{◌≡◌, ◌≤◌, length, IfOk, IfSome};
 ghost use Rattle.fixed_powers.specs.DiscountPowers.{IsLowTable};
 ghost use Rattle.proof_tree.specs.Tree.{IsLeaf};
-ghost use Rattle.dual_tune.specs.Steps.{HasNoGreater, IsBetter, IsImproved, zeros_like};
-ghost use Rattle.dual_tune.specs.Sweep.{AreColumnsOf, IsPlaced, bound_at, stepped};
+ghost use Rattle.dual_tune.specs.Steps.{IsBetter, IsImproved, ShowsNoGreater, WeighAlike, zeros_like};
+ghost use Rattle.dual_tune.specs.Sweep.{AreColumnsOf, IsPlaced, shown_at, stepped};
 ghost use Rattle.dual_tune.specs.Tuner.{AreParts, ArePartsFor};
 
 use crate::given::Given;
@@ -11,9 +11,9 @@ use crate::sweep::{Step, Sweep, copy_leaf};
 use dual_bound::Columns;
 use escrow_desk::NoMemory;
 use fixed_powers::Powers;
-use node_ranges::Ranges;
+use node_ranges::{Ranges, least_cost};
 use offer_book::Book;
-use price_lp::{Basis, COLD_ITERATIONS, Purpose, Simplex, SolveEnd};
+use price_lp::{Basis, COLD_ITERATIONS, LEAST_WEIGHT, Purpose, Simplex, SolveEnd};
 use proof_tree::Leaf;
 use std::alloc::Global;
 
@@ -76,18 +76,18 @@ fn set_ranges(simplex: &mut Simplex, lines: u16, ranges: &Ranges)
     }
 }
 
-/// Solves a program over ranges, an interval for each of so many lines, from a basis where there is one.
+/// Solves a program for a purpose over ranges, an interval for each of so many lines, from a basis where there is one.
 pub(crate) fn solve(
     simplex: &mut Simplex,
     lines: u16,
     ranges: &Ranges,
-    whole: bool,
+    purpose: Purpose,
     basis: Option<&Basis>,
 )
     requires { lines ≡ length ranges.now }
     ensures { simplex.new ≡ simplex.old }
 {
-    simplex.aim(Purpose::Bound, whole);
+    simplex.aim(purpose);
     set_ranges(simplex, lines, ranges);
     match basis {
         Some(basis) => solve_from(simplex, basis),
@@ -95,29 +95,39 @@ pub(crate) fn solve(
     }
 }
 
-// The better of two leaves over the given ranges that weigh the cost alike: the other where its bound is greater than that of the one,
-// which is known.
+// What a program is solved for, for a leaf that weighs the cost by so much.
+fn purpose_of(rho: u64) -> Purpose {
+    if rho == 0 {
+        Purpose::Needs
+    } else {
+        Purpose::Cost
+    }
+}
+
+// The better of two leaves over the given ranges that both weigh the cost, or both don't: the other where it shows a greater least cost
+// than the one, of which that is known.
 fn better_of(
     columns: &mut Columns,
     given: &Given,
-    bound: i128,
+    shown: i128,
     other: &Leaf,
     into: &mut Leaf,
 ) -> i128
     requires own { AreColumnsOf given.now columns.old }
     requires other { IsLeaf (length given.now.book.now.needs) other.now }
     requires into { IsLeaf (length given.now.book.now.needs) into.old }
-    requires bound { bound ≡ bound_at given.now into.old }
+    requires shown { shown ≡ shown_at given.now into.old }
     ensures own { AreColumnsOf given.now columns.new }
     ensures better { IsBetter given.now.yield_units.0 given.now.book.now given.now.ranges.now other.now into.old into.new }
-    ensures bound { result ≡ bound_at given.now into.new }
+    ensures weight { LEAST_WEIGHT ≤ other.now.rho → LEAST_WEIGHT ≤ into.old.rho → LEAST_WEIGHT ≤ into.new.rho }
+    ensures shown { result ≡ shown_at given.now into.new }
 {
-    if other.rho != into.rho {
-        return bound;
+    if (other.rho == 0) != (into.rho == 0) {
+        return shown;
     }
-    let reached = columns.bound(given.ranges, other);
-    if reached <= bound {
-        return bound;
+    let reached = least_cost(other.rho, columns.bound(given.ranges, other));
+    if reached <= shown {
+        return shown;
     }
     copy_leaf(given.book.need_count(), other, into);
     reached
@@ -141,52 +151,65 @@ impl<'a> Parts<'a> {
         })
     }
 
-    // Puts into the proposal what the linear program proposes, and gives its bound.
+    // Puts into the proposal what the linear program proposes, and gives the least cost that it shows.
     fn propose(&mut self, given: &Given, basis: Option<&Basis>) -> i128
         requires { ArePartsFor given.now self.old }
         ensures parts { ArePartsFor given.now self.new }
-        ensures cost { self.new.proposal.rho ≡ given.now.leaf.now.rho }
-        ensures bound { result ≡ bound_at given.now self.new.proposal }
+        ensures alike { WeighAlike given.now.leaf.now self.new.proposal }
+        ensures weight { 1 ≤ given.now.leaf.now.rho → LEAST_WEIGHT ≤ self.new.proposal.rho }
+        ensures shown { result ≡ shown_at given.now self.new.proposal }
     {
         let rho = given.leaf.rho;
         let lines = given.book.line_count();
-        solve(&mut self.simplex, lines, given.ranges, rho != 0, basis);
+        solve(
+            &mut self.simplex,
+            lines,
+            given.ranges,
+            purpose_of(rho),
+            basis,
+        );
         self.proposal.rho = rho;
         self.simplex.propose(&mut self.proposal);
-        self.sweep.columns.bound(given.ranges, &self.proposal)
+        let bound = self.sweep.columns.bound(given.ranges, &self.proposal);
+        least_cost(self.proposal.rho, bound)
     }
 
-    // Puts the better leaf of the given one, its steps, and what the linear program proposes into another, with its bound.
+    // Puts the better leaf of the given one, its steps, and what the linear program proposes into another, with the least cost that it
+    // shows.
     fn improve(&mut self, given: &Given, basis: Option<&Basis>, into: &mut Leaf) -> i128
         requires parts { ArePartsFor given.now self.old }
         requires into { length into.old.prices ≡ length given.now.book.now.needs }
         ensures parts { ArePartsFor given.now self.new }
         ensures improved { IsImproved given.now.yield_units.0 given.now.book.now given.now.ranges.now given.now.leaf.now into.new }
-        ensures bound { result ≡ bound_at given.now into.new }
+        ensures weight { LEAST_WEIGHT ≤ given.now.leaf.now.rho → LEAST_WEIGHT ≤ into.new.rho }
+        ensures shown { result ≡ shown_at given.now into.new }
     {
         let dates = given.book.need_count();
         let best = self.sweep.best_step(given);
+        let reached = least_cost(given.leaf.rho, best.bound);
         let proposed = self.propose(given, basis);
-        if proposed > best.bound {
+        if proposed > reached {
             copy_leaf(dates, &self.proposal, into);
             return proposed;
         }
         copy_leaf(dates, given.leaf, into);
         take_step(best.step, into);
-        best.bound
+        reached
     }
 
-    // The better of the leaf of prices of 0 and another, whose bound is known.
-    fn or_zeros(&mut self, given: &Given, bound: i128, into: &mut Leaf) -> i128
+    // The better of the leaf of prices of 0 that weighs the cost as the given one does, and another, which shows a least cost that is
+    // known.
+    fn or_zeros(&mut self, given: &Given, shown: i128, into: &mut Leaf) -> i128
         requires parts { ArePartsFor given.now self.old }
         requires into { IsLeaf (length given.now.book.now.needs) into.old }
-        requires bound { bound ≡ bound_at given.now into.old }
+        requires shown { shown ≡ shown_at given.now into.old }
         ensures parts { ArePartsFor given.now self.new }
-        ensures better { IsBetter given.now.yield_units.0 given.now.book.now given.now.ranges.now (zeros_like given.now.book.now into.old) into.old into.new }
-        ensures bound { result ≡ bound_at given.now into.new }
+        ensures better { IsBetter given.now.yield_units.0 given.now.book.now given.now.ranges.now (zeros_like given.now.book.now given.now.leaf.now) into.old into.new }
+        ensures weight { LEAST_WEIGHT ≤ given.now.leaf.now.rho → LEAST_WEIGHT ≤ into.old.rho → LEAST_WEIGHT ≤ into.new.rho }
+        ensures shown { result ≡ shown_at given.now into.new }
     {
-        self.zeros.rho = into.rho;
-        better_of(&mut self.sweep.columns, given, bound, &self.zeros, into)
+        self.zeros.rho = given.leaf.rho;
+        better_of(&mut self.sweep.columns, given, shown, &self.zeros, into)
     }
 
     /// Puts the better leaf over the given ranges into another, as [`Tuner::tune`](crate::Tuner::tune) says.
@@ -202,15 +225,16 @@ impl<'a> Parts<'a> {
         requires into { length into.old.prices ≡ length given.now.book.now.needs }
         ensures parts { ArePartsFor given.now self.new }
         ensures improved { IsImproved given.now.yield_units.0 given.now.book.now given.now.ranges.now given.now.leaf.now into.new }
-        ensures start { IfSome start.entry (λ other. HasNoGreater given.now.yield_units.0 given.now.book.now given.now.ranges.now other.now into.new) }
-        ensures zeros { HasNoGreater given.now.yield_units.0 given.now.book.now given.now.ranges.now (zeros_like given.now.book.now given.now.leaf.now) into.new }
-        ensures bound { result ≡ bound_at given.now into.new }
+        ensures start { IfSome start.entry (λ other. ShowsNoGreater given.now.yield_units.0 given.now.book.now given.now.ranges.now other.now into.new) }
+        ensures zeros { ShowsNoGreater given.now.yield_units.0 given.now.book.now given.now.ranges.now (zeros_like given.now.book.now given.now.leaf.now) into.new }
+        ensures weight { LEAST_WEIGHT ≤ given.now.leaf.now.rho → IfSome start.entry (λ other. LEAST_WEIGHT ≤ other.now.rho) → LEAST_WEIGHT ≤ into.new.rho }
+        ensures shown { result ≡ shown_at given.now into.new }
     {
-        let bound = self.improve(given, basis, into);
-        let bound = self.or_zeros(given, bound, into);
+        let shown = self.improve(given, basis, into);
+        let shown = self.or_zeros(given, shown, into);
         match start {
-            Some(start) => better_of(&mut self.sweep.columns, given, bound, start, into),
-            None => bound,
+            Some(start) => better_of(&mut self.sweep.columns, given, shown, start, into),
+            None => shown,
         }
     }
 }

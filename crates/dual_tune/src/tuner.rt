@@ -1,11 +1,11 @@
 //! Improving a leaf.
-ghost use Rattle.std.specs.Prelude.{◌≡◌, ◌<◌, ◌^◌, false, length, unsigned_abs, IfOk, IfSome};
+ghost use Rattle.std.specs.Prelude.{◌≡◌, ◌<◌, ◌≤◌, ◌^◌, false, length, unsigned_abs, IfOk, IfSome};
 ghost use Rattle.std.specs.List.{AllZip};
 ghost use Rattle.fixed_powers.specs.DiscountPowers.{IsLowTable};
-ghost use Rattle.dual_bound.specs.LeafBound.{bound_of};
+ghost use Rattle.dual_bound.specs.LeafBound.{bound_of, least_cost_of};
 ghost use Rattle.node_ranges.specs.Ranges.{HasRoomFor};
 ghost use Rattle.proof_tree.specs.Tree.{IsLeaf};
-ghost use Rattle.dual_tune.specs.Steps.{HasNoGreater, IsImproved, zeros_like};
+ghost use Rattle.dual_tune.specs.Steps.{IsImproved, ShowsNoGreater, zeros_like};
 
 use crate::given::Given;
 use crate::parts::{Parts, solve};
@@ -14,7 +14,7 @@ use escrow_units::YieldUnits;
 use fixed_powers::Powers;
 use node_ranges::Ranges;
 use offer_book::Book;
-use price_lp::Basis;
+use price_lp::{Basis, LEAST_WEIGHT, Purpose};
 use proof_tree::Leaf;
 use std::alloc::Global;
 use std::marker::Model;
@@ -56,10 +56,11 @@ impl<'a> Tuner<'a> {
         })
     }
 
-    /// Puts into a leaf, which has a price for each need date, the best over ranges of a given leaf, each of its steps, the leaf of
-    /// prices of 0, and what the linear program proposes; where another leaf is given, that counts too if it weighs the cost alike.
-    /// Where a basis is given, the program starts from it and takes twelve iterations at most; else it is solved from nothing. It
-    /// answers the leaf's bound, and takes no memory.
+    /// Puts into a leaf, which has a price for each need date, the one over ranges that shows the greatest least cost: of a given leaf,
+    /// each of its steps, the leaf of prices of 0, and what the linear program proposes; where another leaf is given, that counts too.
+    /// Either all of them weigh the cost or none: another leaf that doesn't as the given one is passed over. Where a basis is given, the
+    /// program starts from it and takes twelve iterations at most; else it is solved from nothing. It answers the least cost that the
+    /// leaf shows, in units of 1 / [`COEFFICIENT_SCALE`](offer_book::COEFFICIENT_SCALE) of a cent, and takes no memory.
     pub fn tune(
         &mut self,
         ranges: &Ranges,
@@ -74,9 +75,10 @@ impl<'a> Tuner<'a> {
         requires into { length into.old.prices ≡ length self.old.book.needs }
         ensures tuner { self.new ≡ self.old }
         ensures improved { IsImproved self.old.yield_units self.old.book ranges.now leaf.now into.new }
-        ensures start { IfSome start.entry (λ other. HasNoGreater self.old.yield_units self.old.book ranges.now other.now into.new) }
-        ensures zeros { HasNoGreater self.old.yield_units self.old.book ranges.now (zeros_like self.old.book leaf.now) into.new }
-        ensures bound { result ≡ bound_of self.old.yield_units self.old.book ranges.now into.new }
+        ensures start { IfSome start.entry (λ other. ShowsNoGreater self.old.yield_units self.old.book ranges.now other.now into.new) }
+        ensures zeros { ShowsNoGreater self.old.yield_units self.old.book ranges.now (zeros_like self.old.book leaf.now) into.new }
+        ensures weight { LEAST_WEIGHT ≤ leaf.now.rho → IfSome start.entry (λ other. LEAST_WEIGHT ≤ other.now.rho) → LEAST_WEIGHT ≤ into.new.rho }
+        ensures shown { result ≡ least_cost_of self.old.yield_units self.old.book ranges.now into.new }
     {
         // Ranges say here that their intervals are in order, as the given leaf has to know.
         let _ = ranges.intervals();
@@ -107,7 +109,13 @@ impl<'a> Tuner<'a> {
         ensures bound { result ≡ bound_of self.old.yield_units self.old.book ranges.now into.new }
     {
         let lines = self.book.line_count();
-        solve(&mut self.parts.simplex, lines, ranges, false, basis);
+        solve(
+            &mut self.parts.simplex,
+            lines,
+            ranges,
+            Purpose::Needs,
+            basis,
+        );
         into.rho = 0;
         self.parts.simplex.propose(into);
         self.parts.sweep.columns.bound(ranges, into)
@@ -120,7 +128,13 @@ impl<'a> Tuner<'a> {
         ensures { self.new ≡ self.old }
     {
         let lines = self.book.line_count();
-        solve(&mut self.parts.simplex, lines, ranges, true, Some(basis));
+        solve(
+            &mut self.parts.simplex,
+            lines,
+            ranges,
+            Purpose::Cost,
+            Some(basis),
+        );
     }
 
     /// How much of a line, counted from 0, the solution that was last found buys at par, in units of 2^-10 of a cent.
@@ -156,8 +170,8 @@ impl<'a> Tuner<'a> {
     }
 }
 
-/// A better leaf over ranges: the one of the greatest bound among the given leaf, each of its steps, and what the linear program
-/// proposes for these ranges.
+/// A better leaf over ranges: the one that shows the greatest least cost, of the given leaf, each of its steps, and what the linear
+/// program proposes for these ranges. It weighs the cost where the given leaf does.
 ///
 /// Conditions are those of [`bound`](dual_bound::bound).
 ///

@@ -113,12 +113,12 @@ fn free(book: &Book, simplex: &mut Simplex)
 fn draw_aim(draws: &mut Pcg32, simplex: &mut Simplex)
     ensures { simplex.new ≡ simplex.old }
 {
-    let purpose = if draws.random_range(0u32..2) == 0 {
-        Purpose::Bound
+    let purpose = if draws.random_range(0u32..4) == 0 {
+        Purpose::Needs
     } else {
-        Purpose::Plan
+        Purpose::Cost
     };
-    simplex.aim(purpose, draws.random_range(0u32..4) > 0);
+    simplex.aim(purpose);
     simplex.start_greedily();
 }
 

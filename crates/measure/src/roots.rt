@@ -58,7 +58,7 @@ fn program_of<'a>(rt: &HostRuntime, book: &'a Book, powers: &Powers) -> io::Resu
     let Ok(mut simplex) = Simplex::make(rt.alloc(), book, powers) else {
         return Err(starved());
     };
-    simplex.aim(Purpose::Bound, true);
+    simplex.aim(Purpose::Cost);
     Ok(simplex)
 }
 

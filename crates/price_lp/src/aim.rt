@@ -2,21 +2,19 @@
 
 use sparse_basis::Price;
 
-/// What prices are for. It decides how far they and the multiplier of the yield limit may go.
+/// What a solve is for. It decides whether the cost counts, and how far prices and the multiplier of the yield limit may go.
 #[derive(Clone, Copy, Debug, PartialEq, Eq)]
 pub enum Purpose {
-    /// The prices of a leaf: up to 2, and a multiplier up to 1.
-    Bound,
-    /// Plans: prices up to 256 and a multiplier up to 16,000, so that a plan pays dearly for what it lacks.
-    Plan,
+    /// The least cost. Prices go up to 256 and the multiplier up to 16,000, so that it is dear to lack cash or to pass the limit.
+    Cost,
+    /// Whether the needs can be met within the limit at all: the cost doesn't count. Prices go up to 2, and the multiplier up to 1.
+    Needs,
 }
 
-/// How far prices and the multiplier may go, and whether the cost counts.
+/// Whether the cost counts, and how far prices and the multiplier may go.
 #[derive(Clone, Copy)]
 pub(crate) struct Aim {
     purpose: Purpose,
-    /// Whether the cost counts.
-    pub whole: bool,
     /// The greatest price.
     pub price: Price,
     /// The greatest multiplier.
@@ -26,28 +24,32 @@ pub(crate) struct Aim {
 // The greatest price, as a whole number.
 fn greatest_price(purpose: Purpose) -> u16 {
     match purpose {
-        Purpose::Bound => 2,
-        Purpose::Plan => 256,
+        Purpose::Cost => 256,
+        Purpose::Needs => 2,
     }
 }
 
 // The greatest multiplier, as a whole number.
 fn greatest_multiplier(purpose: Purpose) -> u16 {
     match purpose {
-        Purpose::Bound => 1,
-        Purpose::Plan => 16_000,
+        Purpose::Cost => 16_000,
+        Purpose::Needs => 1,
     }
 }
 
 impl Aim {
     /// For a purpose.
-    pub(crate) fn new(purpose: Purpose, whole: bool) -> Aim {
+    pub(crate) fn new(purpose: Purpose) -> Aim {
         Aim {
             purpose,
-            whole,
             price: Price::whole(greatest_price(purpose)),
             multiplier: Price::whole(greatest_multiplier(purpose)),
         }
+    }
+
+    /// Whether the cost counts.
+    pub(crate) fn costs(self) -> bool {
+        self.purpose == Purpose::Cost
     }
 
     /// The greatest price, as a whole number.

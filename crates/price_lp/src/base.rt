@@ -110,7 +110,7 @@ impl<'a> Base<'a> {
 
     /// What a cent of a line costs, perturbed, where the cost counts.
     pub(crate) fn cost(&self, line: u16) -> Result<Price, Stop> {
-        if self.aim.whole {
+        if self.aim.costs() {
             read(self.costs.as_slice(), usize::from(line))
         } else {
             Ok(Price::zero())

@@ -22,5 +22,6 @@ mod sums;
 
 pub use aim::Purpose;
 pub use line_ranges::Holding;
+pub use proposing::LEAST_WEIGHT;
 pub use simplex::{COLD_ITERATIONS, Simplex, SolveEnd, WARM_ITERATIONS};
 pub use sparse_basis::{Basis, Stop};

@@ -1,7 +1,7 @@
 //! The linear program of a book, and its solution: the bounded dual simplex.
 ghost use Rattle.std.specs.Prelude.{◌≡◌, ◌≤◌, length, IfOk};
 ghost use Rattle.fixed_powers.specs.DiscountPowers.{IsLowTable, PowerTable};
-ghost use Rattle.proof_tree.specs.Tree.{IsLeaf, IsWholeOrNone};
+ghost use Rattle.proof_tree.specs.Tree.{IsLeaf};
 
 use crate::aim::{Aim, Purpose};
 use crate::base::Base;
@@ -11,7 +11,7 @@ use crate::leaving::Violation;
 use crate::line_ranges::Holding;
 use crate::pivoting::pivot;
 use crate::primal::Primal;
-use crate::proposing::{propose_prices, proposed_multiplier};
+use crate::proposing::{LEAST_WEIGHT, propose_prices, proposed_multiplier, proposed_scale};
 use crate::ratio::Breakpoints;
 use escrow_desk::NoMemory;
 use fixed_powers::Powers;
@@ -98,7 +98,7 @@ impl<'a> Simplex<'a> {
         requires { IsLowTable powers.now }
         ensures { IfOk result (λ simplex. simplex ≡ record { dates = length book.now.needs; lines = length book.now.lines }) }
     {
-        let base = Base::make(alloc, book, powers, Aim::new(Purpose::Bound, true))?;
+        let base = Base::make(alloc, book, powers, Aim::new(Purpose::Cost))?;
         Ok(Simplex {
             dates: book.need_count(),
             lines: book.line_count(),
@@ -115,11 +115,11 @@ impl<'a> Simplex<'a> {
         })
     }
 
-    /// Says what the prices are for, and whether the cost counts. The next solve has to start anew.
-    pub fn aim(&mut self, purpose: Purpose, whole: bool)
+    /// Says what the next solve is for. It has to start anew.
+    pub fn aim(&mut self, purpose: Purpose)
         ensures { self.new ≡ self.old }
     {
-        self.base.aim = Aim::new(purpose, whole);
+        self.base.aim = Aim::new(purpose);
         self.current = Current::Nothing;
     }
 
@@ -385,14 +385,18 @@ impl<'a> Simplex<'a> {
             .saturating_add(u64::from(self.dates))
     }
 
-    /// Puts the prices and the multiplier into a leaf that has a price for each need date, so that it keeps its limits. How
-    /// much it weighs the cost stays as it is. It takes no memory.
+    /// Puts the prices and the multiplier into a leaf that has a price for each need date. Where they are greater than a leaf may have
+    /// them, they and the weight of the cost are made smaller together: that leaves what the leaf shows. The weight is at least a hundredth. One that doesn't weigh the
+    /// cost goes on like that. It takes no memory.
     pub fn propose(&self, leaf: &mut Leaf)
         requires { length leaf.old.prices ≡ self.now.dates }
-        ensures well_formed { leaf.old.rho ≤ PRICE_SCALE → IsWholeOrNone leaf.old.rho → IsLeaf self.now.dates leaf.new }
-        ensures cost { leaf.new.rho ≡ leaf.old.rho }
+        ensures well_formed { IsLeaf self.now.dates leaf.new }
+        ensures weighs { 1 ≤ leaf.old.rho → LEAST_WEIGHT ≤ leaf.new.rho }
+        ensures without_cost { leaf.old.rho ≡ 0 → leaf.new.rho ≡ 0 }
     {
-        leaf.mu = proposed_multiplier(self.duals.multiplier());
-        propose_prices(&self.duals, self.dates, &mut leaf.prices);
+        let scale = proposed_scale(&self.duals);
+        leaf.rho = if leaf.rho == 0 { 0 } else { scale };
+        leaf.mu = proposed_multiplier(self.duals.multiplier(), scale);
+        propose_prices(&self.duals, self.dates, scale, &mut leaf.prices);
     }
 }

@@ -127,7 +127,7 @@ impl Sums {
             return self.count(base, line, amount);
         };
         self.excess = self.excess.plus(exact.excess);
-        if base.aim.whole {
+        if base.aim.costs() {
             self.cost = self.cost.plus(Total::of_cents(exact.cost));
         }
         Ok(())

@@ -129,7 +129,7 @@ fn a_solve_starts_from_a_leaf_or_a_basis(rt: HostRuntime) -> Result<(), Fail> {
     assert!(rt; basis.put_line(2, LineState::Basic).is_ok());
     simplex.start_from(&basis);
     assert_eq!(rt; simplex.solve(1, None), SolveEnd::Stopped(Stop::Irregular));
-    simplex.aim(Purpose::Plan, true);
+    simplex.aim(Purpose::Cost);
     simplex.start_greedily();
     assert_eq!(rt; simplex.solve(100, None), SolveEnd::Optimal);
     Ok(())

@@ -5,7 +5,7 @@ use Rattle.std.specs.List.{All}
 use Rattle.case_file.specs.Case.{CaseContents}
 use Rattle.dual_bound.specs.Closing.{is_closed_leaf, is_closed_point, is_weak}
 use Rattle.node_ranges.specs.Ranges.{root_of}
-use Rattle.node_ranges.specs.Claims.{Claim, bears_out, bears_out_by, placed_nodes}
+use Rattle.node_ranges.specs.Claims.{Claim, bears_out, placed_nodes}
 use Rattle.proof_tree.specs.declared.interval.Interval.{Interval}
 use Rattle.proof_tree.specs.declared.tree.TreeNode.{TreeNode}
 use Rattle.dual_bound.specs.LeafBound.{bound_of}
@@ -15,7 +15,7 @@ use Rattle.node_pool.specs.Way.{IsWay, Step, ranges_at}
 use Rattle.node_pool.specs.declared.node.State.{State}
 use Rattle.node_pool.specs.declared.node.State.TheVariants as state
 use Rattle.offer_book.specs.Book.{IsBook}
-use Rattle.search_tree.proofs.EndFacts.{HasShown, IsEndAt, IsEndTree, IsWritten, all-at, ends-end, ends_of, weak-by}
+use Rattle.search_tree.proofs.EndFacts.{HasShown, IsEndAt, IsEndTree, IsWritten, all-at, closed-by, ends-end, ends_of, weak-by}
 use Rattle.search_tree.proofs.Shape.{all-placed, leaf-holds, placed-at, to-nodes}
 use Rattle.search_tree.proofs.Ways.{some-way}
 use Rattle.search_tree.specs.Growing.{IsClosedBy, IsKept, IsNodeAt, IsPriced, claim_of_best, node_of}
@@ -73,10 +73,11 @@ closed-all case Obeys best claim popped tree shape nodes limits is made borne po
 strong-leaf : (case : CaseContents) (claim : Claim) (ranges : List Interval) (own : SearchNode) → IsPriced case ranges own.priced → own.closing ≡ closing.Borne → is_weak case claim (end_node case.book.needs own, ranges) ≡ false
     → bears_out own.priced.bound claim ≡ true
 strong-leaf case claim ranges own priced borne strong =
+    let bound : ℤ = bound_of (case.limit - 1) case.book ranges own.priced.leaf in
     let at : not (is_closed_leaf case claim ranges own.priced.leaf) ≡ false = subst (λ (how : Closing). is_weak case claim (end_by case.book.needs own.priced.leaf how, ranges) ≡ false) borne strong in
     let closed : not (bears_out own.priced.bound claim) ≡ false =
     ap (λ (b : ℤ). not (bears_out b claim)) priced.bound
-    ∙ sym (ap (λ (w : ℕ). not (if w == 0 then int_lt (pos 0) (bound_of (case.limit - 1) case.book ranges own.priced.leaf) else bears_out_by w (bound_of (case.limit - 1) case.book ranges own.priced.leaf) claim)) priced.improved.cost)
+    ∙ sym (ap not (closed-by own.priced.leaf.rho bound claim (int_lt (pos 0) bound) (omega (arith, priced.weighs))))
     ∙ at in
     from-not (bears_out own.priced.bound claim) closed
   where

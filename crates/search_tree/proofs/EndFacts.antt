@@ -3,6 +3,7 @@ use Rattle.std.proofs.Common.{◌≡◌, ◌∙◌, inl, inr, ℕ, ◌-◌, ◌^
 use Rattle.std.specs.Prelude.{int_lt}
 use Rattle.std.specs.List.{All}
 use Rattle.std.proofs.lemmas.Bool.{cases_lt}
+use Rattle.std.proofs.lemmas.Bool.Decides.{nat_tests}
 use Rattle.std.proofs.lemmas.Int.{ints}
 use Rattle.std.proofs.lemmas.List.{append-nil, get_or_past, length-map}
 use Rattle.std.proofs.Math.Nat.{mul-le-mul_left}
@@ -15,7 +16,8 @@ use Rattle.node_ranges.proofs.RangeLaws.{root_is_tight, sides_are_tight}
 use Rattle.dual_bound.proofs.Soundness.{all-lines}
 use Rattle.dual_bound.specs.LeafBound.{bound_of}
 use Rattle.node_ranges.specs.Ranges.{AreTight, is_proper, root_of}
-use Rattle.node_ranges.specs.Claims.{Claim, IsProper, bears_out, bears_out_by, is_bad_split, placed_nodes}
+use Rattle.node_ranges.proofs.CostFacts.{cost-bears}
+use Rattle.node_ranges.specs.Claims.{Claim, IsProper, bears_out, bears_out_by, is_bad_split, least_cost, placed_nodes}
 use Rattle.proof_tree.specs.Tree.{AreTrees, IsNode}
 use Rattle.proof_tree.specs.declared.interval.Interval.{Interval}
 use Rattle.proof_tree.specs.declared.tree.Leaf.{Leaf}
@@ -138,6 +140,13 @@ proper-node ranges (node.Closed leaf) ends = refl
 lt-test : (a b : ℤ) → a <ℤ b → int_lt a b ≡ true
 lt-test a b below = grind (arith, ints)
 
+-- a leaf that weighs the cost is closed where the least cost that it shows bears the claim out
+pub closed-by : (rho : ℕ) (bound : ℤ) (claim : Claim) (without_cost : Bool) → 1 ≤ rho
+    → (if rho == 0 then without_cost else bears_out_by rho bound claim) ≡ bears_out (least_cost rho bound) claim
+closed-by rho bound claim without_cost some =
+    let weighs : (rho == 0) ≡ false = grind (arith, nat_tests) in
+    ap (λ (b : Bool). if b then without_cost else bears_out_by rho bound claim) weighs ∙ sym (cost-bears rho bound claim some)
+
 -- where a node is closed by a leaf that doesn't weigh the cost, that shows what it has to
 abbrev pub HasShown : CaseContents → List Interval → SearchNode → Type 0
 HasShown case ranges own = (leaf : Leaf) → own.closing ≡ closing.Infeasible leaf → ShowsNone case ranges leaf
@@ -151,7 +160,8 @@ weak-by case claim ranges own priced opened borne unreached infeasible point = b
   where
     at : bears_out own.priced.bound claim ≡ true → not (is_closed_leaf case claim ranges own.priced.leaf) ≡ false
     at is =
-        ap (λ (w : ℕ). not (if w == 0 then int_lt (pos 0) (bound_of (case.limit - 1) case.book ranges own.priced.leaf) else bears_out_by w (bound_of (case.limit - 1) case.book ranges own.priced.leaf) claim)) priced.improved.cost
+        let bound : ℤ = bound_of (case.limit - 1) case.book ranges own.priced.leaf in
+        ap not (closed-by own.priced.leaf.rho bound claim (int_lt (pos 0) bound) (omega (arith, priced.weighs)))
         ∙ ap (λ (b : ℤ). not (bears_out b claim)) (sym priced.bound) ∙ ap not is
 
     by : (how : Closing) → own.closing ≡ how → is_weak case claim (end_by case.book.needs own.priced.leaf how, ranges) ≡ false

@@ -11,7 +11,7 @@ use Rattle.backward_build.specs.declared.backward.BuildEnd.{BuildEnd}
 use Rattle.case_file.specs.Case.{CaseContents}
 use Rattle.cash_table.proofs.PermitFacts.{position_none}
 use Rattle.cash_table.specs.Points.{is_excluded, is_within_limit}
-use Rattle.dual_bound.specs.LeafBound.{bound_of}
+use Rattle.dual_bound.specs.LeafBound.{least_cost_of}
 use Rattle.dual_bound.proofs.TreeFacts.{rival-bears_out}
 use Rattle.dual_bound.specs.Closing.{is_closed_point, is_weak}
 use Rattle.node_ranges.specs.Ranges.{is_single, narrowed, root_of}
@@ -67,11 +67,11 @@ claim-open case best base bound (Ok built) is covers up not_borne = by (is_withi
     by true within = lower best (covers built is within) not_borne
     by false within = refl
 
-pub goes-on : (case : CaseContents) (best : Option ℕ) (ranges : List Interval) (bound : ℤ) → CoversBackward case best → bound_of (case.limit - 1) case.book ranges (base_leaf case.book) ≤ℤ bound → GoesOn case best ranges bound
+pub goes-on : (case : CaseContents) (best : Option ℕ) (ranges : List Interval) (bound : ℤ) → CoversBackward case best → least_cost_of (case.limit - 1) case.book ranges (base_leaf case.book) ≤ℤ bound → GoesOn case best ranges bound
     → is_end case ranges ≡ false
 goes-on case best ranges bound covers up open_node =
     none (is_single ranges) (is_borne_out case ranges) (is_unreached case ranges) open_node.several
-    (claim-open case best (bound_of (case.limit - 1) case.book ranges (base_leaf case.book)) bound (backward_plan case.book) refl covers up open_node.not_borne) open_node.reached
+    (claim-open case best (least_cost_of (case.limit - 1) case.book ranges (base_leaf case.book)) bound (backward_plan case.book) refl covers up open_node.not_borne) open_node.reached
   where
     none : (a b c : Bool) → a ≡ false → b ≡ false → c ≡ false → (a || (b || c)) ≡ false
     none a b c one two three = cc

@@ -1,8 +1,8 @@
 -- What a search keeps while its tree grows. It is this project's own.
-use Rattle.std.specs.Prelude.{◌≡◌, ℕ, ◌-◌, ◌<◌, true, false, List, [], length, slice_index_or, Option, None, option_map, ℤ, pos, ◌-ℤ◌, ◌≤ℤ◌, ◌<ℤ◌}
+use Rattle.std.specs.Prelude.{◌≡◌, ℕ, ◌-◌, ◌<◌, ◌≤◌, true, false, List, [], length, slice_index_or, Option, None, option_map, ℤ, pos, ◌-ℤ◌, ◌≤ℤ◌, ◌<ℤ◌}
 use Rattle.case_file.specs.Case.{CaseContents}
 use Rattle.cash_table.specs.Points.{is_within_limit}
-use Rattle.dual_bound.specs.LeafBound.{bound_of}
+use Rattle.dual_bound.specs.LeafBound.{bound_of, least_cost_of}
 use Rattle.dual_bound.specs.Closing.{is_closed_point}
 use Rattle.node_ranges.specs.Ranges.{is_proper, is_single}
 use Rattle.node_ranges.specs.Claims.{Claim, bears_out, low_ends}
@@ -11,6 +11,7 @@ use Rattle.proof_tree.specs.Tree.{IsLeaf}
 use Rattle.proof_tree.specs.declared.interval.Interval.{Interval}
 use Rattle.proof_tree.specs.declared.tree.Leaf.{Leaf}
 use Rattle.dual_tune.specs.Steps.{IsImproved}
+use Rattle.price_lp.specs.declared.proposing.TheConstants.{LEAST_WEIGHT}
 use Rattle.halving_tree.specs.Base.{base_leaf, reach_leaf}
 use Rattle.halving_tree.specs.Halving.{IsHalved, is_end, is_unreached}
 use Rattle.halving_tree.specs.declared.rule.SplitRule.{SplitRule}
@@ -37,10 +38,12 @@ pub record IsBought (limit : ℕ) (book : BookContents) (plan : List ℕ) (cents
   pub within : is_within_limit limit book plan ≡ true
   pub priced : cents ≡ cost book plan
 
--- the leaf of a node: over the node's ranges its bound isn't below that of the base leaf and each of its steps, nor below 0
+-- the leaf of a node: it weighs the cost by a hundredth at least, and over the node's ranges it shows no lower least cost than the base
+-- leaf and each of its steps, nor one below 0
 pub record IsPriced (case : CaseContents) (ranges : List Interval) (priced : Priced) : Type 0 where
   pub improved : IsImproved (case.limit - 1) case.book ranges (base_leaf case.book) priced.leaf
-  pub bound : priced.bound ≡ bound_of (case.limit - 1) case.book ranges priced.leaf
+  pub weighs : LEAST_WEIGHT ≤ priced.leaf.rho
+  pub bound : priced.bound ≡ least_cost_of (case.limit - 1) case.book ranges priced.leaf
   pub some : pos 0 ≤ℤ priced.bound
 
 -- a point: the one portfolio of its ranges is no rival, or costs no less than the best plan; and without a best plan it doesn't meet

@@ -1,7 +1,7 @@
 -- What a search's tree keeps while it grows, and what it shows in the end, as laws. This is this project's own.
 use Rattle.std.specs.Prelude.{◌≡◌, ℕ, ◌+◌, ◌-◌, ◌<◌, ◌≤◌, false, true, List, All, length, replicate, Option, Some, option_map, IsTrue, Bool, ℤ, pos, ◌≤ℤ◌}
 use Rattle.case_file.specs.Case.{CaseContents}
-use Rattle.dual_bound.specs.LeafBound.{bound_of}
+use Rattle.dual_bound.specs.LeafBound.{bound_of, least_cost_of}
 use Rattle.dual_bound.specs.Closing.{is_closed_point, is_weak}
 use Rattle.node_ranges.specs.Ranges.{AreTight, is_proper, narrowed, root_of}
 use Rattle.node_ranges.specs.Claims.{Claim, bears_out, placed_nodes}
@@ -85,7 +85,7 @@ StuckIsKept =
 -- a node that isn't closed is no end of the halving tree
 abbrev pub OpenGoesOn : Type 0
 OpenGoesOn =
-    (case : CaseContents) (best : Option ℕ) (ranges : List Interval) (bound : ℤ) → CoversBackward case best → bound_of (case.limit - 1) case.book ranges (base_leaf case.book) ≤ℤ bound
+    (case : CaseContents) (best : Option ℕ) (ranges : List Interval) (bound : ℤ) → CoversBackward case best → least_cost_of (case.limit - 1) case.book ranges (base_leaf case.book) ≤ℤ bound
     → GoesOn case best ranges bound → is_end case ranges ≡ false
 
 -- ---- a tree without a waiting node

@@ -2,11 +2,10 @@
 use Rattle.std.specs.Prelude.{◌≡◌, ℕ, ◌-◌, ◌*◌, ◌≤◌, false, true, List, All, length, Some, ℤ, pos, ◌≤ℤ◌}
 use Rattle.case_file.specs.Case.{CaseContents}
 use Rattle.cash_table.specs.Points.{is_within_limit}
-use Rattle.dual_bound.specs.LeafBound.{bound_of}
+use Rattle.dual_bound.specs.LeafBound.{least_cost_of}
 use Rattle.dual_bound.specs.Closing.{is_weak}
 use Rattle.node_ranges.specs.Claims.{IsProper, bears_out, low_ends, placed_nodes}
 use Rattle.proof_tree.specs.Tree.{AreTrees, IsNode}
-use Rattle.proof_tree.specs.declared.prices.TheConstants.{PRICE_SCALE}
 use Rattle.proof_tree.specs.declared.interval.Interval.{Interval}
 use Rattle.proof_tree.specs.declared.tree.Leaf.{Leaf}
 use Rattle.proof_tree.specs.declared.tree.TreeNode.{TreeNode}
@@ -17,20 +16,20 @@ use Rattle.offer_book.specs.Portfolio.{Meets}
 use Rattle.offer_book.specs.declared.coefficients.TheConstants.{COEFFICIENT_SCALE}
 
 -- ---- what leaves and splits show
--- a leaf that weighs the cost: over the ranges of its node its bound is below that of neither the base leaf nor any of its steps
+-- a leaf that weighs the cost: over the ranges of its node it shows a least cost below that of neither the base leaf nor any of its steps
 abbrev pub IsRaised : CaseContents → TreeNode × List Interval → Type 0
 IsRaised case (node.Closed leaf, ranges) = 1 ≤ leaf.rho → IsImproved (case.limit - 1) case.book ranges (base_leaf case.book) leaf
 IsRaised case (node.Split line at, ranges) = Unit {0}
 IsRaised case (node.Point, ranges) = Unit {0}
 
--- a bound isn't above a number of cents
+-- a least cost isn't above a number of cents
 abbrev pub IsWorthAtMost : ℕ → ℤ → Type 0
-IsWorthAtMost cents bound = bound ≤ℤ pos (COEFFICIENT_SCALE * PRICE_SCALE * cents)
+IsWorthAtMost cents shown = shown ≤ℤ pos (COEFFICIENT_SCALE * cents)
 
--- over ranges neither the base leaf nor any of its steps is worth more than a number of cents
+-- over ranges neither the base leaf nor any of its steps shows a least cost of more than a number of cents
 pub record AreStepsAtMost (case : CaseContents) (cents : ℕ) (ranges : List Interval) : Type 0 where
-  pub base : IsWorthAtMost cents (bound_of (case.limit - 1) case.book ranges (base_leaf case.book))
-  pub steps : (step : Leaf) → IsStep (base_leaf case.book) step → IsWorthAtMost cents (bound_of (case.limit - 1) case.book ranges step)
+  pub base : IsWorthAtMost cents (least_cost_of (case.limit - 1) case.book ranges (base_leaf case.book))
+  pub steps : (step : Leaf) → IsStep (base_leaf case.book) step → IsWorthAtMost cents (least_cost_of (case.limit - 1) case.book ranges step)
 
 -- so it is at each split
 abbrev pub IsNeededSplit : CaseContents → ℕ → TreeNode × List Interval → Type 0
@@ -50,7 +49,7 @@ pub record HoldsBound (case : CaseContents) (nodes : List TreeNode) (cents : ℕ
   pub proper : All IsProper (placed_nodes case.book nodes)
   pub closed : All (λ p. is_weak case (Some (pos cents)) p ≡ false) (placed_nodes case.book nodes)
 
--- a number of cents is the greatest that a bound bears out
+-- a number of cents is the greatest that a least cost bears out
 pub record IsBoundOf (bound : ℤ) (cents : ℕ) : Type 0 where
   pub borne : bears_out bound (Some (pos cents)) ≡ true
   pub most : IsWorthAtMost cents bound

@@ -18,19 +18,20 @@ pub enum Closing {
     Point,
 }
 
-/// A leaf over the ranges of a node, and its bound there, scaled.
+/// A leaf over the ranges of a node, and what it shows there.
 #[derive(Drop)]
 pub struct Priced {
     /// The leaf, which weighs the cost.
     pub leaf: Leaf,
-    /// Its bound over the node's ranges, one unit below the limit.
+    /// What it shows that a rival of the node's ranges costs at least, one unit below the limit, in units of 1 /
+    /// [`COEFFICIENT_SCALE`](offer_book::COEFFICIENT_SCALE) of a cent.
     pub bound: i128,
 }
 
 /// A node of the search's tree.
 #[derive(Drop)]
 pub struct SearchNode {
-    /// Its leaf and that leaf's bound.
+    /// Its leaf, and what that shows.
     pub priced: Priced,
     /// How it was closed.
     pub closing: Closing,

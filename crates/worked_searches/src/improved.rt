@@ -9,13 +9,13 @@ use escrow_desk::NoMemory;
 use escrow_units::{GREATEST_INDEX, GREATEST_YIELD, YieldUnits};
 use figure_sheets::Unread;
 use fixed_powers::{Powers, Side};
-use node_ranges::Ranges;
+use node_ranges::{Ranges, least_cost};
 use offer_book::{Book, COEFFICIENT_SCALE};
-use proof_tree::{Leaf, PRICE_SCALE};
+use proof_tree::Leaf;
 use std::alloc::Global;
 
-// What a bound counts for a cent.
-const CENT: i128 = PRICE_SCALE as i128 * COEFFICIENT_SCALE as i128;
+// A cent, in units of least costs.
+const CENT: i128 = COEFFICIENT_SCALE as i128;
 
 // The powers of the greatest yield below the limit.
 fn powers_of(alloc: Global, case: &Case) -> Result<Powers, Unread>
@@ -31,23 +31,18 @@ fn powers_of(alloc: Global, case: &Case) -> Result<Powers, Unread>
     }
 }
 
-// The bound of the leaf of zeros, improved at the root.
-fn improved_bound(
-    alloc: Global,
-    book: &Book,
-    powers: &Powers,
-    whole: bool,
-) -> Result<i128, NoMemory>
+// What the leaf of zeros shows, improved at the root.
+fn improved_leaf(alloc: Global, book: &Book, powers: &Powers, whole: bool) -> Result<i128, NoMemory>
     requires { IsLowTable powers.now }
 {
     let ranges = Ranges::root(alloc, book)?;
     let zeros = Leaf::of_zeros(alloc, whole, book.need_count())?;
     let leaf = improve(alloc, book, powers, &ranges, &zeros)?;
-    Ok(bound(book, powers, &ranges, &leaf))
+    Ok(least_cost(leaf.rho, bound(book, powers, &ranges, &leaf)))
 }
 
 // The same by a tuner that starts from the leaf and the basis that it had before, where it stands.
-fn tuned_bound(alloc: Global, book: &Book, powers: &Powers, whole: bool) -> Result<i128, NoMemory>
+fn tuned_leaf(alloc: Global, book: &Book, powers: &Powers, whole: bool) -> Result<i128, NoMemory>
     requires { IsLowTable powers.now }
 {
     let ranges = Ranges::root(alloc, book)?;
@@ -61,11 +56,12 @@ fn tuned_bound(alloc: Global, book: &Book, powers: &Powers, whole: bool) -> Resu
     Ok(tuner.tune(&ranges, &zeros, Some(&start), Some(&basis), &mut leaf))
 }
 
-/// The whole cents of the bound of the leaf of zeros, improved at the root, where the cost counts; else whether that is above 0.
+/// The whole cents of the least cost that the leaf of zeros shows, improved at the root, where the cost counts; else whether its bound
+/// is above 0.
 pub(crate) fn improved(alloc: Global, case: &Case, whole: &str) -> Result<String, Unread> {
     let whole = whole == "1";
     let powers = powers_of(alloc, case)?;
-    let improved = improved_bound(alloc, &case.book, &powers, whole);
+    let improved = improved_leaf(alloc, &case.book, &powers, whole);
     let improved = improved.map_err(|_| Unread::NoMemory)?;
     if !whole {
         let side = if improved > 0 {
@@ -75,7 +71,7 @@ pub(crate) fn improved(alloc: Global, case: &Case, whole: &str) -> Result<String
         };
         return Ok(String::from_str(alloc, side)?);
     }
-    let tuned = tuned_bound(alloc, &case.book, &powers, whole);
+    let tuned = tuned_leaf(alloc, &case.book, &powers, whole);
     let tuned = tuned.map_err(|_| Unread::NoMemory)?;
     if tuned / CENT != improved / CENT {
         return Ok(format!(in alloc; "{} by a tuner", tuned / CENT)?);

@@ -1,7 +1,8 @@
 use mir.Syntax.{w128}
-use Rattle.std.proofs.Common.{◌≡◌, ◌∙◌, ◌^◌, ◌<◌, ◌+◌, ℤ, true, false, length, sym, ap, subst, arith, to_z, of_z, unsigned_abs}
+use Rattle.std.proofs.Common.{◌≡◌, ◌∙◌, ◌^◌, ◌<◌, ◌≤◌, ◌+◌, ℤ, true, false, length, sym, ap, subst, arith, to_z, of_z, unsigned_abs}
 use Rattle.std.proofs.lemmas.Int.{ints, to_z-of_z}
 use Rattle.node_ranges.specs.Ranges.{AreTight, is_proper}
+use Rattle.price_lp.specs.declared.proposing.TheConstants.{LEAST_WEIGHT}
 use Rattle.proof_tree.specs.Tree.{IsLeaf}
 use Rattle.halving_tree.specs.Halving.{IsHalved}
 use Rattle.offer_book.specs.Book.{IsBook}
@@ -30,7 +31,7 @@ returns-then-self-count-lt2-clause-taken c =
     (λ is. subst (λ (s : SearchContents). IsHalved s.case.book.lines s.ranges line at) (c.self-2.view_is ∙ c.pointed-pointed.ensures) (c.split-split.ensures.halved is)) in
     let full : now.case.budget < length tree.pool.states + 2 = omega (arith, c.if-self-count-lt2.true, c.count.ensures.value, c.count.ensures.few, c.requires.capacity, ap (λ (s : SearchContents). s.case.budget) (c.self-2.view_is ∙ c.pointed-pointed.ensures)) in
     let read : c.node.result.now.priced.bound ≡ own.priced.bound = ap (λ (n : SearchNode). n.priced.bound) c.node.ensures in
-    let small : unsigned_abs c.node.result.now.priced.bound < 10 ^ 37 = subst (λ (b : ℤ). unsigned_abs b < 10 ^ 37) (sym read) (priced-small now.case now.ranges own.priced limits tight priced) in
+    let small : unsigned_abs c.node.result.now.priced.bound < 10 ^ 28 = subst (λ (b : ℤ). unsigned_abs b < 10 ^ 28) (sym read) (priced-small now.case now.ranges own.priced limits tight priced) in
     let same : to_z w128 (of_z w128 c.node.result.now.priced.bound) ≡ own.priced.bound = to_z-of_z w128 c.node.result.now.priced.bound (record { sfits = omega (arith, ints, small) }) ∙ read in
     subst (λ (b : ℤ). IsFullTree now.case Obeys (best_cents now.best) b c.put_back.new.self) (sym same)
     (subst (λ (t : TreeContents). IsFullTree now.case Obeys (best_cents now.best) own.priced.bound t) (sym c.put_back.ensures)
@@ -43,6 +44,13 @@ price_sides-requires-clause-parent c =
     subst (λ (s : SearchContents). IsLeaf (length s.case.book.needs) c.node-2.result.now.priced.leaf) (sym c.pointed-pointed.ensures)
     (subst (λ (n : SearchNode). IsLeaf (length now.case.book.needs) n.priced.leaf) (sym c.node-2.ensures)
     (held-priced now.case (obeys now.case c.args.rule) (best_cents now.best) tree.pool.states tree.nodes c.args.node.0 now.ranges c.count.ensures.one c.requires.held).improved.well_formed)
+
+pub price_sides-requires-clause-weight : goal.price_sides-requires-clause-weight
+price_sides-requires-clause-weight c =
+    let now = c.args.self.now in
+    let tree = c.args.tree.now in
+    subst (λ (n : SearchNode). LEAST_WEIGHT ≤ n.priced.leaf.rho) (sym c.node-2.ensures)
+    (held-priced now.case (obeys now.case c.args.rule) (best_cents now.best) tree.pool.states tree.nodes c.args.node.0 now.ranges c.count.ensures.one c.requires.held).weighs
 
 pub returns-clause-taken : goal.returns-clause-taken
 returns-clause-taken c =

@@ -1,11 +1,14 @@
-use Rattle.std.proofs.Common.{◌∙◌, sym, ap, subst, Option}
+use Rattle.std.proofs.Common.{◌≡◌, ◌∙◌, sym, ap, subst, Option, None, is_some}
+use Rattle.std.specs.Prelude.{IsNone}
 use Rattle.case_file.specs.Case.{CaseContents}
 use Rattle.node_pool.specs.Pool.{IsInHand, with_state}
+use Rattle.node_pool.specs.Tree.{AreEnded}
+use Rattle.node_pool.specs.declared.node.NodeId.{NodeId}
 use Rattle.node_pool.specs.declared.node.State.TheVariants as state
 use Rattle.search_tree.specs.Growing.{HasGrown, IsPopped, obeys}
 use Rattle.search_tree.specs.Tree.{TreeContents}
 use Rattle.branch_search.proofs.EndFacts.{none-by}
-use Rattle.branch_search.proofs.GrowthFacts.{popped-next}
+use Rattle.branch_search.proofs.GrowthFacts.{none-ended, popped-next}
 use Rattle.branch_search.proofs.PartFacts.{covers-cheaper, no_dearer-trans}
 use Rattle.branch_search.specs.Growth.{IsGrowth, IsTakenTo}
 use Rattle.branch_search.specs.Parts.{best_cents}
@@ -28,6 +31,21 @@ returns-in-Some-2-clause-growth c =
     let best = best_cents c.take.new.self.best in
     subst (λ (k : CaseContents). IsGrowth k (obeys k c.args.rule) best c.take.new.tree c.in-Some-2.growth) c.loop-node.invariant.0
     (subst (λ (e : Option Growth). IsTakenTo c.loop-node.self.case (obeys c.loop-node.self.case c.args.rule) best c.take.new.tree e) c.in-Some-2.is c.in_ok-growth.ensures.taken)
+
+none-is : (found : Option NodeId) → found ≡ None → IsNone found
+none-is found is = ap (λ (o : Option NodeId). is_some o) is
+
+pub returns-clause-growth : goal.returns-clause-growth
+returns-clause-growth c =
+    let now = c.args.self.now in
+    let tree = c.loop-node.tree in
+    let best = best_cents c.loop-node.self.best in
+    let is : c.pop.result ≡ None = none-by c.pop.result c.in_default.not-Some in
+    let told = c.pop.ensures.none (none-is c.pop.result is) in
+    record {
+      grown = subst (λ (t : TreeContents). HasGrown now.case (obeys now.case c.args.rule) best t.pool.states t.nodes) (sym told.1) c.loop-node.invariant.1;
+      ended = subst (λ (t : TreeContents). AreEnded t.pool.states) (sym told.1) (none-ended tree.pool.states c.loop-node.invariant.1.1.none told.0);
+    }
 
 pub loop-node-preserved : goal.loop-node-preserved
 loop-node-preserved c =

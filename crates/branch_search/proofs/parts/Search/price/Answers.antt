@@ -1,8 +1,10 @@
 use mir.Syntax.{w128}
-use Rattle.std.proofs.Common.{◌≡◌, ℤ, sym, subst, arith, to_z, of_z}
+use Rattle.std.proofs.Common.{◌≡◌, ◌≤◌, ℤ, sym, ap, subst, arith, to_z, of_z}
 use Rattle.std.proofs.lemmas.Int.{ints, to_z-of_z}
 use Rattle.case_file.specs.Case.{CaseContents}
 use Rattle.node_ranges.proofs.RangeFacts.{tight-room}
+use Rattle.price_lp.specs.declared.proposing.TheConstants.{LEAST_WEIGHT}
+use Rattle.proof_tree.specs.declared.tree.Leaf.{Leaf}
 use Rattle.search_tree.specs.Growing.{IsPriced}
 use Rattle.branch_search.proofs.PartFacts.{priced-is}
 use Rattle.branch_search.specs.Parts.{SearchContents}
@@ -19,4 +21,7 @@ returns-clause-priced c =
     subst (λ (s : SearchContents). IsPriced s.case s.ranges (record { leaf = c.tune-bound.new.into; bound = to_z w128 (of_z w128 c.tune-bound.result) })) c.self.view_is
     (subst (λ (b : ℤ). IsPriced own c.self.inside.ranges (record { leaf = c.tune-bound.new.into; bound = b })) (sym same)
     (priced-is own c.self.inside.tuner c.self.inside.base c.tune-bound.new.into c.self.inside.ranges c.tune-bound.result c.self.invariant.tuned c.self.invariant.based c.need_count.ensures.limits c.self.invariant.tight
-    c.tune-bound.ensures.improved c.tune-bound.ensures.zeros c.tune-bound.ensures.bound))
+    c.tune-bound.ensures.improved c.tune-bound.ensures.zeros (c.tune-bound.ensures.weight base c.requires.weight) c.tune-bound.ensures.shown))
+  where
+    base : LEAST_WEIGHT ≤ c.self.inside.base.rho
+    base = let same = ap (λ (l : Leaf). l.rho) c.self.invariant.based in omega (arith, same)

@@ -22,9 +22,9 @@ find_plan-requires-clause-bound c =
     let root = c.in_ok-root.root in
     let limits : IsBook now.case.book = subst (λ (s : SearchContents). IsBook s.case.book) c.self.view_is c.line_count.ensures.limits in
     let tight : AreTight now.case.book.lines now.ranges = subst (λ (s : SearchContents). AreTight s.case.book.lines s.ranges) c.self.view_is c.self.invariant.tight in
-    let small : unsigned_abs root.bound < 10 ^ 37 = priced-small now.case now.ranges root limits tight c.in_ok-root.ensures.priced in
+    let small : unsigned_abs root.bound < 10 ^ 28 = priced-small now.case now.ranges root limits tight c.in_ok-root.ensures.priced in
     let same : to_z w128 (of_z w128 root.bound) ≡ root.bound = to_z-of_z w128 root.bound (record { sfits = omega (arith, ints, small) }) in
-    subst (λ (b : ℤ). unsigned_abs b < 10 ^ 37) (sym same) small
+    subst (λ (b : ℤ). unsigned_abs b < 10 ^ 28) (sym same) small
 
 pub grow_by-requires-clause-tree : goal.grow_by-requires-clause-tree
 grow_by-requires-clause-tree c =

@@ -27,7 +27,7 @@ greatest_cost-requires-clause-bound c =
     let limits : IsBook now.case.book = subst (λ (s : SearchContents). IsBook s.case.book) c.self.view_is c.line_count.ensures.limits in
     let small : IsStuckBound now.case c.args.bound = stuck-small now.case (obeys now.case c.args.rule) (best_cents now.best) c.args.bound tree.pool.states tree.nodes limits c.count.ensures.one c.requires.tree.stuck in
     let same : to_z w128 (of_z w128 c.args.bound) ≡ c.args.bound = to_z-of_z w128 c.args.bound (record { sfits = omega (arith, ints, small.small) }) in
-    subst (λ (b : ℤ). unsigned_abs b < 10 ^ 37) (sym same) small.small
+    subst (λ (b : ℤ). unsigned_abs b < 10 ^ 28) (sym same) small.small
 
 pub returns-clause-shown : goal.returns-clause-shown
 returns-clause-shown c =

@@ -41,9 +41,9 @@ closing-requires c =
     let held = held-before now c.args.rule tree.pool.states tree.nodes c.args.node.0 ranges c.requires.held
     (subst (λ (s : SearchContents). (way : List Step) → IsWay tree.pool.states c.args.node.0 way → AreProper s.case.book.lines way → ranges ≡ ranges_at s.case.book.lines way) c.self.view_is c.ranges_of.ensures.value) in
     let priced : IsPriced now.case ranges (node_of tree.nodes c.args.node.0).priced = held-priced now.case (obeys now.case c.args.rule) (best_cents now.best) tree.pool.states tree.nodes c.args.node.0 ranges c.count.ensures.one held in
-    let small : unsigned_abs c.node.result.now.priced.bound < 10 ^ 37 = subst (λ (b : ℤ). unsigned_abs b < 10 ^ 37) (sym read) (priced-small now.case ranges (node_of tree.nodes c.args.node.0).priced limits tight priced) in
+    let small : unsigned_abs c.node.result.now.priced.bound < 10 ^ 28 = subst (λ (b : ℤ). unsigned_abs b < 10 ^ 28) (sym read) (priced-small now.case ranges (node_of tree.nodes c.args.node.0).priced limits tight priced) in
     let same : to_z w128 (of_z w128 c.node.result.now.priced.bound) ≡ c.node.result.now.priced.bound = to_z-of_z w128 c.node.result.now.priced.bound (record { sfits = omega (arith, ints, small) }) in
-    subst (λ (b : ℤ). unsigned_abs b < 10 ^ 37) (sym same) small
+    subst (λ (b : ℤ). unsigned_abs b < 10 ^ 28) (sym same) small
 
 pub go_on-requires-clause-held : goal.go_on-requires-clause-held
 go_on-requires-clause-held c =
@@ -84,7 +84,7 @@ returns-in_default c =
     let limits : IsBook now.case.book = subst (λ (s : SearchContents). IsBook s.case.book) c.self.view_is c.line_count.ensures.limits in
     let tight : AreTight now.case.book.lines ranges = subst (λ (s : SearchContents). AreTight s.case.book.lines ranges) c.self.view_is c.ranges_of.ensures.tight in
     let priced : IsPriced now.case ranges own.priced = held-priced now.case Obeys (best_cents now.best) tree.pool.states tree.nodes c.args.node.0 ranges c.count.ensures.one held in
-    let small : unsigned_abs c.node.result.now.priced.bound < 10 ^ 37 = subst (λ (b : ℤ). unsigned_abs b < 10 ^ 37) (sym read) (priced-small now.case ranges own.priced limits tight priced) in
+    let small : unsigned_abs c.node.result.now.priced.bound < 10 ^ 28 = subst (λ (b : ℤ). unsigned_abs b < 10 ^ 28) (sym read) (priced-small now.case ranges own.priced limits tight priced) in
     let same : to_z w128 (of_z w128 c.node.result.now.priced.bound) ≡ own.priced.bound = to_z-of_z w128 c.node.result.now.priced.bound (record { sfits = omega (arith, ints, small) }) ∙ read in
     let tried : IsTried now.case after ranges own.priced.bound how =
     subst (λ (s : SearchContents). IsTried s.case after ranges own.priced.bound how) c.self.view_is

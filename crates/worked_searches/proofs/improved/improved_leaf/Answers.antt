@@ -1,5 +1,5 @@
 use Rattle.node_ranges.proofs.RangeFacts.{root-room}
-use Rattle.worked_searches.proofs.improved.improved_bound.Goals as goal
+use Rattle.worked_searches.proofs.improved.improved_leaf.Goals as goal
 
 pub improve-requires-clause-ranges : goal.improve-requires-clause-ranges
 improve-requires-clause-ranges c = rw c.in_ok-ranges.ensures (root-room c.args.book.now.lines)

@@ -3,7 +3,7 @@ use Rattle.std.specs.List.{AllZip}
 use Rattle.node_ranges.specs.Ranges.{HasRoomFor}
 use Rattle.node_ranges.proofs.RangeFacts.{root-room}
 use Rattle.dual_tune.specs.Tuner.{TunerContents}
-use Rattle.worked_searches.proofs.improved.tuned_bound.Goals as goal
+use Rattle.worked_searches.proofs.improved.tuned_leaf.Goals as goal
 
 pub tune-requires-clause-ranges : goal.tune-requires-clause-ranges
 tune-requires-clause-ranges c =
