@@ -14,8 +14,7 @@ from .explaining.case_reading import read_whole_case
 from .explaining.cautions import totals
 from .explaining.files import WRITERS
 from .interrupts import Interrupted, ended_by
-from .speaking import Stop, complain, put_out, tell
-from .working import wait_for
+from .speaking import Stop, clear_line, complain, put_out, tell
 
 PLACES = (ISSUE, RATES, PRICES, CERT)
 PLACES_WITH_HELD = (ISSUE, RATES, PRICES, HELD, CERT)
@@ -67,6 +66,7 @@ def _tell_totals(running: subprocess.Popen, data: dict) -> None:
     try:
         case = read_whole_case(*(data.get(file) for file in INPUTS))
         if case.refusal is None:
+            clear_line()
             tell(*totals(case))
     except Exception:  # pylint: disable=broad-except
         # The program reads the files itself, and its answer is what counts.
@@ -84,9 +84,10 @@ def run_explained(words: list[str]) -> int:
             if names and words[0] in WRITERS:
                 # What it says is small but for a report, which comes at the very end.
                 _tell_totals(running, data)
-            said = wait_for(running)[0]
+            said = running.communicate()[0]
         except Interrupted as ended:
             running.kill()
+            clear_line()
             part = "; of what it was writing a part may stand" if names and words[0] in WRITERS + ("make",) else ""
             tell("ended by %s, and the program with it%s" % (ended.name, part))
             return ended.status

@@ -10,7 +10,7 @@ from contextlib import contextmanager
 from typing import Iterator, NamedTuple, Optional
 
 from .interrupts import ended_by
-from .speaking import Stop
+from .speaking import Stop, clear_line
 from .statuses import (  # noqa: F401 (what the program's answers are compared with)
     BUDGET_SPENT,
     DONE,
@@ -27,7 +27,6 @@ from .statuses import (  # noqa: F401 (what the program's answers are compared w
     USAGE,
     WRITE_FAULT,
 )
-from .working import wait_for
 
 
 class Answer(NamedTuple):
@@ -66,12 +65,14 @@ def begin(words: list[str], **streams) -> subprocess.Popen:
 
 
 def run(words: list[str], standard_error=subprocess.PIPE) -> Answer:
-    """The program's answer. Where this is ended, so is the program."""
+    """The program's answer. Where this is ended, so is the program. While a search works it says on standard error how far it is: without
+    a pipe there, to whoever reads this tool's own."""
     with begin(words, stdin=subprocess.DEVNULL, stdout=subprocess.PIPE, stderr=standard_error) as running:
         try:
-            said, complained = wait_for(running)
+            said, complained = running.communicate()
         except BaseException:
             running.kill()
+            clear_line()
             raise
     if running.returncode < 0:
         raise Ended(running.returncode)
@@ -144,6 +145,7 @@ class Folder:
             return opened.read()
 
     def structure(self, case: CaseBytes, shows_progress: bool = False) -> Answer:
+        """What `structure` answers. A search that may take its time shows its progress."""
         words = self._words("structure", case)
         return self._run(words, None if shows_progress else subprocess.PIPE)
 

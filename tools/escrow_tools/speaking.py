@@ -8,6 +8,9 @@ import sys
 
 from .statuses import MADE_NOTHING
 
+# Puts a line that a search renews back to its start, and clears it.
+RENEW = "\r\033[K"
+
 
 class Stop(Exception):
     """A tool ends here: it made nothing, and these lines say why."""
@@ -30,6 +33,16 @@ def complain(line: str) -> None:
         return
     try:
         print(line, file=sys.stderr, flush=True)
+    except (OSError, ValueError):
+        pass
+
+
+def clear_line() -> None:
+    """Where standard error is a terminal, clears the line on which a search that goes on, or was ended, says how far it is."""
+    if sys.stderr is None or not sys.stderr.isatty():
+        return
+    try:
+        print(RENEW, end="", file=sys.stderr, flush=True)
     except (OSError, ValueError):
         pass
 

@@ -78,8 +78,10 @@ class SearchAnswersTest(FolderTest):
         self.assertEqual((self.folder / "calls").read_text().split().count("structure"), 2)
 
     def test_long_search(self) -> None:
-        """Where standard error is a terminal, each second past the first is told, on a line that is gone in the end."""
-        self.write("program", "#!/bin/sh\nsleep 1.5\nprintf 'budget spent\\nnodes 1\\nbound 0.00\\nbest none\\n'\nexit 6\n")
+        """What the program says on standard error while it searches goes to the terminal as it is."""
+        told_there = "\r\x1b[Ksearching: 12 of 1000 nodes, no plan yet"
+        script = "#!/bin/sh\nsleep 1\nprintf '%s' >&2\nprintf 'budget spent\\nnodes 1\\nbound 0.00\\nbest none\\n'\nexit 6\n"
+        self.write("program", script % told_there)
         master, terminal = pty.openpty()
         words = [sys.executable, "-B", str(ROOT / "tools" / "main.py"), "explain", "structure"]
         done = subprocess.run(words + self.words, cwd=self.folder, stdout=subprocess.PIPE, stderr=terminal, check=False)
@@ -87,7 +89,7 @@ class SearchAnswersTest(FolderTest):
         told = os.read(master, 65536).decode()
         os.close(master)
         self.assertEqual((done.returncode, done.stdout), (6, b"budget spent\nnodes 1\nbound 0.00\nbest none\n"))
-        self.assertIn("\r\x1b[Kescrow: searching, 1 s so far\r\x1b[K", told)
+        self.assertIn(told_there, told)
 
     def test_best_without_a_plan(self) -> None:
         self.answer(6, "budget spent", "nodes 1000", "bound 5050.00", "best none")

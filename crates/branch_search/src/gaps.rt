@@ -43,6 +43,15 @@ pub(crate) fn greatest_cost(bound: i128, allowance: Cents) -> Cents
     }
 }
 
+/// A bound in whole cents, rounded up; 0 below 0.
+pub(crate) fn whole_cents(bound: i128) -> Cents {
+    if bound <= 0 {
+        return Cents(0);
+    }
+    let cents = (bound as u128).div_ceil(CENT as u128);
+    Cents(u64::try_from(cents).unwrap_or(u64::MAX))
+}
+
 // The greater of a gap and the least one with which a node's leaf, where that closes it, bears out a cost.
 fn greater_gap(gap: u64, node: &SearchNode, cost: Cents) -> u64
     requires cost { cost.0 ≤ 172 * 10 ^ 12 }

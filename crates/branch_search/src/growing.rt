@@ -3,13 +3,16 @@ ghost use Rattle.std.specs.Prelude.{◌≡◌, ◌≤◌, ◌<◌, ◌+◌, ◌-
 ghost use Rattle.dual_bound.specs.LeafBound.{bound_of};
 ghost use Rattle.node_ranges.specs.Ranges.{is_proper, is_single, narrowed};
 ghost use Rattle.proof_tree.specs.Tree.{IsLeaf};
+ghost use Rattle.node_pool.specs.Pool.{IsInHand};
 ghost use Rattle.search_tree.specs.Growing.{GoesOn, HasGrown, IsHeld, IsPopped, node_of, obeys};
 ghost use Rattle.branch_search.specs.Parts.{AreSameBut, best_cents};
 ghost use Rattle.search_tree.specs.Best.{CoversBackward, IsNoDearer};
 ghost use Rattle.branch_search.specs.Growth.{IsGrowth, IsSide, IsTakenTo, left_to_do};
 
 use crate::found::Found;
+use crate::gaps::whole_cents;
 use crate::parts::Search;
+use crate::watcher::{Sight, Standing, Watcher};
 use escrow_desk::NoMemory;
 use escrow_units::Cents;
 use halving_tree::{Split, SplitRule};
@@ -177,12 +180,26 @@ impl<'a> Search<'a> {
         }
     }
 
-    /// Grows a tree until each node is closed or split, or the budget is spent.
-    pub(crate) fn grow(
+    // How far the growth of a tree is, where a node is taken.
+    fn standing(&self, rule: SplitRule, tree: &SearchTree, node: NodeId) -> Standing
+        requires { IsInHand tree.now.pool.states node.0 }
+    {
+        Standing {
+            again: rule == SplitRule::Halving,
+            nodes: tree.count(),
+            budget: self.budget,
+            bound: whole_cents(tree.node(node).priced.bound),
+            best: self.best.as_ref().map(|best| best.cost),
+        }
+    }
+
+    /// Grows a tree until each node is closed or split, or the budget is spent. A watcher sees each node that is taken.
+    pub(crate) fn grow<W: Watcher>(
         &mut self,
         alloc: Global,
         rule: SplitRule,
         tree: &mut SearchTree,
+        watcher: &mut W,
     ) -> Result<Growth, NoMemory>
         requires grown { HasGrown self.old.case (obeys self.old.case rule) (best_cents self.old.best) tree.old.pool.states tree.old.nodes }
         requires backward { CoversBackward self.old.case (best_cents self.old.best) }
@@ -193,6 +210,7 @@ impl<'a> Search<'a> {
         ensures capacity { OnOk result (tree.new.pool.capacity ≡ self.old.case.budget) }
     {
         while let Some(node) = tree.pop() {
+            watcher.see(Sight::Node(self.standing(rule, tree, node)));
             if let Some(growth) = self.take(alloc, rule, tree, node)? {
                 return Ok(growth);
             }

@@ -12,7 +12,9 @@ mod hint;
 mod parts;
 mod pointing;
 mod searching;
+mod watcher;
 
 pub use found::{Found, SearchEnd, Spent, found_laws, purchases_of, settled_laws};
 pub use hint::Hint;
 pub use searching::{search, search_from};
+pub use watcher::{Sight, Standing, Unwatched, Watcher};

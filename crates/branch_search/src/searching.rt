@@ -17,6 +17,7 @@ use crate::gaps::{greatest_cost, tree_gap};
 use crate::growing::{Growth, RunEnd, Shown, greater};
 use crate::hint::{Hint, best_of};
 use crate::parts::Search;
+use crate::watcher::{Sight, Watcher};
 use bound_certificate::MOST_NODES;
 use cash_table::{Plan, cost, out_of_reach};
 use dual_tune::Tuner;
@@ -192,11 +193,12 @@ impl<'a> Search<'a> {
     }
 
     // Grows a tree by a rule, whose root alone stands, and says how that ends.
-    fn grow_by(
+    fn grow_by<W: Watcher>(
         &mut self,
         alloc: Global,
         rule: SplitRule,
         tree: &mut SearchTree,
+        watcher: &mut W,
     ) -> Result<RunEnd, NoMemory>
         requires tree { IsBegun self.old.case tree.old }
         requires backward { IsNoDearerThanBackward self.old.case.limit self.old.case.book (best_cents self.old.best) }
@@ -205,7 +207,7 @@ impl<'a> Search<'a> {
         ensures capacity { OnOk result (tree.new.pool.capacity ≡ self.old.case.budget) }
         ensures ended { IfOk result (IsRunEnd self.old.case rule (best_cents self.old.best) (best_cents self.new.best)) }
     {
-        let growth = self.grow(alloc, rule, tree)?;
+        let growth = self.grow(alloc, rule, tree, watcher)?;
         // The nodes of a pool are one tree, and a book keeps its limits.
         prove!(tree.count() > 0);
         prove!(self.book.line_count() > 0);
@@ -282,11 +284,12 @@ impl<'a> Search<'a> {
     }
 
     // Searches once more, by the halving tree with the whole budget, after a tree whose budget is spent, and in its memory.
-    fn run_again(
+    fn run_again<W: Watcher>(
         &mut self,
         alloc: Global,
         first: Shown,
         tree: &mut SearchTree,
+        watcher: &mut W,
     ) -> Result<Found, SearchEnd>
         requires capacity { tree.old.pool.capacity ≡ self.old.case.budget }
         requires first { IsShown self.old.case first.tree first.bound.0 }
@@ -297,7 +300,7 @@ impl<'a> Search<'a> {
         let effort = SWEEPS_A_NODE.saturating_mul(self.budget);
         self.find_cheaper(alloc, effort, first.bound)?;
         self.start_again(alloc, tree)?;
-        match self.grow_by(alloc, SplitRule::Halving, tree)? {
+        match self.grow_by(alloc, SplitRule::Halving, tree, watcher)? {
             RunEnd::Found(found) => Ok(found),
             RunEnd::NoRival(nodes) => Err(SearchEnd::NoneWithinYield(nodes)),
             RunEnd::Spent(second) => self.settle(first, second),
@@ -305,7 +308,12 @@ impl<'a> Search<'a> {
     }
 
     // Searches from the ranges of the root, before there is a plan: first by the tree whose splits the relaxation points to.
-    fn run(&mut self, alloc: Global, hint: &mut Hint) -> Result<Found, SearchEnd>
+    fn run<W: Watcher>(
+        &mut self,
+        alloc: Global,
+        hint: &mut Hint,
+        watcher: &mut W,
+    ) -> Result<Found, SearchEnd>
         requires ranges { self.old.ranges ≡ root_of self.old.case.book.lines }
         requires none { self.old.best ≡ None }
         requires reach { IsInReach self.old.case.book }
@@ -316,22 +324,28 @@ impl<'a> Search<'a> {
         let root = self.price_root(alloc, hint.take_basis())?;
         self.find_plan(alloc, root.bound, hint)?;
         let mut tree = SearchTree::start(alloc, self.budget, root)?;
-        match self.grow_by(alloc, SplitRule::Relaxation, &mut tree)? {
+        match self.grow_by(alloc, SplitRule::Relaxation, &mut tree, watcher)? {
             RunEnd::Found(found) => Ok(found),
             RunEnd::NoRival(nodes) => Err(SearchEnd::NoneWithinYield(nodes)),
-            RunEnd::Spent(first) => self.run_again(alloc, first, &mut tree),
+            RunEnd::Spent(first) => self.run_again(alloc, first, &mut tree, watcher),
         }
     }
 
-    // Searches likewise, and makes the hint one of this search.
-    fn run_from(&mut self, alloc: Global, hint: &mut Hint) -> Result<Found, SearchEnd>
+    // Searches likewise, and makes the hint one of this search. The watcher sees that it has ended.
+    fn run_from<W: Watcher>(
+        &mut self,
+        alloc: Global,
+        hint: &mut Hint,
+        watcher: &mut W,
+    ) -> Result<Found, SearchEnd>
         requires ranges { self.old.ranges ≡ root_of self.old.case.book.lines }
         requires none { self.old.best ≡ None }
         requires reach { IsInReach self.old.case.book }
         ensures { IsOutcome self.old.case result }
     {
         let book = self.book;
-        let ended = self.run(alloc, hint);
+        let ended = self.run(alloc, hint, watcher);
+        watcher.see(Sight::End);
         let basis = self.take_root_basis();
         hint.keep(alloc, book, best_of(&ended), basis)?;
         ended
@@ -346,25 +360,35 @@ impl<'a> Search<'a> {
 /// node of the least bound is taken next; it is closed by its leaf, by one that weighs needs alone, or as a point, and else it is
 /// split. First a tree grows whose splits the linear relaxation points to, with dives for cheaper plans. Where its budget is spent a
 /// cheaper plan is looked for once more, and then the halving tree grows, with the whole budget. A plain case whose issue allows at
-/// least its gap is settled at the root.
+/// least its gap is settled at the root. A watcher sees each node that is taken, and that the search has ended; what it comes to is the
+/// same whoever watches.
 ///
 /// # Errors
 ///
 /// `Short` exactly where no permitted portfolio meets the needs, with the first day on which all lines at their most are short.
 /// `NoneWithinYield` where a tree shows that there is no rival. `BudgetSpent` where the halving tree has more nodes than the
 /// budget, with the greater bound that the two trees hold and the best plan. `NoMemory` where memory ran out.
-pub fn search(
+pub fn search<W: Watcher>(
     alloc: Global,
     book: &Book,
     limit: YieldUnits,
     allowance: Cents,
     budget: u32,
+    watcher: &mut W,
 ) -> Result<Found, SearchEnd>
     requires { IsSearchable (searched book.now limit.0 allowance.0 budget) }
     ensures outcome { IsOutcome (searched book.now limit.0 allowance.0 budget) result }
     ensures plain { IsPlainWithin (searched book.now limit.0 allowance.0 budget) → IfErr result (λ ended. ended ≡ SearchEnd.NoMemory) }
 {
-    search_from(alloc, book, limit, allowance, budget, &mut Hint::none())
+    search_from(
+        alloc,
+        book,
+        limit,
+        allowance,
+        budget,
+        &mut Hint::none(),
+        watcher,
+    )
 }
 
 /// The same as [`search`], with the hint of a search before: the plan of the hint counts where it is permitted, meets the needs and is
@@ -374,13 +398,14 @@ pub fn search(
 /// # Errors
 ///
 /// Those of [`search`].
-pub fn search_from(
+pub fn search_from<W: Watcher>(
     alloc: Global,
     book: &Book,
     limit: YieldUnits,
     allowance: Cents,
     budget: u32,
     hint: &mut Hint,
+    watcher: &mut W,
 ) -> Result<Found, SearchEnd>
     requires { IsSearchable (searched book.now limit.0 allowance.0 budget) }
     ensures outcome { IsOutcome (searched book.now limit.0 allowance.0 budget) result }
@@ -392,5 +417,5 @@ pub fn search_from(
         return Err(SearchEnd::Short(day));
     }
     let mut search = Search::start(alloc, book, limit, allowance, budget)?;
-    search.run_from(alloc, hint)
+    search.run_from(alloc, hint, watcher)
 }

@@ -8,7 +8,7 @@ ghost use Rattle.cap_finder.specs.Ends.{IsCapEnd, IsPlainAtTop};
 
 use crate::ends::CapEnd;
 use crate::progress::Progress;
-use branch_search::{Hint, settled_laws};
+use branch_search::{Hint, Watcher, settled_laws};
 use case_file::Case;
 use escrow_desk::NoMemory;
 use rate_cap::{cap_laws, top_rate};
@@ -23,10 +23,12 @@ use std::alloc::Global;
 /// The rates are whole hundredths of a percentage point, at most 30 percent, as those of files are: `cap_laws` of rate_cap says it.
 /// That an escrow is found at no greater cap isn't said: caps between are left out.
 ///
+/// A watcher sees each cap before it is tried, and what the search of its case sees.
+///
 /// # Errors
 ///
 /// Where memory ran out.
-pub fn find_cap(alloc: Global, case: &Case) -> Result<CapEnd, NoMemory>
+pub fn find_cap<W: Watcher>(alloc: Global, case: &Case, watcher: &mut W) -> Result<CapEnd, NoMemory>
     requires terms { HasTerms (case_view case.now) }
     requires rates { All IsTableRate (slgs_rates case.now.book.lines) }
     ensures end { IfOk result (IsCapEnd (case_view case.now)) }
@@ -39,7 +41,7 @@ pub fn find_cap(alloc: Global, case: &Case) -> Result<CapEnd, NoMemory>
     let mut hint = Hint::none();
     let mut progress = Progress::start(top_rate(case));
     while let Some(cap) = progress.search.ask() {
-        progress.try_cap(alloc, case, cap, &mut hint)?;
+        progress.try_cap(alloc, case, cap, &mut hint, watcher)?;
     }
     progress.end(alloc, case)
 }

@@ -9,7 +9,7 @@ ghost use Rattle.cap_finder.specs.Ends.{IsCapEnd, IsCappedEscrow, IsInTheWay};
 ghost use Rattle.cap_finder.specs.Progress.{IsAsked, IsOneMore, IsProgress, IsZeroUnfound};
 
 use crate::ends::{CapEnd, CappedEscrow, CaseAtZero, GreatestCap, Obstacle, Unfound};
-use branch_search::{Hint, search_from};
+use branch_search::{Hint, Sight, Watcher, search_from};
 use case_file::Case;
 use escrow_desk::NoMemory;
 use escrow_units::Rate;
@@ -79,14 +79,16 @@ impl Progress {
         self.unfound = Some(unfound);
     }
 
-    /// Searches the case at the cap that was asked, with the hint of the cap before, and tells whether an escrow is found.
+    /// Searches the case at the cap that was asked, with the hint of the cap before, and tells whether an escrow is found. The watcher
+    /// sees the cap first.
     #[inline(never)]
-    pub(crate) fn try_cap(
+    pub(crate) fn try_cap<W: Watcher>(
         &mut self,
         alloc: Global,
         case: &Case,
         cap: Rate,
         hint: &mut Hint,
+        watcher: &mut W,
     ) -> Result<(), NoMemory>
         requires terms { HasTerms (case_view case.now) }
         requires progress { IsProgress (case_view case.now) self.old }
@@ -97,7 +99,16 @@ impl Progress {
         // There is one case at each cap.
         cap_laws();
         let at = at_cap(alloc, case, cap)?;
-        match search_from(alloc, &at.book, at.limit, at.allowance, at.budget, hint) {
+        watcher.see(Sight::Cap(cap));
+        match search_from(
+            alloc,
+            &at.book,
+            at.limit,
+            at.allowance,
+            at.budget,
+            hint,
+            watcher,
+        ) {
             Ok(found) => self.tell_found(CappedEscrow {
                 cap,
                 case: at,

@@ -5,6 +5,7 @@ ghost use Rattle.rate_cap.specs.CaseAt.{slgs_rates};
 ghost use Rattle.rate_table.specs.Table.{IsTableRate};
 
 use crate::{CapEnd, Obstacle, Unfound, find_cap};
+use branch_search::Unwatched;
 use case_file::{Case, read_case};
 use escrow_desk::FILE_LIMIT;
 use escrow_units::{Day, Rate};
@@ -80,7 +81,7 @@ fn told_of(end: &CapEnd) -> Told {
 
 fn try_row(rt: &impl Abort, alloc: Global, row: &Row) -> Result<(), Fail> {
     let case = case_of(rt, alloc, row)?;
-    let end = find_cap(alloc, &case)?;
+    let end = find_cap(alloc, &case, &mut Unwatched)?;
     assert_eq!(rt; told_of(&end), row.told);
     Ok(())
 }

@@ -2,17 +2,19 @@
 #![tactic(auto)]
 
 mod real;
+mod teller;
 
 ghost use Rattle.std.specs.Prelude.{◌≡◌, is_some, not, option_map};
 ghost use Rattle.certificate_answers.specs.Stopping.{is_reached};
 ghost use Rattle.escrow_cli.specs.Complaint.{complaint_of};
 
 use escrow_desk::NoMemory;
-use escrow_top::{Status, run};
+use escrow_top::{Status, run_watched};
 use real::RealDesk;
 use std::env;
-use std::io::ErrorKind;
+use std::io::{ErrorKind, IsTerminal};
 use std::process::ExitCode;
+use teller::Teller;
 
 // The words after the program's name; none where one of them isn't UTF-8.
 fn words_of(rt: &HostRuntime) -> Result<Vec<String>, NoMemory> {
@@ -37,13 +39,14 @@ fn complaint(status: Status) -> Option<&'static str>
     }
 }
 
-// Carries the words out.
+// Carries the words out; while a search works, standard error says how far it is.
 fn run_words(rt: &HostRuntime) -> Status {
     match words_of(rt) {
-        Ok(words) => run(
+        Ok(words) => run_watched(
             rt.alloc(),
             words.as_slice(),
             &mut RealDesk::new(rt, rt.alloc()),
+            &mut Teller::new(rt, rt.alloc(), rt.stderr().is_terminal()),
         ),
         Err(NoMemory) => Status::NoMemory,
     }

@@ -18,7 +18,7 @@ ghost use Rattle.escrow_top.specs.Structure.{accepted_with};
 use crate::certificate_text::certificate_text;
 use crate::draft::Texts;
 use crate::unfound::{budget_spent, infeasible, none_within};
-use branch_search::{found_laws, settled_laws};
+use branch_search::{Watcher, found_laws, settled_laws};
 use cap_finder::{CapEnd, CappedEscrow, CaseAtZero, GreatestCap, Obstacle, Unfound, find_cap};
 use case_file::Case;
 use certificate_answers::{
@@ -132,7 +132,11 @@ fn uncapped(alloc: Global, zero: &CaseAtZero) -> Result<Answer, NoMemory>
 
 // What is put out for a case. It isn't inlined: the tables of the search would stand on the stack while rows are read.
 #[inline(never)]
-fn draft_of_case(alloc: Global, case: &Case) -> Result<CapDraft, NoMemory>
+fn draft_of_case<W: Watcher>(
+    alloc: Global,
+    case: &Case,
+    watcher: &mut W,
+) -> Result<CapDraft, NoMemory>
     requires terms { HasTerms (case_view case.now) }
     requires rates { All IsTableRate (slgs_rates case.now.book.lines) }
     ensures draft { IfOk result (IsCapDraftOf (case_view case.now)) }
@@ -144,14 +148,18 @@ fn draft_of_case(alloc: Global, case: &Case) -> Result<CapDraft, NoMemory>
     found_laws();
     settled_laws();
     cap_laws();
-    match find_cap(alloc, case)? {
+    match find_cap(alloc, case, watcher)? {
         CapEnd::Found(greatest) => Ok(CapDraft::Found(texts_of(alloc, greatest)?)),
         CapEnd::NoneFound(zero) => Ok(CapDraft::Said(uncapped(alloc, &zero)?)),
     }
 }
 
 // What is put out for the input files that were read.
-fn draft_of_files(alloc: Global, files: &InputFiles) -> Result<CapDraft, NoMemory>
+fn draft_of_files<W: Watcher>(
+    alloc: Global,
+    files: &InputFiles,
+    watcher: &mut W,
+) -> Result<CapDraft, NoMemory>
     requires { AreWithin (files_view files.now) }
     ensures draft { IfOk result (IsCapDraft (case_of (files_view files.now))) }
     ensures capped { IfOk result (IsCappedDraft (files_view files.now)) }
@@ -161,17 +169,18 @@ fn draft_of_files(alloc: Global, files: &InputFiles) -> Result<CapDraft, NoMemor
     cap_laws();
     found_laws();
     match given_case(alloc, files) {
-        Ok(case) => draft_of_case(alloc, &case),
+        Ok(case) => draft_of_case(alloc, &case, watcher),
         Err(CaseError::Refused(refusal)) => Ok(CapDraft::Said(refused(alloc, &refusal)?)),
         Err(CaseError::NoMemory) => Err(NoMemory),
     }
 }
 
 /// What `cap` is about to put out for the input files of these names, which are read in their order. No content changes.
-pub(crate) fn cap<D: Desk>(
+pub(crate) fn cap<D: Desk, W: Watcher>(
     alloc: Global,
     desk: &mut D,
     names: &FileNames<'_>,
+    watcher: &mut W,
 ) -> Result<CapDraft, Stop>
     ensures draft { IfOk result (IsCapDraftFor (D.told desk.old) (names_view names.now)) }
     ensures capped { IfOk result (IsCappedFor (D.told desk.old) (names_view names.now)) }
@@ -181,7 +190,7 @@ pub(crate) fn cap<D: Desk>(
     ensures counts { CountsStep result (D.counts desk.old) (D.counts desk.new) }
 {
     match read_inputs(alloc, desk, names)? {
-        Inputs::Within(files) => Ok(draft_of_files(alloc, &files)?),
+        Inputs::Within(files) => Ok(draft_of_files(alloc, &files, watcher)?),
         Inputs::TooLong(kind) => Ok(CapDraft::Said(too_long(alloc, kind)?)),
     }
 }

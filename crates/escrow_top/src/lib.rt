@@ -10,5 +10,6 @@ mod program;
 mod structure;
 mod unfound;
 
+pub use branch_search::{Sight, Standing, Watcher};
 pub use certificate_answers::Status;
-pub use program::run;
+pub use program::{run, run_watched};

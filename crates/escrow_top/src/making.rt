@@ -15,7 +15,7 @@ ghost use Rattle.escrow_top.specs.Settling.{SettlesPlain};
 ghost use Rattle.certificate_answers.specs.Stopping.{is_structured};
 
 use crate::unfound::{budget_spent, infeasible, none_within, push_nodes};
-use branch_search::{Found, SearchEnd, search};
+use branch_search::{Found, SearchEnd, Watcher, search};
 use case_file::Case;
 use case_maker::make;
 use certificate_answers::{Answer, InputFiles, Status, given_case, refused};
@@ -108,21 +108,38 @@ fn answer_of_end(
 
 // The answer to the case of a number. It isn't inlined: the tables of the search would stand on the stack while rows are read.
 #[inline(never)]
-fn answer_of_case(alloc: Global, number: u64, case: &Case) -> Result<Answer, NoMemory>
+fn answer_of_case<W: Watcher>(
+    alloc: Global,
+    number: u64,
+    case: &Case,
+    watcher: &mut W,
+) -> Result<Answer, NoMemory>
     requires book { IsBook case.now.book }
     requires terms { HasTerms (case_view case.now) }
     ensures answer { IfOk result (IsMadeAnswer number (Ok (case_view case.now))) }
     ensures status { IfOk result (λ answer. IsTrue (is_structured answer.status)) }
     ensures plain { IsPlainWithin (case_view case.now) → IfOk result (λ answer. answer.status ≡ Status.Done) }
 {
-    match search(alloc, &case.book, case.limit, case.allowance, case.budget) {
+    match search(
+        alloc,
+        &case.book,
+        case.limit,
+        case.allowance,
+        case.budget,
+        watcher,
+    ) {
         Ok(found) => found_answer(alloc, number, case, &found),
         Err(ended) => answer_of_end(alloc, number, case, &ended),
     }
 }
 
 // The answer to the files of the case of a number.
-fn answer_of_files(alloc: Global, number: u64, files: &InputFiles) -> Result<Answer, NoMemory>
+fn answer_of_files<W: Watcher>(
+    alloc: Global,
+    number: u64,
+    files: &InputFiles,
+    watcher: &mut W,
+) -> Result<Answer, NoMemory>
     requires { AreWithin (files_view files.now) }
     ensures answer { IfOk result (IsMadeAnswer number (case_of (files_view files.now))) }
     ensures status { IfOk result (λ answer. IsTrue (is_structured answer.status)) }
@@ -131,14 +148,18 @@ fn answer_of_files(alloc: Global, number: u64, files: &InputFiles) -> Result<Ans
     ensures plain { IfOk result (λ answer. IfOk (case_of (files_view files.now)) (SettlesPlain answer.status)) }
 {
     match given_case(alloc, files) {
-        Ok(case) => answer_of_case(alloc, number, &case),
+        Ok(case) => answer_of_case(alloc, number, &case, watcher),
         Err(CaseError::Refused(refusal)) => refused(alloc, &refusal),
         Err(CaseError::NoMemory) => Err(NoMemory),
     }
 }
 
 /// What `make` is about to put out for a number: the files of its case, and the answer to them.
-pub(crate) fn made(alloc: Global, number: u64) -> Result<MadeDraft, NoMemory>
+pub(crate) fn made<W: Watcher>(
+    alloc: Global,
+    number: u64,
+    watcher: &mut W,
+) -> Result<MadeDraft, NoMemory>
     ensures files { IfOk result (λ draft. files_view draft.files ≡ made_files number) }
     ensures answer { IfOk result (λ draft. IsAnswerToNumber number draft.answer) }
     ensures status { IfOk result (λ draft. IsTrue (is_structured draft.answer.status)) }
@@ -153,6 +174,6 @@ pub(crate) fn made(alloc: Global, number: u64) -> Result<MadeDraft, NoMemory>
         prices: made.prices,
         held: None,
     };
-    let answer = answer_of_files(alloc, number, &files)?;
+    let answer = answer_of_files(alloc, number, &files, watcher)?;
     Ok(MadeDraft { files, answer })
 }

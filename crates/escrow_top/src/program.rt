@@ -22,6 +22,7 @@ use crate::command::{Command, command_of};
 use crate::draft::{Draft, Texts};
 use crate::making::{MadeDraft, MadeNames, Making, made};
 use crate::structure::structure;
+use branch_search::{Unwatched, Watcher};
 use certificate_answers::{Asking, FileNames, InputFiles, Status, check};
 use escrow_desk::{Desk, Failed, say_all, write_all};
 use std::alloc::Global;
@@ -115,7 +116,12 @@ fn put_out_cap<D: Desk>(desk: &mut D, name: &str, draft: &CapDraft) -> Status
 }
 
 // Carries `structure`, or beside holdings `structure-held`, out on the files of these names.
-fn run_structure<D: Desk>(alloc: Global, names: &FileNames<'_>, desk: &mut D) -> Status
+fn run_structure<D: Desk, W: Watcher>(
+    alloc: Global,
+    names: &FileNames<'_>,
+    desk: &mut D,
+    watcher: &mut W,
+) -> Status
     ensures answers { IsTrue (is_reached result) → Structures (D.told desk.old) (names_view names.now) result (D.told desk.new) }
     ensures part { result ≡ Status.WriteFault → StructuresPart (D.told desk.old) (names_view names.now) (D.told desk.new) }
     ensures lacks { result ≡ Status.NoFile → LacksInput (D.told desk.old) (names_view names.now) }
@@ -127,14 +133,19 @@ fn run_structure<D: Desk>(alloc: Global, names: &FileNames<'_>, desk: &mut D) ->
     ensures reach { IsTrue (is_reached result) → OfSearched (SaysReach result) (D.told desk.old) (names_view names.now) }
     ensures counts { EndedAs result (D.counts desk.old) (D.counts desk.new) (D.told desk.old) (D.told desk.new) }
 {
-    match structure(alloc, desk, names) {
+    match structure(alloc, desk, names, watcher) {
         Ok(draft) => put_out(desk, names.cert, &draft),
         Err(stop) => stop.status(),
     }
 }
 
 // Carries `cap` out on the files of these names.
-fn run_cap<D: Desk>(alloc: Global, names: &FileNames<'_>, desk: &mut D) -> Status
+fn run_cap<D: Desk, W: Watcher>(
+    alloc: Global,
+    names: &FileNames<'_>,
+    desk: &mut D,
+    watcher: &mut W,
+) -> Status
     ensures answers { IsTrue (is_reached result) → Caps (D.told desk.old) (names_view names.now) result (D.told desk.new) }
     ensures part { result ≡ Status.WriteFault → CapsPart (D.told desk.old) (names_view names.now) (D.told desk.new) }
     ensures lacks { result ≡ Status.NoFile → LacksInput (D.told desk.old) (names_view names.now) }
@@ -143,7 +154,7 @@ fn run_cap<D: Desk>(alloc: Global, names: &FileNames<'_>, desk: &mut D) -> Statu
     ensures uncapped { IsTrue (is_reached result) → OfCase (SaysNoCap result) (D.told desk.old) (names_view names.now) }
     ensures counts { EndedAs result (D.counts desk.old) (D.counts desk.new) (D.told desk.old) (D.told desk.new) }
 {
-    match cap(alloc, desk, names) {
+    match cap(alloc, desk, names, watcher) {
         Ok(draft) => put_out_cap(desk, names.cert, &draft),
         Err(stop) => stop.status(),
     }
@@ -179,7 +190,12 @@ fn put_out_made<D: Desk>(desk: &mut D, names: &MadeNames<'_>, draft: &MadeDraft)
 }
 
 // Carries `make` out.
-fn run_make<D: Desk>(alloc: Global, making: &Making<'_>, desk: &mut D) -> Status
+fn run_make<D: Desk, W: Watcher>(
+    alloc: Global,
+    making: &Making<'_>,
+    desk: &mut D,
+    watcher: &mut W,
+) -> Status
     ensures answers { IsTrue (is_reached result) → Makes (D.told desk.old) (making_view making.now) result (D.told desk.new) }
     ensures part { result ≡ Status.WriteFault → MakesPart (D.told desk.old) (making_view making.now) (D.told desk.new) }
     ensures no_read { (result ≡ Status.ReadFault → ⊥) × (result ≡ Status.NoFile → ⊥) }
@@ -191,7 +207,7 @@ fn run_make<D: Desk>(alloc: Global, making: &Making<'_>, desk: &mut D) -> Status
     ensures reach { IsTrue (is_reached result) → OfMadeCase (SaysReach result) (making_view making.now) }
     ensures counts { EndedAs result (D.counts desk.old) (D.counts desk.new) (D.told desk.old) (D.told desk.new) }
 {
-    match made(alloc, making.number) {
+    match made(alloc, making.number, watcher) {
         Ok(draft) => put_out_made(desk, &making.names, &draft),
         Err(_) => Status::NoMemory,
     }
@@ -272,11 +288,54 @@ pub fn run<D: Desk>(alloc: Global, words: &[String], desk: &mut D) -> Status
     // Each way of being cut off has its cause: a count of the desk that rose in this call, or stands at its last value.
     ensures counts { EndedAs result (D.counts desk.old) (D.counts desk.new) (D.told desk.old) (D.told desk.new) }
 {
+    run_watched(alloc, words, desk, &mut Unwatched)
+}
+
+/// Does the same as [`run`], and keeps each of its clauses, while a watcher sees how far the searches of `structure`, `structure-held`, `cap`
+/// and `make` are: each node that is taken, when a search has ended, and each cap before it is tried. What it does with that has no bearing
+/// on the status, on what is said, or on any file.
+pub fn run_watched<D: Desk, W: Watcher>(
+    alloc: Global,
+    words: &[String],
+    desk: &mut D,
+    watcher: &mut W,
+) -> Status
+    ensures answers { IsTrue (is_reached result) → Answers (D.told desk.old) (map string_bytes words.now) result (D.told desk.new) }
+    ensures yes { result ≡ Status.Done → IsAccepted (D.told desk.old) (map string_bytes words.now) (D.told desk.new) }
+    ensures wrote { result ≡ Status.Done → WroteCertificate (D.told desk.old) (D.told desk.new) (map string_bytes words.now) }
+    ensures wrote_none { result ≡ Status.NoneWithinYield → WroteCertificate (D.told desk.old) (D.told desk.new) (map string_bytes words.now) }
+    ensures plain { IsTrue (is_reached result) → IfSome (structure_names (map string_bytes words.now)) (OfSearched (SettlesPlain result) (D.told desk.old)) }
+    ensures covered { IsTrue (is_reached result) → IfSome (structure_names (map string_bytes words.now)) (OfSearched (SettlesCovered result) (D.told desk.old)) }
+    ensures reach { IsTrue (is_reached result) → IfSome (structure_names (map string_bytes words.now)) (OfSearched (SaysReach result) (D.told desk.old)) }
+    ensures capped { result ≡ Status.Done → IsCapped (D.told desk.old) (map string_bytes words.now) (D.told desk.new) }
+    ensures uncapped { IsTrue (is_reached result) → IfSome (cap_names (map string_bytes words.now)) (OfCase (SaysNoCap result) (D.told desk.old)) }
+    ensures made { result ≡ Status.Done → IfSome (make_words (map string_bytes words.now)) (λ making. HasAcceptedText (made_files making.number)) }
+    ensures made_none { result ≡ Status.NoneWithinYield → IfSome (make_words (map string_bytes words.now)) (λ making. HasAcceptedText (made_files making.number)) }
+    ensures made_plain { IsTrue (is_reached result) → IfSome (make_words (map string_bytes words.now)) (OfMadeCase (SettlesPlain result)) }
+    ensures made_covered { IsTrue (is_reached result) → IfSome (make_words (map string_bytes words.now)) (OfMadeCase (SettlesCovered result)) }
+    ensures made_reach { IsTrue (is_reached result) → IfSome (make_words (map string_bytes words.now)) (OfMadeCase (SaysReach result)) }
+    ensures no { result ≡ Status.No → IsNotAccepted (D.told desk.old) (map string_bytes words.now) (D.told desk.new) }
+    ensures saved { result ≡ Status.Done → IsSaved (D.told desk.old) (map string_bytes words.now) (D.told desk.new) }
+    ensures rolled { result ≡ Status.Done → IsRolled (D.told desk.old) (map string_bytes words.now) (D.told desk.new) }
+    ensures yes_beside { result ≡ Status.Done → IsAcceptedHolding (D.told desk.old) (map string_bytes words.now) (D.told desk.new) }
+    ensures yes_at_cap { result ≡ Status.Done → IsAcceptedAtCap (D.told desk.old) (map string_bytes words.now) (D.told desk.new) }
+    ensures exactly { IsTrue (is_reached result) → OfFiles (YesExactly result) (D.told desk.old) (map string_bytes words.now) }
+    ensures bytes { AllSteady (D.counts desk.old) (D.counts desk.new) → result ≢ Status.NoMemory → OfFiles (IsAnswerTo (D.told desk.old) result (D.told desk.new)) (D.told desk.old) (map string_bytes words.now) }
+    ensures part { result ≡ Status.WriteFault → AnswersPart (D.told desk.old) (map string_bytes words.now) (D.told desk.new) }
+    ensures lacks { result ≡ Status.NoFile → LacksFile (D.told desk.old) (map string_bytes words.now) }
+    ensures usage { IsTrue (is_reached result) → ((result ≡ Status.Usage) ↔ IsNoCommand (map string_bytes words.now)) }
+    ensures structured { IsTrue (is_reached result) → IfSome (structure_names (map string_bytes words.now)) (λ _. IsTrue (is_structured result)) }
+    ensures caps { IsTrue (is_reached result) → IfSome (cap_names (map string_bytes words.now)) (λ _. IsTrue (is_structured result)) }
+    ensures checked { IsTrue (is_reached result) → IfSome (asking_of (map string_bytes words.now)) (λ _. IsTrue (is_checked result)) }
+    ensures makes { IsTrue (is_reached result) → IfSome (make_words (map string_bytes words.now)) (λ _. IsTrue (is_structured result)) }
+    ensures no_read { IfSome (make_words (map string_bytes words.now)) (λ _. (result ≡ Status.ReadFault → ⊥) × (result ≡ Status.NoFile → ⊥)) }
+    ensures counts { EndedAs result (D.counts desk.old) (D.counts desk.new) (D.told desk.old) (D.told desk.new) }
+{
     match command_of(words) {
         None => say_answer(desk, Status::Usage, USAGE),
-        Some(Command::Structure(names)) => run_structure(alloc, &names, desk),
-        Some(Command::Cap(names)) => run_cap(alloc, &names, desk),
+        Some(Command::Structure(names)) => run_structure(alloc, &names, desk, watcher),
+        Some(Command::Cap(names)) => run_cap(alloc, &names, desk, watcher),
         Some(Command::Ask(asking)) => run_asking(alloc, &asking, desk),
-        Some(Command::Make(making)) => run_make(alloc, &making, desk),
+        Some(Command::Make(making)) => run_make(alloc, &making, desk, watcher),
     }
 }

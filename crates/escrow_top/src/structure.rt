@@ -16,7 +16,7 @@ use crate::certificate_text::certificate_text;
 use crate::draft::{Draft, Telling, Texts};
 use crate::unfound::{budget_spent, infeasible, none_within};
 use bound_certificate::Certificate;
-use branch_search::{Found, SearchEnd, search};
+use branch_search::{Found, SearchEnd, Watcher, search};
 use case_file::Case;
 use certificate_answers::{
     FileNames, InputFiles, Inputs, Inquiry, Stop, judged_case, read_inputs, refused, too_long,
@@ -110,21 +110,37 @@ fn draft_of_end(
 
 // What is put out for a case. It isn't inlined: the tables of the search would stand on the stack while rows are read.
 #[inline(never)]
-fn draft_of_case(alloc: Global, tells: Telling, case: &Case) -> Result<Draft, NoMemory>
+fn draft_of_case<W: Watcher>(
+    alloc: Global,
+    tells: Telling,
+    case: &Case,
+    watcher: &mut W,
+) -> Result<Draft, NoMemory>
     requires book { IsBook case.now.book }
     requires terms { HasTerms (case_view case.now) }
     ensures draft { IfOk result (IsDraftOf tells (case_view case.now)) }
     ensures plain { IsPlainWithin (case_view case.now) → IfOk result IsFoundDraft }
     ensures status { IfOk result IsStructuredDraft }
 {
-    match search(alloc, &case.book, case.limit, case.allowance, case.budget) {
+    match search(
+        alloc,
+        &case.book,
+        case.limit,
+        case.allowance,
+        case.budget,
+        watcher,
+    ) {
         Ok(found) => Ok(Draft::Found(texts_of(alloc, tells, case, found)?)),
         Err(ended) => draft_of_end(alloc, tells, case, ended),
     }
 }
 
 // What is put out for the input files that were read.
-fn draft_of_files(alloc: Global, files: &InputFiles) -> Result<Draft, NoMemory>
+fn draft_of_files<W: Watcher>(
+    alloc: Global,
+    files: &InputFiles,
+    watcher: &mut W,
+) -> Result<Draft, NoMemory>
     requires { AreWithin (files_view files.now) }
     ensures draft { IfOk result (IsDraft (telling_of (files_view files.now).held) (searched_of (files_view files.now))) }
     ensures accepted { IfOk result (IsAcceptedDraft (files_view files.now)) }
@@ -133,17 +149,18 @@ fn draft_of_files(alloc: Global, files: &InputFiles) -> Result<Draft, NoMemory>
 {
     // Beside the holdings, where they are given.
     match judged_case(alloc, Inquiry::Held, files) {
-        Ok(case) => draft_of_case(alloc, telling_for(files), &case),
+        Ok(case) => draft_of_case(alloc, telling_for(files), &case, watcher),
         Err(CaseError::Refused(refusal)) => Ok(Draft::Said(refused(alloc, &refusal)?)),
         Err(CaseError::NoMemory) => Err(NoMemory),
     }
 }
 
 /// What `structure`, or beside holdings `structure-held`, is about to put out for the input files of these names, which are read in their order. No content changes.
-pub(crate) fn structure<D: Desk>(
+pub(crate) fn structure<D: Desk, W: Watcher>(
     alloc: Global,
     desk: &mut D,
     names: &FileNames<'_>,
+    watcher: &mut W,
 ) -> Result<Draft, Stop>
     ensures draft { IfOk result (IsDraftFor (D.told desk.old) (names_view names.now)) }
     ensures accepted { IfOk result (IsAcceptedFor (D.told desk.old) (names_view names.now)) }
@@ -154,7 +171,7 @@ pub(crate) fn structure<D: Desk>(
     ensures counts { CountsStep result (D.counts desk.old) (D.counts desk.new) }
 {
     match read_inputs(alloc, desk, names)? {
-        Inputs::Within(files) => Ok(draft_of_files(alloc, &files)?),
+        Inputs::Within(files) => Ok(draft_of_files(alloc, &files, watcher)?),
         Inputs::TooLong(kind) => Ok(Draft::Said(too_long(alloc, kind)?)),
     }
 }

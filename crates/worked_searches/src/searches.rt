@@ -4,7 +4,7 @@ ghost use Rattle.case_file.specs.Case.{HasTerms, case_view};
 ghost use Rattle.branch_search.specs.Search.{EndsOf, IsFound, IsOverBound};
 
 use bound_certificate::{Certificate, write_packed};
-use branch_search::{Found, Hint, SearchEnd, Spent, search, search_from};
+use branch_search::{Found, Hint, SearchEnd, Spent, Unwatched, search, search_from};
 use case_file::Case;
 use cash_table::cost;
 use certificate_packing::pack;
@@ -97,7 +97,14 @@ fn outcome_text(
 fn search_alone(alloc: Global, case: &Case) -> Result<String, NoMemory>
     requires { HasTerms (case_view case.now) }
 {
-    let ended = search(alloc, &case.book, case.limit, case.allowance, case.budget);
+    let ended = search(
+        alloc,
+        &case.book,
+        case.limit,
+        case.allowance,
+        case.budget,
+        &mut Unwatched,
+    );
     outcome_text(alloc, case, ended)
 }
 
@@ -112,6 +119,7 @@ fn search_by(alloc: Global, case: &Case, hint: &mut Hint) -> Result<String, NoMe
         case.allowance,
         case.budget,
         hint,
+        &mut Unwatched,
     );
     outcome_text(alloc, case, ended)
 }

@@ -13,13 +13,13 @@ some-not_none : (cap : Rate) → Some cap ≡ None → ⊥
 some-not_none cap same = cc
 
 pub loop-cap-init : goal.loop-cap-init
-loop-cap-init c = record {
+loop-cap-init g c = record {
   progress = c.start-progress.ensures.progress (case_view c.args.case.now);
   top = subst (IsTopOf (slgs_rates c.args.case.now.book.lines)) (sym c.start-progress.ensures.top) c.top_rate.ensures.top;
 }
 
 pub try_cap-requires-clause-asked : goal.try_cap-requires-clause-asked
-try_cap-requires-clause-asked c = record {
+try_cap-requires-clause-asked g c = record {
   kept = c.in-Some.ensures.kept;
   unsettled = λ settled. some-not_none c.in-Some.cap (c.in-Some.ensures.settled.1 settled);
   up_to = c.in-Some.ensures.cap;
@@ -27,8 +27,8 @@ try_cap-requires-clause-asked c = record {
 }
 
 pub end-requires-clause-settled : goal.end-requires-clause-settled
-end-requires-clause-settled c = c.ask.ensures.settled.0 (none-by c.ask.result c.in_default.not-Some)
+end-requires-clause-settled g c = c.ask.ensures.settled.0 (none-by c.ask.result c.in_default.not-Some)
 
 pub returns-clause-plain : goal.returns-clause-plain
-returns-clause-plain c =
+returns-clause-plain g c =
     plain-ends c.cap_laws.ensures.one c.settled_laws.ensures.settled (case_view c.args.case.now) c.end.result c.line_count.ensures.limits c.requires.terms c.end.ensures

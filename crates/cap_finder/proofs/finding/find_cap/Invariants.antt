@@ -6,10 +6,10 @@ use Rattle.cap_finder.specs.Progress.{IsProgress}
 use Rattle.cap_finder.proofs.finding.find_cap.Given as goal
 
 abbrev pub invariant-loop-cap : goal.invariant-loop-cap
-invariant-loop-cap l = record {
+invariant-loop-cap g l = record {
   progress : IsProgress (case_view l.case) l.progress;
   top : IsTopOf (slgs_rates l.case.book.lines) l.progress.search.top;
 }
 
 abbrev pub decreases-loop-cap : goal.decreases-loop-cap
-decreases-loop-cap l = 14 - tells l.progress.search
+decreases-loop-cap g l = 14 - tells l.progress.search

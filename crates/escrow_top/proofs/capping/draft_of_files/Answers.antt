@@ -7,10 +7,10 @@ use Rattle.escrow_top.proofs.CappingLaws.{capped_draft}
 use Rattle.escrow_top.proofs.capping.draft_of_files.Goals as goal
 
 pub draft_of_case-requires-clause-rates : goal.draft_of_case-requires-clause-rates
-draft_of_case-requires-clause-rates c = c.cap_laws.ensures.rates _ _ _ (case_view c.in-Ok.case) c.in-Ok.ensures.kept
+draft_of_case-requires-clause-rates g c = c.cap_laws.ensures.rates _ _ _ (case_view c.in-Ok.case) c.in-Ok.ensures.kept
 
 pub returns-in-Ok-clause-capped : goal.returns-in-Ok-clause-capped
-returns-in-Ok-clause-capped c =
+returns-in-Ok-clause-capped g c =
     let kept = c.in-Ok.ensures.kept in
     let files = files_view c.args.files.now in
     let case = case_view c.in-Ok.case in

@@ -6,7 +6,7 @@ use Rattle.escrow_top.proofs.MakingLaws.{made_of}
 use Rattle.escrow_top.proofs.making.answer_of_case.Goals as goal
 
 pub returns-in-Ok-clause-answer : goal.returns-in-Ok-clause-answer
-returns-in-Ok-clause-answer c =
+returns-in-Ok-clause-answer g c =
     let case = case_view c.args.case.now in
     let found = c.in-Ok.found in
     IfOk-weaker c.found_answer.result (λ answer. answer ≡ made_answer c.args.number case found.plan found.gap found.tree) (IsMadeAnswer c.args.number (Ok case))

@@ -8,7 +8,7 @@ use Rattle.escrow_top.proofs.MakingLaws.{made_accepted, made_accepted_none}
 use Rattle.escrow_top.proofs.making.answer_of_files.Goals as goal
 
 pub returns-in-Ok-clause-accepted : goal.returns-in-Ok-clause-accepted
-returns-in-Ok-clause-accepted c =
+returns-in-Ok-clause-accepted g c =
     let kept = c.in-Ok.ensures.kept in
     let files = files_view c.args.files.now in
     let case = case_view c.in-Ok.case in
@@ -16,7 +16,7 @@ returns-in-Ok-clause-accepted c =
     (λ answer own. made_accepted files c.args.number case answer c.in-Ok.ensures.gives kept.book kept.terms own) c.answer_of_case.ensures.answer
 
 pub returns-in-Ok-clause-accepted_none : goal.returns-in-Ok-clause-accepted_none
-returns-in-Ok-clause-accepted_none c =
+returns-in-Ok-clause-accepted_none g c =
     let kept = c.in-Ok.ensures.kept in
     let files = files_view c.args.files.now in
     let case = case_view c.in-Ok.case in

@@ -6,7 +6,7 @@ use Rattle.escrow_top.proofs.StructureLaws.{accepted_draft}
 use Rattle.escrow_top.proofs.structure.draft_of_files.Goals as goal
 
 pub returns-in-Ok-clause-accepted : goal.returns-in-Ok-clause-accepted
-returns-in-Ok-clause-accepted c =
+returns-in-Ok-clause-accepted g c =
     let files = files_view c.args.files.now in
     let case = case_view c.in-Ok.case in
     let draft = rw c.telling_for.ensures at c.draft_of_case.ensures.draft in

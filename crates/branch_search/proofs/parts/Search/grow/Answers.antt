@@ -16,7 +16,7 @@ use Rattle.branch_search.specs.declared.growing.Growth.{Growth}
 use Rattle.branch_search.proofs.parts.Search.grow.Goals as goal
 
 pub take-requires-clause-held : goal.take-requires-clause-held
-take-requires-clause-held c =
+take-requires-clause-held g c =
     let now = c.args.self.now in
     let tree = c.loop-node.tree in
     let best = best_cents c.loop-node.self.best in
@@ -27,7 +27,7 @@ take-requires-clause-held c =
     (popped-next now.case (obeys now.case c.args.rule) best tree.pool.states tree.nodes number c.pop.ensures.one c.loop-node.invariant.1 c.in-Some.ensures.some.0 taken))
 
 pub returns-in-Some-2-clause-growth : goal.returns-in-Some-2-clause-growth
-returns-in-Some-2-clause-growth c =
+returns-in-Some-2-clause-growth g c =
     let best = best_cents c.take.new.self.best in
     subst (λ (k : CaseContents). IsGrowth k (obeys k c.args.rule) best c.take.new.tree c.in-Some-2.growth) c.loop-node.invariant.0
     (subst (λ (e : Option Growth). IsTakenTo c.loop-node.self.case (obeys c.loop-node.self.case c.args.rule) best c.take.new.tree e) c.in-Some-2.is c.in_ok-growth.ensures.taken)
@@ -36,7 +36,7 @@ none-is : (found : Option NodeId) → found ≡ None → IsNone found
 none-is found is = ap (λ (o : Option NodeId). is_some o) is
 
 pub returns-clause-growth : goal.returns-clause-growth
-returns-clause-growth c =
+returns-clause-growth g c =
     let now = c.args.self.now in
     let tree = c.loop-node.tree in
     let best = best_cents c.loop-node.self.best in
@@ -48,7 +48,7 @@ returns-clause-growth c =
     }
 
 pub loop-node-preserved : goal.loop-node-preserved
-loop-node-preserved c =
+loop-node-preserved g c =
     let now = c.args.self.now in
     let before = c.loop-node.self in
     let tree = c.take.new.tree in

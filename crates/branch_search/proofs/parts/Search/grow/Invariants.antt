@@ -6,7 +6,7 @@ use Rattle.branch_search.specs.Parts.{best_cents}
 use Rattle.branch_search.proofs.parts.Search.grow.Given as goal
 
 abbrev pub invariant-loop-node : goal.invariant-loop-node
-invariant-loop-node l =
+invariant-loop-node g l =
     (l.self.case ≡ l.fn.self.case)
     × HasGrown l.fn.self.case (obeys l.fn.self.case l.rule) (best_cents l.self.best) l.tree.pool.states l.tree.nodes
     × CoversBackward l.fn.self.case (best_cents l.self.best)
@@ -14,4 +14,4 @@ invariant-loop-node l =
     × (l.tree.pool.capacity ≡ l.fn.self.case.budget)
 
 abbrev pub decreases-loop-node : goal.decreases-loop-node
-decreases-loop-node l = left_to_do l.tree.pool
+decreases-loop-node g l = left_to_do l.tree.pool

@@ -14,19 +14,19 @@ use Rattle.branch_search.specs.declared.growing.Growth.{Growth}
 use Rattle.branch_search.proofs.parts.Search.grow_by.Goals as goal
 
 pub grow-requires-clause-grown : goal.grow-requires-clause-grown
-grow-requires-clause-grown c =
+grow-requires-clause-grown g c =
     let now = c.args.self.now in
     subst (λ (t : TreeContents). HasGrown now.case (obeys now.case c.args.rule) (best_cents now.best) t.pool.states t.nodes) (sym c.requires.tree.alone)
     (start-grown now.case (obeys now.case c.args.rule) (best_cents now.best) now.case.budget c.requires.tree.root c.requires.tree.priced)
 
 pub grow-requires-clause-capacity : goal.grow-requires-clause-capacity
-grow-requires-clause-capacity c = ap (λ (t : TreeContents). t.pool.capacity) c.requires.tree.alone
+grow-requires-clause-capacity g c = ap (λ (t : TreeContents). t.pool.capacity) c.requires.tree.alone
 
 pub grow-requires-clause-backward : goal.grow-requires-clause-backward
-grow-requires-clause-backward c = covers-backward c.args.self.now.case (best_cents c.args.self.now.best) c.requires.backward
+grow-requires-clause-backward g c = covers-backward c.args.self.now.case (best_cents c.args.self.now.best) c.requires.backward
 
 pub closed-requires-clause-tree : goal.closed-requires-clause-tree
-closed-requires-clause-tree c =
+closed-requires-clause-tree g c =
     let now = c.args.self.now in
     let last = c.grow.new.self in
     let best = best_cents last.best in
@@ -34,14 +34,14 @@ closed-requires-clause-tree c =
     (subst (λ (g : Growth). IsGrowth now.case (obeys now.case c.args.rule) best c.grow.new.tree g) c.in-Closed.is c.in_ok-growth.ensures.growth)
 
 pub closed-requires-clause-backward : goal.closed-requires-clause-backward
-closed-requires-clause-backward c =
+closed-requires-clause-backward g c =
     let now = c.args.self.now in
     let last = c.grow.new.self in
     subst (λ (k : CaseContents). IsNoDearerThanBackward k.limit k.book (best_cents last.best)) (sym c.in_ok-growth.ensures.case)
     (dearer-kept now.case.limit now.case.book (best_cents now.best) (best_cents last.best) c.in_ok-growth.ensures.no_dearer c.requires.backward)
 
 pub shown-requires-clause-tree : goal.shown-requires-clause-tree
-shown-requires-clause-tree c =
+shown-requires-clause-tree g c =
     let now = c.args.self.now in
     let last = c.grow.new.self in
     let best = best_cents last.best in
@@ -56,4 +56,4 @@ shown-requires-clause-tree c =
     subst (λ (b : ℤ). IsFullTree last.case (obeys last.case c.args.rule) best b tree) (sym same) is
 
 pub returns-in_ok-shown-in-Spent-clause-capacity : goal.returns-in_ok-shown-in-Spent-clause-capacity
-returns-in_ok-shown-in-Spent-clause-capacity c = c.in_ok-shown-in-Spent.ensures.capacity ∙ c.in_ok-growth.ensures.capacity
+returns-in_ok-shown-in-Spent-clause-capacity g c = c.in_ok-shown-in-Spent.ensures.capacity ∙ c.in_ok-growth.ensures.capacity

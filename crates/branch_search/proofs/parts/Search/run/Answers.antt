@@ -17,7 +17,7 @@ use Rattle.branch_search.specs.declared.growing.RunEnd.{RunEnd}
 use Rattle.branch_search.proofs.parts.Search.run.Goals as goal
 
 pub find_plan-requires-clause-bound : goal.find_plan-requires-clause-bound
-find_plan-requires-clause-bound c =
+find_plan-requires-clause-bound g c =
     let now = c.args.self.now in
     let root = c.in_ok-root.root in
     let limits : IsBook now.case.book = subst (λ (s : SearchContents). IsBook s.case.book) c.self.view_is c.line_count.ensures.limits in
@@ -27,7 +27,7 @@ find_plan-requires-clause-bound c =
     subst (λ (b : ℤ). unsigned_abs b < 10 ^ 28) (sym same) small
 
 pub grow_by-requires-clause-tree : goal.grow_by-requires-clause-tree
-grow_by-requires-clause-tree c =
+grow_by-requires-clause-tree g c =
     let now = c.args.self.now in
     let next = c.find_plan.new.self in
     let root = c.in_ok-root.root in
@@ -40,12 +40,12 @@ grow_by-requires-clause-tree c =
     }
 
 pub grow_by-requires-clause-backward : goal.grow_by-requires-clause-backward
-grow_by-requires-clause-backward c =
+grow_by-requires-clause-backward g c =
     let next = c.find_plan.new.self in
     subst (λ (k : CaseContents). IsNoDearerThanBackward k.limit k.book (best_cents next.best)) (sym c.in_ok-find_plan.ensures.kept.case) c.in_ok-find_plan.ensures.backward
 
 pub run_again-requires-clause-backward : goal.run_again-requires-clause-backward
-run_again-requires-clause-backward c =
+run_again-requires-clause-backward g c =
     let next = c.find_plan.new.self in
     let last = c.grow_by.new.self in
     let started : IsNoDearerThanBackward next.case.limit next.case.book (best_cents next.best) =

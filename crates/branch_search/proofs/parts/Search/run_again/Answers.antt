@@ -11,14 +11,14 @@ use Rattle.branch_search.specs.declared.growing.RunEnd.{RunEnd}
 use Rattle.branch_search.proofs.parts.Search.run_again.Goals as goal
 
 pub start_again-requires : goal.start_again-requires
-start_again-requires c = c.requires.capacity ∙ ap (λ (k : CaseContents). k.budget) (sym c.in_ok-find_cheaper.ensures.kept.case)
+start_again-requires g c = c.requires.capacity ∙ ap (λ (k : CaseContents). k.budget) (sym c.in_ok-find_cheaper.ensures.kept.case)
 
 pub grow_by-requires-clause-tree : goal.grow_by-requires-clause-tree
-grow_by-requires-clause-tree c =
+grow_by-requires-clause-tree g c =
     subst (λ (k : CaseContents). IsBegun k c.start_again.new.tree) (sym c.in_ok-start_again.ensures.case) c.in_ok-start_again.ensures.tree
 
 pub grow_by-requires-clause-backward : goal.grow_by-requires-clause-backward
-grow_by-requires-clause-backward c =
+grow_by-requires-clause-backward g c =
     let now = c.args.self.now in
     let cheaper = c.find_cheaper.new.self in
     let next = c.start_again.new.self in
@@ -27,7 +27,7 @@ grow_by-requires-clause-backward c =
     (dearer-kept now.case.limit now.case.book (best_cents now.best) (best_cents cheaper.best) c.in_ok-find_cheaper.ensures.no_dearer c.requires.backward))
 
 pub settle-requires-clause-backward : goal.settle-requires-clause-backward
-settle-requires-clause-backward c =
+settle-requires-clause-backward g c =
     let now = c.args.self.now in
     let cheaper = c.find_cheaper.new.self in
     let next = c.start_again.new.self in

@@ -1,7 +1,7 @@
 use Rattle.std.proofs.Common.{map, string_bytes}
 use Rattle.escrow_top.proofs.AskedLaws.{asked_exactly, none_exactly}
 use Rattle.escrow_top.proofs.WordLaws.{asking-caps_none, cap-askings_none, cap-check_caps_none, cap-check_helds_none, cap-checks_none, cap-makes_none, cap-rolls_none, cap-savings_none, cap-structures_none, make-askings_none, make-caps_none, make-check_caps_none, make-check_helds_none, make-checks_none, make-rolls_none, make-savings_none, make-structures_none, structure-askings_none, structure-caps_none}
-use Rattle.escrow_top.proofs.program.run.Goals as goal
+use Rattle.escrow_top.proofs.program.run_watched.Goals as goal
 
 pub returns-in-Some-Structure-clause-exactly : goal.returns-in-Some-Structure-clause-exactly
 returns-in-Some-Structure-clause-exactly g c = λ reached.
