@@ -41,6 +41,9 @@ use Rattle.certificate_answers.proofs.YieldFacts.{printed_yield}
 use Rattle.escrow_units.specs.declared.amount.Rate.{Rate}
 use Rattle.rate_cap.specs.CaseAt.{case_at}
 use Rattle.certificate_answers.proofs.CapFacts.{given_at}
+use Rattle.certificate_answers.proofs.CaseLaws.{gives_book}
+use Rattle.certificate_answers.proofs.SaidIssueLaws.{said-issue}
+use Rattle.certificate_answers.proofs.SaidRateLaws.{said-rates}
 use Rattle.certificate_answers.proofs.JudgedFacts.{beside_is, one-case}
 use Rattle.certificate_answers.proofs.RollingFacts.{has_rolls}
 use Rattle.certificate_answers.proofs.SavingsFacts.{savings_are}
@@ -219,7 +222,7 @@ saved files cert case gives keeps done =
       is_certificate = yes.taken.is_certificate;
       right =
           subst (λ (a : Answer). HasSavings issue case certificate a.text ⊎ HasNoRival case certificate a.text) (sym yes.is)
-          (saved-as files issue case certificate yes.told gives.says.issue gives.obeys.limit yes.taken.means);
+          (saved-as files issue case certificate yes.told (said-issue (rows_of files.issue) issue gives.says.issue) gives.obeys.limit yes.taken.means);
     }
 
 rolled : (files : InputFiles) (cert : List ℕ) (case : CaseContents) → GiveCase files case → KeepsLimits case → (answer_for inquiry.Roll files case cert).status ≡ status.Done
@@ -235,7 +238,7 @@ rolled files cert case gives keeps done =
       is_certificate = yes.taken.is_certificate;
       right =
           subst (λ (a : Answer). HasPlan terms case certificate a.text ⊎ HasNoRival case certificate a.text) (sym yes.is)
-          (rolled-as files terms case certificate yes.told (ap stated_by gives.says.rates) keeps.0 yes.taken.means);
+          (rolled-as files terms case certificate yes.told (ap stated_by (said-rates (rows_of files.rates) gives.read.rates gives.says.rates)) keeps.0 yes.taken.means);
     }
 
 -- and `check-cap`, of the case at the cap
@@ -275,7 +278,7 @@ holding-as case held certificate verdict.YesNone limits means =
 holding-as case held certificate (verdict.No why) limits means = absurd means
 
 pub gives_holding : (files : InputFiles) (case : CaseContents) (bytes : List ℕ) (held : List Flow) → GiveCase files case → held_of case.book.days.settle (rows_of bytes) ≡ Ok held → GiveCaseHolding files bytes (held_case_of case held)
-gives_holding files case bytes held gives says = record { case = case; gives = gives; held = held; says = says; is = (cases-are_one held case (held_case_of case held) gives.obeys.limits).1 refl }
+gives_holding files case bytes held gives says = record { case = case; gives = gives; held = held; says = says; is = (cases-are_one held case (held_case_of case held) (gives_book files case gives)).1 refl }
 
 accepted_holding : (files : InputFiles) (cert : List ℕ) (case : CaseContents) (bytes : List ℕ) (held : List Flow) → GiveCase files case → held_of case.book.days.settle (rows_of bytes) ≡ Ok held
     → KeepsLimits (held_case_of case held) → (certificate_answer (held_case_of case held) cert).status ≡ status.Done → AcceptedHolding bytes files cert (certificate_answer (held_case_of case held) cert).text
@@ -291,7 +294,7 @@ accepted_holding files cert case bytes held gives says keeps done =
       is_certificate = yes.taken.is_certificate;
       right =
           subst (λ (a : Answer). HasPortfolioHolding case held kept certificate a.text ⊎ HasNoHeldRival case held kept certificate a.text) (sym yes.is)
-          (holding-as case held certificate yes.told gives.obeys.limits yes.taken.means);
+          (holding-as case held certificate yes.told (gives_book files case gives) yes.taken.means);
     }
 
 -- whether holdings are given or not

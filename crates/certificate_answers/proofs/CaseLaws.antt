@@ -1,12 +1,12 @@
 -- The case that files give is the one that is worked out of their rows.
 use Rattle.std.proofs.Common.{◌≡◌, ◌∙◌, ℕ, ℤ, ◌+◌, ◌-◌, ◌*◌, ◌/◌, ◌<◌, ◌≤◌, true, false, List, [], ◌∷◌, ◌++◌, length, Option, Some, None, Result, Ok, refl, sym, ap, subst, inl, inr, arith}
-use Rattle.std.specs.Prelude.{All, Bool, ◌&&◌, nat_le, nat_eq}
+use Rattle.std.specs.Prelude.{Bool, IfSome, ◌&&◌, nat_le, nat_eq}
 use Rattle.std.specs.List.{AllZip}
 use Rattle.std.proofs.lemmas.Bool.{cases_lt, le-leb, le-ltb, lt-leb, ne_eqb}
 use Rattle.std.proofs.lemmas.List.{length-append}
-use Rattle.std.proofs.lemmas.List.Elements.{All-nil, All-cons, All-head, All-tail}
 use Rattle.std.proofs.lemmas.Nat.{div-mul-add}
 use Rattle.escrow_units.specs.Flows.{indexed}
+use Rattle.escrow_units.specs.Denomination.{AreTerms}
 use Rattle.escrow_units.specs.PresentValue.{IndexedFlow}
 use Rattle.escrow_units.specs.SlgsTerms.{IsSettlement}
 use Rattle.escrow_units.specs.declared.limits.TheConstants.{GREATEST_GIVEN_YIELD, MOST_LINES}
@@ -24,16 +24,19 @@ use Rattle.yield_enclosure.proofs.EndFacts.{lower_end-only}
 use Rattle.slgs_rules.proofs.ClassificationFacts.{classified-only}
 use Rattle.slgs_rules.specs.Classification.{classified}
 use Rattle.issue_schedule.specs.IssueForm.{issue_of}
+use Rattle.issue_schedule.specs.IssueTerms.{IsIssue}
 use Rattle.issue_schedule.specs.declared.issue.Issue.{Issue}
 use Rattle.issue_schedule.specs.declared.issue.Restricted.{Restricted}
 use Rattle.issue_schedule.specs.declared.issue.Restricted.TheVariants.{Given, Computed}
 use Rattle.rate_table.specs.RateForm.{rate_file_of}
+use Rattle.rate_table.specs.Table.{IsRateFile}
 use Rattle.rate_table.specs.declared.table.Offer.{Offer}
 use Rattle.rate_table.specs.declared.table.RateFile.{RateFile}
 use Rattle.market_notes.specs.PriceForm.{note_file_of}
+use Rattle.market_notes.specs.NoteTerms.{IsNoteFile}
 use Rattle.market_notes.specs.declared.note.Note.{Note}
 use Rattle.market_notes.specs.declared.note.NoteFile.{NoteFile}
-use Rattle.offer_book.specs.Book.{AreLines, BookContents, IsBook, IsSecurityLine}
+use Rattle.offer_book.specs.Book.{AreLines, BookContents, IsBook}
 use Rattle.offer_book.specs.CaseBook.{IsBookOf, book_of, book_of_files, cash_line, issue_days, lines_on_offer}
 use Rattle.offer_book.specs.Denominations.{IsDenominated, line_of}
 use Rattle.offer_book.specs.MarketLines.{AreLinesOfNotes, IsLineOfNote, note_line, note_lines_from, note_lines_of}
@@ -41,15 +44,20 @@ use Rattle.offer_book.specs.Offers.{AreLinesOf, IsLineOf, line_or_refused, offer
 use Rattle.offer_book.specs.declared.line.Line.{Line}
 use Rattle.offer_book.specs.declared.line.LineKind.{LineKind}
 use Rattle.offer_book.specs.declared.line.LineKind.TheVariants.{Market, Security}
+use Rattle.offer_book.proofs.BookFacts.{books-are_of_their_files}
 use Rattle.offer_book.proofs.OfferFacts.{bound-ok, ending-kept, file-lines, lines-count, no-lines, zipped-length}
 use Rattle.case_file.specs.Case.{CaseContents, case_with, rows_case}
 use Rattle.case_file.specs.Limit.{IsRestrictedYield, RestsOn, limit_of, restricted_yield_of}
 use Rattle.case_file.specs.Case.{IsKept}
 use Rattle.escrow_desk.specs.Rows.{rows_of}
 use Rattle.certificate_answers.specs.Answer.{case_of}
-use Rattle.certificate_answers.specs.CaseOf.{AreWithin, CasesAreWorkedOut, GiveCase, InputsRead, IsCaseOf}
+use Rattle.certificate_answers.specs.CaseOf.{AreWithin, BooksKeepLimits, CasesAreWorkedOut, GiveCase, InputsRead, IsCaseOf, SaysOf}
 use Rattle.certificate_answers.specs.InputFiles.{InputFiles}
 use Rattle.certificate_answers.proofs.InputFacts.{rows_alone}
+use Rattle.certificate_answers.proofs.SaidIssueLaws.{issue-said, said-issue}
+use Rattle.certificate_answers.proofs.SaidLimits.{issue_kept, notes_kept, rates_kept}
+use Rattle.certificate_answers.proofs.SaidPriceLaws.{notes-said, said-notes}
+use Rattle.certificate_answers.proofs.SaidRateLaws.{rates-said, said-rates}
 use Rattle.offer_book.specs.declared.payment_days.PaymentDays.{PaymentDays}
 
 -- ---- the lines of offers and notes
@@ -70,30 +78,23 @@ line-same line terms bought cap kind is some =
     let most : line.most ≡ cap / terms.step = sym (quotient cap line.most terms.step some is.most is.greatest) in
     λ i. record { kind = kind i; step = is.step i; least = least i; most = most i }
 
--- a step is above 0
-step-some : (days : PaymentDays) (line : Line) (terms : Terms) (cap : ℕ) → IsSecurityLine days line → IsDenominated terms cap line → 1 ≤ terms.step
-step-some days line terms cap good is = omega (arith, good.step_at_least, is.step)
-
-line-offered : (days : PaymentDays) (file : RateFile) (terms : Terms) (offer : Offer) (line : Line) → IsSettlement days.settle → file.terms ≡ Some terms → IsLineOf days file offer line
-    → IsSecurityLine days line → offered_line days file.ranges terms offer ≡ Ok line
-line-offered days file terms offer line h stated is good =
+line-offered : (days : PaymentDays) (file : RateFile) (terms : Terms) (offer : Offer) (line : Line) → IsSettlement days.settle → file.terms ≡ Some terms → AreTerms terms
+    → IsLineOf days file offer line → offered_line days file.ranges terms offer ≡ Ok line
+line-offered days file terms offer line h stated own is =
     let one : is.terms ≡ terms = some-same is.terms terms (sym is.stated ∙ stated) in
     let by : IsDenominated terms offer.cap line = subst (λ (t : Terms). IsDenominated t offer.cap line) one is.denominated in
     let sold : Ok is.slgs ≡ classified (request_of days.settle file.ranges offer) = classified-only (request_of days.settle file.ranges offer) (Ok is.slgs) h is.sold.rules in
     ap (λ found. answer_of_row Rates offer.row (line_or_refused days terms offer.cap found)) (sym sold)
     ∙ ap (answer_of_row Rates offer.row) (ending-kept days is.slgs.maturity (line_of terms (Security is.slgs) offer.cap) is.sold.in_time)
-    ∙ ap (λ l. Ok l) (sym (line-same line terms (Security is.slgs) offer.cap is.security by (step-some days line terms offer.cap good by)))
+    ∙ ap (λ l. Ok l) (sym (line-same line terms (Security is.slgs) offer.cap is.security by own.step.0))
 
-lines-offered : (days : PaymentDays) (file : RateFile) (terms : Terms) (offers : List Offer) (lines : List Line) → IsSettlement days.settle → file.terms ≡ Some terms
-    → AllZip (IsLineOf days file) offers lines → All (IsSecurityLine days) lines → offered_lines days file.ranges terms offers ≡ Ok lines
-lines-offered days file terms [] [] h stated are good = refl
-lines-offered days file terms [] (line ∷ lines) h stated are good = absurd are
-lines-offered days file terms (offer ∷ offers) [] h stated are good = absurd are
-lines-offered days file terms (offer ∷ offers) (line ∷ lines) h stated are good =
-    rw (
-      line-offered days file terms offer line h stated are.0 (All-head (IsSecurityLine days) line lines good),
-      lines-offered days file terms offers lines h stated are.1 (All-tail (IsSecurityLine days) line lines good),
-    ) refl
+lines-offered : (days : PaymentDays) (file : RateFile) (terms : Terms) (offers : List Offer) (lines : List Line) → IsSettlement days.settle → file.terms ≡ Some terms → AreTerms terms
+    → AllZip (IsLineOf days file) offers lines → offered_lines days file.ranges terms offers ≡ Ok lines
+lines-offered days file terms [] [] h stated own are = refl
+lines-offered days file terms [] (line ∷ lines) h stated own are = absurd are
+lines-offered days file terms (offer ∷ offers) [] h stated own are = absurd are
+lines-offered days file terms (offer ∷ offers) (line ∷ lines) h stated own are =
+    rw (line-offered days file terms offer line h stated own are.0, lines-offered days file terms offers lines h stated own are.1) refl
 
 -- a file without terms offers nothing
 no-lines_of : (days : PaymentDays) (file : RateFile) (offers : List Offer) (lines : List Line) → file.terms ≡ None → AllZip (IsLineOf days file) offers lines → lines ≡ []
@@ -102,31 +103,27 @@ no-lines_of days file [] (line ∷ lines) none are = absurd are
 no-lines_of days file (offer ∷ offers) [] none are = absurd are
 no-lines_of days file (offer ∷ offers) (line ∷ lines) none are = absurd (let clash : None ≡ Some are.0.terms = sym none ∙ are.0.stated in cc)
 
-slgs-lines : (days : PaymentDays) (file : RateFile) (lines : List Line) (terms : Option Terms) → file.terms ≡ terms → IsSettlement days.settle → AreLinesOf days file lines
-    → All (IsSecurityLine days) lines → slgs_lines_of days file ≡ Ok lines
-slgs-lines days file lines None stated h are good = no-lines days file stated ∙ ap (λ ls. Ok ls) (sym (no-lines_of days file file.offers lines stated are))
-slgs-lines days file lines (Some terms) stated h are good =
-    file-lines days file terms (Ok lines) stated (lines-offered days file terms file.offers lines h stated are good)
+slgs-lines : (days : PaymentDays) (file : RateFile) (lines : List Line) (terms : Option Terms) → file.terms ≡ terms → IfSome terms AreTerms → IsSettlement days.settle → AreLinesOf days file lines
+    → slgs_lines_of days file ≡ Ok lines
+slgs-lines days file lines None stated own h are = no-lines days file stated ∙ ap (λ ls. Ok ls) (sym (no-lines_of days file file.offers lines stated are))
+slgs-lines days file lines (Some terms) stated own h are = file-lines days file terms (Ok lines) stated (lines-offered days file terms file.offers lines h stated own are)
 
 -- the lines of notes
-note-offered : (days : PaymentDays) (file : NoteFile) (terms : Terms) (row : ℕ) (note : Note) (line : Line) → file.terms ≡ Some terms → IsLineOfNote days file note line
-    → IsSecurityLine days line → answer_of_row Prices row (note_line days terms note) ≡ Ok line
-note-offered days file terms row note line stated is good =
+note-offered : (days : PaymentDays) (file : NoteFile) (terms : Terms) (row : ℕ) (note : Note) (line : Line) → file.terms ≡ Some terms → AreTerms terms → IsLineOfNote days file note line
+    → answer_of_row Prices row (note_line days terms note) ≡ Ok line
+note-offered days file terms row note line stated own is =
     let one : is.terms ≡ terms = some-same is.terms terms (sym is.stated ∙ stated) in
     let by : IsDenominated terms note.cap line = subst (λ (t : Terms). IsDenominated t note.cap line) one is.denominated in
     ap (answer_of_row Prices row) (ending-kept days note.maturity (line_of terms (Market note) note.cap) is.in_time)
-    ∙ ap (λ l. Ok l) (sym (line-same line terms (Market note) note.cap is.bought by (step-some days line terms note.cap good by)))
+    ∙ ap (λ l. Ok l) (sym (line-same line terms (Market note) note.cap is.bought by own.step.0))
 
-notes-offered : (days : PaymentDays) (file : NoteFile) (terms : Terms) (row : ℕ) (notes : List Note) (lines : List Line) → file.terms ≡ Some terms → AllZip (IsLineOfNote days file) notes lines
-    → All (IsSecurityLine days) lines → note_lines_from days terms row notes ≡ Ok lines
-notes-offered days file terms row [] [] stated are good = refl
-notes-offered days file terms row [] (line ∷ lines) stated are good = absurd are
-notes-offered days file terms row (note ∷ notes) [] stated are good = absurd are
-notes-offered days file terms row (note ∷ notes) (line ∷ lines) stated are good =
-    rw (
-      note-offered days file terms row note line stated are.0 (All-head (IsSecurityLine days) line lines good),
-      notes-offered days file terms (row + 1) notes lines stated are.1 (All-tail (IsSecurityLine days) line lines good),
-    ) refl
+notes-offered : (days : PaymentDays) (file : NoteFile) (terms : Terms) (row : ℕ) (notes : List Note) (lines : List Line) → file.terms ≡ Some terms → AreTerms terms
+    → AllZip (IsLineOfNote days file) notes lines → note_lines_from days terms row notes ≡ Ok lines
+notes-offered days file terms row [] [] stated own are = refl
+notes-offered days file terms row [] (line ∷ lines) stated own are = absurd are
+notes-offered days file terms row (note ∷ notes) [] stated own are = absurd are
+notes-offered days file terms row (note ∷ notes) (line ∷ lines) stated own are =
+    rw (note-offered days file terms row note line stated own are.0, notes-offered days file terms (row + 1) notes lines stated own are.1) refl
 
 no-notes_of : (days : PaymentDays) (file : NoteFile) (notes : List Note) (lines : List Line) → file.terms ≡ None → AllZip (IsLineOfNote days file) notes lines → lines ≡ []
 no-notes_of days file [] [] none are = refl
@@ -134,37 +131,43 @@ no-notes_of days file [] (line ∷ lines) none are = absurd are
 no-notes_of days file (note ∷ notes) [] none are = absurd are
 no-notes_of days file (note ∷ notes) (line ∷ lines) none are = absurd (let clash : None ≡ Some are.0.terms = sym none ∙ are.0.stated in cc)
 
-note-lines : (days : PaymentDays) (file : NoteFile) (lines : List Line) (terms : Option Terms) → file.terms ≡ terms → AreLinesOfNotes days file lines
-    → All (IsSecurityLine days) lines → note_lines_of days file ≡ Ok lines
+note-lines : (days : PaymentDays) (file : NoteFile) (lines : List Line) (terms : Option Terms) → file.terms ≡ terms → IfSome terms AreTerms → AreLinesOfNotes days file lines
+    → note_lines_of days file ≡ Ok lines
 unfolding note_lines_of
-note-lines days file lines None stated are good = rw stated (ap (λ ls. Ok ls) (sym (no-notes_of days file file.notes lines stated are)))
-note-lines days file lines (Some terms) stated are good = rw stated (notes-offered days file terms 2 file.notes lines stated are good)
+note-lines days file lines None stated own are = rw stated (ap (λ ls. Ok ls) (sym (no-notes_of days file file.notes lines stated are)))
+note-lines days file lines (Some terms) stated own are = rw stated (notes-offered days file terms 2 file.notes lines stated own are)
 
 -- ---- the book
-front : {A : Type 0} (P : A → Type 0) (xs ys : List A) → All P (xs ++ ys) → All P xs
-front P [] ys all = All-nil P
-front P (x ∷ xs) ys all = All-cons P x xs (All-head P x (xs ++ ys) all) (front P xs ys (All-tail P x (xs ++ ys) all))
+-- what is read of files keeps its limits
+record AreKept (issue : Issue) (rates : RateFile) (notes : NoteFile) : Type 0 where
+  of_issue : IsIssue issue
+  of_rates : IsRateFile rates
+  of_notes : IsNoteFile issue.settle notes
 
-back : {A : Type 0} (P : A → Type 0) (xs ys : List A) → All P (xs ++ ys) → All P ys
-back P [] ys all = all
-back P (x ∷ xs) ys all = back P xs ys (All-tail P x (xs ++ ys) all)
+read-kept : (files : InputFiles) (read : InputsRead) → SaysOf files read → AreKept read.issue read.rates read.notes
+read-kept files read says =
+    let issue = issue_kept (rows_of files.issue) read.issue says.issue in
+    record {
+      of_issue = issue;
+      of_rates = rates_kept (rows_of files.rates) read.rates says.rates;
+      of_notes = notes_kept read.issue.settle (rows_of files.prices) read.notes issue.needs.settle says.notes;
+    }
 
-book-lines : (book : BookContents) (cash : Line) (lines : List Line) → IsBook book → book.lines ≡ cash ∷ lines → All (IsSecurityLine book.days) lines × (length lines ≤ MOST_LINES)
-book-lines book cash lines limits is = let all : AreLines book.days (cash ∷ lines) = subst (AreLines book.days) is limits.lines in (all.1, all.2)
-
-book-is : (issue : Issue) (rates : RateFile) (notes : NoteFile) (book : BookContents) → IsBook book → IsBookOf issue rates notes book → book_of_files issue rates notes ≡ Ok book
+book-is : (issue : Issue) (rates : RateFile) (notes : NoteFile) (book : BookContents) → AreKept issue rates notes → length book.lines ≤ 1 + MOST_LINES → IsBookOf issue rates notes book
+    → book_of_files issue rates notes ≡ Ok book
 unfolding book_of_files
-book-is issue rates notes book limits is =
+book-is issue rates notes book kept short is =
     let days = issue_days issue in
-    let good = book-lines book (cash_line issue.cash.0) (is.offers ++ is.market) limits is.lines in
-    let own : All (IsSecurityLine days) (is.offers ++ is.market) = subst (λ (d : PaymentDays). All (IsSecurityLine d) (is.offers ++ is.market)) is.days good.0 in
-    let h : IsSettlement issue.settle = subst (λ (d : PaymentDays). IsSettlement d.settle) is.days limits.settlement in
-    let offers = slgs-lines days rates is.offers rates.terms refl h is.of_offers (front (IsSecurityLine days) is.offers is.market own) in
-    let market = note-lines days notes is.market notes.terms refl is.of_notes (back (IsSecurityLine days) is.offers is.market own) in
+    let offers = slgs-lines days rates is.offers rates.terms refl kept.of_rates.terms kept.of_issue.needs.settle is.of_offers in
+    let market = note-lines days notes is.market notes.terms refl kept.of_notes.terms is.of_notes in
+    let all : length book.lines ≡ 1 + length (is.offers ++ is.market) = ap length is.lines ∙ count (is.offers ++ is.market) in
     let few : lines_on_offer rates notes ≤ MOST_LINES =
-    omega (arith, length-append is.offers is.market, lines-count days rates is.offers is.of_offers, zipped-length (IsLineOfNote days notes) notes.notes is.market is.of_notes, good.1) in
+    omega (arith, length-append is.offers is.market, lines-count days rates is.offers is.of_offers, zipped-length (IsLineOfNote days notes) notes.notes is.market is.of_notes, all, short) in
     let same : book_of issue (is.offers ++ is.market) ≡ book = λ i. record { days = sym is.days i; needs = sym is.needs i; lines = sym is.lines i } in
     rw (offers, market, le-ltb MOST_LINES (lines_on_offer rates notes) few) (ap (λ b. Ok b) same)
+  where
+    count : (lines : List Line) → length (cash_line issue.cash.0 ∷ lines) ≡ 1 + length lines
+    count lines = omega arith
 
 -- ---- the limit
 -- the yield of payments is the interval that starts at its lower end
@@ -209,11 +212,11 @@ limit-is issue limit rests =
 
 -- ---- the case
 rows_give_case : (issue_rows rate_rows price_rows : List Row) (read : InputsRead) (case : CaseContents) → issue_of issue_rows ≡ Ok read.issue → rate_file_of rate_rows ≡ Ok read.rates
-    → note_file_of read.issue.settle price_rows ≡ Ok read.notes → IsCaseOf read case → rows_case issue_rows rate_rows price_rows ≡ Ok case
+    → note_file_of read.issue.settle price_rows ≡ Ok read.notes → AreKept read.issue read.rates read.notes → IsCaseOf read case → rows_case issue_rows rate_rows price_rows ≡ Ok case
 unfolding rows_case
-rows_give_case issue_rows rate_rows price_rows read case is_issue is_rates is_notes is =
+rows_give_case issue_rows rate_rows price_rows read case is_issue is_rates is_notes kept is =
     let issue = read.issue in
-    let book = book-is issue read.rates read.notes case.book is.limits is.rows in
+    let book = book-is issue read.rates read.notes case.book kept is.few is.rows in
     let limit = limit-is issue case.limit is.limit in
     let same : record { book = case.book; limit = case.limit; allowance = issue.allowance.0; budget = issue.budget } ≡ case =
     λ i. record { book = case.book; limit = case.limit; allowance = sym is.allowance i; budget = sym is.budget i } in
@@ -223,7 +226,16 @@ rows_give_case issue_rows rate_rows price_rows read case is_issue is_rates is_no
 pub gives_is : CasesAreWorkedOut
 gives_is files case give =
     rows_alone files give.within
-    ∙ rows_give_case (rows_of files.issue) (rows_of files.rates) (rows_of files.prices) give.read case give.says.issue give.says.rates give.says.notes give.obeys
+    ∙ rows_give_case (rows_of files.issue) (rows_of files.rates) (rows_of files.prices) give.read case
+    (said-issue (rows_of files.issue) give.read.issue give.says.issue) (said-rates (rows_of files.rates) give.read.rates give.says.rates)
+    (said-notes give.read.issue.settle (rows_of files.prices) give.read.notes give.says.notes) (read-kept files give.read give.says) give.obeys
+
+-- and its book keeps every limit
+pub gives_book : BooksKeepLimits
+gives_book files case give =
+    let kept = read-kept files give.read give.says in
+    (books-are_of_their_files give.read.issue give.read.rates give.read.notes case.book kept.of_issue kept.of_rates kept.of_notes
+    (book-is give.read.issue give.read.rates give.read.notes case.book kept give.obeys.few give.obeys.rows)).1
 
 -- ---- what is worked out
 record HasOwnTerms (issue : Issue) (case : CaseContents) : Type 0 where
@@ -249,6 +261,14 @@ case-terms issue_rows rate_rows price_rows issue case is_issue e =
       budget = sym (ap (λ (c : CaseContents). c.budget) own) ∙ ap (λ (x : Issue). x.budget) same;
     }
 
+-- a book has at most so many lines
+book-few : (book : BookContents) → IsBook book → length book.lines ≤ 1 + MOST_LINES
+book-few book limits = few book.lines limits.lines
+  where
+    few : (lines : List Line) → AreLines book.days lines → length lines ≤ 1 + MOST_LINES
+    few [] are = absurd are
+    few (cash ∷ lines) are = omega (arith, are.2)
+
 -- and files within their limit give what is worked out of their rows, where that keeps its limits
 pub given : (files : InputFiles) (case : CaseContents) → AreWithin files → case_of files ≡ Ok case
     → IsKept (rows_of files.issue) (rows_of files.rates) (rows_of files.prices) case → GiveCase files case
@@ -257,6 +277,10 @@ given files case within is kept =
     record {
       within = within;
       read = record { issue = kept.issue; rates = kept.rates; notes = kept.notes };
-      says = record { issue = kept.is_issue; rates = kept.is_rates; notes = kept.is_notes };
-      obeys = record { limits = kept.book; rows = kept.rows; limit = kept.limit; allowance = own.allowance; budget = own.budget };
+      says = record {
+        issue = issue-said (rows_of files.issue) kept.issue kept.is_issue;
+        rates = rates-said (rows_of files.rates) kept.rates kept.is_rates;
+        notes = notes-said kept.issue.settle (rows_of files.prices) kept.notes kept.is_notes;
+      };
+      obeys = record { rows = kept.rows; few = book-few case.book kept.book; limit = kept.limit; allowance = own.allowance; budget = own.budget };
     }

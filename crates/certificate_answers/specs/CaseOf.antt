@@ -1,12 +1,10 @@
 -- The case that three input files give, without a way to work it out.
-use Rattle.std.specs.Prelude.{◌≡◌, ◌≤◌, Ok, length, IfSome}
+use Rattle.std.specs.Prelude.{◌≡◌, ◌+◌, ◌≤◌, Ok, length, IfSome}
 use Rattle.escrow_desk.specs.Rows.{rows_of}
 use Rattle.escrow_desk.specs.declared.limits.TheConstants.{FILE_LIMIT}
-use Rattle.issue_schedule.specs.IssueForm.{issue_of}
+use Rattle.escrow_units.specs.declared.limits.TheConstants.{MOST_LINES}
 use Rattle.issue_schedule.specs.declared.issue.Issue.{Issue}
-use Rattle.rate_table.specs.RateForm.{rate_file_of}
 use Rattle.rate_table.specs.declared.table.RateFile.{RateFile}
-use Rattle.market_notes.specs.PriceForm.{note_file_of}
 use Rattle.market_notes.specs.declared.note.NoteFile.{NoteFile}
 use Rattle.offer_book.specs.Book.{IsBook}
 use Rattle.offer_book.specs.CaseBook.{IsBookOf}
@@ -14,6 +12,9 @@ use Rattle.case_file.specs.Case.{CaseContents}
 use Rattle.case_file.specs.Limit.{RestsOn}
 use Rattle.certificate_answers.specs.Answer.{case_of}
 use Rattle.certificate_answers.specs.InputFiles.{InputFiles}
+use Rattle.certificate_answers.specs.SaidIssue.{IsIssueOf}
+use Rattle.certificate_answers.specs.SaidPrices.{IsNoteFileOf}
+use Rattle.certificate_answers.specs.SaidRates.{IsRateFileOf}
 
 -- what the rows of the three input files say
 pub record InputsRead : Type 0 where
@@ -23,9 +24,9 @@ pub record InputsRead : Type 0 where
 
 -- this is what their bytes say
 pub record SaysOf (files : InputFiles) (read : InputsRead) : Type 0 where
-  pub issue : issue_of (rows_of files.issue) ≡ Ok read.issue
-  pub rates : rate_file_of (rows_of files.rates) ≡ Ok read.rates
-  pub notes : note_file_of read.issue.settle (rows_of files.prices) ≡ Ok read.notes
+  pub issue : IsIssueOf (rows_of files.issue) read.issue
+  pub rates : IsRateFileOf (rows_of files.rates) read.rates
+  pub notes : IsNoteFileOf read.issue.settle (rows_of files.prices) read.notes
 
 -- each of the input files has at most as many bytes as its limit
 pub record AreWithin (files : InputFiles) : Type 0 where
@@ -34,12 +35,12 @@ pub record AreWithin (files : InputFiles) : Type 0 where
   pub prices : length files.prices ≤ FILE_LIMIT
   pub held : IfSome files.held (λ bytes. length bytes ≤ FILE_LIMIT)
 
--- a case is that of the files: its book keeps every limit; its lines are opening cash, then one for each offer of the rate file,
--- with every rule of term, rate and denomination, and then one for each note of the price file, in the order of their rows; its
--- limit is one thousandth of a percentage point above the restricted yield; and its allowance and budget are the issue's
+-- a case is that of the files: its lines are opening cash, then one for each offer of the rate file, with every rule of term, rate and
+-- denomination, and then one for each note of the price file, in the order of their rows, at most 512 besides cash; its limit is one
+-- thousandth of a percentage point above the restricted yield; and its allowance and budget are the issue's
 pub record IsCaseOf (read : InputsRead) (case : CaseContents) : Type 0 where
-  pub limits : IsBook case.book
   pub rows : IsBookOf read.issue read.rates read.notes case.book
+  pub few : length case.book.lines ≤ 1 + MOST_LINES
   pub limit : RestsOn read.issue case.limit
   pub allowance : case.allowance ≡ read.issue.allowance.0
   pub budget : case.budget ≡ read.issue.budget
@@ -54,3 +55,7 @@ pub record GiveCase (files : InputFiles) (case : CaseContents) : Type 0 where
 -- it is the one that is worked out of their rows, so no files give two
 abbrev pub CasesAreWorkedOut : Type 0
 CasesAreWorkedOut = (files : InputFiles) (case : CaseContents) → GiveCase files case → case_of files ≡ Ok case
+
+-- its book keeps every limit
+abbrev pub BooksKeepLimits : Type 0
+BooksKeepLimits = (files : InputFiles) (case : CaseContents) → GiveCase files case → IsBook case.book
