@@ -1,13 +1,14 @@
 -- The case that files give is the one that is worked out of their rows.
 use Rattle.std.proofs.Common.{◌≡◌, ◌∙◌, ℕ, ℤ, ◌+◌, ◌-◌, ◌*◌, ◌/◌, ◌<◌, ◌≤◌, true, false, List, [], ◌∷◌, ◌++◌, length, Option, Some, None, Result, Ok, refl, sym, ap, subst, inl, inr, arith}
-use Rattle.std.specs.Prelude.{Bool, IfSome, ◌&&◌, nat_le, nat_eq}
+use Rattle.std.specs.Prelude.{Bool, Err, IfSome, ◌&&◌, ◌<ℤ◌, ◌≤ℤ◌, nat_le, nat_eq, if◌then◌else◌}
 use Rattle.std.specs.List.{AllZip}
-use Rattle.std.proofs.lemmas.Bool.{cases_lt, le-leb, le-ltb, lt-leb, ne_eqb}
+use Rattle.std.proofs.lemmas.Bool.{cases_lt, le-leb, leb-true, le-ltb, lt-leb, ne_eqb}
 use Rattle.std.proofs.lemmas.List.{length-append}
+use Rattle.std.proofs.lemmas.Int.{ints}
 use Rattle.std.proofs.lemmas.Nat.{div-mul-add}
 use Rattle.escrow_units.specs.Flows.{indexed}
 use Rattle.escrow_units.specs.Denomination.{AreTerms}
-use Rattle.escrow_units.specs.PresentValue.{IndexedFlow}
+use Rattle.escrow_units.specs.PresentValue.{IndexedFlow, last_index}
 use Rattle.escrow_units.specs.SlgsTerms.{IsSettlement}
 use Rattle.escrow_units.specs.declared.limits.TheConstants.{GREATEST_GIVEN_YIELD, MOST_LINES}
 use Rattle.escrow_units.specs.declared.security.Flow.{Flow}
@@ -16,15 +17,17 @@ use Rattle.fixed_powers.specs.DiscountPowers.{one}
 use Rattle.fixed_powers.specs.PresentValues.{present_value, total_cents}
 use Rattle.fixed_powers.specs.declared.side.Side.TheVariants.{Low}
 use Rattle.fixed_powers.proofs.PresentValueFacts.{value-within}
+use Rattle.escrow_desk.specs.declared.refusal.Refusal.{Refusal}
 use Rattle.escrow_desk.specs.declared.refusal.FileKind.TheVariants.{Prices, Rates}
 use Rattle.row_fields.specs.RowForm.{Row, ◌>>=◌, answer_of_row}
-use Rattle.yield_enclosure.specs.YieldAnswers.{AreYieldEnds, lower_end, upper_end, yield_answer_of}
-use Rattle.yield_enclosure.specs.declared.answer.YieldAnswer.TheVariants.{Between}
-use Rattle.yield_enclosure.proofs.EndFacts.{lower_end-only}
+use Rattle.yield_enclosure.specs.YieldAnswers.{AreYieldEnds, IsYieldAnswer, lower_end, upper_end, yield_answer_of}
+use Rattle.yield_enclosure.specs.declared.answer.YieldAnswer.{YieldAnswer}
+use Rattle.yield_enclosure.specs.declared.answer.YieldAnswer.TheVariants.{Above, Between, Empty, Negative}
+use Rattle.yield_enclosure.proofs.EndFacts.{last_index-le, lower_end-only}
 use Rattle.slgs_rules.proofs.ClassificationFacts.{classified-only}
 use Rattle.slgs_rules.specs.Classification.{classified}
 use Rattle.issue_schedule.specs.IssueForm.{issue_of}
-use Rattle.issue_schedule.specs.IssueTerms.{IsIssue}
+use Rattle.issue_schedule.specs.IssueTerms.{IsIssue, IsRestricted}
 use Rattle.issue_schedule.specs.declared.issue.Issue.{Issue}
 use Rattle.issue_schedule.specs.declared.issue.Restricted.{Restricted}
 use Rattle.issue_schedule.specs.declared.issue.Restricted.TheVariants.{Given, Computed}
@@ -44,16 +47,17 @@ use Rattle.offer_book.specs.Offers.{AreLinesOf, IsLineOf, line_or_refused, offer
 use Rattle.offer_book.specs.declared.line.Line.{Line}
 use Rattle.offer_book.specs.declared.line.LineKind.{LineKind}
 use Rattle.offer_book.specs.declared.line.LineKind.TheVariants.{Market, Security}
+use Rattle.cash_table.proofs.PointFacts.{indexes_near}
 use Rattle.offer_book.proofs.BookFacts.{books-are_of_their_files}
 use Rattle.offer_book.proofs.OfferFacts.{bound-ok, ending-kept, file-lines, lines-count, no-lines, zipped-length}
 use Rattle.case_file.specs.Case.{CaseContents, case_with, rows_case}
-use Rattle.case_file.specs.Limit.{IsRestrictedYield, RestsOn, limit_of, restricted_yield_of}
-use Rattle.case_file.specs.Case.{IsKept}
+use Rattle.case_file.specs.Limit.{IsRestrictedYield, RestsOn, limit_of, lower_end_or_refused, materially_higher, out_of_range, restricted_yield_of}
 use Rattle.escrow_desk.specs.Rows.{rows_of}
 use Rattle.certificate_answers.specs.Answer.{case_of}
-use Rattle.certificate_answers.specs.CaseOf.{AreWithin, BooksKeepLimits, CasesAreWorkedOut, GiveCase, InputsRead, IsCaseOf, SaysOf}
+use Rattle.certificate_answers.specs.CaseOf.{AreWithin, BooksKeepLimits, CasesAreWorkedOut, GiveWorkedCase, InputsRead, IsCaseOf, Restricts, SaysOf}
 use Rattle.certificate_answers.specs.InputFiles.{InputFiles}
 use Rattle.certificate_answers.proofs.InputFacts.{rows_alone}
+use Rattle.certificate_answers.proofs.YieldEnds.{answer_is, widened}
 use Rattle.certificate_answers.proofs.SaidIssueLaws.{issue-said, said-issue}
 use Rattle.certificate_answers.proofs.SaidLimits.{issue_kept, notes_kept, rates_kept}
 use Rattle.certificate_answers.proofs.SaidPriceLaws.{notes-said, said-notes}
@@ -210,25 +214,84 @@ limit-is : (issue : Issue) (limit : ℕ) → RestsOn issue limit → limit_of is
 limit-is issue limit rests =
     rw (restricted-is issue.settle issue.pays issue.restricted rests.restricted rests.yields rests.most) (ap (λ n. Ok n) (sym rests.above))
 
+-- ---- the limit that is worked out
+-- what an interval is refused for, or its lower end
+record HasLowerEnd (flows : List IndexedFlow) (cost n : ℕ) : Type 0 where
+  hi : ℕ
+  ends : AreYieldEnds flows cost n hi
+  most : n ≤ GREATEST_GIVEN_YIELD
+
+tested-ok : {T E : Type 0} (test : Bool) (answer : Result T E) (refusal : E) (value : T) → (if test then answer else Err refusal) ≡ Ok value → (test ≡ true) × (answer ≡ Ok value)
+tested-ok true answer refusal value e = (refl, e)
+tested-ok false answer refusal value e = absurd (cc)
+
+abbrev fine : {T : Type 0} → T → Result T Refusal
+fine own = Ok own
+
+fine-same : {T : Type 0} (own value : T) → fine own ≡ Ok value → own ≡ value
+fine-same own value e = cc
+
+lower-of : (row : ℕ) (flows : List IndexedFlow) (cost n : ℕ) (answer : YieldAnswer) → IsYieldAnswer flows cost answer → lower_end_or_refused row answer ≡ Ok n → HasLowerEnd flows cost n
+lower-of row flows cost n (Between lo hi) is e =
+    let tested = tested-ok (nat_le lo.0 GREATEST_GIVEN_YIELD) (Ok lo.0) (out_of_range row) n e in
+    let most : lo.0 ≤ GREATEST_GIVEN_YIELD = leb-true lo.0 GREATEST_GIVEN_YIELD tested.0 in
+    subst (λ m. HasLowerEnd flows cost m) (fine-same lo.0 n tested.1) (record { hi = hi.0; ends = is; most = most })
+lower-of row flows cost n Empty is e = absurd (cc)
+lower-of row flows cost n Negative is e = absurd (cc)
+lower-of row flows cost n Above is e = absurd (cc)
+
+-- the payments of an issue fall within forty years
+paid-near : (issue : Issue) → IsIssue issue → last_index (indexed issue.settle issue.pays) ≤ 14_400
+paid-near issue kept =
+    last_index-le 14_400 (indexed issue.settle issue.pays)
+    (indexes_near issue.settle issue.pays kept.needs.settle (λ k d less. let pay = kept.pays k d less in (at-least issue.settle _ pay.day.after, pay.day.by)))
+  where
+    at-least : (a b : ℤ) → a <ℤ b → a ≤ℤ b
+    at-least a b less = grind (arith, ints)
+
+restricted-rests : (issue : Issue) (restricted : Restricted) (n : ℕ) → IsIssue issue → issue.restricted ≡ restricted → restricted_yield_of issue.settle issue.pays restricted ≡ Ok n
+    → IsRestrictedYield issue.settle issue.pays restricted n × (n ≤ GREATEST_GIVEN_YIELD)
+restricted-rests issue (Given units) n kept is e =
+    let same : units.0 ≡ n = fine-same units.0 n e in
+    (sym same, subst (λ m. m ≤ GREATEST_GIVEN_YIELD) same (subst IsRestricted is kept.restricted))
+restricted-rests issue (Computed row price) n kept is e =
+    let flows = indexed issue.settle issue.pays in
+    let found = lower-of row flows price.0 n (yield_answer_of flows price.0) (answer_is flows price.0 (paid-near issue kept)) e in
+    ((found.hi, found.ends), found.most)
+
+rests-on : (issue : Issue) (limit : ℕ) → IsIssue issue → limit_of issue ≡ Ok limit → RestsOn issue limit
+rests-on issue limit kept e =
+    let one = bound-ok (restricted_yield_of issue.settle issue.pays issue.restricted) (λ restricted. Ok (restricted + materially_higher)) limit e in
+    let own = restricted-rests issue issue.restricted one.first kept refl one.is in
+    record { restricted = one.first; yields = own.0; most = own.1; above = sym (fine-same (one.first + materially_higher) limit one.rest) }
+
+restricts : (issue : Issue) (restricted : Restricted) (n : ℕ) → IsRestrictedYield issue.settle issue.pays restricted n → Restricts issue restricted n
+restricts issue (Given units) n is = is
+restricts issue (Computed row price) n (hi, ends) = record {
+  at_least = ends.exact.at_least;
+  at_most = widened (indexed issue.settle issue.pays) price.0 hi (n + 2) ends.narrow ends.exact.at_most;
+}
+
 -- ---- the case
 rows_give_case : (issue_rows rate_rows price_rows : List Row) (read : InputsRead) (case : CaseContents) → issue_of issue_rows ≡ Ok read.issue → rate_file_of rate_rows ≡ Ok read.rates
-    → note_file_of read.issue.settle price_rows ≡ Ok read.notes → AreKept read.issue read.rates read.notes → IsCaseOf read case → rows_case issue_rows rate_rows price_rows ≡ Ok case
+    → note_file_of read.issue.settle price_rows ≡ Ok read.notes → AreKept read.issue read.rates read.notes → IsCaseOf read case → RestsOn read.issue case.limit
+    → rows_case issue_rows rate_rows price_rows ≡ Ok case
 unfolding rows_case
-rows_give_case issue_rows rate_rows price_rows read case is_issue is_rates is_notes kept is =
+rows_give_case issue_rows rate_rows price_rows read case is_issue is_rates is_notes kept is rests =
     let issue = read.issue in
     let book = book-is issue read.rates read.notes case.book kept is.few is.rows in
-    let limit = limit-is issue case.limit is.limit in
+    let limit = limit-is issue case.limit rests in
     let same : record { book = case.book; limit = case.limit; allowance = issue.allowance.0; budget = issue.budget } ≡ case =
     λ i. record { book = case.book; limit = case.limit; allowance = sym is.allowance i; budget = sym is.budget i } in
     rw (is_issue, is_rates, is_notes, book, limit) (ap (λ c. Ok c) same)
 
--- files that give a case give the one that is worked out of their rows
-pub gives_is : CasesAreWorkedOut
-gives_is files case give =
+-- files that give a case by the limit that is worked out give the one that is worked out of their rows
+pub gives_is : (files : InputFiles) (case : CaseContents) → GiveWorkedCase files case → case_of files ≡ Ok case
+gives_is files case (give, rests) =
     rows_alone files give.within
     ∙ rows_give_case (rows_of files.issue) (rows_of files.rates) (rows_of files.prices) give.read case
     (said-issue (rows_of files.issue) give.read.issue give.says.issue) (said-rates (rows_of files.rates) give.read.rates give.says.rates)
-    (said-notes give.read.issue.settle (rows_of files.prices) give.read.notes give.says.notes) (read-kept files give.read give.says) give.obeys
+    (said-notes give.read.issue.settle (rows_of files.prices) give.read.notes give.says.notes) (read-kept files give.read give.says) give.obeys rests
 
 -- and its book keeps every limit
 pub gives_book : BooksKeepLimits
@@ -238,29 +301,6 @@ gives_book files case give =
     (book-is give.read.issue give.read.rates give.read.notes case.book kept give.obeys.few give.obeys.rows)).1
 
 -- ---- what is worked out
-record HasOwnTerms (issue : Issue) (case : CaseContents) : Type 0 where
-  allowance : case.allowance ≡ issue.allowance.0
-  budget : case.budget ≡ issue.budget
-
-ok-same : {A E : Type 0} (found : Result A E) (a b : A) → found ≡ Ok a → found ≡ Ok b → a ≡ b
-ok-same found a b first second = let both = sym first ∙ second in cc
-
-case-terms : (issue_rows rate_rows price_rows : List Row) (issue : Issue) (case : CaseContents) → issue_of issue_rows ≡ Ok issue
-    → rows_case issue_rows rate_rows price_rows ≡ Ok case → HasOwnTerms issue case
-unfolding rows_case
-case-terms issue_rows rate_rows price_rows issue case is_issue e =
-    let one = bound-ok (issue_of issue_rows) (λ found. rate_file_of rate_rows >>= (λ rates. note_file_of found.settle price_rows >>= (λ notes. book_of_files found rates notes >>= (λ book. case_with found book)))) case e in
-    let two = bound-ok (rate_file_of rate_rows) (λ rates. note_file_of one.first.settle price_rows >>= (λ notes. book_of_files one.first rates notes >>= (λ book. case_with one.first book))) case one.rest in
-    let three = bound-ok (note_file_of one.first.settle price_rows) (λ notes. book_of_files one.first two.first notes >>= (λ book. case_with one.first book)) case two.rest in
-    let four = bound-ok (book_of_files one.first two.first three.first) (λ book. case_with one.first book) case three.rest in
-    let five = bound-ok (limit_of one.first) (λ limit. Ok (record { book = four.first; limit = limit; allowance = one.first.allowance.0; budget = one.first.budget })) case four.rest in
-    let same : one.first ≡ issue = ok-same (issue_of issue_rows) one.first issue one.is is_issue in
-    let own = ok-same (case_with one.first four.first) _ case (ap (λ found. found >>= (λ limit. Ok (record { book = four.first; limit = limit; allowance = one.first.allowance.0; budget = one.first.budget }))) five.is) four.rest in
-    record {
-      allowance = sym (ap (λ (c : CaseContents). c.allowance) own) ∙ ap (λ (x : Issue). x.allowance.0) same;
-      budget = sym (ap (λ (c : CaseContents). c.budget) own) ∙ ap (λ (x : Issue). x.budget) same;
-    }
-
 -- a book has at most so many lines
 book-few : (book : BookContents) → IsBook book → length book.lines ≤ 1 + MOST_LINES
 book-few book limits = few book.lines limits.lines
@@ -269,18 +309,48 @@ book-few book limits = few book.lines limits.lines
     few [] are = absurd are
     few (cash ∷ lines) are = omega (arith, are.2)
 
--- and files within their limit give what is worked out of their rows, where that keeps its limits
-pub given : (files : InputFiles) (case : CaseContents) → AreWithin files → case_of files ≡ Ok case
-    → IsKept (rows_of files.issue) (rows_of files.rates) (rows_of files.prices) case → GiveCase files case
-given files case within is kept =
-    let own = case-terms (rows_of files.issue) (rows_of files.rates) (rows_of files.prices) kept.issue case kept.is_issue (sym (rows_alone files within) ∙ is) in
+-- the case of a book and a limit is that of what was read
+case-obeys : (read : InputsRead) (book : BookContents) (limit : ℕ) → AreKept read.issue read.rates read.notes → book_of_files read.issue read.rates read.notes ≡ Ok book → RestsOn read.issue limit
+    → IsCaseOf read (record { book = book; limit = limit; allowance = read.issue.allowance.0; budget = read.issue.budget })
+case-obeys read book limit kept is rests =
+    let own = books-are_of_their_files read.issue read.rates read.notes book kept.of_issue kept.of_rates kept.of_notes is in
     record {
-      within = within;
-      read = record { issue = kept.issue; rates = kept.rates; notes = kept.notes };
-      says = record {
-        issue = issue-said (rows_of files.issue) kept.issue kept.is_issue;
-        rates = rates-said (rows_of files.rates) kept.rates kept.is_rates;
-        notes = notes-said kept.issue.settle (rows_of files.prices) kept.notes kept.is_notes;
-      };
-      obeys = record { rows = kept.rows; few = book-few case.book kept.book; limit = kept.limit; allowance = own.allowance; budget = own.budget };
+      rows = own.0;
+      few = book-few book own.1;
+      restricted = rests.restricted;
+      restricts = restricts read.issue read.issue.restricted rests.restricted rests.yields;
+      most = rests.most;
+      limit = rests.above;
+      allowance = refl;
+      budget = refl;
     }
+
+-- what files say gives the case of its book and limit
+give-of : (files : InputFiles) (read : InputsRead) (book : BookContents) (limit : ℕ) (case : CaseContents) → AreWithin files → SaysOf files read
+    → book_of_files read.issue read.rates read.notes ≡ Ok book → limit_of read.issue ≡ Ok limit
+    → record { book = book; limit = limit; allowance = read.issue.allowance.0; budget = read.issue.budget } ≡ case → GiveWorkedCase files case
+give-of files read book limit case within says is_book is_limit same =
+    let kept = read-kept files read says in
+    let rests = rests-on read.issue limit kept.of_issue is_limit in
+    subst (GiveWorkedCase files) same (record { within = within; read = read; says = says; obeys = case-obeys read book limit kept is_book rests }, rests)
+
+rows-give : (files : InputFiles) (case : CaseContents) → AreWithin files → rows_case (rows_of files.issue) (rows_of files.rates) (rows_of files.prices) ≡ Ok case → GiveWorkedCase files case
+unfolding rows_case
+rows-give files case within e =
+    let one = bound-ok (issue_of (rows_of files.issue)) (λ issue. rate_file_of (rows_of files.rates) >>= (λ rates. note_file_of issue.settle (rows_of files.prices) >>= (λ notes. book_of_files issue rates notes >>= (λ book. case_with issue book)))) case e in
+    let issue = one.first in
+    let two = bound-ok (rate_file_of (rows_of files.rates)) (λ rates. note_file_of issue.settle (rows_of files.prices) >>= (λ notes. book_of_files issue rates notes >>= (λ book. case_with issue book))) case one.rest in
+    let three = bound-ok (note_file_of issue.settle (rows_of files.prices)) (λ notes. book_of_files issue two.first notes >>= (λ book. case_with issue book)) case two.rest in
+    let four = bound-ok (book_of_files issue two.first three.first) (λ book. case_with issue book) case three.rest in
+    let five = bound-ok (limit_of issue) (λ limit. Ok (record { book = four.first; limit = limit; allowance = issue.allowance.0; budget = issue.budget })) case four.rest in
+    give-of files (record { issue = issue; rates = two.first; notes = three.first }) four.first five.first case within
+    (record {
+      issue = issue-said (rows_of files.issue) issue one.is;
+      rates = rates-said (rows_of files.rates) two.first two.is;
+      notes = notes-said issue.settle (rows_of files.prices) three.first three.is;
+    })
+    four.is five.is (fine-same (record { book = four.first; limit = five.first; allowance = issue.allowance.0; budget = issue.budget }) case five.rest)
+
+-- files within their limits give just what is worked out of their rows
+pub works_out : CasesAreWorkedOut
+works_out files case within = ((λ is. rows-give files case within (sym (rows_alone files within) ∙ is)), gives_is files case)

@@ -16,3 +16,4 @@ pub mod SaidIssueLaws
 pub mod SaidRateLaws
 pub mod SaidPriceLaws
 pub mod SaidLimits
+pub mod YieldEnds

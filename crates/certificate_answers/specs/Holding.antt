@@ -6,6 +6,7 @@ use Rattle.escrow_units.specs.declared.security.Flow.{Flow}
 use Rattle.bound_certificate.specs.Versions.{IsCertificateText}
 use Rattle.bound_certificate.specs.declared.certificate.Certificate.{Certificate}
 use Rattle.case_file.specs.Case.{CaseContents}
+use Rattle.case_file.specs.Limit.{RestsOn}
 use Rattle.escrow_check.specs.TextMeaning.{StandsAgainst}
 use Rattle.escrow_check.specs.declared.verdict.Reason.{Reason}
 use Rattle.held_escrow.specs.HeldCase.{IsHeldCase}
@@ -54,10 +55,12 @@ pub record NotAcceptedHolding (holdings : List ℕ) (files : InputFiles) (cert t
   pub stands : StandsAgainst kept cert why
   pub said : text ≡ reason_text why
 
--- a certificate that is written beside holdings: within its limit, no reason stands against it, and this is said of it
+-- a certificate that is written beside holdings: within its limit, no reason stands against it, where the limit on the yield is the one
+-- that is worked out, and this is said of it
 pub record IsAcceptedTextHolding (holdings : List ℕ) (files : InputFiles) (cert : List ℕ) : Type 0 where
   pub text : List ℕ
   pub accepted : AcceptedHolding holdings files cert text
+  pub worked_out : RestsOn accepted.gives.gives.read.issue accepted.gives.case.limit
   pub fits : length cert ≤ CERTIFICATE_LIMIT
   pub unopposed : HasNoReason accepted.kept cert
 

@@ -4,8 +4,8 @@ ghost use Rattle.certificate_answers.specs.SaidIssue.{IssuesAreSaid};
 ghost use Rattle.certificate_answers.specs.SaidPrices.{NoteFilesAreSaid};
 ghost use Rattle.certificate_answers.specs.SaidRates.{RateFilesAreSaid};
 
-/// The readers of input files give just what the rows say. Files that give a case give the one that is worked out of their rows, so
-/// none give two; and its book keeps every limit.
+/// The readers of input files give just what the rows say. Files within their limits give a case, by the limit on the yield that is
+/// worked out, exactly where it is worked out of their rows; and the book of each case that they give keeps every limit.
 pub fn case_laws()
     ensures issues { IssuesAreSaid }
     ensures rates { RateFilesAreSaid }

@@ -1,4 +1,4 @@
-use Rattle.certificate_answers.proofs.CaseLaws.{gives_book, gives_is}
+use Rattle.certificate_answers.proofs.CaseLaws.{gives_book, works_out}
 use Rattle.certificate_answers.proofs.SaidIssueLaws.{issues-said}
 use Rattle.certificate_answers.proofs.SaidPriceLaws.{note_files-said}
 use Rattle.certificate_answers.proofs.SaidRateLaws.{rate_files-said}
@@ -14,7 +14,7 @@ pub returns-clause-notes : goal.returns-clause-notes
 returns-clause-notes c = note_files-said
 
 pub returns-clause-worked_out : goal.returns-clause-worked_out
-returns-clause-worked_out c = gives_is
+returns-clause-worked_out c = works_out
 
 pub returns-clause-limits : goal.returns-clause-limits
 returns-clause-limits c = gives_book
