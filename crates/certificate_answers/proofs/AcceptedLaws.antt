@@ -59,7 +59,7 @@ use Rattle.certificate_answers.specs.declared.inquiry.Inquiry.{Inquiry}
 use Rattle.certificate_answers.specs.declared.inquiry.Inquiry.TheVariants as inquiry
 use Rattle.certificate_answers.specs.declared.status.Status.TheVariants as status
 
-few-dates : (case : CaseContents) → KeepsLimits case → length case.book.needs ≤ MOST_DATES
+pub few-dates : (case : CaseContents) → KeepsLimits case → length case.book.needs ≤ MOST_DATES
 few-dates case keeps = let few = keeps.0.needs.few in omega (arith, few)
 
 -- the answer to a certificate within its limit is that to the verdict on it
