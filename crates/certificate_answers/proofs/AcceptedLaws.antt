@@ -26,7 +26,6 @@ use Rattle.offer_book.specs.Rival.{IsRival}
 use Rattle.case_file.specs.Case.{CaseContents}
 use Rattle.case_file.specs.Limit.{RestsOn}
 use Rattle.escrow_check.specs.Acceptance.{IsVerdict, judged, reason_of, verdict_by, yes_of}
-use Rattle.escrow_check.specs.Meaning.{IsRightPortfolio}
 use Rattle.escrow_check.specs.Verdicts.{verdict_of}
 use Rattle.escrow_check.specs.declared.verdict.Portfolio.{Portfolio}
 use Rattle.escrow_check.specs.declared.verdict.Verdict.{Verdict}
@@ -37,27 +36,30 @@ use Rattle.escrow_check.proofs.ReasonFacts.{yes_where_unopposed}
 use Rattle.escrow_check.proofs.VerdictFacts.{none-told, yes-told, yes_is_right, yes_none_is_right}
 use Rattle.certificate_answers.specs.InputFiles.{InputFiles}
 use Rattle.certificate_answers.specs.Answer.{Answer, answer_for, answer_with, certificate_answer, files_answer, judged_case, judged_of, portfolio_text, refused, verdict_answer, yes_text}
-use Rattle.certificate_answers.proofs.YieldFacts.{printed_yield}
+use Rattle.certificate_answers.proofs.YieldFacts.{certified, printed_yield}
 use Rattle.escrow_units.specs.declared.amount.Rate.{Rate}
 use Rattle.rate_cap.specs.CaseAt.{case_at}
 use Rattle.certificate_answers.proofs.CapFacts.{given_at}
+use Rattle.certificate_answers.proofs.CaseLaws.{gives_book}
+use Rattle.certificate_answers.proofs.SaidIssueLaws.{said-issue}
+use Rattle.certificate_answers.proofs.SaidRateLaws.{said-rates}
 use Rattle.certificate_answers.proofs.JudgedFacts.{beside_is, one-case}
 use Rattle.certificate_answers.proofs.RollingFacts.{has_rolls}
 use Rattle.certificate_answers.proofs.SavingsFacts.{savings_are}
 use Rattle.certificate_answers.specs.AtCap.{AcceptedAt}
-use Rattle.certificate_answers.specs.Accepted.{Accepted, HasNoReason, HasNoRival, HasPortfolio, IsAcceptedText, YesExactly, yield_without_interest}
+use Rattle.certificate_answers.specs.Accepted.{Accepted, HasNoReason, HasNoRival, HasPortfolio, IsAcceptedText, IsCertified, YesExactly, yield_without_interest}
 use Rattle.certificate_answers.specs.Meaning.{MeansYes}
 use Rattle.certificate_answers.specs.Holding.{AcceptedBeside, AcceptedHolding, GiveCaseHolding, HasNoHeldRival, HasPortfolioHolding, IsAcceptedTextBeside, IsAcceptedTextHolding}
 use Rattle.certificate_answers.specs.Judged.{IsJudged}
 use Rattle.certificate_answers.specs.Rolled.{HasPlan, Rolled}
 use Rattle.certificate_answers.specs.Saved.{HasSavings, Saved}
 use Rattle.certificate_answers.specs.SavingsText.{saved_text}
-use Rattle.certificate_answers.specs.CaseOf.{GiveCase}
+use Rattle.certificate_answers.specs.CaseOf.{GiveCase, GiveWorkedCase}
 use Rattle.certificate_answers.specs.declared.inquiry.Inquiry.{Inquiry}
 use Rattle.certificate_answers.specs.declared.inquiry.Inquiry.TheVariants as inquiry
 use Rattle.certificate_answers.specs.declared.status.Status.TheVariants as status
 
-few-dates : (case : CaseContents) → KeepsLimits case → length case.book.needs ≤ MOST_DATES
+pub few-dates : (case : CaseContents) → KeepsLimits case → length case.book.needs ≤ MOST_DATES
 few-dates case keeps = let few = keeps.0.needs.few in omega (arith, few)
 
 -- the answer to a certificate within its limit is that to the verdict on it
@@ -84,7 +86,7 @@ answered-by words case cert keeps = by (nat_lt CERTIFICATE_LIMIT (length cert)) 
 
 -- what a portfolio of a yes is
 record IsTakenPortfolio (case : CaseContents) (certificate : Certificate) (portfolio : Portfolio) : Type 0 where
-  right : IsRightPortfolio case certificate portfolio
+  right : IsCertified case certificate portfolio
   without_interest : AreWithoutInterest case.book.lines → portfolio.answer ≡ yield_without_interest (security_cost case.book portfolio.plan)
 
 -- a yes without one
@@ -113,7 +115,7 @@ taken-by words case cert (verdict.Yes portfolio) keeps (certificate, text, is) d
       is_certificate = text;
       none = (yes-told case certificate portfolio (sym is)).none;
       means = record {
-        right = right;
+        right = certified case certificate portfolio keeps.0 right;
         without_interest = λ interest. right.answer ∙ printed_yield case.book portfolio.plan keeps.0 interest right.right.permitted;
       };
     }
@@ -201,14 +203,14 @@ rolled-as : (files : InputFiles) (terms : Option Terms) (case : CaseContents) (c
 rolled-as files terms case certificate (verdict.Yes portfolio) read limits means = inl (record {
   yes = yes_text case portfolio;
   accepted = record { portfolio = portfolio; right = means.right; without_interest = means.without_interest; said = refl };
-  planned = has_rolls files terms case portfolio.plan read limits means.right.right.permitted means.right.right.covered;
+  planned = has_rolls files terms case portfolio.plan read limits means.right.permitted means.right.covered;
 })
 rolled-as files terms case certificate verdict.YesNone read limits means = inr (record { none = means.none; no_rival = means.no_rival; said = refl })
 rolled-as files terms case certificate (verdict.No why) read limits means = absurd means
 
-saved : (files : InputFiles) (cert : List ℕ) (case : CaseContents) → GiveCase files case → KeepsLimits case → (answer_for inquiry.Savings files case cert).status ≡ status.Done
+saved : (files : InputFiles) (cert : List ℕ) (case : CaseContents) → GiveWorkedCase files case → KeepsLimits case → (answer_for inquiry.Savings files case cert).status ≡ status.Done
     → Saved files cert (answer_for inquiry.Savings files case cert).text
-saved files cert case gives keeps done =
+saved files cert case (gives, rests) keeps done =
     let yes = done-by (portfolio_text inquiry.Savings files case) case cert keeps done in
     let certificate = yes.taken.certificate in
     let issue = gives.read.issue in
@@ -219,7 +221,7 @@ saved files cert case gives keeps done =
       is_certificate = yes.taken.is_certificate;
       right =
           subst (λ (a : Answer). HasSavings issue case certificate a.text ⊎ HasNoRival case certificate a.text) (sym yes.is)
-          (saved-as files issue case certificate yes.told gives.says.issue gives.obeys.limit yes.taken.means);
+          (saved-as files issue case certificate yes.told (said-issue (rows_of files.issue) issue gives.says.issue) rests yes.taken.means);
     }
 
 rolled : (files : InputFiles) (cert : List ℕ) (case : CaseContents) → GiveCase files case → KeepsLimits case → (answer_for inquiry.Roll files case cert).status ≡ status.Done
@@ -235,7 +237,7 @@ rolled files cert case gives keeps done =
       is_certificate = yes.taken.is_certificate;
       right =
           subst (λ (a : Answer). HasPlan terms case certificate a.text ⊎ HasNoRival case certificate a.text) (sym yes.is)
-          (rolled-as files terms case certificate yes.told (ap stated_by gives.says.rates) keeps.0 yes.taken.means);
+          (rolled-as files terms case certificate yes.told (ap stated_by (said-rates (rows_of files.rates) gives.read.rates gives.says.rates)) keeps.0 yes.taken.means);
     }
 
 -- and `check-cap`, of the case at the cap
@@ -263,8 +265,8 @@ holding-as case held certificate (verdict.Yes portfolio) limits means =
     let alike = cases-are_alike held case limits in
     inl (record {
       accepted = record { portfolio = portfolio; right = means.right; without_interest = means.without_interest; said = refl };
-      meets = (alike.meet portfolio.plan).0 means.right.right.covered;
-      least = λ rival own. means.right.right.cheapest rival ((alike.rivals rival).1 own);
+      meets = (alike.meet portfolio.plan).0 means.right.covered;
+      least = λ rival own. means.right.cheapest rival ((alike.rivals rival).1 own);
     })
 holding-as case held certificate verdict.YesNone limits means =
     let alike = cases-are_alike held case limits in
@@ -275,7 +277,7 @@ holding-as case held certificate verdict.YesNone limits means =
 holding-as case held certificate (verdict.No why) limits means = absurd means
 
 pub gives_holding : (files : InputFiles) (case : CaseContents) (bytes : List ℕ) (held : List Flow) → GiveCase files case → held_of case.book.days.settle (rows_of bytes) ≡ Ok held → GiveCaseHolding files bytes (held_case_of case held)
-gives_holding files case bytes held gives says = record { case = case; gives = gives; held = held; says = says; is = (cases-are_one held case (held_case_of case held) gives.obeys.limits).1 refl }
+gives_holding files case bytes held gives says = record { case = case; gives = gives; held = held; says = says; is = (cases-are_one held case (held_case_of case held) (gives_book files case gives)).1 refl }
 
 accepted_holding : (files : InputFiles) (cert : List ℕ) (case : CaseContents) (bytes : List ℕ) (held : List Flow) → GiveCase files case → held_of case.book.days.settle (rows_of bytes) ≡ Ok held
     → KeepsLimits (held_case_of case held) → (certificate_answer (held_case_of case held) cert).status ≡ status.Done → AcceptedHolding bytes files cert (certificate_answer (held_case_of case held) cert).text
@@ -291,7 +293,7 @@ accepted_holding files cert case bytes held gives says keeps done =
       is_certificate = yes.taken.is_certificate;
       right =
           subst (λ (a : Answer). HasPortfolioHolding case held kept certificate a.text ⊎ HasNoHeldRival case held kept certificate a.text) (sym yes.is)
-          (holding-as case held certificate yes.told gives.obeys.limits yes.taken.means);
+          (holding-as case held certificate yes.told (gives_book files case gives) yes.taken.means);
     }
 
 -- whether holdings are given or not
@@ -306,13 +308,13 @@ beside-accepted files cert case judged (Some bytes) gives is keeps done =
 -- by what is asked
 pub means_yes : (asked : Inquiry) (files : InputFiles) (cert : List ℕ) (judged : CaseContents) → IsJudged asked files judged → (answer_for asked files judged cert).status ≡ status.Done
     → MeansYes asked files cert (answer_for asked files judged cert).text
-means_yes inquiry.Check files cert judged own done = accepted files cert judged (subst (GiveCase files) (one-case own.case judged own.is) own.gives) (own.book, own.terms) done
-means_yes inquiry.Savings files cert judged own done = saved files cert judged (subst (GiveCase files) (one-case own.case judged own.is) own.gives) (own.book, own.terms) done
-means_yes inquiry.Roll files cert judged own done = rolled files cert judged (subst (GiveCase files) (one-case own.case judged own.is) own.gives) (own.book, own.terms) done
-means_yes inquiry.Held files cert judged own done = beside-accepted files cert own.case judged files.held own.gives own.is (own.book, own.terms) done
+means_yes inquiry.Check files cert judged own done = accepted files cert judged (subst (GiveCase files) (one-case own.case judged own.is) own.given.0) (own.book, own.terms) done
+means_yes inquiry.Savings files cert judged own done = saved files cert judged (subst (GiveWorkedCase files) (one-case own.case judged own.is) own.given) (own.book, own.terms) done
+means_yes inquiry.Roll files cert judged own done = rolled files cert judged (subst (GiveCase files) (one-case own.case judged own.is) own.given.0) (own.book, own.terms) done
+means_yes inquiry.Held files cert judged own done = beside-accepted files cert own.case judged files.held own.given.0 own.is (own.book, own.terms) done
 means_yes (inquiry.AtCap cap) files cert judged own done =
     subst (λ (c : CaseContents). KeepsLimits c → (certificate_answer c cert).status ≡ status.Done → AcceptedAt cap files cert (certificate_answer c cert).text) (one-case (case_at cap own.case) judged own.is)
-    (accepted_at cap files cert own.case own.gives) (own.book, own.terms) done
+    (accepted_at cap files cert own.case own.given.0) (own.book, own.terms) done
 
 -- where no reason stands, `yes` is said
 
@@ -352,31 +354,33 @@ none-where_done words case cert keeps done =
     }
 
 -- so is a certificate accepted that is written
-pub accepted_text : (files : InputFiles) (cert : List ℕ) (case : CaseContents) → GiveCase files case → KeepsLimits case → (certificate_answer case cert).status ≡ status.Done → IsAcceptedText files cert
+pub accepted_text : (files : InputFiles) (cert : List ℕ) (case : CaseContents) → GiveWorkedCase files case → KeepsLimits case → (certificate_answer case cert).status ≡ status.Done → IsAcceptedText files cert
 unfolding accepted
-accepted_text files cert case gives keeps done = record {
+accepted_text files cert case (gives, rests) keeps done = record {
   text = (certificate_answer case cert).text;
   accepted = accepted files cert case gives keeps done;
+  worked_out = rests;
   fits = fits case cert done;
   unopposed = none-where_done (yes_text case) case cert keeps done;
 }
 
 -- the same beside holdings
-accepted_text_holding : (files : InputFiles) (cert : List ℕ) (case : CaseContents) (bytes : List ℕ) (held : List Flow) → GiveCase files case → held_of case.book.days.settle (rows_of bytes) ≡ Ok held
+accepted_text_holding : (files : InputFiles) (cert : List ℕ) (case : CaseContents) (bytes : List ℕ) (held : List Flow) → GiveWorkedCase files case → held_of case.book.days.settle (rows_of bytes) ≡ Ok held
     → KeepsLimits (held_case_of case held) → (certificate_answer (held_case_of case held) cert).status ≡ status.Done → IsAcceptedTextHolding bytes files cert
-unfolding accepted_holding
-accepted_text_holding files cert case bytes held gives says keeps done =
+unfolding accepted_holding gives_holding
+accepted_text_holding files cert case bytes held (gives, rests) says keeps done =
     let kept = held_case_of case held in
     record {
       text = (certificate_answer kept cert).text;
       accepted = accepted_holding files cert case bytes held gives says keeps done;
+      worked_out = rests;
       fits = fits kept cert done;
       unopposed = none-where_done (yes_text kept) kept cert keeps done;
     }
 
-text-beside : (files : InputFiles) (cert : List ℕ) (case judged : CaseContents) (bytes : Option (List ℕ)) → GiveCase files case → judged_case inquiry.Held bytes case ≡ Ok judged → KeepsLimits judged
+text-beside : (files : InputFiles) (cert : List ℕ) (case judged : CaseContents) (bytes : Option (List ℕ)) → GiveWorkedCase files case → judged_case inquiry.Held bytes case ≡ Ok judged → KeepsLimits judged
     → (certificate_answer judged cert).status ≡ status.Done → IsAcceptedTextBeside bytes files cert
-text-beside files cert case judged None gives is keeps done = accepted_text files cert judged (subst (GiveCase files) (one-case case judged is) gives) keeps done
+text-beside files cert case judged None gives is keeps done = accepted_text files cert judged (subst (GiveWorkedCase files) (one-case case judged is) gives) keeps done
 text-beside files cert case judged (Some bytes) gives is keeps done =
     let own = beside_is case bytes judged is in
     subst (λ (c : CaseContents). KeepsLimits c → (certificate_answer c cert).status ≡ status.Done → IsAcceptedTextHolding bytes files cert) own.is
@@ -384,7 +388,7 @@ text-beside files cert case judged (Some bytes) gives is keeps done =
 
 -- of the case that is searched
 pub searched_text : (files : InputFiles) (cert : List ℕ) (judged : CaseContents) → IsJudged inquiry.Held files judged → (certificate_answer judged cert).status ≡ status.Done → IsAcceptedTextBeside files.held files cert
-searched_text files cert judged own done = text-beside files cert own.case judged files.held own.gives own.is (own.book, own.terms) done
+searched_text files cert judged own done = text-beside files cert own.case judged files.held own.given own.is (own.book, own.terms) done
 
 -- `yes` exactly where no reason stands, of files that give the case by which it is judged
 pub yes_exactly : (asked : Inquiry) (files : InputFiles) (cert : List ℕ) → ((case : CaseContents) → judged_of asked files ≡ Ok case → KeepsLimits case) → YesExactly (files_answer asked files cert).status asked files cert

@@ -27,7 +27,7 @@ judged-keeps asked files judged own = (own.book, own.terms)
 
 -- and is what is worked out of the files
 pub judged_is : (asked : Inquiry) (files : InputFiles) (judged : CaseContents) → IsJudged asked files judged → judged_of asked files ≡ Ok judged
-judged_is asked files judged own = rw (gives_is files own.case own.gives) own.is
+judged_is asked files judged own = rw (gives_is files own.case own.given) own.is
 
 -- savings and rolls can be said of it, where they are asked for
 pub kept_for : (asked : Inquiry) (files : InputFiles) (case judged : CaseContents) → IsKept (rows_of files.issue) (rows_of files.rates) (rows_of files.prices) case → judged_case asked files.held case ≡ Ok judged

@@ -10,3 +10,10 @@ pub mod AnswerLaws
 pub mod ExactLaws
 pub mod HearingFacts
 pub mod YieldFacts
+pub mod SaidRowFacts
+pub mod SaidIssueFields
+pub mod SaidIssueLaws
+pub mod SaidRateLaws
+pub mod SaidPriceLaws
+pub mod SaidLimits
+pub mod YieldEnds

@@ -1,13 +1,15 @@
 -- What `no` means, proved.
-use Rattle.std.proofs.Common.{◌≡◌, ◌∙◌, ℕ, List, Option, Some, None, Ok, refl, sym, ap, subst, inl, inr}
+use Rattle.std.proofs.Common.{◌≡◌, ◌∙◌, ℕ, List, Option, Some, None, Ok, length, refl, sym, ap, subst, inl, inr}
 use Rattle.escrow_desk.specs.declared.refusal.FileKind.TheVariants as file
 use Rattle.escrow_desk.specs.declared.refusal.RefusalKind.TheVariants as kind
 use Rattle.row_fields.specs.RowForm.{refusal_of}
+use Rattle.bound_certificate.proofs.VersionFacts.{texts-have-no-fault}
 use Rattle.case_file.specs.Case.{CaseContents}
 use Rattle.escrow_check.specs.Acceptance.{IsVerdict}
 use Rattle.escrow_check.specs.TextMeaning.{StandsAgainst}
 use Rattle.escrow_check.specs.declared.verdict.Portfolio.{Portfolio}
 use Rattle.escrow_check.specs.declared.verdict.Reason.{Reason}
+use Rattle.escrow_check.specs.declared.verdict.Reason.TheVariants as reason
 use Rattle.escrow_check.specs.declared.verdict.Verdict.{Verdict}
 use Rattle.escrow_check.specs.declared.verdict.Verdict.TheVariants as verdict
 use Rattle.escrow_check.proofs.TextFacts.{KeepsLimits, is_meant}
@@ -20,7 +22,7 @@ use Rattle.escrow_units.specs.declared.amount.Rate.{Rate}
 use Rattle.escrow_units.specs.declared.security.Flow.{Flow}
 use Rattle.held_escrow.specs.HeldCase.{held_case_of}
 use Rattle.held_escrow.specs.HeldForm.{held_of}
-use Rattle.certificate_answers.specs.NotAccepted.{NotAccepted}
+use Rattle.certificate_answers.specs.NotAccepted.{Denies, NotAccepted}
 use Rattle.certificate_answers.specs.AtCap.{NotAcceptedAt}
 use Rattle.certificate_answers.specs.Holding.{NotAcceptedBeside, NotAcceptedHolding}
 use Rattle.certificate_answers.specs.Judged.{IsJudged}
@@ -28,21 +30,28 @@ use Rattle.certificate_answers.specs.Meaning.{MeansNo}
 use Rattle.certificate_answers.specs.declared.inquiry.Inquiry.{Inquiry}
 use Rattle.certificate_answers.specs.declared.inquiry.Inquiry.TheVariants as inquiry
 use Rattle.certificate_answers.specs.declared.status.Status.TheVariants as status
-use Rattle.certificate_answers.proofs.AcceptedLaws.{IsAnswered, answered-by, gives_holding}
+use Rattle.certificate_answers.proofs.AcceptedLaws.{IsAnswered, answered-by, few-dates, gives_holding}
 use Rattle.certificate_answers.proofs.CapFacts.{given_at}
 use Rattle.certificate_answers.proofs.JudgedFacts.{beside_is, one-case}
+
+-- a reason that stands by the first fault of a text stands by what it means
+denies : (case : CaseContents) (cert : List ℕ) (why : Reason) → KeepsLimits case → StandsAgainst case cert why → Denies case cert why
+denies case cert (reason.Grammar fault) keeps is = λ certificate text.
+    let none = (texts-have-no-fault (length case.book.needs) cert (few-dates case keeps)).1 (certificate, text) in
+    let clash = sym none ∙ is in cc
+denies case cert why keeps is = is
 
 -- an answer of `no` has a reason that stands
 record IsDenied (case : CaseContents) (cert : List ℕ) (text : List ℕ) : Type 0 where
   why : Reason
-  stands : StandsAgainst case cert why
+  stands : Denies case cert why
   said : text ≡ reason_text why
 
 denied-by : (words : Portfolio → List ℕ) (case : CaseContents) (cert : List ℕ) (told : Verdict) → KeepsLimits case → IsVerdict case cert told → (verdict_answer words told).status ≡ status.No
     → IsDenied case cert (verdict_answer words told).text
 denied-by words case cert (verdict.Yes portfolio) keeps on denied = absurd (cc)
 denied-by words case cert verdict.YesNone keeps on denied = absurd (cc)
-denied-by words case cert (verdict.No why) keeps on denied = record { why = why; stands = is_meant case cert (verdict.No why) keeps on; said = refl }
+denied-by words case cert (verdict.No why) keeps on denied = record { why = why; stands = denies case cert why keeps (is_meant case cert (verdict.No why) keeps on); said = refl }
 
 is_denied : (words : Portfolio → List ℕ) (case : CaseContents) (cert : List ℕ) → KeepsLimits case → (answer_with words case cert).status ≡ status.No → IsDenied case cert (answer_with words case cert).text
 is_denied words case cert keeps denied =
@@ -92,10 +101,10 @@ beside-denied files cert case judged (Some bytes) gives is keeps denied =
 -- by what is asked, of the case by which the certificate is judged
 pub means_no : (asked : Inquiry) (files : InputFiles) (cert : List ℕ) (judged : CaseContents) → IsJudged asked files judged → (answer_for asked files judged cert).status ≡ status.No
     → MeansNo asked files cert (answer_for asked files judged cert).text
-means_no inquiry.Check files cert judged own denied = not_accepted (portfolio_text inquiry.Check files judged) files cert judged (subst (GiveCase files) (one-case own.case judged own.is) own.gives) (own.book, own.terms) denied
-means_no inquiry.Savings files cert judged own denied = not_accepted (portfolio_text inquiry.Savings files judged) files cert judged (subst (GiveCase files) (one-case own.case judged own.is) own.gives) (own.book, own.terms) denied
-means_no inquiry.Roll files cert judged own denied = not_accepted (portfolio_text inquiry.Roll files judged) files cert judged (subst (GiveCase files) (one-case own.case judged own.is) own.gives) (own.book, own.terms) denied
-means_no inquiry.Held files cert judged own denied = beside-denied files cert own.case judged files.held own.gives own.is (own.book, own.terms) denied
+means_no inquiry.Check files cert judged own denied = not_accepted (portfolio_text inquiry.Check files judged) files cert judged (subst (GiveCase files) (one-case own.case judged own.is) own.given.0) (own.book, own.terms) denied
+means_no inquiry.Savings files cert judged own denied = not_accepted (portfolio_text inquiry.Savings files judged) files cert judged (subst (GiveCase files) (one-case own.case judged own.is) own.given.0) (own.book, own.terms) denied
+means_no inquiry.Roll files cert judged own denied = not_accepted (portfolio_text inquiry.Roll files judged) files cert judged (subst (GiveCase files) (one-case own.case judged own.is) own.given.0) (own.book, own.terms) denied
+means_no inquiry.Held files cert judged own denied = beside-denied files cert own.case judged files.held own.given.0 own.is (own.book, own.terms) denied
 means_no (inquiry.AtCap cap) files cert judged own denied =
     subst (λ (c : CaseContents). KeepsLimits c → (certificate_answer c cert).status ≡ status.No → NotAcceptedAt cap files cert (certificate_answer c cert).text) (one-case (case_at cap own.case) judged own.is)
-    (not_accepted_at cap files cert own.case own.gives) (own.book, own.terms) denied
+    (not_accepted_at cap files cert own.case own.given.0) (own.book, own.terms) denied

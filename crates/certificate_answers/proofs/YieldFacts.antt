@@ -1,9 +1,14 @@
 -- The yield that is printed of securities without interest, proved.
-use Rattle.std.proofs.Common.{◌≡◌, ◌∙◌, ℕ, ◌==◌, List, [], ℤ, Bool, true, false, refl, arith, inl, inr}
+use Rattle.std.proofs.Common.{◌≡◌, ◌∙◌, ℕ, ◌==◌, List, [], ℤ, Bool, true, false, refl, sym, subst, arith, inl, inr}
 use Rattle.std.specs.Prelude.{if◌then◌else◌}
 use Rattle.escrow_units.specs.Flows.{indexed}
+use Rattle.escrow_units.specs.PresentValue.{IndexedFlow}
 use Rattle.escrow_units.specs.declared.security.Flow.{Flow}
 use Rattle.fixed_powers.specs.PresentValues.{HasLaterAmount}
+use Rattle.bound_certificate.specs.declared.certificate.Certificate.{Certificate}
+use Rattle.case_file.specs.Case.{CaseContents}
+use Rattle.escrow_check.specs.Meaning.{IsRightPortfolio, LiesInEnds}
+use Rattle.escrow_check.specs.declared.verdict.Portfolio.{Portfolio}
 use Rattle.offer_book.specs.Book.{AreWithoutInterest, BookContents, IsBook}
 use Rattle.offer_book.specs.Portfolio.{IsPermitted, security_cost, security_flows}
 use Rattle.cash_table.specs.LaterFlows.{HaveLaterAmount}
@@ -13,9 +18,12 @@ use Rattle.cash_table.proofs.PointFacts.{indexes_near}
 use Rattle.cash_table.proofs.PortfolioLaws.{empty_at_no_cost, zero_interest_total}
 use Rattle.cash_table.proofs.YieldFacts.{total_cents-indexed}
 use Rattle.yield_enclosure.specs.declared.answer.YieldAnswer.{YieldAnswer}
-use Rattle.yield_enclosure.specs.declared.answer.YieldAnswer.TheVariants.{Empty, Between}
+use Rattle.yield_enclosure.specs.declared.answer.YieldAnswer.TheVariants.{Above, Between, Empty, Negative}
+use Rattle.yield_enclosure.specs.YieldAnswers.{IsYieldAnswer}
+use Rattle.yield_enclosure.proofs.EndFacts.{last_index-le}
 use Rattle.yield_enclosure.proofs.ZeroYield.{zero_yield}
-use Rattle.certificate_answers.specs.Accepted.{yield_without_interest}
+use Rattle.certificate_answers.proofs.YieldEnds.{answer_is}
+use Rattle.certificate_answers.specs.Accepted.{IsCertified, IsYieldWithin, yield_without_interest}
 use Rattle.cash_table.specs.Points.{plan_yield}
 
 later-amount : (settle : ℤ) (flows : List Flow) → HaveLaterAmount settle flows → (flows ≡ [] → ⊥) → HasLaterAmount (indexed settle flows)
@@ -47,3 +55,33 @@ printed-at book plan false is limits interest permitted =
 -- the yield of securities without interest
 pub printed_yield : (book : BookContents) (plan : List ℕ) → IsBook book → AreWithoutInterest book.lines → IsPermitted book plan → plan_yield book plan ≡ yield_without_interest (security_cost book plan)
 printed_yield book plan limits interest permitted = printed-at book plan (security_cost book plan == 0) refl limits interest permitted
+
+-- ---- what a yield says
+lies-within : (flows : List IndexedFlow) (cost limit : ℕ) (answer : YieldAnswer) → IsYieldAnswer flows cost answer → LiesInEnds answer flows cost limit → IsYieldWithin limit answer flows cost
+lies-within flows cost limit Empty is lies = is
+lies-within flows cost limit Negative is lies = is
+lies-within flows cost limit (Between lo hi) is lies = (lies.0, is.narrow, lies.1)
+lies-within flows cost limit Above is lies = absurd lies
+
+-- a portfolio is right, and that of its certificate, where it is by the yield that is worked out
+pub certified : (case : CaseContents) (certificate : Certificate) (portfolio : Portfolio) → IsBook case.book → IsRightPortfolio case certificate portfolio → IsCertified case certificate portfolio
+certified case certificate portfolio limits is =
+    let book = case.book in
+    let flows = security_flows book portfolio.plan in
+    let near = last_index-le 14_400 (indexed book.days.settle flows) (indexes_near book.days.settle flows limits.settlement (flows_within book portfolio.plan limits)) in
+    record {
+      buys = is.buys;
+      named = is.named;
+      bought = is.bought;
+      gap = is.gap;
+      cost = is.cost;
+      permitted = is.right.permitted;
+      covered = is.right.covered;
+      yields =
+          subst (λ (answer : YieldAnswer). IsYieldWithin case.limit answer (indexed book.days.settle flows) (security_cost book portfolio.plan)) (sym is.answer)
+          (lies-within (indexed book.days.settle flows) (security_cost book portfolio.plan) case.limit (plan_yield book portfolio.plan)
+          (answer_is (indexed book.days.settle flows) (security_cost book portfolio.plan) near) is.right.yields);
+      cheapest = is.right.cheapest;
+      allowed = is.right.allowed;
+      priced = is.priced;
+    }

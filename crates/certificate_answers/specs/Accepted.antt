@@ -1,15 +1,21 @@
 -- What `yes` means.
-use Rattle.std.specs.Prelude.{◌≡◌, ◌↔◌, ◌⊎◌, ℕ, ◌≤◌, ◌==◌, if◌then◌else◌, List, length, None, Ok}
+use Rattle.std.specs.Prelude.{◌≡◌, ◌↔◌, ◌⊎◌, ℕ, ◌+◌, ◌<◌, ◌≤◌, ◌==◌, if◌then◌else◌, List, [], length, All, Some, None, Ok}
 use Rattle.escrow_desk.specs.declared.limits.TheConstants.{CERTIFICATE_LIMIT}
+use Rattle.escrow_units.specs.Flows.{indexed}
+use Rattle.escrow_units.specs.PresentValue.{IndexedFlow, YieldLiesIn}
+use Rattle.fixed_powers.specs.PresentValues.{total_cents}
+use Rattle.proof_tree.specs.Tree.{IsPriced}
 use Rattle.yield_enclosure.specs.declared.answer.YieldAnswer.{YieldAnswer}
-use Rattle.yield_enclosure.specs.declared.answer.YieldAnswer.TheVariants.{Between, Empty}
+use Rattle.yield_enclosure.specs.declared.answer.YieldAnswer.TheVariants.{Above, Between, Empty, Negative}
 use Rattle.offer_book.specs.Book.{AreWithoutInterest}
-use Rattle.offer_book.specs.Portfolio.{security_cost}
+use Rattle.offer_book.specs.Portfolio.{IsPermitted, Meets, cost, security_cost, security_flows}
 use Rattle.offer_book.specs.Rival.{IsRival}
 use Rattle.bound_certificate.specs.Versions.{IsCertificateText}
+use Rattle.bound_certificate.specs.declared.certificate.Buy.{Buy}
 use Rattle.bound_certificate.specs.declared.certificate.Certificate.{Certificate}
 use Rattle.case_file.specs.Case.{CaseContents}
-use Rattle.escrow_check.specs.Meaning.{IsRightPortfolio}
+use Rattle.case_file.specs.Limit.{RestsOn}
+use Rattle.escrow_check.specs.Meaning.{Bought, NoRivalSaves, NoneSaves}
 use Rattle.escrow_check.specs.Reasons.{IsUnopposed}
 use Rattle.escrow_check.specs.declared.verdict.Portfolio.{Portfolio}
 use Rattle.certificate_answers.specs.Answer.{judged_of, none_text, yes_text}
@@ -23,12 +29,36 @@ use Rattle.certificate_answers.specs.declared.status.Status.TheVariants as statu
 abbrev pub yield_without_interest : ℕ → YieldAnswer
 yield_without_interest cost = if cost == 0 then Empty else Between (record { 0 = 0 }) (record { 0 = 0 })
 
--- the certificate has a portfolio: it is permitted, its cash balance is negative on no date, its exact yield lies in the interval
--- and within the limit, no rival costs less by more than the gap, and the issue allows the gap; where no line bears interest the yield
--- is 0, or none; and this is said of it
+-- what is said of the yield of flows for their cost, where it is within a limit: the exact yield lies between the ends, which are at most
+-- two units of 10^-10 apart; or there are no flows and no cost; or the flows come to less than the cost
+abbrev pub IsYieldWithin : ℕ → YieldAnswer → List IndexedFlow → ℕ → Type 0
+IsYieldWithin limit (Between lo hi) flows cost = YieldLiesIn flows cost lo.0 hi.0 × (hi.0 ≤ lo.0 + 2) × (hi.0 ≤ limit)
+IsYieldWithin limit Empty flows cost = (flows ≡ []) × (cost ≡ 0)
+IsYieldWithin limit Negative flows cost = total_cents flows < cost
+IsYieldWithin limit Above flows cost = ⊥
+
+-- a portfolio is right, and that of the certificate: it is what the certificate buys, at this cost and with its gap; its units are
+-- permitted; its cash balance is negative on no date; its yield is said, and within the limit; no rival costs less by more than the gap,
+-- and the issue allows the gap. Where no leaf gives the limit a multiplier, no portfolio that meets the needs saves more, whatever its yield
+pub record IsCertified (case : CaseContents) (certificate : Certificate) (portfolio : Portfolio) : Type 0 where
+  pub buys : List Buy
+  pub named : certificate.buys ≡ Some buys
+  pub bought : Bought case.book buys portfolio.plan
+  pub gap : portfolio.gap.0 ≡ certificate.gap
+  pub cost : portfolio.cost.0 ≡ cost case.book portfolio.plan
+  pub permitted : IsPermitted case.book portfolio.plan
+  pub covered : Meets case.book portfolio.plan
+  pub yields :
+      IsYieldWithin case.limit portfolio.answer (indexed case.book.days.settle (security_flows case.book portfolio.plan))
+      (security_cost case.book portfolio.plan)
+  pub cheapest : NoRivalSaves case.limit certificate.gap case.book portfolio.plan
+  pub allowed : certificate.gap ≤ case.allowance
+  pub priced : All IsPriced certificate.nodes → NoneSaves certificate.gap case.book portfolio.plan
+
+-- the certificate has a portfolio, which is right; where no line bears interest its yield is 0, or none; and this is said of it
 pub record HasPortfolio (case : CaseContents) (certificate : Certificate) (text : List ℕ) : Type 0 where
   pub portfolio : Portfolio
-  pub right : IsRightPortfolio case certificate portfolio
+  pub right : IsCertified case certificate portfolio
   pub without_interest : AreWithoutInterest case.book.lines → portfolio.answer ≡ yield_without_interest (security_cost case.book portfolio.plan)
   pub said : text ≡ yes_text case portfolio
 
@@ -62,9 +92,11 @@ YesExactly reached inquiry files cert =
     → length cert ≤ CERTIFICATE_LIMIT
     → (reached ≡ status.Done) ↔ HasNoReason case cert
 
--- so it is answered to a certificate that is written: within its limit, no reason stands against it, and this is said of it
+-- so it is answered to a certificate that is written: within its limit, no reason stands against it, where the limit on the yield is the one
+-- that is worked out, and this is said of it
 pub record IsAcceptedText (files : InputFiles) (cert : List ℕ) : Type 0 where
   pub text : List ℕ
   pub accepted : Accepted files cert text
+  pub worked_out : RestsOn accepted.gives.read.issue accepted.case.limit
   pub fits : length cert ≤ CERTIFICATE_LIMIT
   pub unopposed : HasNoReason accepted.case cert

@@ -4,13 +4,13 @@ use Rattle.escrow_units.specs.declared.amount.Rate.{Rate}
 use Rattle.bound_certificate.specs.Versions.{IsCertificateText}
 use Rattle.bound_certificate.specs.declared.certificate.Certificate.{Certificate}
 use Rattle.case_file.specs.Case.{CaseContents}
-use Rattle.escrow_check.specs.TextMeaning.{StandsAgainst}
 use Rattle.escrow_check.specs.declared.verdict.Reason.{Reason}
 use Rattle.rate_cap.specs.CaseAt.{IsAtCap}
 use Rattle.certificate_answers.specs.Accepted.{HasNoRival, HasPortfolio}
 use Rattle.certificate_answers.specs.Answer.{reason_text}
 use Rattle.certificate_answers.specs.CaseOf.{GiveCase}
 use Rattle.certificate_answers.specs.InputFiles.{InputFiles}
+use Rattle.certificate_answers.specs.NotAccepted.{Denies}
 
 -- the bytes of input files give a case, which at a cap on its SLGS rates is this one
 pub record GiveCaseAt (cap : Rate) (files : InputFiles) (at : CaseContents) : Type 0 where
@@ -31,5 +31,5 @@ pub record NotAcceptedAt (cap : Rate) (files : InputFiles) (cert text : List ℕ
   pub case : CaseContents
   pub gives : GiveCaseAt cap files case
   pub why : Reason
-  pub stands : StandsAgainst case cert why
+  pub stands : Denies case cert why
   pub said : text ≡ reason_text why

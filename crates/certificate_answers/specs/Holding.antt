@@ -6,7 +6,7 @@ use Rattle.escrow_units.specs.declared.security.Flow.{Flow}
 use Rattle.bound_certificate.specs.Versions.{IsCertificateText}
 use Rattle.bound_certificate.specs.declared.certificate.Certificate.{Certificate}
 use Rattle.case_file.specs.Case.{CaseContents}
-use Rattle.escrow_check.specs.TextMeaning.{StandsAgainst}
+use Rattle.case_file.specs.Limit.{RestsOn}
 use Rattle.escrow_check.specs.declared.verdict.Reason.{Reason}
 use Rattle.held_escrow.specs.HeldCase.{IsHeldCase}
 use Rattle.held_escrow.specs.HeldForm.{held_of}
@@ -16,7 +16,7 @@ use Rattle.certificate_answers.specs.Accepted.{Accepted, HasNoReason, HasNoRival
 use Rattle.certificate_answers.specs.Answer.{reason_text}
 use Rattle.certificate_answers.specs.CaseOf.{GiveCase}
 use Rattle.certificate_answers.specs.InputFiles.{InputFiles}
-use Rattle.certificate_answers.specs.NotAccepted.{NotAccepted}
+use Rattle.certificate_answers.specs.NotAccepted.{Denies, NotAccepted}
 
 -- the bytes of the input files give a case, and these of one more the holdings; and this is the case beside them
 pub record GiveCaseHolding (files : InputFiles) (holdings : List ℕ) (kept : CaseContents) : Type 0 where
@@ -51,13 +51,15 @@ pub record NotAcceptedHolding (holdings : List ℕ) (files : InputFiles) (cert t
   pub kept : CaseContents
   pub gives : GiveCaseHolding files holdings kept
   pub why : Reason
-  pub stands : StandsAgainst kept cert why
+  pub stands : Denies kept cert why
   pub said : text ≡ reason_text why
 
--- a certificate that is written beside holdings: within its limit, no reason stands against it, and this is said of it
+-- a certificate that is written beside holdings: within its limit, no reason stands against it, where the limit on the yield is the one
+-- that is worked out, and this is said of it
 pub record IsAcceptedTextHolding (holdings : List ℕ) (files : InputFiles) (cert : List ℕ) : Type 0 where
   pub text : List ℕ
   pub accepted : AcceptedHolding holdings files cert text
+  pub worked_out : RestsOn accepted.gives.gives.read.issue accepted.gives.case.limit
   pub fits : length cert ≤ CERTIFICATE_LIMIT
   pub unopposed : HasNoReason accepted.kept cert
 

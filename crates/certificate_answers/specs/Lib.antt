@@ -33,3 +33,7 @@ pub mod Saved
 pub mod SavingsText
 pub mod Statuses
 pub mod Stopping
+pub mod SaidRows
+pub mod SaidIssue
+pub mod SaidRates
+pub mod SaidPrices

@@ -7,7 +7,7 @@ ghost use Rattle.case_file.specs.Case.{CaseAnswers, HasTerms, IsKept, case_view}
 ghost use Rattle.held_escrow.specs.HeldForm.{held_of};
 ghost use Rattle.offer_book.specs.Book.{IsBook};
 ghost use Rattle.certificate_answers.specs.Answer.{case_of, held_case_by, judged_case as judged_case_of, judged_of};
-ghost use Rattle.certificate_answers.specs.CaseOf.{AreWithin, GiveCase};
+ghost use Rattle.certificate_answers.specs.CaseOf.{AreWithin, GiveCase, GiveWorkedCase};
 ghost use Rattle.certificate_answers.specs.Judged.{IsJudged};
 ghost use Rattle.certificate_answers.specs.Reading.{IsKeptFor, files_view};
 
@@ -27,6 +27,7 @@ use std::alloc::Global;
 pub fn given_case(alloc: Global, files: &InputFiles) -> Result<Case, CaseError>
     requires { AreWithin (files_view files.now) }
     ensures case { CaseAnswers result (case_of (files_view files.now)) }
+    ensures given { IfOk result (λ case. GiveWorkedCase (files_view files.now) (case_view case)) }
     ensures gives { IfOk result (λ case. GiveCase (files_view files.now) (case_view case)) }
     ensures kept { IfOk result (λ case. IsKept (rows_of (files_view files.now).issue) (rows_of (files_view files.now).rates) (rows_of (files_view files.now).prices) (case_view case)) }
 {

@@ -1,7 +1,15 @@
 //! What is known beforehand of the case that files give.
-ghost use Rattle.certificate_answers.specs.CaseOf.{CasesAreWorkedOut};
+ghost use Rattle.certificate_answers.specs.CaseOf.{BooksKeepLimits, CasesAreWorkedOut};
+ghost use Rattle.certificate_answers.specs.SaidIssue.{IssuesAreSaid};
+ghost use Rattle.certificate_answers.specs.SaidPrices.{NoteFilesAreSaid};
+ghost use Rattle.certificate_answers.specs.SaidRates.{RateFilesAreSaid};
 
-/// Input files that give a case give the one that is worked out of their rows, so none give two.
+/// The readers of input files give just what the rows say. Files within their limits give a case, by the limit on the yield that is
+/// worked out, exactly where it is worked out of their rows; and the book of each case that they give keeps every limit.
 pub fn case_laws()
-    ensures { CasesAreWorkedOut }
+    ensures issues { IssuesAreSaid }
+    ensures rates { RateFilesAreSaid }
+    ensures notes { NoteFilesAreSaid }
+    ensures worked_out { CasesAreWorkedOut }
+    ensures limits { BooksKeepLimits }
 {}

@@ -39,7 +39,7 @@ use Rattle.certificate_answers.specs.Reading.{AreRead}
 use Rattle.escrow_top.specs.Settling.{OfCase}
 use Rattle.escrow_top.specs.Structure.{accepted_with}
 use Rattle.certificate_answers.proofs.InputFacts.{read-all}
-use Rattle.certificate_answers.proofs.YieldFacts.{printed_yield}
+use Rattle.certificate_answers.proofs.YieldFacts.{certified, printed_yield}
 use Rattle.escrow_top.proofs.StructureLaws.{part_untold, short_from, uncovered}
 use Rattle.escrow_top.specs.declared.capping.CapDraft.{CapDraft}
 use Rattle.escrow_top.specs.declared.capping.CapDraft.TheVariants as draft
@@ -140,7 +140,7 @@ has_portfolio law case plan nodes gap book terms found =
     (law case plan nodes gap book terms found) in
     record {
       portfolio = portfolio_with case plan gap;
-      right = right;
+      right = certified case (certificate_of plan nodes gap) (portfolio_with case plan gap) book right;
       without_interest = λ interest. right.answer ∙ printed_yield case.book plan book interest right.right.permitted;
       said = refl;
     }

@@ -12,7 +12,7 @@ use Rattle.offer_book.specs.Book.{IsBook}
 use Rattle.certificate_answers.specs.Answer.{Answer, case_of}
 use Rattle.escrow_top.specs.Covered.{IsCovered}
 use Rattle.certificate_answers.specs.InputFiles.{InputFiles}
-use Rattle.certificate_answers.specs.CaseOf.{GiveCase}
+use Rattle.certificate_answers.specs.CaseOf.{GiveWorkedCase}
 use Rattle.escrow_top.specs.Making.{HasAcceptedText, IsAnswerToNumber, IsMadeAnswer, IsMadeNone, IsMadeOf, made_answer, made_files, none_answer}
 use Rattle.escrow_top.specs.Settling.{SaysReach, SettlesCovered}
 use Rattle.escrow_top.specs.Structure.{IsEnd}
@@ -61,7 +61,7 @@ end_undone : (case : CaseContents) (answer : Answer) → IsEnd case answer → (
 end_undone case answer (inl own) reached is short spent = short (sym (ap (λ (a : Answer). a.status) own.is_answer) ∙ is)
 end_undone case answer (inr own) reached is short spent = spent (sym (ap (λ (a : Answer). a.status) own.is_answer) ∙ is)
 
-has_accepted : (files : InputFiles) (number : ℕ) (case : CaseContents) (answer : Answer) → GiveCase files case → IsBook case.book → HasTerms case
+has_accepted : (files : InputFiles) (number : ℕ) (case : CaseContents) (answer : Answer) → GiveWorkedCase files case → IsBook case.book → HasTerms case
     → IsMadeAnswer number (Ok case) answer → (reached : Status) → answer.status ≡ reached → (status.Infeasible ≡ reached → ⊥) → (status.BudgetSpent ≡ reached → ⊥) → HasAcceptedText files
 has_accepted files number case answer gives book terms (inl own) reached ends short spent = record {
   cert = own.accepted.text;
@@ -73,11 +73,11 @@ has_accepted files number case answer gives book terms (inr (inl own)) reached e
 }
 has_accepted files number case answer gives book terms (inr (inr own)) reached ends short spent = absurd (end_undone case answer own reached ends short spent)
 
-pub made_accepted : (files : InputFiles) (number : ℕ) (case : CaseContents) (answer : Answer) → GiveCase files case → IsBook case.book → HasTerms case
+pub made_accepted : (files : InputFiles) (number : ℕ) (case : CaseContents) (answer : Answer) → GiveWorkedCase files case → IsBook case.book → HasTerms case
     → IsMadeAnswer number (Ok case) answer → answer.status ≡ status.Done → HasAcceptedText files
 made_accepted files number case answer gives book terms own done = has_accepted files number case answer gives book terms own status.Done done (λ clash. cc) (λ clash. cc)
 
-pub made_accepted_none : (files : InputFiles) (number : ℕ) (case : CaseContents) (answer : Answer) → GiveCase files case → IsBook case.book → HasTerms case
+pub made_accepted_none : (files : InputFiles) (number : ℕ) (case : CaseContents) (answer : Answer) → GiveWorkedCase files case → IsBook case.book → HasTerms case
     → IsMadeAnswer number (Ok case) answer → answer.status ≡ status.NoneWithinYield → HasAcceptedText files
 made_accepted_none files number case answer gives book terms own none = has_accepted files number case answer gives book terms own status.NoneWithinYield none (λ clash. cc) (λ clash. cc)
 

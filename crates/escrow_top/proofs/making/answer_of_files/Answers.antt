@@ -13,7 +13,7 @@ returns-in-Ok-clause-accepted g c =
     let files = files_view c.args.files.now in
     let case = case_view c.in-Ok.case in
     IfOk-weaker c.answer_of_case.result (IsMadeAnswer c.args.number (Ok case)) (λ answer. answer.status ≡ status.Done → HasAcceptedText files)
-    (λ answer own. made_accepted files c.args.number case answer c.in-Ok.ensures.gives kept.book kept.terms own) c.answer_of_case.ensures.answer
+    (λ answer own. made_accepted files c.args.number case answer c.in-Ok.ensures.given kept.book kept.terms own) c.answer_of_case.ensures.answer
 
 pub returns-in-Ok-clause-accepted_none : goal.returns-in-Ok-clause-accepted_none
 returns-in-Ok-clause-accepted_none g c =
@@ -21,4 +21,4 @@ returns-in-Ok-clause-accepted_none g c =
     let files = files_view c.args.files.now in
     let case = case_view c.in-Ok.case in
     IfOk-weaker c.answer_of_case.result (IsMadeAnswer c.args.number (Ok case)) (λ answer. answer.status ≡ status.NoneWithinYield → HasAcceptedText files)
-    (λ answer own. made_accepted_none files c.args.number case answer c.in-Ok.ensures.gives kept.book kept.terms own) c.answer_of_case.ensures.answer
+    (λ answer own. made_accepted_none files c.args.number case answer c.in-Ok.ensures.given kept.book kept.terms own) c.answer_of_case.ensures.answer
