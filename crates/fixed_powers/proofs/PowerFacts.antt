@@ -87,17 +87,6 @@ pub chains_rise : ChainsRise
 chains_rise Low p q d le = down-mono p q d le
 chains_rise High p q d le = up-mono p q d le
 
--- one step of a chain, by its side
-pub chain-suc-low : (side : Side) (v q d : ℕ) → side ≡ Low → v ≡ chain side q d → v * q / one ≡ chain side q (d + 1)
-chain-suc-low side v q d is =
-    subst (λ (s : Side). v ≡ chain s q d → v * q / one ≡ chain s q (d + 1)) (sym is)
-    (λ same. rw (add-one d, down-suc q d) (ap (λ x. x * q / one) same))
-
-pub chain-suc-high : (side : Side) (v q d : ℕ) → side ≡ High → v ≡ chain side q d → div_ceil (v * q) one ≡ chain side q (d + 1)
-chain-suc-high side v q d is =
-    subst (λ (s : Side). v ≡ chain s q d → div_ceil (v * q) one ≡ chain s q (d + 1)) (sym is)
-    (λ same. rw (add-one d, up-suc q d) (ap (λ x. div_ceil (x * q) one) same))
-
 -- a chain of a root is a power
 pub power_of-chain : (side : Side) (n d : ℕ) → chain side (root_of side n) d ≡ power_of side n d
 power_of-chain Low n d = refl
