@@ -18,7 +18,7 @@ use std::alloc::Global;
 // 30 percent: a yield that reaches it is above the interval's bounds.
 const MOST: YieldUnits = YieldUnits(GREATEST_YIELD);
 
-// 4 percent: a yield such as many are, from which others are looked for.
+// 4 percent: a yield such as many are, to begin with where nothing tells more.
 const USUAL: u64 = 400_000_000;
 
 // 200 percent of a yield: 2 * 10^10 units.
@@ -27,8 +27,8 @@ const TWO_HUNDRED_PERCENT: u64 = 20_000_000_000;
 // The days of a half-year, by the 30/360 index.
 const HALF_YEAR: u128 = 180;
 
-// A tangent's step of fewer units than these leaves less than a unit.
-const CLOSE: u64 = 1_000;
+// A tangent's step of fewer units than these leaves a small part of a unit.
+const CLOSE: u64 = 3_000;
 
 // The sum of the flows, in cents.
 fn sum_of(flows: &[Flow]) -> u64
@@ -131,6 +131,37 @@ fn next_by_guess(
     }
 }
 
+// The natural logarithm of how much more one amount is than another, roughly, with 40 fraction bits: by the first terms of the series
+// of the inverse hyperbolic tangent.
+fn about_logarithm(more: u128, less: u128) -> u128 {
+    let both = more.saturating_add(less);
+    if both == 0 {
+        return 0;
+    }
+    let ratio = (more.saturating_sub(less) << 40) / both;
+    let square = ratio.wrapping_mul(ratio) >> 40;
+    let third = ratio.wrapping_mul(square) >> 40;
+    let fifth = third.wrapping_mul(square) >> 40;
+    let sum = ratio.wrapping_add(third / 3).wrapping_add(fifth / 5);
+    sum.wrapping_mul(2)
+}
+
+// The yield at which flows would be worth what is wanted if they all fell on their mean index, roughly.
+fn about_mean_yield(whole: AboutWorth, wanted: u128) -> u64 {
+    let sum = whole.value >> 30;
+    let days = whole.by_index >> 30;
+    if sum == 0 || days == 0 {
+        return USUAL;
+    }
+    let mean = (days << 20) / sum;
+    let logarithm = about_logarithm(sum, wanted >> 30);
+    // the logarithm of what a half-year yields
+    let half_year = (logarithm.wrapping_mul(HALF_YEAR) << 20) / mean.max(1);
+    let growth = half_year.min(1 << 40);
+    let more = growth.wrapping_add(growth.wrapping_mul(growth) >> 41);
+    (more.wrapping_mul(u128::from(TWO_HUNDRED_PERCENT)) >> 40).min(u128::from(MOST.0 - 2)) as u64
+}
+
 // Where the tangent at a yield meets the worth that is wanted, roughly.
 fn tangent_meeting(n: u64, about: AboutWorth, wanted: u128) -> u64 {
     let slope = about.by_index >> 30;
@@ -149,12 +180,13 @@ fn tangent_meeting(n: u64, about: AboutWorth, wanted: u128) -> u64 {
 
 // The greatest yield at which the flows are worth what is wanted, roughly. It shows where to try first, and nothing rests on it.
 //
-// What flows are worth falls ever more slowly as the yield rises. So no tangent meets the worth that is wanted above the yield that
-// is looked for, and each lies nearer than the one before it: about twice as many digits are right.
+// The first guess takes all flows together. What flows are worth falls ever more slowly as the yield rises. So no tangent meets the
+// worth that is wanted above the yield that is looked for, and each meets it nearer than the one before: about twice as many digits
+// are right.
 fn about_yield(flows: &Timeline, wanted: u128) -> u64
     ensures { result + 1 < GREATEST_YIELD }
 {
-    let mut guess = USUAL;
+    let mut guess = about_mean_yield(flows.about_total(), wanted).min(MOST.0 - 2);
     for _ in 0..16 {
         let next = tangent_meeting(guess, flows.about_worth(guess), wanted).min(MOST.0 - 2);
         let step = next.abs_diff(guess);

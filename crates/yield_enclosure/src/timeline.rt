@@ -103,6 +103,21 @@ impl Timeline {
         Ok(Timeline { amounts, longest })
     }
 
+    // What the flows come to undiscounted.
+    pub(crate) fn about_total(&self) -> AboutWorth {
+        let mut value = 0u128;
+        let mut by_index = 0u128;
+        for amount in &self.amounts {
+            let cents = u128::from(amount.cents.0);
+            value = value.wrapping_add(cents);
+            by_index = by_index.wrapping_add(cents.wrapping_mul(u128::from(amount.index)));
+        }
+        AboutWorth {
+            value: value << 62,
+            by_index: by_index << 62,
+        }
+    }
+
     // What the flows are worth at a yield, roughly: each power is the product of two of 128.
     pub(crate) fn about_worth(&self, n: u64) -> AboutWorth {
         let factor = about_root(n.min(GREATEST_YIELD));
