@@ -1,13 +1,12 @@
 -- Powers of the day's discount factor, rounded to either side.
-use Rattle.std.proofs.Common.{◌≡◌, ◌∙◌, ℕ, ◌+◌, ◌-◌, ◌*◌, ◌/◌, ◌≤◌, refl, sym, ap, subst, add-one, arith}
-use Rattle.std.specs.Int.{div_ceil}
+use Rattle.std.proofs.Common.{◌≡◌, ◌∙◌, ℕ, ◌+◌, ◌-◌, ◌≤◌, refl, sym, ap, subst, arith}
 use Rattle.std.proofs.Math.Nat.{mul-le-mul, mul-le-mul_left}
 use Rattle.escrow_units.specs.PresentValue.{half_year}
 use Rattle.fixed_powers.specs.DiscountPowers.{one, down, up, root_low, root_high, low, high, root_of, chain, power_of, IsAtMostPower, IsAtLeastPower, LiesOutward}
 use Rattle.fixed_powers.specs.PowerLaws.{FallsWithDays, FallsWithYield, LowAtMostHigh, IsOneAtZero, IsOneAtNoDays, ProductsFit, ChainsRise}
 use Rattle.fixed_powers.specs.declared.side.Side.{Side}
 use Rattle.fixed_powers.specs.declared.side.Side.TheVariants.{Low, High}
-use Rattle.fixed_powers.proofs.ChainFacts.{down-zero, up-zero, down-suc, up-suc, down-one, up-one, down-mono, up-mono, down-le-up, down-within, up-within, down-antitone, down-first, up-antitone, down-below, up-above}
+use Rattle.fixed_powers.proofs.ChainFacts.{down-zero, up-zero, down-one, up-one, down-mono, up-mono, down-le-up, down-within, up-within, down-antitone, down-first, up-antitone, down-below, up-above}
 use Rattle.fixed_powers.proofs.RootFacts.{root_low-is, root_high-is, root_low-only, root_low-below, root_high-above, root_low-le-root_high}
 
 -- a root is at most one

@@ -1,4 +1,4 @@
-use Rattle.std.proofs.Common.{◌≡◌, ◌∙◌, ap, sym, subst, rules, ℤ, pos, ◌+◌, ◌-◌, ◌+ℤ◌, ◌<◌, ◌^◌, length, to_z, w32, get_or, arith}
+use Rattle.std.proofs.Common.{◌≡◌, ◌∙◌, ap, sym, subst, rules, ℤ, pos, ◌+ℤ◌, ◌<◌, ◌^◌, length, to_z, w32, get_or, arith}
 use Rattle.std.proofs.lemmas.Int.{ints, to_z-of_z, to_z_pos}
 use mir.Val.{SFits}
 use Rattle.day_sums.proofs.TableFacts.{push-sum}
