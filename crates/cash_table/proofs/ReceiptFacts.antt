@@ -1,5 +1,5 @@
 -- Receipts by need date, one payment after another.
-use Rattle.std.proofs.Common.{◌≡◌, ℕ, zero, suc, ◌+◌, ◌<◌, ◌≤◌, true, false, cond, List, [], ◌∷◌, length, get_or, take, set, ap, ◌∙◌, inl, inr, arith, ℤ, ◌<ℤ◌, ◌≤ℤ◌, int_lt, int_le}
+use Rattle.std.proofs.Common.{◌≡◌, ℕ, zero, suc, ◌+◌, ◌-◌, ◌<◌, ◌≤◌, true, false, cond, List, [], ◌∷◌, length, get_or, take, set, ap, subst, sym, ◌∙◌, inl, inr, arith, ℤ, ◌<ℤ◌, ◌≤ℤ◌, int_lt, int_le}
 use Rattle.std.specs.List.{All, AllWithin, sum, flat_map, zip}
 use Rattle.std.proofs.lemmas.Bool.{cases_lt}
 use Rattle.std.proofs.lemmas.Int.{ints}
@@ -33,6 +33,26 @@ days_are_partitioned needs day rising = λ i j d order within later.
     elim (cases_lt i j) [
       | inl less ↦ int_lt-test (get_or needs i d).day day (lt_trans (get_or needs i d).day (get_or needs j d).day day (rising i j d less within) (lt_from_test (get_or needs j d).day day later))
       | inr same ↦ (let here : i ≡ j = omega arith in ap (λ n. int_lt (get_or needs n d).day day) here ∙ later)
+    ]
+
+-- where the last need date before a place comes before a day, so do all before the place
+pub all-before : (needs : List Flow) (day : ℤ) (place : ℕ) (need : Flow) → Rise needs → place ≤ length needs → 0 < place → need ≡ get_or needs (place - 1) need → need.day <ℤ day → AllWithin (λ need. need.day <ℤ day) needs 0 place
+all-before needs day place need rising within some at last = λ k d _ before.
+    let here : get_or needs (place - 1) d ≡ need = sym (at ∙ get_or_default needs (place - 1) need d (omega (arith, within, some))) in
+    let first : (get_or needs (place - 1) d).day <ℤ day = rw here last in
+    elim (cases_lt k (place - 1)) [
+      | inl less ↦ lt_trans (get_or needs k d).day (get_or needs (place - 1) d).day day (rising k (place - 1) d less (omega (arith, within, some))) first
+      | inr same ↦ (let there : place - 1 ≡ k = omega (arith, before, same) in subst (λ (n : ℕ). (get_or needs n d).day <ℤ day) there first)
+    ]
+
+-- and where a need date doesn't come before a day, none behind it does
+pub all-from : (needs : List Flow) (day : ℤ) (place : ℕ) (need : Flow) → Rise needs → place < length needs → need ≡ get_or needs place need → day ≤ℤ need.day → AllWithin (λ need. day ≤ℤ need.day) needs place (length needs)
+all-from needs day place need rising inside at last = λ k d from within.
+    let here : get_or needs place d ≡ need = sym (at ∙ get_or_default needs place need d inside) in
+    let first : day ≤ℤ (get_or needs place d).day = rw here last in
+    elim (cases_lt place k) [
+      | inl less ↦ (let later = rising place k d less within in omega (arith, ints, later, first))
+      | inr same ↦ (let there : place ≡ k = omega (arith, from, same) in subst (λ (n : ℕ). day ≤ℤ (get_or needs n d).day) there first)
     ]
 
 -- a part that holds the place of an addition grows by it

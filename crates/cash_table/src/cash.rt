@@ -1,6 +1,6 @@
 //! The first day on which a portfolio is short.
 
-ghost use Rattle.std.specs.Prelude.{◌≡◌, ℕ, ◌+◌, ◌*◌, ◌^◌, ◌<◌, ◌≤◌, length, take, slice_index_or, ◌≤ℤ◌, ◌<ℤ◌, MatchOption, IfNone, IfSome};
+ghost use Rattle.std.specs.Prelude.{◌≡◌, true, ℕ, ◌+◌, ◌*◌, ◌^◌, ◌<◌, ◌≤◌, length, take, slice_index_or, ◌≤ℤ◌, ◌<ℤ◌, MatchOption, IfNone, IfSome};
 ghost use Rattle.std.specs.List.{All, AllWithin, flat_map, sum, zip};
 ghost use Rattle.escrow_units.specs.Flows.{Rise, total};
 ghost use Rattle.escrow_units.specs.SlgsTerms.{IsSettlement};
@@ -15,6 +15,9 @@ ghost use Rattle.cash_table.specs.Receipts.{AreReceipts, IsCovered, IsFirstUncov
 use crate::plan::Plan;
 use escrow_units::{Day, Flow, MOST_NEED_DATES};
 use offer_book::{Book, Line, PaymentDays};
+
+// So many places behind that of a payment are looked at for the next, before all are searched: a half-year has six months.
+const NEXT_PLACES: usize = 8;
 
 /// The first day on which a permitted portfolio doesn't meet the needs; None exactly where it meets them.
 ///
@@ -126,13 +129,15 @@ pub fn add_receipts(receipts: &mut [u64], needs: &[Flow], payments: &[Flow])
         ≡ sum (take (k + 1) receipts.old) + total_by (slice_index_or needs.now k d).day payments.now }
     ensures whole { sum receipts.new ≤ sum receipts.old + total payments.now }
 {
+    let mut near = 0;
     for payment in payments {
-        add_receipt(receipts, needs, payment);
+        near = add_receipt(receipts, needs, near, payment);
     }
 }
 
-// Adds a payment at the first need date on or after its day, if there is one, which isn't looked for where it pays nothing.
-fn add_receipt(receipts: &mut [u64], needs: &[Flow], payment: &Flow)
+// Adds a payment at the first need date on or after its day, if there is one, and says its place, which is looked for from a place
+// on. It isn't looked for where nothing is paid.
+fn add_receipt(receipts: &mut [u64], needs: &[Flow], near: usize, payment: &Flow) -> usize
     requires places { length needs.now ≤ length receipts.old }
     requires rising { Rise needs.now }
     requires room { sum receipts.old + payment.now.cents.0 < 2 ^ 64 }
@@ -142,12 +147,44 @@ fn add_receipt(receipts: &mut [u64], needs: &[Flow], payment: &Flow)
     ensures whole { sum receipts.new ≤ sum receipts.old + payment.now.cents.0 }
 {
     if payment.cents.0 == 0 {
-        return;
+        return near;
     }
-    let place = place_of(needs, payment.day);
+    let place = place_near(needs, near, payment.day);
     if place < needs.len() {
         receipts[place] += payment.cents.0;
     }
+    place
+}
+
+// Whether a place is known to be no further than that of the first need date on or after a day: it is the first place, or the need
+// date before it comes before the day.
+fn is_by(needs: &[Flow], place: usize, day: Day) -> bool
+    requires { Rise needs.now }
+    ensures bound { result ≡ true → place ≤ length needs.now }
+    ensures before { result ≡ true → AllWithin (λ need. need.day <ℤ day) needs.now 0 place }
+{
+    place == 0 || place <= needs.len() && needs[place - 1].day < day
+}
+
+// The place of the first need date on or after a day, as `place_of` has it. Payments come in order of day, so that it is mostly the
+// place of the payment before it or one of the next: these are looked at first.
+fn place_near(needs: &[Flow], near: usize, day: Day) -> usize
+    requires { Rise needs.now }
+    ensures bound { result ≤ length needs.now }
+    ensures before { AllWithin (λ need. need.day <ℤ day) needs.now 0 result }
+    ensures from { AllWithin (λ need. day ≤ℤ need.day) needs.now result (length needs.now) }
+{
+    if !is_by(needs, near, day) {
+        return place_of(needs, day);
+    }
+    let mut place = near;
+    while place < needs.len() && needs[place].day < day {
+        if place - near == NEXT_PLACES {
+            return place_of(needs, day);
+        }
+        place += 1;
+    }
+    place
 }
 
 /// The place of the first need date on or after a day, or their number where there is none, by binary search.

@@ -1,6 +1,7 @@
 -- Tables of the cents of days: what they sum to.
-use Rattle.std.proofs.Common.{◌≡◌, ◌∙◌, refl, sym, ap, arith, ℕ, zero, suc, ◌+◌, ◌<◌, ◌≤◌, List, [], ◌∷◌, ◌++◌, length, get_or, set, take, drop, Bool, true, false, ℤ, pos, ◌+ℤ◌, ◌≤ℤ◌, append_assoc}
+use Rattle.std.proofs.Common.{◌≡◌, ◌∙◌, refl, sym, ap, subst, arith, ℕ, zero, suc, ◌+◌, ◌-◌, ◌<◌, ◌≤◌, List, [], ◌∷◌, ◌++◌, length, get_or, set, take, drop, Bool, true, false, ℤ, pos, ◌+ℤ◌, ◌≤ℤ◌, append_assoc}
 use Rattle.std.specs.Prelude.{All, ◌<ℤ◌}
+use Rattle.std.specs.List.{AllWithin}
 use Rattle.std.specs.Ordering.{int_cmp, int_eq}
 use Rattle.std.specs.declared.cmp.Ordering.{Ordering}
 use Rattle.std.specs.declared.cmp.Ordering.TheVariants.{Less, Equal, Greater}
@@ -128,6 +129,26 @@ summed_more-none first cents i e short none =
     let so_far = take i (day_amounts first cents) in
     ap (λ (fs : List Flow). summed fs) (take_more (day_amounts first cents) i flow (omega (arith, short, length-day_amounts first cents)) ∙ ap (λ (f : Flow). so_far ++ f ∷ []) (get_or-day_amounts first cents i flow e short))
     ∙ sym (in-steps so_far (flow ∷ [])) ∙ sym (nothing-more flow (summed so_far) (rising-summed so_far) (above-summed so_far) none)
+
+-- more amounts on later days: none
+pub summed_skip-none : (first : ℤ) (cents : List ℕ) (i n : ℕ) → i + n ≤ length cents → AllWithin (λ amount. amount ≡ 0) cents i (i + n)
+    → summed (take (i + n) (day_amounts first cents)) ≡ summed (take i (day_amounts first cents))
+summed_skip-none first cents i zero short none =
+    let same : i + 0 ≡ i = omega arith in
+    rw same refl
+summed_skip-none first cents i (suc n) short none =
+    let same : i + suc n ≡ (i + n) + 1 = omega arith in
+    rw same (summed_more-none first cents (i + n) 0 (omega (arith, short)) (none (i + n) 0 (omega arith) (omega arith))
+    ∙ summed_skip-none first cents i n (omega (arith, short)) (λ k d low high. none k d low (omega (arith, high))))
+
+pub summed_skip-to : (first : ℤ) (cents : List ℕ) (i j : ℕ) → i < length cents → get_or cents i 0 ≡ 0 → i + 1 ≤ j → j ≤ length cents → AllWithin (λ amount. amount ≡ 0) cents (i + 1) j
+    → summed (take j (day_amounts first cents)) ≡ summed (take i (day_amounts first cents))
+summed_skip-to first cents i j short here order bound none =
+    let same : (i + 1) + (j - (i + 1)) ≡ j = omega (arith, order) in
+    let skipped : summed (take ((i + 1) + (j - (i + 1))) (day_amounts first cents)) ≡ summed (take (i + 1) (day_amounts first cents)) =
+    summed_skip-none first cents (i + 1) (j - (i + 1)) (omega (arith, same, bound)) (λ k d low high. none k d low (omega (arith, same, high))) in
+    subst (λ (n : ℕ). summed (take n (day_amounts first cents)) ≡ summed (take (i + 1) (day_amounts first cents))) same skipped
+    ∙ summed_more-none first cents i 0 short here
 
 -- or some
 pub summed_more-some : (first : ℤ) (cents : List ℕ) (i e : ℕ) → i < length cents → 0 < get_or cents i e

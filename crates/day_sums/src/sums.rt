@@ -1,5 +1,6 @@
 //! Sums of amounts by day, to which amounts are added.
-ghost use Rattle.std.specs.Prelude.{◌≡◌, ◌<◌, ◌≤◌, ◌≤ℤ◌, ◌+◌, ◌^◌, [], ◌∷◌, ◌++◌, All, IfOk, ℤ, pos, ◌+ℤ◌, length, slice_index_or, slice_set, vec_len, vec_capacity};
+ghost use Rattle.std.specs.Prelude.{◌≡◌, true, ◌<◌, ◌≤◌, ◌≤ℤ◌, ◌+◌, ◌^◌, [], ◌∷◌, ◌++◌, All, IfOk, ℤ, pos, ◌+ℤ◌, length, slice_index_or, slice_set, vec_len, vec_capacity};
+ghost use Rattle.std.specs.List.{AllWithin};
 ghost use Rattle.escrow_units.specs.Flows.{Rise, total, FallWithin};
 ghost use Rattle.day_sums.specs.Summed.{cents_on, summed};
 ghost use Rattle.day_sums.specs.SummedLaws.{AreAboveZero};
@@ -31,6 +32,9 @@ impl Model for DaySums {
 
     ghost invariant = { λ s. IsTable s.from s.to (vec_len s.cents) (vec_capacity s.cents) };
 }
+
+// So many empty places are passed at a time.
+const RUN: usize = 4;
 
 // The place of a day in a table that begins on a first day.
 fn place_of(first: Day, day: Day) -> usize
@@ -88,6 +92,33 @@ fn put_all(cents: &mut Vec<u64>, first: Day, flows: &[Flow])
     }
 }
 
+// Whether a run of places begins at one, and nothing falls on their days.
+fn is_empty_run(cents: &[u64], place: usize) -> bool
+    requires { place ≤ length cents.now }
+    ensures bound { result ≡ true → place + 4 ≤ length cents.now }
+    ensures empty { result ≡ true → AllWithin (λ amount. amount ≡ 0) cents.now place (place + 4) }
+{
+    cents.len() - place >= RUN
+        && cents[place] == 0
+        && cents[place + 1] == 0
+        && cents[place + 2] == 0
+        && cents[place + 3] == 0
+}
+
+// A place from one on, before which nothing falls on any day. Empty places are passed by runs.
+fn past_empty(cents: &[u64], from: usize) -> usize
+    requires { from ≤ length cents.now }
+    ensures order { from ≤ result }
+    ensures bound { result ≤ length cents.now }
+    ensures empty { AllWithin (λ amount. amount ≡ 0) cents.now from result }
+{
+    let mut place = from;
+    while is_empty_run(cents, place) {
+        place += RUN;
+    }
+    place
+}
+
 impl DaySums {
     /// No sums yet, of amounts that fall from one day to another, both included. All memory is taken here.
     ///
@@ -133,14 +164,20 @@ impl DaySums {
         ensures rise { IfOk result (λ sums. Rise sums.items) }
         ensures above { IfOk result (λ sums. AreAboveZero sums.items) }
     {
+        let table = self.cents.as_slice();
         let mut sums = Vec::new(alloc);
-        for (place, cents) in self.cents.iter().enumerate() {
-            if *cents > 0 {
+        let mut place = 0;
+        while place < table.len() {
+            let cents = table[place];
+            if cents > 0 {
                 let day = Day::new(self.from.number() + place as i32);
                 sums.push(Flow {
                     day,
-                    cents: Cents(*cents),
+                    cents: Cents(cents),
                 })?;
+                place += 1;
+            } else {
+                place = past_empty(table, place + 1);
             }
         }
         Ok(sums)

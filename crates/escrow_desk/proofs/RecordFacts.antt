@@ -161,3 +161,12 @@ records-small xs h = record {
   count = omega (arith, strip_short xs, length-records_from default_config (length (strip_bom xs) + 1) st.StartRecord (strip_bom xs));
   widths = λ k. omega (arith, strip_short xs, widths default_config (length (strip_bom xs) + 1) st.StartRecord (strip_bom xs) k);
 }
+
+-- a text without bytes has no records
+pub records-none : (bytes : List ℕ) → length bytes ≡ 0 → records default_config (strip_bom bytes) ≡ []
+unfolding records_from next_record strip_bom
+records-none [] none = refl
+records-none (b ∷ bytes) none = absurd (omega (arith, none))
+
+pub small-none : AreSmall []
+small-none = record { count = omega arith; widths = λ k. omega arith }

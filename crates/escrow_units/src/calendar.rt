@@ -39,7 +39,7 @@ pub fn days_between(a: Day, b: Day) -> u32
 }
 
 // The place of a day in years of twelve months of thirty days.
-fn thirty_day_place(day: Day) -> u32
+pub(crate) fn thirty_day_place(day: Day) -> u32
     ensures value { result ≡ thirty_day_place_of day }
     ensures bound { result < 1_000_000 }
     ensures years { IsDayNumber day }

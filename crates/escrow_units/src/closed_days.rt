@@ -46,9 +46,11 @@ fn past_weekend(weekends: bool, day: Day) -> Day
     ensures past { (weekends && is_weekend result) ≡ false }
     ensures between { (other : ℤ) → day ≤ℤ other → other <ℤ result → (weekends && is_weekend other) ≡ true }
 {
-    let weekday = weekday(day);
-    if weekends && weekday >= 5 {
-        return Day::new(day.number() + 7 - weekday);
+    if weekends {
+        let weekday = weekday(day);
+        if weekday >= 5 {
+            return Day::new(day.number() + 7 - weekday);
+        }
     }
     day
 }

@@ -11,6 +11,7 @@ mod decimal;
 mod denomination;
 mod digits;
 mod fault;
+mod index_start;
 mod interest;
 mod limits;
 mod number_text;
@@ -30,6 +31,7 @@ pub use day::Day;
 pub use decimal::whole_number;
 pub use denomination::{read_cap, read_terms};
 pub use fault::NumberFault;
+pub use index_start::IndexStart;
 pub use interest::{Accrual, earned, face_price, half_coupon};
 pub use limits::{
     AMOUNT_LIMIT, FIRST_WAIT, FLOWS_LIMIT, GREATEST_GIVEN_YIELD, GREATEST_INDEX, GREATEST_PRICE,

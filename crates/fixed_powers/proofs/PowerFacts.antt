@@ -1,13 +1,12 @@
 -- Powers of the day's discount factor, rounded to either side.
-use Rattle.std.proofs.Common.{◌≡◌, ◌∙◌, ℕ, ◌+◌, ◌-◌, ◌*◌, ◌/◌, ◌≤◌, refl, sym, ap, subst, add-one, arith}
-use Rattle.std.specs.Int.{div_ceil}
+use Rattle.std.proofs.Common.{◌≡◌, ◌∙◌, ℕ, ◌+◌, ◌-◌, ◌≤◌, refl, sym, ap, subst, arith}
 use Rattle.std.proofs.Math.Nat.{mul-le-mul, mul-le-mul_left}
 use Rattle.escrow_units.specs.PresentValue.{half_year}
 use Rattle.fixed_powers.specs.DiscountPowers.{one, down, up, root_low, root_high, low, high, root_of, chain, power_of, IsAtMostPower, IsAtLeastPower, LiesOutward}
 use Rattle.fixed_powers.specs.PowerLaws.{FallsWithDays, FallsWithYield, LowAtMostHigh, IsOneAtZero, IsOneAtNoDays, ProductsFit, ChainsRise}
 use Rattle.fixed_powers.specs.declared.side.Side.{Side}
 use Rattle.fixed_powers.specs.declared.side.Side.TheVariants.{Low, High}
-use Rattle.fixed_powers.proofs.ChainFacts.{down-zero, up-zero, down-suc, up-suc, down-one, up-one, down-mono, up-mono, down-le-up, down-within, up-within, down-antitone, down-first, up-antitone, down-below, up-above}
+use Rattle.fixed_powers.proofs.ChainFacts.{down-zero, up-zero, down-one, up-one, down-mono, up-mono, down-le-up, down-within, up-within, down-antitone, down-first, up-antitone, down-below, up-above}
 use Rattle.fixed_powers.proofs.RootFacts.{root_low-is, root_high-is, root_low-only, root_low-below, root_high-above, root_low-le-root_high}
 
 -- a root is at most one
@@ -86,17 +85,6 @@ products_fit side n d = omega (arith, mul-le-mul (power_of-within side n d) (roo
 pub chains_rise : ChainsRise
 chains_rise Low p q d le = down-mono p q d le
 chains_rise High p q d le = up-mono p q d le
-
--- one step of a chain, by its side
-pub chain-suc-low : (side : Side) (v q d : ℕ) → side ≡ Low → v ≡ chain side q d → v * q / one ≡ chain side q (d + 1)
-chain-suc-low side v q d is =
-    subst (λ (s : Side). v ≡ chain s q d → v * q / one ≡ chain s q (d + 1)) (sym is)
-    (λ same. rw (add-one d, down-suc q d) (ap (λ x. x * q / one) same))
-
-pub chain-suc-high : (side : Side) (v q d : ℕ) → side ≡ High → v ≡ chain side q d → div_ceil (v * q) one ≡ chain side q (d + 1)
-chain-suc-high side v q d is =
-    subst (λ (s : Side). v ≡ chain s q d → div_ceil (v * q) one ≡ chain s q (d + 1)) (sym is)
-    (λ same. rw (add-one d, up-suc q d) (ap (λ x. div_ceil (x * q) one) same))
 
 -- a chain of a root is a power
 pub power_of-chain : (side : Side) (n d : ℕ) → chain side (root_of side n) d ≡ power_of side n d

@@ -1,7 +1,7 @@
 //! Tables of powers.
 
 ghost use Rattle.std.specs.Prelude.{◌≡◌, ◌<◌, ◌≤◌, ◌+◌, ◌-◌, ◌^◌, ℕ, IfOk, slice_index, vec_len};
-ghost use Rattle.fixed_powers.specs.DiscountPowers.{one, chain, root_of, power_of, PowerTable, ArePowers, LiesOutward};
+ghost use Rattle.fixed_powers.specs.DiscountPowers.{one, down, up, chain, root_of, power_of, PowerTable, ArePowers, LiesOutward};
 
 use crate::chain::{ONE, step_down, step_up};
 use crate::root::{root_high, root_low};
@@ -39,34 +39,50 @@ fn root(n: YieldUnits, side: Side) -> u64
     }
 }
 
-// One multiplication, rounded to a side.
-fn step(side: Side, power: u64, factor: u64) -> u64
-    requires power { power ≤ one }
-    requires factor { factor ≤ one }
-    ensures value { (d : ℕ) → power ≡ chain side factor d → result ≡ chain side factor (d + 1) }
-    ensures within { result ≤ one }
-{
-    match side {
-        Side::Low => step_down(power, factor),
-        Side::High => step_up(power, factor),
-    }
-}
-
-// The powers of a factor from 0 to the longest, each from the one before it.
-#[tactic(auto, using(crate::proofs::PowerFacts::chain_facts))]
-fn powers_of(alloc: Global, factor: u64, side: Side, longest: u32) -> Result<Vec<u64>, AllocError>
+// The powers of a factor from 0 to the longest, each from the one before it, rounded down.
+#[tactic(auto, unfolding(crate::specs::DiscountPowers::down))]
+fn lows_of(alloc: Global, factor: u64, longest: u32) -> Result<Vec<u64>, AllocError>
     requires { factor ≤ one }
     ensures count { IfOk result (λ v. vec_len v ≡ longest + 1) }
-    ensures values { IfOk result (λ v. (d : ℕ) → d ≤ longest → slice_index v.items d ≡ chain side factor d) }
+    ensures values { IfOk result (λ v. (d : ℕ) → d ≤ longest → slice_index v.items d ≡ down factor d) }
 {
     let mut table = Vec::with_capacity(alloc, longest as usize + 1)?;
     let mut power = ONE;
     table.push_reserved(power);
     for _ in 0..longest {
-        power = step(side, power, factor);
+        power = step_down(power, factor);
         table.push_reserved(power);
     }
     Ok(table)
+}
+
+// The same, rounded up.
+#[tactic(auto, unfolding(crate::specs::DiscountPowers::up))]
+fn highs_of(alloc: Global, factor: u64, longest: u32) -> Result<Vec<u64>, AllocError>
+    requires { factor ≤ one }
+    ensures count { IfOk result (λ v. vec_len v ≡ longest + 1) }
+    ensures values { IfOk result (λ v. (d : ℕ) → d ≤ longest → slice_index v.items d ≡ up factor d) }
+{
+    let mut table = Vec::with_capacity(alloc, longest as usize + 1)?;
+    let mut power = ONE;
+    table.push_reserved(power);
+    for _ in 0..longest {
+        power = step_up(power, factor);
+        table.push_reserved(power);
+    }
+    Ok(table)
+}
+
+// The powers of a factor from 0 to the longest, rounded to a side.
+fn powers_of(alloc: Global, factor: u64, side: Side, longest: u32) -> Result<Vec<u64>, AllocError>
+    requires { factor ≤ one }
+    ensures count { IfOk result (λ v. vec_len v ≡ longest + 1) }
+    ensures values { IfOk result (λ v. (d : ℕ) → d ≤ longest → slice_index v.items d ≡ chain side factor d) }
+{
+    match side {
+        Side::Low => lows_of(alloc, factor, longest),
+        Side::High => highs_of(alloc, factor, longest),
+    }
 }
 
 impl Powers {

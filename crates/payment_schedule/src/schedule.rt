@@ -1,5 +1,6 @@
 //! A payment by its terms, and what it pays.
-ghost use Rattle.std.specs.Prelude.{All, ◌≡◌, ◌≤◌, length, map};
+ghost use Rattle.std.specs.Prelude.{All, ◌≡◌, ◌<◌, ◌≤◌, ◌^◌, length, map};
+ghost use Rattle.escrow_units.specs.Interest.{earned_of};
 ghost use Rattle.escrow_units.specs.OpenDays.{IsBy2190};
 ghost use Rattle.payment_schedule.specs.Schedule.{IsShort, due_on, flow_by, half_year_accrual, principal_by};
 
@@ -59,6 +60,24 @@ impl ScheduledPayment {
         if self.principal { amount } else { Cents(0) }
     }
 
+    // What an amount at par pays, as `flow` has it, by what a half-year earns.
+    fn flow_beside(&self, half_year: Cents, rate: Rate, amount: Cents) -> Flow
+        requires half_year { half_year.0 ≡ earned_of amount.0 rate.0 1 2 }
+        requires bound { half_year.0 < 2 ^ 62 }
+        requires rate { rate.0 ≤ GREATEST_RATE }
+        requires amount { amount.0 ≤ AMOUNT_LIMIT }
+        requires short { IsShort self.now.accrual }
+        ensures { result ≡ flow_by rate.0 amount.0 self.now }
+    {
+        if self.accrual != HALF_YEAR {
+            return self.flow(rate, amount);
+        }
+        Flow {
+            day: self.day,
+            cents: Cents(half_year.0 + self.principal(amount).0),
+        }
+    }
+
     /// What an amount at par pays: its interest at a rate of at most 30 percent, rounded to the cent, and the principal
     /// where it is due. The amount is at most 10^13 cents, and the payment bears interest for at most sixteen months. It reads
     /// no calendar.
@@ -91,9 +110,11 @@ pub fn scheduled_flows(
     requires short { All (λ payment. IsShort payment.accrual) schedule.now }
     ensures { result.items ≡ map (flow_by rate.0 amount.0) schedule.now }
 {
+    // Most payments are of a half-year, whose interest is counted once.
+    let half_year = earned(amount, rate, HALF_YEAR.parts, HALF_YEAR.year);
     let mut flows = ArrayVec::new();
     for payment in schedule {
-        flows.push(payment.flow(rate, amount));
+        flows.push(payment.flow_beside(half_year, rate, amount));
     }
     flows
 }

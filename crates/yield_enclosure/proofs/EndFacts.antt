@@ -77,6 +77,16 @@ worth-below flows cost n m less enough =
       | inr le ↦ absurd (omega (arith, value_falls Low n m flows le, less, enough))
     ]
 
+-- flows that aren't worth the cost one unit above a yield below 30 percent aren't at 30 percent
+pub less-at-most : (flows : List IndexedFlow) (cost n : ℕ) → n < 3_000_000_000 → present_value Low (n + 1) flows < one * cost → present_value Low 3_000_000_000 flows < one * cost
+less-at-most flows cost n within less =
+    omega (arith, less, value_falls Low (n + 1) 3_000_000_000 flows (omega (arith, within)))
+
+-- what is worth more than the cost, rounded down, is dearer, rounded up
+pub dearer-high : (flows : List IndexedFlow) (cost n : ℕ) → one * cost < present_value Low n flows → false ≡ is_no_dearer flows cost n
+dearer-high flows cost n dearer =
+    sym (lt-leb (present_value High n flows) (one * cost) (omega (arith, dearer, low_value-le-high n flows)))
+
 -- two units above the lower end the flows are no dearer than the cost
 pub second-no_dearer : (flows : List IndexedFlow) (cost lo : ℕ) → last_index flows ≤ 14_400 → present_value Low 3_000_000_000 flows < one * cost → IsLowerEnd flows cost lo → present_value High (lo + 2) flows ≤ one * cost
 second-no_dearer flows cost lo near less is =

@@ -8,7 +8,7 @@ ghost use Rattle.fixed_powers.specs.PresentValues.{total_cents, present_value};
 
 use escrow_desk::NoMemory;
 use escrow_units::{
-    Cents, Day, FLOWS_LIMIT, Flow, GREATEST_INDEX, GREATEST_YIELD, YieldUnits, index360,
+    Cents, Day, FLOWS_LIMIT, Flow, GREATEST_INDEX, GREATEST_YIELD, IndexStart, YieldUnits,
 };
 use fixed_powers::{ONE, Powers, Side, about_product, about_root};
 use std::alloc::{AllocError, Global};
@@ -52,6 +52,14 @@ impl Model for Timeline {
     ghost invariant = { λ t. All (λ flow. flow.index ≤ t.longest) t.amounts.items × (t.longest ≤ GREATEST_INDEX) };
 }
 
+// What flows are worth at a yield, roughly, in units of 2^-62 of a cent. It shows which yields to try, and nothing rests on it.
+#[derive(Clone, Copy)]
+pub(crate) struct AboutWorth {
+    pub(crate) value: u128,
+    // the worth of each amount times its index
+    pub(crate) by_index: u128,
+}
+
 // What amounts are worth by a table of powers.
 fn worth(amounts: &[IndexedAmount], powers: &Powers) -> u128
     requires indices { All (λ flow. flow.index ≤ powers.now.longest) amounts.now }
@@ -83,8 +91,9 @@ impl Timeline {
     {
         let mut amounts = Vec::with_capacity(alloc, flows.len())?;
         let mut longest = 0;
+        let start = IndexStart::new(settle);
         for flow in flows {
-            let index = index360(settle, flow.day);
+            let index = start.index(flow.day);
             amounts.push(IndexedAmount {
                 index,
                 cents: flow.cents,
@@ -94,30 +103,36 @@ impl Timeline {
         Ok(Timeline { amounts, longest })
     }
 
-    // What all amounts come to, roughly, in units of 2^-62 of a cent.
-    pub(crate) fn about_total(&self) -> u128 {
-        let mut total = 0u128;
+    // What the flows come to undiscounted.
+    pub(crate) fn about_total(&self) -> AboutWorth {
+        let mut value = 0u128;
+        let mut by_index = 0u128;
         for amount in &self.amounts {
-            total = total.saturating_add(u128::from(amount.cents.0) << 62);
+            let cents = u128::from(amount.cents.0);
+            value = value.wrapping_add(cents);
+            by_index = by_index.wrapping_add(cents.wrapping_mul(u128::from(amount.index)));
         }
-        total
+        AboutWorth {
+            value: value << 62,
+            by_index: by_index << 62,
+        }
     }
 
-    // The present value at a yield, roughly, in units of 2^-62 of a cent: each power is the product of two of 128. Nothing rests
-    // on it.
-    pub(crate) fn about_value(&self, n: u64) -> u128 {
+    // What the flows are worth at a yield, roughly: each power is the product of two of 128.
+    pub(crate) fn about_worth(&self, n: u64) -> AboutWorth {
         let factor = about_root(n.min(GREATEST_YIELD));
         let near = about_powers(factor);
         let far = about_powers(about_product(near[127], factor));
-        let mut total = 0u128;
+        let mut value = 0u128;
+        let mut by_index = 0u128;
         for amount in &self.amounts {
             let place = amount.index as usize;
             let power = about_product(near[place % 128], far[place / 128 % 128]);
-            total = total.saturating_add(u128::from(amount.cents.0).wrapping_mul(u128::from(
-                power,
-            )));
+            let worth = u128::from(amount.cents.0).wrapping_mul(u128::from(power));
+            value = value.wrapping_add(worth);
+            by_index = by_index.wrapping_add(worth.wrapping_mul(u128::from(amount.index)));
         }
-        total
+        AboutWorth { value, by_index }
     }
 
     // The present value at a yield, rounded to a side, in units of 2^-62 of a cent.

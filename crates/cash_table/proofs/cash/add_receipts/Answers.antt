@@ -11,8 +11,8 @@ loop-payment-preserved c =
     record {
       by_day = λ k d here.
           receipts_next (slice_index_or c.args.needs.now k d).day c.args.payments.now c.loop-payment.payment-index c.payment-item.result _ _ _ within at
-          (c.loop-payment.invariant.by_day k d here) (c.add_receipt.ensures.by_day k d here);
-      within = total_next c.args.payments.now c.loop-payment.payment-index c.payment-item.result _ _ _ within at c.loop-payment.invariant.within c.add_receipt.ensures.whole;
+          (c.loop-payment.invariant.by_day k d here) (c.add_receipt-near.ensures.by_day k d here);
+      within = total_next c.args.payments.now c.loop-payment.payment-index c.payment-item.result _ _ _ within at c.loop-payment.invariant.within c.add_receipt-near.ensures.whole;
     }
 
 pub returns-clause-by_day : goal.returns-clause-by_day

@@ -1,10 +1,10 @@
-use Rattle.std.proofs.Common.{Bor, List, ℕ, ◌∙◌, sym, refl, inl, inr, Some, []}
+use Rattle.std.proofs.Common.{Bor, List, ℕ, ◌≡◌, ◌∙◌, sym, refl, inl, inr, rules, length, Some, []}
 use Rattle.csv.specs.Reading.{Reached, default_config, strip_bom}
 use Rattle.csv.specs.Records.{fields_of}
 use Rattle.csv.specs.declared.parser.State.TheVariants as st
 use Rattle.csv.proofs.ReadFacts.{rows-end, rows-more}
 use Rattle.escrow_desk.specs.Buffer.{rows_in}
-use Rattle.escrow_desk.proofs.RecordFacts.{fewer_reads, records-are, records-small}
+use Rattle.escrow_desk.proofs.RecordFacts.{fewer_reads, records-are, records-none, records-small, small-none}
 use Rattle.escrow_desk.proofs.rows.read_rows.Goals as goal
 
 pub rows-init : goal.rows-init
@@ -14,9 +14,9 @@ rows-init c =
     let loose = c.flexible.ensures in
     let same = c.in-Ok.ensures.same in
     rw same (record {
-      plain = rw loose at fr.trim ∙ c.new.ensures.trim;
-      ready = inr (inl (rw loose at fr.has_headers ∙ c.new.ensures.has_headers, c.in-Ok.ensures.set));
-      config = rw loose at fr.config ∙ c.new.ensures.config;
+      plain = rw loose at fr.trim ∙ c.new-2.ensures.trim;
+      ready = inr (inl (rw loose at fr.has_headers ∙ c.new-2.ensures.has_headers, c.in-Ok.ensures.set));
+      config = rw loose at fr.config ∙ c.new-2.ensures.config;
       kept = c.new-buffer.ensures.kept;
       rest = strip_bom c.args.bytes.now;
       source = fr.source;
@@ -47,8 +47,8 @@ rows-preserved c =
       reached = rw c.in_ok-push-in-Ok-true.ensures.rows m.2;
     }
 
-pub invariant_of-result : goal.invariant_of-result
-invariant_of-result c =
+pub invariant_of-result-in-Ok-false : goal.invariant_of-result-in-Ok-false
+invariant_of-result-in-Ok-false c =
     let inv = c.rows.invariant in
     let read = rw c.in-Ok-false.field-0-test at (c.in-Ok-false.ensures.reads inv.plain inv.ready) in
     let e = records-are _ _ (c.rows.reader.state, inv.rest, inv.reached, rows-end (λ (s : Bor (List ℕ)). Some s.now) c.rows.reader c.read_byte_record.new.self (fields_of c.read_byte_record.new.row) default_config inv.rest inv.config inv.source read) in
@@ -59,3 +59,11 @@ returns-in-Ok-false c =
     let inv = c.rows.invariant in
     let read = rw c.in-Ok-false.field-0-test at (c.in-Ok-false.ensures.reads inv.plain inv.ready) in
     sym (records-are _ _ (c.rows.reader.state, inv.rest, inv.reached, rows-end (λ (s : Bor (List ℕ)). Some s.now) c.rows.reader c.read_byte_record.new.self (fields_of c.read_byte_record.new.row) default_config inv.rest inv.config inv.source read))
+
+pub invariant_of-result : goal.invariant_of-result
+invariant_of-result c = (c.new.ensures.kept, rw c.new.ensures.rows small-none)
+
+pub returns-then-is_empty : goal.returns-then-is_empty
+returns-then-is_empty c =
+    let none : length c.args.bytes.now ≡ 0 = search rules in
+    c.new.ensures.rows ∙ sym (records-none c.args.bytes.now none)

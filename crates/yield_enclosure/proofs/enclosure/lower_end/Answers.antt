@@ -1,4 +1,4 @@
-use Rattle.std.proofs.Common.{rules, ◌<◌, ◌*◌, ◌-◌, ◌/◌, ℕ, arith}
+use Rattle.std.proofs.Common.{rules, ◌<◌, ◌+◌, ◌*◌, ℕ, arith}
 use Rattle.fixed_powers.specs.DiscountPowers.{one}
 use Rattle.fixed_powers.specs.PresentValues.{present_value}
 use Rattle.fixed_powers.specs.declared.side.Side.TheVariants.{Low}
@@ -11,7 +11,8 @@ loop-worth-init c = record {
   order = omega arith;
   within = omega arith;
   worth = omega (arith, value-at_zero Low c.args.flows.now, c.requires.covered);
-  greatest = λ n enough. let below = worth-below c.args.flows.now c.args.cost.0 3_000_000_000 n c.requires.less enough in omega (arith, below);
+  greatest = λ n enough. let below = worth-below c.args.flows.now c.args.cost.0 (c.args.greatest + 1) n c.requires.less enough in omega (arith, below);
+  dearer = search rules;
 }
 
 pub loop-worth-preserved : goal.loop-worth-preserved
@@ -23,4 +24,5 @@ loop-worth-preserved c =
       within = omega arith;
       worth = c.loop-worth.invariant.worth;
       greatest = λ n enough. let below = worth-below c.args.flows.now c.args.cost.0 middle n fails enough in omega (arith, below);
+      dearer = c.loop-worth.invariant.dearer;
     }

@@ -8,10 +8,10 @@ loop-flow-preserved c =
     let here : get_or c.args.flows.now c.loop-flow.flow-index c.flow-item.result ≡ c.flow-item.result = search rules in
     let more = indexed-more c.args.settle c.args.flows.now c.loop-flow.flow-index c.flow-item.result within here in
     let rises : c.loop-flow.longest ≤ c.max-longest.result = search rules in
-    let holds : c.index360-index.result ≤ c.max-longest.result = search rules in
+    let holds : c.index-index.result ≤ c.max-longest.result = search rules in
     record {
       value = search rules;
-      longest = let all = index-push c.loop-flow.longest c.max-longest.result c.loop-flow.amounts.items (record { index = c.index360-index.result; cents = c.flow-item.result.cents.0 }) c.loop-flow.invariant.longest rises holds in search rules;
+      longest = let all = index-push c.loop-flow.longest c.max-longest.result c.loop-flow.amounts.items (record { index = c.index-index.result; cents = c.flow-item.result.cents.0 }) c.loop-flow.invariant.longest rises holds in search rules;
       near = search rules;
     }
 
