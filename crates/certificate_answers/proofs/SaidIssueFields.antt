@@ -1,5 +1,5 @@
 -- What each row of ISSUE says, by the reader of its word.
-use Rattle.std.proofs.Common.{◌≡◌, ◌∙◌, ℕ, ◌≤◌, refl, ap, subst, arith, Bool, true, false, List, length, ℤ, Some, Result, Ok}
+use Rattle.std.proofs.Common.{◌≡◌, ◌∙◌, ℕ, refl, ap, subst, arith, Bool, true, false, List, length, ℤ, Some, Result, Ok}
 use Rattle.std.specs.Prelude.{◌≤ℤ◌, int_lt, int_le, codes, ◌&&◌, pos}
 use Rattle.std.proofs.lemmas.Int.{ints}
 use Rattle.escrow_desk.specs.declared.refusal.RefusalKind.{RefusalKind}

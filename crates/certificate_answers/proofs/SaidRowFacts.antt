@@ -1,5 +1,5 @@
 -- Rows of a word, one by one.
-use Rattle.std.proofs.Common.{◌≡◌, ◌∙◌, append_assoc, ℕ, ◌+◌, refl, sym, ap, subst, arith, Bool, true, false, if◌then◌else◌, List, [], ◌∷◌, ◌++◌, length, ℤ, Option, Some, None, Result, Ok, Err, cond}
+use Rattle.std.proofs.Common.{◌≡◌, ◌∙◌, append_assoc, ℕ, refl, sym, ap, subst, arith, Bool, true, false, if◌then◌else◌, List, [], ◌∷◌, ◌++◌, length, ℤ, Option, Some, None, Result, Ok, Err, cond}
 use Rattle.std.specs.Prelude.{◌==◌, ◌≤ℤ◌, ◌<ℤ◌, int_lt, int_le, is_some, ok_or, option_to_list, nat_eq, codes}
 use Rattle.std.specs.List.{AllZip, filter}
 use Rattle.std.proofs.lemmas.Bool.Decides.{nat_tests}
