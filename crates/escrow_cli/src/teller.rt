@@ -136,6 +136,7 @@ mod tests {
     use std::test::Fail;
 
     // What is seen, and the line that says it.
+    #[derive(Drop)]
     struct Row {
         cap: Option<Rate>,
         standing: Standing,
