@@ -12,7 +12,7 @@ from .explaining.cautions import Cautions, totals
 from .inputs import REPORT, beside, read_case
 from .issue_text import GREATEST_ALLOWANCE, with_allowance
 from .outputs import FORCE, Outputs, is_certificate, is_report, status_if_stopped
-from .plan_search import SMALL_GAP, CapSearch, Search, with_room
+from .plan_search import CapSearch, Search, with_room
 from .program import Answer, CaseBytes
 from .report import read_summary
 from .speaking import Stop, Words, put_out, tell
@@ -24,8 +24,9 @@ row with which `check` says yes to the issue as it stands.
 Where the search says that there is none, its answer and its exit status are `structure`'s.
 Beside holdings, by --held, it goes by `structure-held` and `check-held`. These make no report: the summary (cost, yield, limit and
 gap) stands in its place, so that certificate.report.txt holds the summary alone.
-With --cap it goes by `cap` and `check-cap`: one greatest rate for all SLGS securities. With less allowance `cap` finds another cap:
-of all that are found the one whose plan costs least is kept, and the others are told. What `cap` says stands in the report's place."""
+With --cap it goes by `cap` and `check-cap`: one greatest rate for all SLGS securities. With less allowance `cap` finds another cap,
+and the restricted yield is tried as one: of all that are found the one whose plan costs least is kept, and the others are told. What
+`cap` says stands in the report's place; its line `next` stands there where `cap` itself came to that cap."""
 
 
 def words() -> Words:
@@ -65,7 +66,7 @@ def run(arguments: list[str]) -> int:
         answer = search.allow(GREATEST_ALLOWANCE)
         if answer.status != program.DONE:
             return _nothing_found(answer, names, case, search, outputs)
-        if not chosen.once and search.best.gap > SMALL_GAP:
+        if not chosen.once:
             search.lower_gap()
         as_it_stands = _try_plan(search, case)
         return _keep(search, names, case, read, as_it_stands, outputs)

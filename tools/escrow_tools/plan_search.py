@@ -18,6 +18,8 @@ from .speaking import tell
 MOST_SEARCHES = 12
 # A gap of so many cents is left as it is.
 SMALL_GAP = 1000
+# A thousandth of a percentage point and a hundredth, in units of 10^-8 percent, as yields are said.
+TOLERANCE, HUNDREDTH = 100_000, 1_000_000
 
 
 class Plan:
@@ -114,9 +116,9 @@ class Search:
 
 
 class CapPlan(Plan):
-    """A plan at a cap on the SLGS rates, in thousandths of a percentage point, and what is said of the next hundredth."""
+    """A plan at a cap on the SLGS rates, in thousandths of a percentage point, and what is said of the next hundredth, if anything."""
 
-    def __init__(self, summary: Summary, said: bytes, certificate: bytes, cap: int, further: str):
+    def __init__(self, summary: Summary, said: bytes, certificate: bytes, cap: int, further: Optional[str]):
         super().__init__(summary, said, certificate)
         self.cap = cap
         self.further = further
@@ -128,7 +130,8 @@ class CapPlan(Plan):
 
 
 class CapSearch(Search):
-    """Searches for a cap on the SLGS rates. With less allowance `cap` finds another cap, whose plan may cost less: the cheapest is kept."""
+    """Searches for a cap on the SLGS rates. With less allowance `cap` finds another cap, whose plan may cost less, and so may the
+    restricted yield as a cap: the cheapest is kept."""
 
     proves_none = False
 
@@ -161,6 +164,8 @@ class CapSearch(Search):
         return [best[cap] for cap in sorted(best, reverse=True)]
 
     def _of_next(self) -> str:
+        if self.best.further is None:
+            return "the cap is the restricted yield, at which each SLGS security is lawful by itself; greater caps may do as well"
         words = self.best.further.split(" ", 2)
         if words[1] == "none":
             return "that is the greatest rate on offer: none is lowered"
@@ -174,10 +179,45 @@ class CapSearch(Search):
     def _search(self, case: CaseBytes) -> Answer:
         answer = self.folder.cap(case)
         if answer.status == program.DONE:
-            cap, summary = read_rate(answer.lines[0].split(" ")[1]), read_summary(answer.lines[1:5])
-            self.found.append(CapPlan(summary, answer.said, self.folder.certificate(), cap, answer.lines[5]))
+            self.found.append(self._plan_of(answer))
             self._keep(self.found[-1])
         return answer
+
+    def _plan_of(self, answer: Answer) -> CapPlan:
+        cap, summary = read_rate(answer.lines[0].split(" ")[1]), read_summary(answer.lines[1:5])
+        return CapPlan(summary, answer.said, self.folder.certificate(), cap, answer.lines[5])
+
+    def lower_gap(self) -> None:
+        super().lower_gap()
+        self._try_the_limit()
+
+    def _try_the_limit(self) -> None:
+        """At a cap above the restricted yield what yields too much has to be offset by what yields less, and where little does a plan may
+        cost far more than at the yield itself. So that is tried as a cap too."""
+        # In thousandths of a percentage point, a whole hundredth: the limit is a thousandth above the restricted yield.
+        cap = (self.best.summary.limit - TOLERANCE) // HUNDREDTH * 10
+        if not 0 <= cap < max(plan.cap for plan in self.found) or any(plan.cap == cap for plan in self.found):
+            return
+        # What lowers rates is read only where it is asked for.
+        from .variants import lowered_rates
+
+        lowered = self.case._replace(rates=lowered_rates(self.case.rates, cap))
+        for amount in (money(SMALL_GAP), GREATEST_ALLOWANCE):
+            answer = self.folder.cap(lowered._replace(issue=with_allowance(self.case.issue, amount)))
+            if answer.status == program.DONE:
+                self._keep_at_the_limit(answer)
+                return
+
+    def _keep_at_the_limit(self, answer: Answer) -> None:
+        """Keeps what was found with rates lowered to the limit, where it is a plan with the rates as they stand. No rate was above it then,
+        so what is said of the next hundredth isn't said of these."""
+        plan = self._plan_of(answer)
+        if plan.further == "next none":
+            plan.said, plan.further = "".join(line + "\n" for line in answer.lines[:5]).encode(), None
+        allowed = self.case._replace(issue=with_allowance(self.case.issue, money(plan.gap)))
+        if self.check(allowed, plan).status == program.DONE:
+            self.found.append(plan)
+            self._keep(plan)
 
     def _lower_gap(self) -> None:
         allowance = self.best.gap

@@ -70,17 +70,22 @@ def without_notes(variant: Variant) -> Variant:
     return variant._replace(case=variant.case._replace(prices=b""), notes="without notes")
 
 
-def with_cap(variant: Variant, percent: str) -> Variant:
-    """The same with SLGS rates of at most so much: greatest rates and offers above it are lowered."""
-    cap = read_cap(percent)
-    rates: Rates = read_rates(variant.case.rates)
+def lowered_rates(data: bytes, cap: int) -> bytes:
+    """A rate file with SLGS rates of at most so many thousandths of a percentage point: greatest rates and offers above it are lowered."""
+    rates: Rates = read_rates(data)
     rows = ["terms,%d,%d" % (rates.terms.minimum, rates.terms.step)] if rates.terms else []
     rows += ["rate,%s,%s,%s" % (one.first, one.last, short_rate(min(one.rate, cap))) for one in rates.ranges]
     for one in rates.offers:
         rate = "max" if one.rate is None else short_rate(min(one.rate, cap))
         rows.append("offer,%s,%s,%s,%d" % (one.maturity, rate, one.first or "", one.cap))
-    data = "".join(row + "\n" for row in rows).encode()
-    return variant._replace(case=variant.case._replace(rates=data), cap="SLGS rates up to %s" % rate_text(cap))
+    return "".join(row + "\n" for row in rows).encode()
+
+
+def with_cap(variant: Variant, percent: str) -> Variant:
+    """The same with SLGS rates of at most so much."""
+    cap = read_cap(percent)
+    lowered = variant.case._replace(rates=lowered_rates(variant.case.rates, cap))
+    return variant._replace(case=lowered, cap="SLGS rates up to %s" % rate_text(cap))
 
 
 def settled(text: str) -> tuple[date, str]:
